@@ -49,7 +49,7 @@ kind_is_sound name drv used (EnvMismatch output) h = h
 pub name_is_sound : (name : List ℕ) (drv : Drv) (used : List Drv) (kind : Kind)
     (outputs : List Output) (fault : OutputFault) → HasKind drv kind → outputs ≡ drv.outputs
     → IsNameFault name outputs fault → IsSoundCheck name drv used (Err fault)
-name_is_sound name drv used kind outputs NoMemory is same h = kind_not_mixed drv kind is
+name_is_sound name drv used kind outputs NoMemory is same h = kind_not_mixed drv _ is
 name_is_sound name drv used kind outputs BadName is same h = search rules
 name_is_sound name drv used kind outputs MixedOutputs is same h = absurd h
 name_is_sound name drv used kind outputs (UnknownMethod output) is same h = absurd h
@@ -160,8 +160,8 @@ module _ (in_draft : Bool) (dir name : List ℕ) (kind : Kind) (drv : Drv) (hash
   pub paths_fit : FitBefore (PathFits in_draft) drv.outputs paths (length drv.outputs)
       → PathsFit (FitsExpected in_draft) Expected drv
   paths_fit fit k d below =
-      let at = slice_get-get_or drv.outputs k d below in
-      let found = at_place k (get_or drv.outputs k d) at in
+      let at = slice_get-get_or _ k d below in
+      let found = at_place k _ at in
       (found.0, found.2, fit k (get_or drv.outputs k d) found.0 below at found.1)
 
   no_other : (k : ℕ) (o : Output) → slice_get drv.outputs k ≡ Some o
@@ -179,21 +179,21 @@ module _ (in_draft : Bool) (dir name : List ℕ) (kind : Kind) (drv : Drv) (hash
       × (FitsExpected in_draft p.path q → ⊥))
       drv.outputs o × Expected o path
   first_mismatch o path pair =
-      let found = at_place pair.place o pair.is_output in
+      let found = at_place _ o pair.is_output in
       let one : found.0 ≡ path = same_Some found.0 path (sym found.1 ∙ pair.is_path) in
       let here : Expected o path = subst (λ (q : List ℕ). Expected o q) one found.2 in (
         record {
           before = take pair.place drv.outputs;
           after = drop (suc pair.place) drv.outputs;
-          parts = split_get drv.outputs pair.place o pair.is_output;
+          parts = split_get _ _ o pair.is_output;
           is = (path, here, pair.wrong);
           others = λ k d below (q, is, misfit).
-              let at = slice_get-take drv.outputs pair.place k
-              (get_or (take pair.place drv.outputs) k d)
-              (slice_get-get_or (take pair.place drv.outputs) k d below) in
-              let beside_it = at_place k (get_or (take pair.place drv.outputs) k d) at.1 in
-              let same : q ≡ beside_it.0 = one_path dir name kind drv hashes
-              (get_or (take pair.place drv.outputs) k d) q beside_it.0 is beside_it.2 in
+              let at = slice_get-take _ _ k
+              _
+              (slice_get-get_or _ k d below) in
+              let beside_it = at_place k _ at.1 in
+              let same : q ≡ beside_it.0 = one_path _ _ _ _ _
+              _ q _ is beside_it.2 in
               misfit (subst
               (λ (r : List ℕ). FitsExpected in_draft (get_or (take pair.place drv.outputs) k d).path
               r) (sym same)
@@ -208,19 +208,19 @@ module _ (in_draft : Bool) (dir name : List ℕ) (kind : Kind) (drv : Drv) (hash
       drv.outputs paths o path
       → IsFirstWhere (HasOtherEntry (FitsExpected in_draft) Expected drv) drv.outputs o
   first_other o path pair =
-      let found = at_place pair.place o pair.is_output in
+      let found = at_place _ o pair.is_output in
       let one : found.0 ≡ path = same_Some found.0 path (sym found.1 ∙ pair.is_path) in
       let here : Expected o path = subst (λ (q : List ℕ). Expected o q) one found.2 in
       record {
         before = take pair.place drv.outputs;
         after = drop (suc pair.place) drv.outputs;
-        parts = split_get drv.outputs pair.place o pair.is_output;
+        parts = split_get _ _ o pair.is_output;
         is = (pair.wrong.0, path, pair.wrong.1, pair.wrong.2, here, pair.wrong.3);
         others = λ k d below.
-            let at = slice_get-take drv.outputs pair.place k
-            (get_or (take pair.place drv.outputs) k d)
-            (slice_get-get_or (take pair.place drv.outputs) k d below) in
-            no_other k (get_or (take pair.place drv.outputs) k d) at.1
+            let at = slice_get-take _ _ k
+            _
+            (slice_get-get_or _ k d below) in
+            no_other k _ at.1
             (λ j p q before. pair.before j p q (omega (arith, before, at.0)));
       }
 
@@ -229,10 +229,10 @@ module _ (in_draft : Bool) (dir name : List ℕ) (kind : Kind) (drv : Drv) (hash
       → IsValueFault in_draft drv paths fault
       → IsOutputsCheck (FitsExpected in_draft) dir name drv used hashes (Err fault)
   value_is_checked used (OutputMismatch output path) sound (o, pair, is) =
-      let first = first_mismatch o path pair in (kind, sound, (o, first.0, first.1, is))
+      let first = first_mismatch o _ pair in (kind, sound, (o, first.0, first.1, is))
   value_is_checked used (EnvMismatch output) sound (fit, (o, path, pair, is)) =
       search (rules, paths_fit, first_other)
-  value_is_checked used NoMemory sound h = kind_not_mixed drv kind sound.has_kind
+  value_is_checked used NoMemory sound h = kind_not_mixed drv _ sound.has_kind
   value_is_checked used MixedOutputs sound h = absurd h
   value_is_checked used (UnknownMethod output) sound h = absurd h
   value_is_checked used BadName sound h = absurd h
@@ -295,8 +295,8 @@ pub known_more : (inputs : List Input) (drvs : List Drv) (i : ℕ) (x : Input) (
     → All IsKnownUse (uses (take (i + 1) inputs) (take (i + 1) drvs))
 known_more inputs drvs i x d at_x at_d before here =
     subst (λ (n : ℕ). All IsKnownUse (uses (take n inputs) (take n drvs))) (sym (add-one i))
-    (subst (λ (us : List Use). All IsKnownUse us) (sym (uses_next inputs drvs i x d at_x at_d))
-    (All-append IsKnownUse (uses (take i inputs) (take i drvs)) (uses_of x.path d x.names)
+    (subst (λ (us : List Use). All IsKnownUse us) (sym (uses_next _ _ i x d at_x at_d))
+    (All-append IsKnownUse _ _
     before here))
 
 use_fault_within : (before middle after : List Use) (fault : OutputFault) → All IsKnownUse before
@@ -323,10 +323,10 @@ places_one : (keys : List (List ℕ)) (i j : ℕ) (key : List ℕ) → IsRising 
     ≡ Some key → slice_get keys j ≡ Some key → i < j → ⊥
 places_one keys i j key rises at_i at_j before =
     let less : slice_cmp nat_cmp (get_or keys i []) (get_or keys j [])
-    ≡ Less = Less-from_sorted (slice_cmp nat_cmp) keys i j [] (sorted_from_rising keys rises)
+    ≡ Less = Less-from_sorted (slice_cmp nat_cmp) _ i j [] (sorted_from_rising _ rises)
     before (slice_get_within keys j key at_j) in
     let here : slice_cmp nat_cmp key key ≡ Less =
-    rw (get_or_from_slice_get keys i key [] at_i, get_or_from_slice_get keys j key [] at_j) at
+    rw (get_or_from_slice_get _ i _ [] at_i, get_or_from_slice_get _ j _ [] at_j) at
     less in
     not_below_itself key here
 
@@ -340,9 +340,9 @@ one_entry env i j a b rises at_a at_b same =
     let key_b : slice_get keys j ≡ Some a.key = slice_get-map (λ (e : EnvEntry). e.key) env j
     ∙ ap (option_map (λ (e : EnvEntry). e.key)) at_b ∙ ap (λ (k : List ℕ). Some k) (sym same) in
     elim (cases_lt i j) [
-      | inl before ↦ absurd (places_one keys i j a.key rises key_a key_b before)
+      | inl before ↦ absurd (places_one _ i j _ rises key_a key_b before)
       | inr not_before ↦ elim (cases_lt j i) [
-        | inl behind ↦ absurd (places_one keys j i a.key rises key_b key_a behind)
+        | inl behind ↦ absurd (places_one _ j i _ rises key_b key_a behind)
         | inr not_behind ↦
             let place : i ≡ j = omega arith in
             same_Some a b (sym at_a ∙ ap (λ (n : ℕ). slice_get env n) place ∙ at_b)
@@ -357,11 +357,11 @@ pub entry_answer : (in_draft : Bool) (env : List EnvEntry) (name path : List ℕ
     → MatchBool answer (HasMisfit in_draft env name path → ⊥) (HasMisfit in_draft env name path)
 entry_answer in_draft env name path true place entry rises at_key at fits =
     λ (other, has, key, misfit).
-    let found = get_from_contains env other has in
+    let found = get_from_contains _ _ has in
     let here : Some entry.key ≡ Some name = sym
     (slice_get-map (λ (e : EnvEntry). e.key) env place
     ∙ ap (option_map (λ (e : EnvEntry). e.key)) at) ∙ at_key in
-    let same : other ≡ entry = one_entry env found.0 place other entry rises found.1 at
+    let same : other ≡ entry = one_entry _ _ _ _ _ rises found.1 at
     (key ∙ sym (same_Some entry.key name here)) in
     misfit (subst (λ (e : EnvEntry). FitsExpected in_draft e.value path) (sym same) fits)
 entry_answer in_draft env name path false place entry rises at_key at fits =
@@ -396,4 +396,4 @@ pub no_misfit : (in_draft : Bool) (env : List EnvEntry) (key name path : List �
     → HasMisfit in_draft env name path → ⊥
 no_misfit in_draft env key name path none same (entry, has, is, misfit) =
     none (subst (λ (k : List ℕ). Contains (map (λ (e : EnvEntry). e.key) env) k) (is ∙ sym same)
-    (Contains-map (λ (e : EnvEntry). e.key) env entry has))
+    (Contains-map (λ (e : EnvEntry). e.key) _ _ has))

@@ -37,21 +37,21 @@ all_kept nodes (x ∷ xs) (y ∷ ys) zip right =
 
 -- copies are kept right
 pub kept_copies : (xs ys : List PlanNode) → AllZip IsSameNode xs ys → AreKept xs → AreKept ys
-kept_copies xs ys zip right = subst (λ ns. All (IsPlanNode ns) ys) (sym (same_nodes xs ys zip))
-    (all_kept (nodes_of xs) xs ys zip right)
+kept_copies xs ys zip right = subst (λ ns. All (IsPlanNode ns) ys) (sym (same_nodes _ _ zip))
+    (all_kept _ _ _ zip right)
 
 -- a copied plan is seen as the same graph
 pub same_graph : (xs ys : List PlanNode) (roots others : List ℕ) → AllZip IsSameNode xs ys → others
     ≡ roots → ◌≡◌ {A = Graph} (record { nodes = nodes_of ys; roots = others })
     (record { nodes = nodes_of xs; roots = roots })
-same_graph xs ys roots others zip same = let nodes = same_nodes xs ys zip in cc
+same_graph xs ys roots others zip same = let nodes = same_nodes _ _ zip in cc
 
 -- and is right
 pub copy_sound : (xs ys : List PlanNode) (roots others : List ℕ) → AllZip IsSameNode xs ys → others
     ≡ roots → AreKept xs × IsSound (record { nodes = nodes_of xs; roots = roots }) → AreKept ys
     × IsSound (record { nodes = nodes_of ys; roots = others })
 copy_sound xs ys roots others zip same right = (
-  kept_copies xs ys zip right.0,
-  subst IsSound (sym (same_graph xs ys roots others zip same))
+  kept_copies _ _ zip right.0,
+  subst IsSound (sym (same_graph _ _ _ _ zip same))
       right.1,
 )

@@ -41,7 +41,7 @@ unplaced os [] zero = refl
 unplaced os [] (suc i) = refl
 unplaced os (q ∷ ps) zero = refl
 unplaced [] (q ∷ ps) (suc i) = refl
-unplaced (x ∷ os) (q ∷ ps) (suc i) = unplaced os ps i
+unplaced (x ∷ os) (q ∷ ps) (suc i) = unplaced _ _ i
 
 pub place_more : (old now after : List OutputStruct) (paths : List (List ℕ)) (i : ℕ)
     (x d : OutputStruct) (path : List ℕ) → i < length now
@@ -53,15 +53,15 @@ place_more old now after paths i x d path below at same is made =
     let was : Output = output_of (get_or now i d) in
     let next : suc i ≡ i + 1 = omega arith in
     let here : slice_get (map output_of now) i ≡ Some was =
-    slice_get-get_or (map output_of now) i was (omega (arith, length-map now output_of))
-    ∙ ap Some (get_or-map output_of now i d was below) in
+    slice_get-get_or _ i was (omega (arith, length-map now output_of))
+    ∙ ap Some (get_or-map output_of _ i d _ below) in
     let there : slice_get (map output_of old) i
-    ≡ Some was = sym (unplaced (map output_of old) paths i)
+    ≡ Some was = sym (unplaced _ _ i)
     ∙ ap (λ (os : List Output). slice_get os i) (sym same) ∙ here in
     ap (map output_of) is ∙ map-set output_of now i x
     ∙ ap (λ (os : List Output). set os i (output_of x)) same
     ∙ ap (set (placed_outputs (map output_of old) (take i paths)) i) made
-    ∙ sym (place_set (map output_of old) paths i was path there at)
+    ∙ sym (place_set _ _ i _ _ there at)
     ∙ ap (λ (n : ℕ). placed_outputs (map output_of old) (take n paths)) next
 
 -- names are as they were
@@ -128,19 +128,19 @@ pub placed_order : (paths : List (List ℕ)) (draft filled : Drv) → IsPlaced p
 unfolding KeysRise
 placed_order paths draft filled is ordered =
     let h : KeysRise derivation_form (drv_value draft) =
-    (order_means_rising derivation_form (drv_value draft)).0 ordered in
+    (order_means_rising _ _).0 ordered in
     let names : map (key output_form) (map output_value draft.outputs)
     ≡ map (key output_form) (map output_value filled.outputs) =
     map-map (key output_form) output_value draft.outputs
-    ∙ sym (ap names_of is.outputs ∙ same_names draft.outputs paths)
+    ∙ sym (ap names_of is.outputs ∙ same_names _ _)
     ∙ sym (map-map (key output_form) output_value filled.outputs) in
     let keys : map (key entry_form) (map entry_value draft.env)
     ≡ map (key entry_form) (map entry_value filled.env) =
     map-map (key entry_form) entry_value draft.env
-    ∙ sym (same_keys (names_of draft.outputs) paths draft.env filled.env is.env)
+    ∙ sym (same_keys _ _ _ _ is.env)
     ∙ sym (map-map (key entry_form) entry_value filled.env) in
     let outputs : KeysRise (Many Rising output_form) (map output_value filled.outputs) =
-    (subst IsRising names h.1.0.0, each_output filled.outputs) in
+    (subst IsRising names h.1.0.0, each_output _) in
     let inputs : KeysRise (Many Rising input_form) (map input_value filled.inputs) =
     subst (λ (is : List Input). KeysRise (Many Rising input_form) (map input_value is))
     (sym is.inputs) h.1.1.1.0 in
@@ -149,8 +149,8 @@ placed_order paths draft filled is ordered =
     let args : KeysRise (Many Free Str) filled.args =
     subst (KeysRise (Many Free Str)) (sym is.args) h.1.1.1.1.1.1.1.1.1.1.1.0 in
     let env : KeysRise (Many Rising entry_form) (map entry_value filled.env) =
-    (subst IsRising keys h.1.1.1.1.1.1.1.1.1.1.1.1.1.0.0, each_entry filled.env) in
-    (order_means_rising derivation_form (drv_value filled)).1 (
+    (subst IsRising keys h.1.1.1.1.1.1.1.1.1.1.1.1.1.0.0, each_entry _) in
+    (order_means_rising _ _).1 (
       tt,
       (
         outputs,
@@ -164,4 +164,4 @@ pub inputs_rise : (draft : Drv) → InOrder derivation_form (drv_value draft)
 unfolding KeysRise
 inputs_rise draft ordered =
     subst IsRising (map-map (key input_form) input_value draft.inputs)
-    ((order_means_rising derivation_form (drv_value draft)).0 ordered).1.1.1.0.0
+    ((order_means_rising _ _).0 ordered).1.1.1.0.0

@@ -1,6 +1,6 @@
 -- Plans that are equal by `==` are the same, if derivations are.
 use Rattle.std.proofs.Common.{◌≡◌, Decides, ap, nat_eq, rules}
-use Rattle.std.specs.Cmp.Lexicographic.{bytes_decides, pointwise, pointwise_decides}
+use Rattle.std.specs.Cmp.Lexicographic.{bytes_decides, pointwise_decides}
 use Rattle.nix_names.proofs.Tests.{both_parts}
 use Rattle.nix_drv.specs.Equality.{EqualDerivationsAreSame}
 use Rattle.drv_graph.specs.Equality.{EqualPlansAreSame, same_node}
@@ -13,7 +13,7 @@ module _ (drvs : EqualDerivationsAreSame) where
 
   pub equal_plans_are_same : EqualPlansAreSame
   equal_plans_are_same a b =
-      both_parts (pointwise nat_eq a.roots b.roots) (pointwise same_node a.nodes b.nodes)
+      both_parts _ _
       (bytes_decides a.roots b.roots) (pointwise_decides nodes_decide a.nodes b.nodes)
       (λ p q j. record { nodes = q j; roots = p j })
       (λ e. ap (λ (g : Graph). g.roots) e)

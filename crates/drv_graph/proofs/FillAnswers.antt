@@ -62,7 +62,7 @@ filter_all : {X : Type 0} (p : X → Bool) (xs : List X) → ((x : X) → Contai
     → filter p xs ≡ xs
 filter_all p [] all = refl
 filter_all p (x ∷ xs) all = rw (all x (Contains-first x xs))
-    (ap (λ (ys : List _). x ∷ ys) (filter_all p xs (λ y has. all y (Contains-later x xs y has))))
+    (ap (λ (ys : List _). x ∷ ys) (filter_all p _ (λ y has. all y (Contains-later x _ y has))))
 
 pub once_rising : (paths : List (List ℕ)) → IsRising paths → each_once paths ≡ paths
 once_rising [] rises = refl
@@ -72,9 +72,9 @@ once_rising (p ∷ ps) rises =
     λ q has. ap not
     (other_path p q
     (λ same. not_below_itself q
-    (subst (λ (r : List ℕ). IsBelow r q) same (first_below p ps q rises has)))) in
+    (subst (λ (r : List ℕ). IsBelow r q) same (first_below p _ q rises has)))) in
     ap (λ (qs : List (List ℕ)). p ∷ filter (λ q. not (same_bytes p q)) qs) later
-    ∙ ap (λ (qs : List (List ℕ)). p ∷ qs) (filter_all (λ q. not (same_bytes p q)) ps other)
+    ∙ ap (λ (qs : List (List ℕ)). p ∷ qs) (filter_all (λ q. not (same_bytes p q)) _ other)
 
 pub same_inputs : (parts : Parts) (draft : Drv) (inputs : List InputStruct)
     (paths given : List (List ℕ)) → drv_of parts ≡ draft → inputs ≡ parts.inputs.items → paths
@@ -94,15 +94,15 @@ pub are_used : (kept : List PlanNode) (numbers : List ℕ) (used given : List Us
     → AllZip (IsUsed kept) numbers used
     → given ≡ used → AreUsed (nodes_of kept) draft (drvs_of_uses given) (hashes_of given)
 are_used kept numbers used given draft right are zip same =
-    let paths = used_paths kept numbers used (inputs_of draft) zip are in
+    let paths = used_paths _ _ _ _ zip are in
     subst (λ (us : List UsedInput). AreUsed (nodes_of kept) draft (drvs_of_uses us) (hashes_of us))
     (sym same)
     (record {
       are_used = subst (λ (ps : List (List ℕ)). AreDrvsOf (nodes_of kept) ps (drvs_of_uses used))
           paths
-          (used_drvs kept numbers used zip);
+          (used_drvs _ _ _ zip);
       are_hashes = subst (λ (ps : List (List ℕ)). AreHashes (nodes_of kept) ps (hashes_of used))
-          paths (used_hashes kept numbers used right zip);
+          paths (used_hashes _ _ _ right zip);
     })
 
 pub paths_long : (dir name : List ℕ) (draft : Drv) (used : List Drv)
@@ -122,7 +122,7 @@ filled_behind dir name nodes draft filled used hashes paths given behind (kind, 
       behind = behind;
       kind = kind;
       right = right;
-      filled_is = filled_right dir name kind draft hashes paths expected used filled right
+      filled_is = filled_right _ _ _ _ _ _ expected _ _ right
           (subst (λ (ps : List (List ℕ)). IsPlaced ps draft filled) same is);
     }
 
@@ -156,7 +156,7 @@ module _ (dir : List ℕ) (gives : List ℕ → Answer → Type 0) (name : List 
       fill_refused fault (inr (used, hashes, are, inr (of, is, some, check))) =
           rw is (
             is_target.names,
-            (none_stray dir draft is_target.in_store, some, (behind used hashes are, check)),
+            (none_stray _ _ is_target.in_store, some, (behind used hashes are, check)),
           )
 
       module _ (filled : Drv) (is_filled : IsFilledBehind dir name graph.nodes draft filled) where
@@ -177,7 +177,7 @@ module _ (dir : List ℕ) (gives : List ℕ → Answer → Type 0) (name : List 
             rw is (
               is_target.names,
               (
-                none_stray dir draft is_target.in_store,
+                none_stray _ _ is_target.in_store,
                 (filled, bytes, filled_text bytes is_text, long),
               ),
             )
@@ -200,6 +200,6 @@ module _ (dir : List ℕ) (gives : List ℕ → Answer → Type 0) (name : List 
                   is_target.file;
             } in (
               is_target.names,
-              none_stray dir draft is_target.in_store,
+              none_stray _ _ is_target.in_store,
               (is.bytes, filled_text is.bytes is.is_text, is.within, own),
             )

@@ -28,7 +28,7 @@ fits_or_not : (value path : List ℕ) → IsThePathOrEmpty value path
     ⊎ (IsThePathOrEmpty value path → ⊥)
 fits_or_not [] path = inl (inl refl)
 fits_or_not (b ∷ bs) path = ⊎_elim (λ same. inl (inr same))
-    (λ other. inr (⊎_elim (λ none. absurd cc) other)) (path_cases (b ∷ bs) path)
+    (λ other. inr (⊎_elim (λ none. absurd cc) other)) (path_cases _ _)
 
 zip_weaker : {A B : Type 0} (R S : A → B → Type 0) (xs : List A) (ys : List B)
     → ((x : A) (y : B) → Contains xs x → R x y → S x y) → AllZip R xs ys → AllZip S xs ys
@@ -36,7 +36,7 @@ zip_weaker R S [] [] h zip = tt
 zip_weaker R S [] (y ∷ ys) h zip = absurd zip
 zip_weaker R S (x ∷ xs) [] h zip = absurd zip
 zip_weaker R S (x ∷ xs) (y ∷ ys) h zip = (
-  h x y (Contains-first x xs) zip.0,
+  h x y (Contains-first x _) zip.0,
   zip_weaker R S xs ys (λ a b has. h a b (Contains-later x xs a has)) zip.1,
 )
 
@@ -67,8 +67,8 @@ module _ (dir name : List ℕ) (kind : Kind) (draft : Drv) (hashes paths : List 
   outputs_filled [] (p ∷ ps) zip fit = absurd zip
   outputs_filled (o ∷ os) [] zip fit = absurd zip
   outputs_filled (o ∷ os) (p ∷ ps) zip fit =
-      let found = fit o (Contains-first o os) in
-      let one : found.0 ≡ p = one_path dir name kind draft hashes o found.0 p found.1 zip.0 in (
+      let found = fit o (Contains-first o _) in
+      let one : found.0 ≡ p = one_path _ _ _ _ _ o _ p found.1 zip.0 in (
         output_filled o p zip.0 (subst (IsThePathOrEmpty o.path) one found.2),
         outputs_filled os ps zip.1 (λ a has. fit a (Contains-later o os a has)),
       )
@@ -82,26 +82,26 @@ module _ (dir name : List ℕ) (kind : Kind) (draft : Drv) (hashes paths : List 
       → (output : Output) → Contains (placed_outputs draft.outputs paths) output → output.name
       ≡ d.key → (f.value ≡ output.path) × IsThePathOrEmpty d.value output.path
   entry_named fit alone d f has is output has_output named =
-      let at = get_from_contains (placed_outputs draft.outputs paths) output has_output in
-      let found = placed_at draft.outputs paths Expected at.0 output expected at.1 in
+      let at = get_from_contains _ _ has_output in
+      let found = placed_at _ _ Expected _ _ expected at.1 in
       let o = found.0 in
       let p = found.1 in
-      let here : Contains draft.outputs o = Contains-from_get draft.outputs at.0 o found.2 in
+      let here : Contains draft.outputs o = Contains-from_get _ _ o found.2 in
       let under : o.name ≡ d.key = sym (ap (λ (x : Output). x.name) found.4) ∙ named in
-      let stands = beside Expected draft.outputs paths at.0 o expected found.2 in
+      let stands = beside Expected _ _ _ o expected found.2 in
       let is_p : Expected o p = subst (Expected o) (same_Some stands.0 p (sym stands.1 ∙ found.3))
       stands.2 in
       let fits_o = fit o here in
       let path : output.path ≡ p =
-      ap (λ (x : Output). x.path) found.4 ∙ placed_is o.path p
+      ap (λ (x : Output). x.path) found.4 ∙ placed_is _ p
       (subst (IsThePathOrEmpty o.path)
-      (one_path dir name kind draft hashes o fits_o.0 p fits_o.1 is_p) fits_o.2) in
+      (one_path _ _ _ _ _ o _ p fits_o.1 is_p) fits_o.2) in
       let fits : IsThePathOrEmpty d.value p =
       ⊎_elim (λ yes. yes) (λ no. absurd (alone o here (d, p, has, sym under, is_p, no)))
-      (fits_or_not d.value p) in
+      (fits_or_not _ p) in
       let at_name = get_mapped (λ (x : Output). x.name) draft.outputs at.0 o found.2 ∙ ap Some under
       in (
-        is.named at.0 p at_name found.3 ∙ placed_is d.value p fits ∙ sym path,
+        is.named at.0 p at_name found.3 ∙ placed_is _ p fits ∙ sym path,
         subst (IsThePathOrEmpty d.value) (sym path) fits,
       )
 
@@ -112,11 +112,11 @@ module _ (dir name : List ℕ) (kind : Kind) (draft : Drv) (hashes paths : List 
       let fit : (o : Output) → Contains draft.outputs o → (p : List ℕ) × Expected o p
       × IsThePathOrEmpty o.path p = λ o has.
       All-contains (λ (x : Output). (p : List ℕ) × Expected x p × IsThePathOrEmpty x.path p)
-      draft.outputs o right.1 has in
+      _ o right.1 has in
       let alone : (o : Output) → Contains draft.outputs o
       → HasOtherEntry IsThePathOrEmpty Expected draft o
       → ⊥ = λ o has. All-contains (λ x. HasOtherEntry IsThePathOrEmpty Expected draft x → ⊥)
-      draft.outputs o right.2 has in
+      _ o right.2 has in
       let filled_entry : (d f : EnvEntry) → Contains draft.env d
       → IsPlacedEntry (names_of draft.outputs) paths d f
       → IsFilledEntry (placed_outputs draft.outputs paths) d f =
@@ -127,11 +127,11 @@ module _ (dir name : List ℕ) (kind : Kind) (draft : Drv) (hashes paths : List 
             placed_here.other
             (λ under.
             none (subst (λ (ns : List (List ℕ)). Contains ns d.key)
-            (sym (same_names draft.outputs paths)) under));
+            (sym (same_names _ _)) under));
       } in
       record {
         outputs = subst (λ (os : List Output). AllZip (IsFilledOutput Expected) draft.outputs os)
-            (sym is.outputs) (outputs_filled draft.outputs paths expected fit);
+            (sym is.outputs) (outputs_filled _ _ expected fit);
         inputs = is.inputs;
         sources = is.sources;
         system = is.system;
@@ -140,6 +140,6 @@ module _ (dir name : List ℕ) (kind : Kind) (draft : Drv) (hashes paths : List 
         env = subst (λ (os : List Output). AllZip (IsFilledEntry os) draft.env filled.env)
             (sym is.outputs)
             (zip_weaker (IsPlacedEntry (names_of draft.outputs) paths)
-            (IsFilledEntry (placed_outputs draft.outputs paths)) draft.env filled.env
+            (IsFilledEntry (placed_outputs draft.outputs paths)) _ _
             filled_entry is.env);
       }

@@ -27,27 +27,27 @@ pub among_has : (paths others : List (List ℕ)) (path : List ℕ) → are_among
     → Contains paths path → Contains others path
 among_has paths others path all has =
     let known : List ℕ → Bool = λ p. list_any (same_bytes p) others in
-    Contains-from_any equal_from_eq path others
-    (All-contains (λ p. known p ≡ true) paths path (AllPass-from_list_all known paths all) has)
+    Contains-from_any equal_from_eq _ _
+    (All-contains (λ p. known p ≡ true) _ _ (AllPass-from_list_all known _ all) has)
 
 pub among_from : (paths others : List (List ℕ))
     → ((path : List ℕ) → Contains paths path → Contains others path) → are_among paths others
     ≡ true
 among_from paths others each =
     let known : List ℕ → Bool = λ p. list_any (same_bytes p) others in
-    list_all-from_AllPass known paths
-    (All-from_contains (λ p. known p ≡ true) paths
-    (λ path has. list_any-from_Contains nat_list_eq_equiv path others (each path has)))
+    list_all-from_AllPass known _
+    (All-from_contains (λ p. known p ≡ true) _
+    (λ path has. list_any-from_Contains nat_list_eq_equiv _ _ (each path has)))
 
 pub twins_are_told : TwinsAreTold
 twins_are_told a b =
     let mine = output_paths_of a in
     let theirs = output_paths_of b in (
       λ told. let parts = and_parts (are_among mine theirs) (are_among theirs mine) told
-          in λ path. (among_has mine theirs path parts.0, among_has theirs mine path parts.1),
-      λ twins. and_from (are_among mine theirs) (are_among theirs mine)
-          (among_from mine theirs (λ path. (twins path).0))
-          (among_from theirs mine (λ path. (twins path).1)),
+          in λ path. (among_has _ _ _ parts.0, among_has _ _ _ parts.1),
+      λ twins. and_from _ _
+          (among_from _ _ (λ path. (twins path).0))
+          (among_from _ _ (λ path. (twins path).1)),
     )
 
 -- each derivation is a twin of itself
@@ -73,10 +73,10 @@ module _ {X : Type 0} (p : X → Bool) where
       → position_or_len p (xs ++ ys) ≡ position_or_len p xs
   position_grows [] ys x has passes = absurd (Contains-nothing x has)
   position_grows (z ∷ xs) ys x has passes =
-      behind z (xs ++ ys) xs (p z) refl
+      behind z _ _ _ refl
       (λ fails. position_grows xs ys x
       (⊎_elim (λ same. absurd (false≢true (sym fails ∙ ap p same ∙ passes))) (λ later. later)
-      (Contains-cons_cases z xs x has)) passes)
+      (Contains-cons_cases z _ x has)) passes)
 
   -- where there is none, the first stands behind the list, as one that is added does
   pub position_push : (xs : List X) (x : X) → p x ≡ true → position_or_len p (xs ++ x ∷ [])
@@ -98,9 +98,9 @@ module _ (kept : List PlanNode) (drv : Drv) (owners : List ℕ → Option ℕ) (
     left_at : (k : ℕ) (node : Node) → slice_get (nodes_of kept) k ≡ Some node → slice_get all k
         ≡ Some (output_paths_of node.drv)
     left_at k node is =
-        let source = get_source node_of kept k node is in
-        get_grows (outputs_of kept) (output_paths_of drv ∷ []) k (output_paths_of node.drv)
-        (get_mapped (λ (n : PlanNode). output_paths_of n.drv) kept k source.0 source.1
+        let source = get_source node_of _ k _ is in
+        get_grows _ _ k _
+        (get_mapped (λ (n : PlanNode). output_paths_of n.drv) _ k _ source.1
         ∙ ap (λ (n : Node). Some (output_paths_of n.drv)) source.2)
 
     -- who has one of the outputs is owned by their owner
@@ -113,8 +113,8 @@ module _ (kept : List PlanNode) (drv : Drv) (owners : List ℕ → Option ℕ) (
     no_smaller : (k : ℕ) (node : Node) → slice_get (nodes_of kept) k ≡ Some node
         → AreTwins node.drv drv → first ≤ k
     no_smaller k node is twins =
-        let its = right.of_each k (output_paths_of node.drv) (left_at k node is) in
-        let same = one_owner (output_paths_of node.drv) its.0 its.2 ((twins path).1 has) in
+        let its = right.of_each k (output_paths_of node.drv) (left_at k _ is) in
+        let same = one_owner _ _ its.2 ((twins path).1 has) in
         omega (arith, same, its.1)
 
     -- the owner is a twin
@@ -124,8 +124,8 @@ module _ (kept : List PlanNode) (drv : Drv) (owners : List ℕ → Option ℕ) (
         let found = right.has path first ((own path).0 has) in
         let there : Contains theirs path = subst (λ l. Contains l path)
         (same_element all first found.0 theirs found.1 (left_at first node is)) found.2 in
-        let its = right.of_each first theirs (left_at first node is) in
-        let same = one_owner theirs its.0 its.2 there in
+        let its = right.of_each first theirs (left_at _ _ is) in
+        let same = one_owner _ _ its.2 there in
         λ q. (
           λ mine. (own q).1 ((its.2 q).0 mine ∙ ap Some same),
           λ mine. (its.2 q).1 ((own q).0 mine ∙ ap Some (sym same)),
@@ -149,19 +149,19 @@ module _ (kept : List PlanNode) (drv : Drv) (owners : List ℕ → Option ℕ) (
         let nodes = nodes_of kept in
         let test : Node → Bool = λ n. are_twins n.drv drv in
         let other : Node = record { path = path; drv = drv } in
-        sym (position_or_len_is test nodes first other owner_low
+        sym (position_or_len_is test _ _ other owner_low
         (λ k below.
-        let there = element_at nodes k (omega (arith, below, owner_low)) in
-        let read = get_or_from_slice_get nodes k there.0 other there.1 in
+        let there = element_at _ k (omega (arith, below, owner_low)) in
+        let read = get_or_from_slice_get _ k _ _ there.1 in
         ap test read
-        ∙ false_from_ne_true (test there.0)
+        ∙ false_from_ne_true _
         (λ passes.
-        let within = no_smaller k there.0 there.1 ((twins_are_told there.0.drv drv).0 passes)
+        let within = no_smaller k _ there.1 ((twins_are_told there.0.drv drv).0 passes)
         in omega (arith, below, within)))
         (λ low.
-        let there = element_at nodes first low in
-        ap test (get_or_from_slice_get nodes first there.0 other there.1)
-        ∙ (twins_are_told there.0.drv drv).1 (owner_twin there.0 there.1)))
+        let there = element_at _ _ low in
+        ap test (get_or_from_slice_get nodes first _ other there.1)
+        ∙ (twins_are_told there.0.drv drv).1 (owner_twin _ there.1)))
 
 -- ---- the number of the first
 
@@ -175,7 +175,7 @@ no_later nodes d k node at are =
     ⊎_elim
     (λ less. absurd
     (false≢true
-    (sym (fails_before_first test nodes k node less)
+    (sym (fails_before_first test _ k _ less)
     ∙ ap test (get_or_from_slice_get nodes k node node at) ∙ passes)))
     (λ within. within)
     (cases_lt k (first_twin_of nodes d))
@@ -183,6 +183,6 @@ no_later nodes d k node at are =
 -- a derivation's first twin has no greater number than its own
 pub first_within : (nodes : List Node) (d : ℕ) → d < length nodes → first_twin_of nodes d ≤ d
 first_within nodes d low =
-    let there = element_at nodes d low in
+    let there = element_at _ d low in
     no_later nodes d d there.0 there.1
     (subst (λ o. are_twins_at o o ≡ true) (sym there.1) (twins_alone there.0.drv))

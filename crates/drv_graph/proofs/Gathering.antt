@@ -26,11 +26,11 @@ pub sorted_map : {A : Type 0} (key_of : A → List ℕ) (xs : List A)
     → IsSorted (slice_cmp nat_cmp) (map key_of xs)
 sorted_map key_of xs sorted k d low next =
     let here : k + 1 < length xs = omega (arith, next, length-map xs key_of) in
-    let e = element xs (k + 1) here in
+    let e = element _ _ here in
     let first : get_or (map key_of xs) k d ≡ key_of (get_or xs k e) =
-    get_or-map key_of xs k e d (omega arith) in
+    get_or-map key_of _ k e d (omega arith) in
     let second : get_or (map key_of xs) (k + 1) d ≡ key_of (get_or xs (k + 1) e) =
-    get_or-map key_of xs (k + 1) e d here in
+    get_or-map key_of _ _ e d here in
     rw (first, second) (sorted k e low here)
 
 -- ---- names
@@ -45,18 +45,18 @@ dedup_from_map : (k : Vec ℕ) (xs : List (Vec ℕ))
     ≡ dedup_from (pointwise nat_eq) (bytes_of k) (map bytes_of xs)
 dedup_from_map k [] = refl
 dedup_from_map k (x ∷ xs) =
-    cond_map bytes_of (pointwise nat_eq x.items k.items)
-    (dedup_from (λ (x y : Vec ℕ). pointwise nat_eq x.items y.items) k xs)
-    (k ∷ dedup_from (λ (x y : Vec ℕ). pointwise nat_eq x.items y.items) x xs)
-    (dedup_from (pointwise nat_eq) (bytes_of k) (map bytes_of xs))
-    (bytes_of k ∷ dedup_from (pointwise nat_eq) (bytes_of x) (map bytes_of xs))
+    cond_map bytes_of _
+    _
+    _
+    _
+    _
     (dedup_from_map k xs) (ap (λ (ys : List (List ℕ)). bytes_of k ∷ ys) (dedup_from_map x xs))
 
 dedup_map : (xs : List (Vec ℕ)) → map bytes_of
     (dedup (λ (x y : Vec ℕ). pointwise nat_eq x.items y.items) xs)
     ≡ dedup (pointwise nat_eq) (map bytes_of xs)
 dedup_map [] = refl
-dedup_map (x ∷ xs) = dedup_from_map x xs
+dedup_map (x ∷ xs) = dedup_from_map x _
 
 -- what a sort and `dedup` leave of names
 pub names_sorted : (names sorted kept : List (Vec ℕ)) → IsPermutation names sorted
@@ -68,11 +68,11 @@ names_sorted names sorted kept moved ordered is =
     let same : map bytes_of kept ≡ dedup (pointwise nat_eq) (map bytes_of sorted) =
     ap (map bytes_of) is ∙ dedup_map sorted in (
       subst IsRising (sym same)
-          (rising_dedup (map bytes_of sorted) (sorted_map bytes_of sorted ordered)),
+          (rising_dedup _ (sorted_map bytes_of _ ordered)),
       λ name. subst (λ (ns : List (List ℕ)). Contains ns name ↔ Contains (map bytes_of names) name)
           (sym same)
-          (members_of_dedup (map bytes_of names) (map bytes_of sorted)
-          (IsPermutation-map bytes_of names sorted moved) name),
+          (members_of_dedup _ _
+          (IsPermutation-map bytes_of names sorted moved) _),
     )
 
 -- ---- one input more
@@ -89,11 +89,11 @@ joins items n last input names (Err refused) long some at same all = tt
 joins items n last input names (Ok done) long some at same all = inl (record {
   front = map input_of (take (n - 1) items);
   last = input_of last;
-  was = ap (map input_of) (split_last items n last long some at)
+  was = ap (map input_of) (split_last _ n _ long some at)
       ∙ map-append input_of (take (n - 1) items) (last ∷ []);
   same = same;
   is =
-      ap (map input_of) (set_last items n (record { path = last.path; names = names }) long some)
+      ap (map input_of) (set_last _ n _ long some)
       ∙ map-append input_of (take (n - 1) items) (record { path = last.path; names = names } ∷ [])
       ∙ ap (λ (ns : List (List ℕ)). map input_of (take (n - 1) items)
       ++ record { path = last.path.items; names = ns } ∷ [])
@@ -107,9 +107,9 @@ pub appends_other : (items after : List InputStruct) (n : ℕ) (last input : Inp
 appends_other items after n last input long some at differ is = inr (record {
   other = λ front end e same.
       let ends : front ++ end ∷ [] ≡ map input_of (take (n - 1) items) ++ input_of last ∷ [] =
-      sym e ∙ ap (map input_of) (split_last items n last long some at)
+      sym e ∙ ap (map input_of) (split_last _ n _ long some at)
       ∙ map-append input_of (take (n - 1) items) (last ∷ []) in
-      let one = (same_from_push front (map input_of (take (n - 1) items)) end (input_of last)
+      let one = (same_from_push _ _ _ _
       ends).1 in
       differ (ap (λ (i : Input). i.path) (sym one) ∙ same);
   is = ap (map input_of) is ∙ map-append input_of items (input ∷ []);
@@ -128,12 +128,12 @@ gather_step all yielded gathered after input sorted so_far below at are added =
     ≡ map path_of all = map-map (λ (i : Input). i.path) input_of all in
     subst (λ (given : List Input). IsGathered given after)
     (sym (map-append input_of yielded (input ∷ [])))
-    (gathered_more (map input_of all) (map input_of yielded) gathered after (length yielded)
-    (input_of input)
+    (gathered_more _ _ _ _ _
+    _
     (subst (λ (ps : List (List ℕ)). IsSorted (slice_cmp nat_cmp) ps) (sym paths) sorted)
     (ap (map input_of) (sym (map-id yielded) ∙ so_far)
     ∙ sym (take-map input_of (length yielded) all))
-    (seen_twice (λ (i : Input). i.path) input_of all (length yielded) input below at)
+    (seen_twice (λ (i : Input). i.path) input_of _ _ _ below at)
     are added)
 
 pub gather_end : (all yielded : List InputStruct) (gathered : List Input)

@@ -1,6 +1,6 @@
 -- The paths that a derivation names are paths of the folder where they were found to be, and the
 -- paths that are expected of its outputs always are.
-use Rattle.std.proofs.Common.{◌≡◌, ◌∙◌, ℕ, ◌<◌, List, [], ◌∷◌, ◌++◌, length, map, get_or, inl, inr, sym, ap, subst, true, None, Ok, Some, rules}
+use Rattle.std.proofs.Common.{◌≡◌, ◌∙◌, ℕ, ◌<◌, List, [], ◌∷◌, length, map, get_or, inl, inr, sym, ap, subst, true, None, Ok, Some, rules}
 use Rattle.std.specs.Prelude.{◌≢◌, ◌⊎◌, All, Contains, codes}
 use Rattle.std.proofs.lemmas.List.Elements.{All-contains, Contains-append_right}
 use Rattle.nix_names.specs.Names.{is_name}
@@ -28,22 +28,20 @@ use Rattle.drv_graph.specs.declared.kinds.Method.TheVariants.{Flat, Recursive}
 -- what is true of all that a list is seen as is true of an item that was read
 pub item_is : {A B : Type 0} (P : B → Type 0) (view : A → B) (xs : List A) (i : ℕ) (x : A)
     → i < length xs → x ≡ get_or xs i x → All P (map view xs) → P (view x)
-item_is P view xs i x lt is all =
-    All-contains P (map view xs) (view x) all (Contains-map view xs x (i, lt, sym is))
+item_is P view xs i x lt is all = All-contains P _ _ all (Contains-map view _ x (i, lt, sym is))
 
 -- the name of the path of an output that was read is a name
 pub item_named : (name : List ℕ) (outputs : List OutputStruct) (i : ℕ) (x : OutputStruct)
     → i < length outputs → x ≡ get_or outputs i x → All (IsWellNamed name) (map output_of outputs)
     → is_name (path_name name x.name.items) ≡ true
-item_named name outputs i x lt is all =
-    (item_is (IsWellNamed name) output_of outputs i x lt is all).1
+item_named name outputs i x lt is all = (item_is (IsWellNamed name) output_of _ i x lt is all).1
 
 -- nothing but want of memory is answered for a path of the folder
 pub only_memory : (dir text : List ℕ) (fault : NameFault) → IsPathOf dir text
     → (path_fault dir text ≡ Some fault) ⊎ ((path_fault dir text ≡ None) × (fault ≡ NoMemory))
     → fault ≢ NoMemory → ⊥
 only_memory dir text fault is (inl wrong) other =
-    none-some fault (sym (no_fault_of_path dir text is) ∙ wrong)
+    none-some fault (sym (no_fault_of_path _ _ is) ∙ wrong)
 only_memory dir text fault is (inr none) other = other none.1
 
 -- a derivation's inputs and sources are in the folder where all of its paths are
@@ -55,9 +53,9 @@ inputs_in_store dir drv all = search (rules, All-left)
 pub sources_in_store : (dir : List ℕ) (drv : Drv) → All (IsPathOf dir) (referenced_paths drv)
     → All (IsPathOf dir) drv.sources
 unfolding referenced_paths
-sources_in_store dir drv all = All-from_contains (IsPathOf dir) drv.sources
-    (λ x has. All-contains (IsPathOf dir) (inputs_of drv ++ drv.sources) x all
-    (Contains-append_right (inputs_of drv) drv.sources x has))
+sources_in_store dir drv all = All-from_contains (IsPathOf dir) _
+    (λ x has. All-contains (IsPathOf dir) _ x all
+    (Contains-append_right _ _ x has))
 
 -- the name of the path of a fixed output is the derivation's
 pub name_of_out : (name output : List ℕ) → output ≡ codes "out" → path_name name output ≡ name
@@ -85,13 +83,13 @@ expected_in_store dir name (Fixed Recursive digest) drv hashes is named o has pa
 pub outputs_in_store : (dir : List ℕ) (nodes : List Node) (node : Node) (kind : Kind)
     → MayAnswer dir nodes node (Ok kind) → All (IsPathOf dir) (output_paths_of node.drv)
 outputs_in_store dir nodes node kind right =
-    All-from_contains (IsPathOf dir) (output_paths_of node.drv) (λ path has.
-    let from = Contains-from_map (λ (o : Output). o.path) node.drv.outputs path has in
+    All-from_contains (IsPathOf dir) _ (λ path has.
+    let from = Contains-from_map (λ (o : Output). o.path) _ _ has in
     let fit = All-contains (λ (o : Output). (p : List ℕ)
     × IsExpected dir (drv_name_of node.path) kind node.drv right.hashes o p × IsThePath o.path p)
-    node.drv.outputs from.0
+    _ _
     right.check.1 from.1 in
     subst (IsPathOf dir) (sym fit.2 ∙ from.2)
-    (expected_in_store dir (drv_name_of node.path) kind node.drv right.hashes
+    (expected_in_store _ _ _ _ _
     right.check.0.has_kind right.check.0.named
-    from.0 from.1 fit.0 fit.1))
+    _ from.1 _ fit.1))

@@ -57,11 +57,11 @@ pub kept_first : (kept : List PlanNode) (n : ℕ) (node : PlanNode) → n < leng
     → node ≡ get_or kept n node → AreKept kept → node.first ≡ first_twin_of (nodes_of kept) n
 kept_first kept n node lt is are =
     let own : IsPlanNode (nodes_of kept) node =
-    All-contains (IsPlanNode (nodes_of kept)) kept node are
-    (Contains-from_get kept n node (kept_at kept n node lt is)) in
+    All-contains (IsPlanNode (nodes_of kept)) _ _ are
+    (Contains-from_get _ n _ (kept_at _ n _ lt is)) in
     own.first
     ∙ ap (λ o. position_or_len (λ (m : Node). are_twins_at (Some m) o) (nodes_of kept))
-    (sym (kept_node kept n node lt is))
+    (sym (kept_node _ n _ lt is))
 
 -- it is no greater
 pub kept_first_within : (kept : List PlanNode) (n : ℕ) (node : PlanNode)
@@ -72,11 +72,11 @@ kept_first_within kept n node lt is are = search (rules, first_within, kept_firs
 pub drvs_paths : (nodes : List Node) (paths : List (List ℕ)) (drvs : List Drv)
     → AreDrvsOf nodes paths drvs → (path : List ℕ) → Contains paths path
     → Contains (paths_of nodes) path
-drvs_paths nodes [] drvs are path has = absurd (Contains-nothing path has)
+drvs_paths nodes [] drvs are path has = absurd (Contains-nothing _ has)
 drvs_paths nodes (p ∷ ps) [] are path has = absurd are
 drvs_paths nodes (p ∷ ps) (d ∷ ds) are path has =
     ⊎_elim (λ same. subst (Contains (paths_of nodes)) same
-    (Contains-map (λ (m : Node). m.path) nodes (record { path = p; drv = d }) are.0))
+    (Contains-map (λ (m : Node). m.path) _ _ are.0))
     (λ later. drvs_paths nodes ps ds are.1 path later) (Contains-cons_cases p ps path has)
 
 -- a node's inputs have smaller numbers
@@ -86,22 +86,22 @@ smaller : (graph : Graph) (d : ℕ) (node : Node) (ns : List ℕ) → IsSound gr
 smaller graph d node ns sound at numbers n has =
     let nodes = graph.nodes in
     let lt : d < length graph.nodes = slice_get_within graph.nodes d node at in
-    let read : get_or graph.nodes d node ≡ node = get_or_from_slice_get graph.nodes d node node at
+    let read : get_or graph.nodes d node ≡ node = get_or_from_slice_get _ d _ _ at
     in
     let parts : graph.nodes ≡ take d graph.nodes ++ node ∷ drop (suc d) graph.nodes =
     split_at graph.nodes d node lt
     ∙ ap (λ (m : Node). take d graph.nodes ++ m ∷ drop (suc d) graph.nodes) read in
     let lawful = sound.lawful (take d graph.nodes) (drop (suc d) graph.nodes) node parts in
-    let its = number_source graph.nodes ns (inputs_of node.drv) n numbers has in
+    let its = number_source _ _ _ n numbers has in
     let before : Contains (paths_of (take d graph.nodes)) its.0 =
-    drvs_paths (take d graph.nodes) (inputs_of node.drv) lawful.right.used lawful.right.are_used
-    its.0 its.1 in
-    let place = get_from_contains (paths_of (take d graph.nodes)) its.0 before in
+    drvs_paths _ _ _ lawful.right.are_used
+    _ its.1 in
+    let place = get_from_contains _ _ before in
     let there : slice_get (paths_of graph.nodes) place.0 ≡ Some its.0 =
     subst (λ l. slice_get (paths_of l) place.0 ≡ Some its.0) (sym parts)
-    (number_grows (take d graph.nodes) (node ∷ drop (suc d) graph.nodes) place.0 its.0 place.1)
+    (number_grows (take d graph.nodes) (node ∷ drop (suc d) graph.nodes) place.0 _ place.1)
     in
-    let same : n ≡ place.0 = same_place (paths_of graph.nodes) n place.0 its.0 sound.distinct its.2
+    let same : n ≡ place.0 = same_place _ n _ _ sound.distinct its.2
     there in
     let low : place.0 < length (paths_of (take d graph.nodes)) =
     slice_get_within (paths_of (take d graph.nodes)) place.0 its.0 place.1 in
@@ -118,8 +118,8 @@ pub inputs_smaller : (kept : List PlanNode) (roots : List ℕ) (d : ℕ) (node :
     × IsSound (record { nodes = nodes_of kept; roots = roots }) → All (λ n. n < d) node.inputs.items
 inputs_smaller kept roots d node lt is right =
     let own : IsPlanNode (nodes_of kept) node =
-    All-contains (IsPlanNode (nodes_of kept)) kept node right.0
-    (Contains-from_get kept d node (kept_at kept d node lt is)) in
-    All-from_contains (λ n. n < d) node.inputs.items
-    (smaller (record { nodes = nodes_of kept; roots = roots }) d (node_of node)
-    node.inputs.items right.1 (kept_node kept d node lt is) own.numbers)
+    All-contains (IsPlanNode (nodes_of kept)) _ _ right.0
+    (Contains-from_get _ d _ (kept_at _ d _ lt is)) in
+    All-from_contains (λ n. n < d) _
+    (smaller _ d _
+    _ right.1 (kept_node _ d _ lt is) own.numbers)

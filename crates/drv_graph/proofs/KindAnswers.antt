@@ -39,8 +39,7 @@ not_mixed drv only is named (inr (o, has, says, other)) =
 pub kind_not_mixed : (drv : Drv) (kind : Kind) → HasKind drv kind → AreMixed drv → ⊥
 kind_not_mixed drv Addressed has (inl none) = has.0 none
 kind_not_mixed drv Addressed has (inr (o, here, says, other)) = search (rules, All-contains)
-kind_not_mixed drv (Fixed method digest) (only, is, fixed) mixed =
-    not_mixed drv only is.0 is.1 mixed
+kind_not_mixed drv (Fixed method digest) (only, is, fixed) mixed = not_mixed drv _ is.0 is.1 mixed
 
 -- the only output says something
 says_alone : (only : Output) (outputs : List Output) → outputs ≡ only ∷ [] → (o : Output)
@@ -97,7 +96,7 @@ one_method : (a b : Method) (d e : Digest) → MayBeDeclared a d → MayBeDeclar
     → algo_of a d ≡ algo_of b e
     → (a ≡ b) × (algorithm_of d ≡ algorithm_of e)
 one_method Flat Flat d e taken taken' same = search (rules, one_name)
-one_method Flat Recursive d e taken taken' same = absurd (not_recursive (algorithm_of d) same)
+one_method Flat Recursive d e taken taken' same = absurd (not_recursive _ same)
 one_method Recursive Flat d e taken taken' same = search (rules, not_recursive)
 one_method Recursive Recursive d e taken taken' same = (refl, taken ∙ sym taken')
 
@@ -108,16 +107,16 @@ some_name Sha256 e = cc
 some_name Sha512 e = cc
 
 some_method : (m : Method) (digest : Digest) → algo_of m digest ≡ [] → ⊥
-some_method Flat digest e = some_name (algorithm_of digest) e
+some_method Flat digest e = some_name _ e
 some_method Recursive digest e = cc
 
 not_both : (drv : Drv) (method : Method) (digest : Digest) → All IsAddressed drv.outputs
     → HasKind drv (Fixed method digest) → ⊥
 not_both drv method digest each (output, only, fixed) =
-    let addressed = All-contains IsAddressed drv.outputs output each
-    (subst (λ (os : List Output). Contains os output) (sym only.0) (Contains-first output []))
+    let addressed = All-contains IsAddressed _ _ each
+    (subst (λ (os : List Output). Contains os output) (sym only.0) (Contains-first _ []))
     in
-    some_method method digest (sym fixed.0 ∙ addressed.0)
+    some_method _ _ (sym fixed.0 ∙ addressed.0)
 
 pub one_kind : (drv : Drv) (a b : Kind) → HasKind drv a → HasKind drv b → a ≡ b
 one_kind drv Addressed Addressed is_a is_b = refl
@@ -126,7 +125,7 @@ one_kind drv (Fixed method digest) Addressed is_a is_b = search (rules, not_both
 one_kind drv (Fixed m d) (Fixed m' d') (o, only, fixed) (o', only', fixed') =
     let lists : o ∷ [] ≡ o' ∷ [] = sym only.0 ∙ only'.0 in
     let same : o ≡ o' = cc in
-    let method = one_method m m' d d' fixed.3 fixed'.3
+    let method = one_method m _ d _ fixed.3 fixed'.3
     (sym fixed.0 ∙ ap (λ (p : Output). p.algo) same ∙ fixed'.0) in
     let digest : d ≡ d' = one_digest d d' fixed.2 fixed'.2 method.1
     (sym fixed.1 ∙ ap (λ (p : Output). p.hash) same ∙ fixed'.1) in

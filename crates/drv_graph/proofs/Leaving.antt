@@ -69,16 +69,16 @@ leaving_clash dir kept given visit outputs owners fault kind right same are (inl
 leaving_clash dir kept given visit outputs owners fault kind right same are (inr (is, found)) =
     let clash : IsClash kept (output_paths_of visit.drv) = subst (IsClash kept) are
     (subst (λ k. IsClash k outputs) same found) in
-    let mine = Contains-from_map (λ (o : Output). o.path) visit.drv.outputs clash.output
+    let mine = Contains-from_map (λ (o : Output). o.path) _ _
     clash.is_own in
-    let other = Contains-from_map (λ (o : Output). o.path) clash.node.drv.outputs clash.output
+    let other = Contains-from_map (λ (o : Output). o.path) clash.node.drv.outputs _
     clash.is_output in
     subst (IsLeavingFault dir kept visit) (sym is) (
       refl,
       (kind, right),
       (
         node_of clash.node,
-        Contains-map node_of kept clash.node clash.is_node,
+        Contains-map node_of _ _ clash.is_node,
         (other.0, mine.0, other.1, mine.1, other.2 ∙ sym mine.2),
         clash.no_twin,
       ),
@@ -86,18 +86,18 @@ leaving_clash dir kept given visit outputs owners fault kind right same are (inr
 
 last_cases : {A : Type 0} (x : A) (xs : List A) → (ys : List A) × (y : A) × (x ∷ xs ≡ ys ++ y ∷ [])
 last_cases x [] = ([], x, refl)
-last_cases x (z ∷ zs) = let rest = last_cases z zs in (x ∷ rest.0, rest.1, ap (λ l. x ∷ l) rest.2)
+last_cases x (z ∷ zs) = let rest = last_cases z _ in (x ∷ rest.0, rest.1, ap (λ l. x ∷ l) rest.2)
 
 -- one more lawful node
 pub lawful_push : (dir : List ℕ) (nodes : List Node) (node : Node) → AreLawful dir nodes
     → IsLawful dir nodes node → AreLawful dir (nodes ++ node ∷ [])
 lawful_push dir nodes node all one before [] other parts = search (rules, same_from_push)
 lawful_push dir nodes node all one before (x ∷ xs) other parts =
-    let rest = last_cases x xs in
+    let rest = last_cases x _ in
     let whole : nodes ++ node ∷ [] ≡ (before ++ other ∷ rest.0) ++ rest.1 ∷ [] =
     parts ∙ ap (λ l. before ++ other ∷ l) rest.2
     ∙ sym (append_assoc before (other ∷ rest.0) (rest.1 ∷ [])) in
-    all before rest.0 other (same_from_push nodes (before ++ other ∷ rest.0) node rest.1 whole).0
+    all before rest.0 other (same_from_push _ _ _ _ whole).0
 
 -- what is kept stays right as nodes are added behind its first twin
 kept_grows : (nodes more : List Node) (kept : PlanNode) → IsPlanNode nodes kept
@@ -105,7 +105,7 @@ kept_grows : (nodes more : List Node) (kept : PlanNode) → IsPlanNode nodes kep
     ≡ position_or_len (λ (n : Node). are_twins n.drv kept.drv) nodes
     → IsPlanNode (nodes ++ more) kept
 kept_grows nodes more kept right stays = record {
-  numbers = numbers_grow nodes more kept.inputs.items (inputs_of kept.drv) right.numbers;
+  numbers = numbers_grow _ _ _ _ right.numbers;
   has_kind = right.has_kind;
   has_hash = hash_grows nodes more kept.drv kept.kind kept.hash right.has_hash;
   outputs = right.outputs;
@@ -123,23 +123,23 @@ apart_drv : (kept : List PlanNode) (drv : Drv) (owners : List ℕ → Option ℕ
     → Contains (nodes_of kept) earlier
     → (ShareOutput earlier.drv drv → ⊥) ⊎ AreTwins earlier.drv drv
 apart_drv kept drv owners right earlier has =
-    let source = Contains-from_map node_of kept earlier has in
-    let place = get_from_contains kept source.0 source.1 in
+    let source = Contains-from_map node_of _ _ has in
+    let place = get_from_contains _ _ source.1 in
     let drvs : source.0.drv ≡ earlier.drv = ap (λ (n : Node). n.drv) source.2 in
     let left = outputs_of kept in
     let its : slice_get left place.0 ≡ Some (output_paths_of earlier.drv) =
-    get_mapped (λ (k : PlanNode). output_paths_of k.drv) kept place.0 source.0 place.1
+    get_mapped (λ (k : PlanNode). output_paths_of k.drv) kept place.0 _ place.1
     ∙ ap (λ (d : Drv). Some (output_paths_of d)) drvs in
     ⊎_elim
     (λ none. inl (λ shared. none shared.0.path
-    (Contains-map (λ (o : Output). o.path) earlier.drv.outputs shared.0 shared.2)
+    (Contains-map (λ (o : Output). o.path) _ _ shared.2)
     (subst (Contains (output_paths_of drv)) (sym shared.4)
-    (Contains-map (λ (o : Output). o.path) drv.outputs shared.1 shared.3))))
+    (Contains-map (λ (o : Output). o.path) _ _ shared.3))))
     inr
     (apart_or_same owners (left ++ output_paths_of drv ∷ []) place.0 (length left)
     (output_paths_of earlier.drv) (output_paths_of drv) right
     (get_grows left (output_paths_of drv ∷ []) place.0 (output_paths_of earlier.drv) its)
-    (get_pushed left (output_paths_of drv)))
+    (get_pushed left _))
 
 -- what is kept is right with one derivation more
 kept_push : (kept : List PlanNode) (one : PlanNode) → AreKept kept → IsPlanNode (nodes_of kept) one
@@ -150,12 +150,12 @@ kept_push kept one right new =
     let grow : (k : PlanNode) → IsPlanNode nodes k
     → position_or_len (twins k) (nodes ++ node_of one ∷ [])
     ≡ position_or_len (twins k) nodes → IsPlanNode (nodes_of (kept ++ one ∷ [])) k =
-    λ k is stays. subst (λ ns. IsPlanNode ns k) (sym (map_push node_of kept one))
-    (kept_grows nodes (node_of one ∷ []) k is stays) in
-    All-push (IsPlanNode (nodes_of (kept ++ one ∷ []))) kept one
-    (All-from_contains (IsPlanNode (nodes_of (kept ++ one ∷ []))) kept
-    (λ k has. grow k (All-contains (IsPlanNode nodes) kept k right has)
-    (position_grows (twins k) nodes (node_of one ∷ []) (node_of k) (Contains-map node_of kept k has)
+    λ k is stays. subst (λ ns. IsPlanNode ns k) (sym (map_push node_of _ _))
+    (kept_grows _ _ k is stays) in
+    All-push (IsPlanNode (nodes_of (kept ++ one ∷ []))) _ _
+    (All-from_contains (IsPlanNode (nodes_of (kept ++ one ∷ []))) _
+    (λ k has. grow k (All-contains (IsPlanNode nodes) _ k right has)
+    (position_grows (twins k) _ _ _ (Contains-map node_of kept k has)
     (twins_alone k.drv))))
     (grow one new (position_push (twins one) nodes (node_of one) (twins_alone one.drv)))
 
@@ -178,25 +178,25 @@ found_right :
     IsWalkSoFar dir after
 found_right dir kept after one owners outputs right distinct lawful is_kept new answer others once
     are entered grown same = record {
-      kept = subst AreKept (sym grown) (kept_push kept one right is_kept);
+      kept = subst AreKept (sym grown) (kept_push _ _ right is_kept);
       distinct = subst (λ l. AreDistinct (paths_of (nodes_of l))) (sym grown)
-          (subst (λ ns. AreDistinct (paths_of ns)) (sym (map_push node_of kept one))
-          (subst AreDistinct (sym (map_push (λ (n : Node). n.path) (nodes_of kept) (node_of one)))
-          (distinct_push (paths_of (nodes_of kept)) one.path distinct new)));
+          (subst (λ ns. AreDistinct (paths_of ns)) (sym (map_push node_of _ _))
+          (subst AreDistinct (sym (map_push (λ (n : Node). n.path) _ _))
+          (distinct_push _ _ distinct new)));
       lawful = subst (λ l. AreLawful dir (nodes_of l)) (sym grown)
-          (subst (AreLawful dir) (sym (map_push node_of kept one))
-          (lawful_push dir (nodes_of kept) (node_of one) lawful is_lawful));
+          (subst (AreLawful dir) (sym (map_push node_of _ _))
+          (lawful_push _ _ _ lawful is_lawful));
       own_outputs =
           subst (λ l. All (λ (n : Node). AreDistinct (output_paths_of n.drv)) (nodes_of l))
           (sym grown)
           (subst (All (λ (n : Node). AreDistinct (output_paths_of n.drv)))
-          (sym (map_push node_of kept one))
-          (All-push (λ (n : Node). AreDistinct (output_paths_of n.drv)) (nodes_of kept)
-          (node_of one) others once));
+          (sym (map_push node_of _ _))
+          (All-push (λ (n : Node). AreDistinct (output_paths_of n.drv)) _
+          _ others once));
       owners = subst (λ o. AreOwners o (outputs_of after.nodes.items)) (sym same)
           (subst (λ l. AreOwners owners (outputs_of l)) (sym grown)
           (subst (AreOwners owners)
-          (sym (map_push (λ (k : PlanNode). output_paths_of k.drv) kept one)) its_entered));
+          (sym (map_push (λ (k : PlanNode). output_paths_of k.drv) _ _)) its_entered));
     }
   where
     its_entered : AreOwners owners (outputs_of kept ++ output_paths_of one.drv ∷ [])
@@ -213,12 +213,12 @@ its_first : (dir : List ℕ) (kept : List PlanNode) (visit : Visit) (kind : Kind
     → AreOwners owners (outputs_of kept ++ entered ∷ []) × AreOwnedBy owners first entered
     → first ≡ position_or_len (λ (n : Node). are_twins n.drv visit.drv) (nodes_of kept)
 its_first dir kept visit kind owners first entered right are owned_right =
-    let some = some_output visit.drv kind right.check.0.has_kind in
+    let some = some_output visit.drv _ right.check.0.has_kind in
     let both : AreOwners owners (outputs_of kept ++ output_paths_of visit.drv ∷ [])
     × AreOwnedBy owners first (output_paths_of visit.drv) =
     subst (λ l. AreOwners owners (outputs_of kept ++ l ∷ []) × AreOwnedBy owners first l) are
     owned_right in
-    owner_first kept visit.drv owners first some.0.path both.0 both.1
+    owner_first kept visit.drv owners _ some.0.path both.0 both.1
     (Contains-map (λ (o : Output). o.path) visit.drv.outputs some.0 some.1)
 
 -- a derivation is left
@@ -253,7 +253,7 @@ leaving_kept dir before after visit kind hash outputs sources first given entere
     found is all new right are lent same own rising owning grown owners_same marks count err =
     let kept = before.nodes.items in
     let one : PlanNode = kept_visit visit kind hash outputs sources first in
-    let numbers = all_numbers (nodes_of kept) visit is all in
+    let numbers = all_numbers _ _ is all in
     let entered_right : AreOwners owners (outputs_of kept ++ entered ∷ [])
     × AreOwnedBy owners first entered =
     subst (λ k. AreOwners owners (outputs_of k ++ entered ∷ []) × AreOwnedBy owners first entered)
@@ -265,15 +265,14 @@ leaving_kept dir before after visit kind hash outputs sources first given entere
       has_hash = right.1;
       outputs = are;
       sources = lent;
-      first = its_first dir kept visit kind owners first entered right.0 (own ∙ are) entered_right;
+      first = its_first _ _ visit _ owners _ _ right.0 (own ∙ are) entered_right;
     } in
     record {
-      nodes = ap nodes_of grown ∙ map_push node_of kept
-          (kept_visit visit kind hash outputs sources first);
-      found = found_right dir kept after (kept_visit visit kind hash outputs sources first) owners
-          entered found.kept found.distinct found.lawful is_kept new right.0 found.own_outputs
-          (own_outputs dir (nodes_of kept) (visited visit) kind right.0 rising) (own ∙ are)
-          entered_right.0 grown owners_same;
+      nodes = ap nodes_of grown ∙ map_push node_of _
+          _;
+      found = found_right _ _ _ _ owners
+          _ found.kept found.distinct found.lawful is_kept new right.0 found.own_outputs
+          (own_outputs _ _ _ _ right.0 rising) (own ∙ are) entered_right.0 grown owners_same;
       marks = marks;
       count = count;
     }

@@ -64,7 +64,7 @@ loading_begins dir gives roots found numbers empty none once = record {
       kept = subst AreKept (sym empty.0) (All-nil (IsPlanNode []));
       distinct = subst (λ l. IsDistinct (pointwise nat_eq) (paths_of (nodes_of l))) (sym empty.0)
           distinct_none;
-      lawful = subst (λ l. AreLawful dir (nodes_of l)) (sym empty.0) (no_nodes dir);
+      lawful = subst (λ l. AreLawful dir (nodes_of l)) (sym empty.0) (no_nodes _);
       own_outputs =
           subst (λ l. All (λ (n : Node). AreDistinct (output_paths_of n.drv)) (nodes_of l))
           (sym empty.0) (All-nil (λ (n : Node). AreDistinct (output_paths_of n.drv)));
@@ -98,20 +98,20 @@ pub loading_more :
     IsReachedSome dir G roots (done ++ root ∷ []) after next
 loading_more dir G H roots done found after numbers next root number same some visited inserted
     once = record {
-      walked = walked_by dir G H same roots after [] visited.walked;
+      walked = walked_by _ G H same _ _ [] visited.walked;
       in_order = λ nodes has.
-          left_append (root ∷ []) (paths_of (nodes_of after.nodes.items))
+          left_append _ _
           (some.in_order nodes
-          (All-left (Contains nodes) (nodes_of found.nodes.items) visited.in_order.more
+          (All-left (Contains nodes) _ _
           (subst (All (Contains nodes)) visited.in_order.grown has)))
           (visited.in_order.in_order nodes has);
       are_numbers =
           subst (λ ns. AreNumbers (nodes_of after.nodes.items) ns (each_once (done ++ root ∷ [])))
           (sym inserted)
-          (roots_more (nodes_of after.nodes.items) numbers done root number
+          (roots_more _ _ _ _ _
           visited.walked.right.distinct
           (subst (λ l. AreNumbers l numbers (each_once done)) (sym visited.in_order.grown)
-          (numbers_grow (nodes_of found.nodes.items) visited.in_order.more numbers (each_once done)
+          (numbers_grow _ _ _ _
           some.are_numbers))
           visited.is_number);
       once = once;
@@ -145,14 +145,14 @@ pub plan_found : (dir : List ℕ) (gives : List ℕ → Answer → Type 0) (root
     → IsPlan dir gives roots (record { nodes = nodes_of found.nodes.items; roots = numbers })
 plan_found dir gives roots found numbers all =
     let order = all.in_order (nodes_of found.nodes.items)
-    (All-contains_itself (nodes_of found.nodes.items)) in
+    (All-contains_itself _) in
     record {
       given = all.walked.given;
       in_order = order;
-      reached = plan_reached (nodes_of found.nodes.items) roots order;
-      whole = plan_whole (nodes_of found.nodes.items) roots all.walked.right.distinct order;
+      reached = plan_reached _ _ order;
+      whole = plan_whole _ _ all.walked.right.distinct order;
       lawful = all.walked.right.lawful;
-      few = few_found dir gives roots found numbers all;
+      few = few_found _ gives _ _ _ all;
       is_roots = all.are_numbers;
     }
 
@@ -167,11 +167,11 @@ sound_found dir gives roots found numbers all = (
     dir = dir;
     lawful = all.walked.right.lawful;
     distinct = all.walked.right.distinct;
-    few = few_found dir gives roots found numbers all;
-    roots_within = numbers_within (nodes_of found.nodes.items) numbers (each_once roots)
+    few = few_found _ gives _ _ _ all;
+    roots_within = numbers_within _ _ _
         all.are_numbers;
     roots_once = all.once;
-    named = all_named dir gives (nodes_of found.nodes.items) all.walked.given;
+    named = all_named _ gives _ all.walked.given;
     own_outputs = all.walked.right.own_outputs;
   },
 )

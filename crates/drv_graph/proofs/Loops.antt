@@ -21,7 +21,7 @@ mapped_more {A} {B} {C} view made items i d built pushed x below at before is sa
     ap (map made) is ∙ map-append made built (x ∷ [])
     ∙ ap (λ (front : List C). front ++ made x ∷ []) before
     ∙ ap (λ (c : C). map view (take i items) ++ c ∷ []) (same ∙ ap view at)
-    ∙ sym (ap (map view) (take_more items i d below)
+    ∙ sym (ap (map view) (take_more _ i d below)
     ∙ map-append view (take i items) (get_or items i d ∷ []))
 
 -- ---- a list that is changed in place
@@ -32,14 +32,14 @@ written_at : {C : Type 0} (f : C → C) (old : List C) (i : ℕ) (d : C) → i <
 written_at f [] i d below = absurd (omega arith)
 written_at f (x ∷ xs) zero d below = refl
 written_at {C} f (x ∷ xs) (suc i) d below = ap (λ (zs : List C). f x ∷ zs)
-    (written_at f xs i d (omega arith))
+    (written_at f _ i d (omega arith))
 
 unwritten_at : {C : Type 0} (f : C → C) (old : List C) (i : ℕ) (d : C)
     → get_or (map f (take i old) ++ drop i old) i d ≡ get_or old i d
 unwritten_at f [] zero d = refl
 unwritten_at f [] (suc i) d = refl
 unwritten_at f (x ∷ xs) zero d = refl
-unwritten_at f (x ∷ xs) (suc i) d = unwritten_at f xs i d
+unwritten_at f (x ∷ xs) (suc i) d = unwritten_at f _ i d
 
 -- one element more, seen by a view, is what a function makes of it
 pub written_more : {A C : Type 0} (view : A → C) (f : C → C) (old now after : List A) (i : ℕ)
@@ -49,13 +49,13 @@ pub written_more : {A C : Type 0} (view : A → C) (f : C → C) (old now after 
     → map view after ≡ map f (take (i + 1) (map view old)) ++ drop (i + 1) (map view old)
 written_more {A} {C} view f old now after i x d below same before is made =
     let at : view (get_or now i d) ≡ get_or (map view old) i (view d) =
-    sym (get_or-map view now i d (view d) below) ∙ ap (λ (cs : List C). get_or cs i (view d)) before
-    ∙ unwritten_at f (map view old) i (view d) in
+    sym (get_or-map view _ i d _ below) ∙ ap (λ (cs : List C). get_or cs i (view d)) before
+    ∙ unwritten_at f _ i _ in
     let within : i < length (map view old) = omega (arith, length-map old view) in
     ap (map view) is ∙ map-set view now i x
     ∙ ap (λ (c : C). set (map view now) i c) (made ∙ ap f at)
     ∙ ap (λ (cs : List C). set cs i (f (get_or (map view old) i (view d)))) before
-    ∙ written_at f (map view old) i (view d) within
+    ∙ written_at f _ i _ within
     ∙ ap (λ (n : ℕ). map f (take n (map view old)) ++ drop n (map view old)) (sym (add-one i))
 
 -- at the end all are
@@ -74,7 +74,7 @@ slice_get-take [] zero k x e = absurd cc
 slice_get-take [] (suc n) k x e = absurd cc
 slice_get-take (y ∷ ys) zero k x e = absurd cc
 slice_get-take (y ∷ ys) (suc n) zero x e = (omega arith, e)
-slice_get-take (y ∷ ys) (suc n) (suc k) x e = search (rules, slice_get-take ys n k x e)
+slice_get-take (y ∷ ys) (suc n) (suc k) x e = search (rules, slice_get-take _ n k x e)
 
 -- beside each element stands another
 pub beside : {A B : Type 0} (R : A → B → Type 0) (xs : List A) (ys : List B) (k : ℕ) (x : A)
@@ -113,8 +113,8 @@ pub took_more : {B : Type 0} (xs : List B) (i : ℕ) (x : B) (built pushed : Lis
 took_more {B} xs i x built pushed at before is =
     let below : i < length xs = slice_get_within xs i x at in
     is ∙ ap (λ (front : List B). front ++ x ∷ []) before
-    ∙ ap (λ (y : B). take i xs ++ y ∷ []) (sym (get_or_from_slice_get xs i x x at))
-    ∙ sym (take_more xs i x below)
+    ∙ ap (λ (y : B). take i xs ++ y ∷ []) (sym (get_or_from_slice_get _ i x x at))
+    ∙ sym (take_more _ i x below)
 
 pub took_all : {B : Type 0} (xs built : List B) (i : ℕ) → length xs ≤ i → built ≡ take i xs → built
     ≡ xs
@@ -124,8 +124,8 @@ took_all xs built i past is = is ∙ take_all i xs past
 pub all_took_more : {B : Type 0} (P : B → Type 0) (xs : List B) (i : ℕ) (x : B) → slice_get xs i
     ≡ Some x → All P (take i xs) → P x → All P (take (i + 1) xs)
 all_took_more {B} P xs i x at before here =
-    All-more P xs i x (slice_get_within xs i x at) before
-    (subst (λ (y : B). P y) (sym (get_or_from_slice_get xs i x x at)) here)
+    All-more P _ i x (slice_get_within xs i x at) before
+    (subst (λ (y : B). P y) (sym (get_or_from_slice_get _ i x x at)) here)
 
 pub all_took_all : {B : Type 0} (P : B → Type 0) (xs : List B) (i : ℕ) → length xs ≤ i
     → All P (take i xs) → All P xs
@@ -162,14 +162,14 @@ zipped_in_place {A} {C} R view old now after i x d below same zipped rest is mad
     let head : get_or (map view now) i e ≡ get_or (map view old) i e = cc in
     let tail : drop (i + 1) (map view now) ≡ drop (i + 1) (map view old) = cc in
     let was : view (get_or now i d) ≡ get_or (map view old) i e =
-    sym (get_or-map view now i d e below) ∙ head in
+    sym (get_or-map view _ i d e below) ∙ head in
     let one_more = all_zipped_more R (take i (map view old)) (take i (map view now))
     (get_or (map view old) i e) (view x) zipped (subst (λ (c : C). R c (view x)) was made) in (
       subst (λ (front : List C). AllZip R front (take (i + 1) (map view after)))
-          (sym (take_more (map view old) i e in_old))
+          (sym (take_more _ i e in_old))
           (subst (λ (back : List C). AllZip R
           (take i (map view old) ++ get_or (map view old) i e ∷ []) back)
-          (sym (ap (take (i + 1)) changed ∙ take_more_set (map view now) i (view x) in_now))
+          (sym (ap (take (i + 1)) changed ∙ take_more_set _ i _ in_now))
           one_more),
       ap (drop (i + 1)) changed ∙ drop-set-lt (i + 1) (map view now) i (view x) (omega arith)
           ∙ tail,

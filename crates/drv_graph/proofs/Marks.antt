@@ -24,7 +24,7 @@ marks_none marks none = record {
   );
   is_pending = λ path. (
     λ e. absurd (none-some None (sym (none path) ∙ e)),
-    λ has. absurd (Contains-nothing path has),
+    λ has. absurd (Contains-nothing _ has),
   );
 }
 
@@ -32,7 +32,7 @@ marks_none marks none = record {
 pub new_not_left : (marks : List ℕ → Option (Option ℕ)) (left pending : List (List ℕ))
     (path : List ℕ) → AreMarks marks left pending → marks path ≡ None → Contains left path → ⊥
 new_not_left marks left pending path right none has =
-    let at = get_from_contains left path has in
+    let at = get_from_contains _ _ has in
     none-some (Some at.0) (sym none ∙ (right.numbered path at.0).1 at.1)
 
 pub new_not_pending : (marks : List ℕ → Option (Option ℕ)) (left pending : List (List ℕ))
@@ -43,7 +43,7 @@ new_not_pending marks left pending path right none has = search (rules, none-som
 pub pending_not_left : (marks : List ℕ → Option (Option ℕ)) (left pending : List (List ℕ))
     (path : List ℕ) → AreMarks marks left pending → Contains pending path → Contains left path → ⊥
 pending_not_left marks left pending path right has old =
-    let at = get_from_contains left path old in
+    let at = get_from_contains _ _ old in
     let e : Some None ≡ Some (Some at.0) = sym ((right.is_pending path).1 has)
     ∙ (right.numbered path at.0).1 at.1 in
     none-some at.0 (same_Some None (Some at.0) e)
@@ -56,21 +56,21 @@ marks_opened marks after left pending path right none sets = record {
   numbered = λ other number. (
     λ e. ⊎_elim (λ same. absurd (numberless other number same e))
         (λ differs. (right.numbered other number).0 (sym (sets.others other differs) ∙ e))
-        (path_cases other path),
+        (path_cases _ _),
     λ e. ⊎_elim (λ same.
-        absurd (new_not_left marks left pending path right none
-        (subst (Contains left) same (Contains-from_get left number other e))))
+        absurd (new_not_left marks _ _ _ right none
+        (subst (Contains left) same (Contains-from_get _ _ _ e))))
         (λ differs. sets.others other differs ∙ (right.numbered other number).1 e)
-        (path_cases other path),
+        (path_cases _ _),
   );
   is_pending = λ other. (
-    λ e. ⊎_elim (λ same. subst (Contains (path ∷ pending)) (sym same) (Contains-first path pending))
-        (λ differs. Contains-later path pending other
-        ((right.is_pending other).0 (sym (sets.others other differs) ∙ e))) (path_cases other path),
+    λ e. ⊎_elim (λ same. subst (Contains (path ∷ pending)) (sym same) (Contains-first _ _))
+        (λ differs. Contains-later _ _ _
+        ((right.is_pending other).0 (sym (sets.others other differs) ∙ e))) (path_cases _ _),
     λ has. ⊎_elim (λ same. ap after (sym same) ∙ sets.here)
         (λ later. ⊎_elim (λ same. ap after same ∙ sets.here)
         (λ differs. sets.others other differs ∙ (right.is_pending other).1 later)
-        (path_cases other path)) (Contains-cons_cases path pending other has),
+        (path_cases _ _)) (Contains-cons_cases _ _ _ has),
   );
 }
   where
@@ -84,21 +84,21 @@ pub marks_left : (marks after : List ℕ → Option (Option ℕ)) (left pending 
 marks_left marks after left pending path right apart sets = record {
   numbered = λ other number. (
     λ e. ⊎_elim (λ same. at_end other number same e)
-        (λ differs. get_grows left (path ∷ []) number other
+        (λ differs. get_grows left (path ∷ []) number _
         ((right.numbered other number).0 (sym (sets.others other differs) ∙ e)))
-        (path_cases other path),
+        (path_cases _ _),
     λ e. ⊎_elim (λ old. before other number old)
         (λ last. ap after (sym last.1) ∙ sets.here ∙ ap (λ n. Some (Some n)) (sym last.0))
-        (get_push_cases left path number other e),
+        (get_push_cases _ _ _ _ e),
   );
   is_pending = λ other. (
     λ e. ⊎_elim (λ same. absurd (numbered other same e))
         (λ differs. ⊎_elim (λ same. absurd (differs (sym same))) (λ later. later)
-        (Contains-cons_cases path pending other
+        (Contains-cons_cases _ _ _
         ((right.is_pending other).0 (sym (sets.others other differs) ∙ e))))
-        (path_cases other path),
+        (path_cases _ _),
     λ has. sets.others other (λ same. apart (subst (Contains pending) same has))
-        ∙ (right.is_pending other).1 (Contains-later path pending other has),
+        ∙ (right.is_pending other).1 (Contains-later _ _ _ has),
   );
 }
   where

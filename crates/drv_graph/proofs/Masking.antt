@@ -45,7 +45,7 @@ any_none key (x ∷ xs) none =
     elim (cases_Bool (same_bytes key x)) [
       | inl same ↦ absurd
           (none (subst (λ (y : List ℕ). Contains (x ∷ xs) y) (sym ((bytes_decides key x).0 same))
-          (Contains-first x xs)))
+          (Contains-first x _)))
       | inr other ↦ other
     ] in
     ap (λ (b : Bool). b || list_any (same_bytes key) xs) unlike
@@ -83,7 +83,7 @@ pub replaced_at : (inputs : List Input) (hashes : List (List ℕ)) (i : ℕ) (in
 replaced_at [] hashes i input hash e h = absurd cc
 replaced_at (x ∷ xs) [] i input hash e h = absurd cc
 replaced_at (x ∷ xs) (y ∷ ys) zero input hash e h = search rules
-replaced_at (x ∷ xs) (y ∷ ys) (suc i) input hash e h = replaced_at xs ys i input hash e h
+replaced_at (x ∷ xs) (y ∷ ys) (suc i) input hash e h = replaced_at xs _ i _ _ e h
 
 pub replaced_length : (inputs : List Input) (hashes : List (List ℕ))
     → length (replaced inputs hashes) ≤ length inputs

@@ -59,7 +59,7 @@ pub numbers_within : (nodes : List Node) (ns : List ℕ) (ps : List (List ℕ)) 
 numbers_within nodes [] ps e = All-nil (λ n. n < length nodes)
 numbers_within nodes (n ∷ ns) [] e = absurd cc
 numbers_within nodes (n ∷ ns) (p ∷ ps) e =
-    search (rules, slice_get_within, first_number, All-cons, length-map, later_numbers, numbers_within nodes ns ps (later_numbers nodes n ns p ps e))
+    search (rules, slice_get_within, first_number, All-cons, length-map, later_numbers, numbers_within nodes ns ps (later_numbers _ n _ p _ e))
 
 -- hashes stay those of their paths
 pub hashes_grow : {nodes : List Node} {paths hashes : List (List ℕ)} (more : List Node)
@@ -68,5 +68,5 @@ hashes_grow more no_hashes = no_hashes
 hashes_grow {nodes = nodes} more
     (one_more_hash node kind of_inputs hash paths hashes is_node has_kind of is_hash rest) =
     one_more_hash node kind of_inputs hash paths hashes
-    (Contains-append_left nodes more node is_node) has_kind (hashes_grow more of) is_hash
-    (hashes_grow more rest)
+    (Contains-append_left _ _ _ is_node) has_kind (hashes_grow _ of) is_hash
+    (hashes_grow _ rest)

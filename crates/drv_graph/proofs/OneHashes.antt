@@ -40,11 +40,11 @@ hashes_same nodes own paths hashes
     let path : node'.path ≡ node.path = cc in
     let rest : more' ≡ more = cc in
     let one : node ≡ node' = own node node' has has' (sym path) in
-    let inner : of_inputs ≡ of_inputs' = hashes_same nodes own (inputs_of node.drv) of_inputs inputs
-    (inputs_of node'.drv) of_inputs' inputs' (ap (λ (n : Node). inputs_of n.drv) (sym one)) in
-    let first : hash ≡ hash' = same_hash node node' kind kind' of_inputs of_inputs' hash hash' one
+    let inner : of_inputs ≡ of_inputs' = hashes_same _ own _ _ inputs
+    _ _ inputs' (ap (λ (n : Node). inputs_of n.drv) (sym one)) in
+    let first : hash ≡ hash' = same_hash _ _ _ _ _ _ _ _ one
     is_kind is_kind' inner by by' in
-    let all : hs ≡ hs' = hashes_same nodes own more hs later more' hs' later' rest in
+    let all : hs ≡ hs' = hashes_same _ own _ _ later _ _ later' rest in
     ap (λ (h : List ℕ). h ∷ hs) first ∙ ap (λ (t : List (List ℕ)). hash' ∷ t) all
 
 pub one_hashes : HaveOneHashEach

@@ -6,10 +6,10 @@ use Rattle.sha2.specs.Sha256.{sha256}
 use Rattle.nix_names.specs.Rising.{IsRising}
 use Rattle.nix_names.specs.StorePaths.{store_path}
 use Rattle.nix_names.proofs.RisingLists.{first_below, not_below_itself, rising_later, rising_same}
-use Rattle.nix_drv.specs.Derivation.{Drv, Input, Output, derivation_form, drv_value}
+use Rattle.nix_drv.specs.Derivation.{Drv, Input, Output, drv_value}
 use Rattle.nix_drv.specs.Grammar.{text}
 use Rattle.drv_graph.specs.Expected.{IsExpected, path_name}
-use Rattle.drv_graph.specs.Modulo.{HasOneModuloText, IsNamed, IsUnited, masked, replaced, with_inputs}
+use Rattle.drv_graph.specs.Modulo.{HasOneModuloText, IsNamed, IsUnited, masked, with_inputs}
 use Rattle.drv_graph.specs.Uniting.{input_paths}
 use Rattle.drv_graph.specs.declared.kinds.Kind.{Kind}
 use Rattle.drv_graph.specs.declared.kinds.Kind.TheVariants.{Addressed, Fixed}
@@ -34,7 +34,7 @@ pub path_of_named : (xs : List Input) (path name : List ℕ) → IsNamed xs path
     → Contains (input_paths xs) path
 path_of_named xs path name h =
     subst (λ (p : List ℕ). Contains (input_paths xs) p) h.is_path
-    (Contains-map (λ (i : Input). i.path) xs h.input h.is_input)
+    (Contains-map (λ (i : Input). i.path) _ _ h.is_input)
 
 -- ---- one modulo text
 
@@ -53,36 +53,36 @@ united_same (x ∷ xs) (y ∷ ys) rise rise' same names names' named =
     let path : x.path ≡ y.path = cc in
     let paths : input_paths xs ≡ input_paths ys = cc in
     let first : x ≡ y = input_same x y path
-    (rising_same x.names y.names (All-head (λ (i : Input). IsRising i.names) x xs names)
-    (All-head (λ (i : Input). IsRising i.names) y ys names')
+    (rising_same _ _ (All-head (λ (i : Input). IsRising i.names) x _ names)
+    (All-head (λ (i : Input). IsRising i.names) y _ names')
     (λ name. (there path name, back path name))) in
-    let rest : xs ≡ ys = united_same xs ys (rising_later x.path (input_paths xs) rise)
-    (rising_later y.path (input_paths ys) rise') paths
-    (All-tail (λ (i : Input). IsRising i.names) x xs names)
-    (All-tail (λ (i : Input). IsRising i.names) y ys names')
+    let rest : xs ≡ ys = united_same _ _ (rising_later _ _ rise)
+    (rising_later _ _ rise') paths
+    (All-tail (λ (i : Input). IsRising i.names) x _ names)
+    (All-tail (λ (i : Input). IsRising i.names) y _ names')
     (λ p name. (there_later path p name, back_later path p name)) in
     ap (λ (i : Input). i ∷ xs) first ∙ ap (λ (is : List Input). y ∷ is) rest
   where
     apart : (name : List ℕ) → IsNamed xs x.path name → ⊥
     apart name h =
         not_below_itself x.path
-        (first_below x.path (input_paths xs) x.path rise (path_of_named xs x.path name h))
+        (first_below x.path (input_paths xs) _ rise (path_of_named _ _ _ h))
 
     apart' : (name : List ℕ) → IsNamed ys y.path name → ⊥
     apart' name h =
         not_below_itself y.path
-        (first_below y.path (input_paths ys) y.path rise' (path_of_named ys y.path name h))
+        (first_below y.path (input_paths ys) _ rise' (path_of_named _ _ _ h))
 
     there : x.path ≡ y.path → (name : List ℕ) → Contains x.names name → Contains y.names name
     there path name has =
-        elim (named_cases y ys x.path name ((named x.path name).0 (named_first x xs name has))) [
+        elim (named_cases y _ _ _ ((named x.path name).0 (named_first x _ _ has))) [
           | inl at ↦ at.1
           | inr later ↦ absurd (apart' name (subst (λ (p : List ℕ). IsNamed ys p name) path later))
         ]
 
     back : x.path ≡ y.path → (name : List ℕ) → Contains y.names name → Contains x.names name
     back path name has =
-        elim (named_cases x xs y.path name ((named y.path name).1 (named_first y ys name has))) [
+        elim (named_cases x _ _ _ ((named y.path name).1 (named_first y _ _ has))) [
           | inl at ↦ at.1
           | inr later ↦ absurd
               (apart name (subst (λ (p : List ℕ). IsNamed xs p name) (sym path) later))
@@ -90,7 +90,7 @@ united_same (x ∷ xs) (y ∷ ys) rise rise' same names names' named =
 
     there_later : x.path ≡ y.path → (p name : List ℕ) → IsNamed xs p name → IsNamed ys p name
     there_later path p name h =
-        elim (named_cases y ys p name ((named p name).0 (named_later x xs p name h))) [
+        elim (named_cases y _ p _ ((named p name).0 (named_later x _ p _ h))) [
           | inl at ↦ absurd
               (apart name (subst (λ (q : List ℕ). IsNamed xs q name) (sym (path ∙ at.0)) h))
           | inr later ↦ later
@@ -98,7 +98,7 @@ united_same (x ∷ xs) (y ∷ ys) rise rise' same names names' named =
 
     back_later : x.path ≡ y.path → (p name : List ℕ) → IsNamed ys p name → IsNamed xs p name
     back_later path p name h =
-        elim (named_cases x xs p name ((named p name).1 (named_later y ys p name h))) [
+        elim (named_cases x _ p _ ((named p name).1 (named_later y _ p _ h))) [
           | inl at ↦ absurd
               (apart' name (subst (λ (q : List ℕ). IsNamed ys q name) (sym (sym path ∙ at.0)) h))
           | inr later ↦ later
@@ -108,12 +108,12 @@ united_same (x ∷ xs) (y ∷ ys) rise rise' same names names' named =
 one_union : (given xs ys : List Input) → IsUnited given xs → IsUnited given ys → xs ≡ ys
 one_union given xs ys united united' =
     let paths : input_paths xs ≡ input_paths ys =
-    rising_same (input_paths xs) (input_paths ys) united.rising united'.rising
+    rising_same _ _ united.rising united'.rising
     (λ path. (
       λ has. (united'.paths path).1 ((united.paths path).0 has),
       λ has. (united.paths path).1 ((united'.paths path).0 has),
     )) in
-    united_same xs ys united.rising united'.rising paths united.names_rise united'.names_rise
+    united_same _ _ united.rising united'.rising paths united.names_rise united'.names_rise
     (λ path name. (
       λ h. (united'.names path name).1 ((united.names path name).0 h),
       λ h. (united.names path name).1 ((united'.names path name).0 h),
@@ -122,9 +122,9 @@ one_union given xs ys united united' =
 pub one_text : HasOneModuloText
 one_text drv hashes mask a b is_a is_b =
     is_a.is_text
-    ∙ ap (λ (inputs : List Input). text derivation_form
+    ∙ ap (λ (inputs : List Input). text _
     (drv_value (with_inputs (if mask then masked drv else drv) inputs)))
-    (one_union (replaced drv.inputs hashes) is_a.inputs is_b.inputs is_a.united is_b.united)
+    (one_union _ _ _ is_a.united is_b.united)
     ∙ sym is_b.is_text
 
 -- ---- one expected path

@@ -7,7 +7,6 @@ use Rattle.std.specs.List.{AllByRecursion, IsDistinct}
 use Rattle.std.proofs.lemmas.List.{append_cancel_left, length-append}
 use Rattle.std.proofs.lemmas.List.Elements.{All-contains}
 use Rattle.std.proofs.lemmas.Map.Keys.{IsDistinct-cons}
-use Rattle.sha2.specs.Sha256.{sha256}
 use Rattle.nix_names.specs.Names.{is_name}
 use Rattle.nix_names.specs.Rising.{IsRising}
 use Rattle.nix_names.specs.StorePaths.{IsDrvPath, name_of, store_path}
@@ -44,11 +43,11 @@ one_output name a b same = by (pointwise nat_eq a (codes "out")) (pointwise nat_
 
     by : (x y : Bool) → pointwise nat_eq a (codes "out") ≡ x → pointwise nat_eq b (codes "out") ≡ y
         → a ≡ b
-    by true true e f = equal_from_eq a (codes "out") e ∙ sym (equal_from_eq b (codes "out") f)
+    by true true e f = equal_from_eq a _ e ∙ sym (equal_from_eq b _ f)
     by true false e f =
-        absurd (no_more name b (sym (ap (λ t. chosen t a) e) ∙ same ∙ ap (λ t. chosen t b) f))
+        absurd (no_more _ b (sym (ap (λ t. chosen t a) e) ∙ same ∙ ap (λ t. chosen t b) f))
     by false true e f =
-        absurd (no_more name a (sym (ap (λ t. chosen t b) f) ∙ sym same ∙ ap (λ t. chosen t a) e))
+        absurd (no_more _ a (sym (ap (λ t. chosen t b) f) ∙ sym same ∙ ap (λ t. chosen t a) e))
     by false false e f =
         let whole : name ++ codes "-" ++ a ≡ name ++ codes "-" ++ b = sym (ap (λ t. chosen t a) e)
         ∙ same ∙ ap (λ t. chosen t b) f in
@@ -58,7 +57,7 @@ one_output name a b same = by (pointwise nat_eq a (codes "out")) (pointwise nat_
 name_of_store_path : (kind inner dir name : List ℕ) → is_name name ≡ true
     → name_of (store_path kind inner dir name) ≡ name
 unfolding store_path
-name_of_store_path kind inner dir name named = name_of_path dir _ name (hash_part_of_fold _) named
+name_of_store_path kind inner dir name named = name_of_path dir _ _ (hash_part_of_fold _) named
 
 -- outputs of a derivation that have one path have one name
 one_name : (dir name : List ℕ) (kind : Kind) (drv : Drv) (hashes : List (List ℕ)) → HasKind drv kind
@@ -70,19 +69,19 @@ one_name dir name Addressed drv hashes has_kind named fit o p has has' same =
     let expected = IsExpected dir name Addressed drv hashes in
     let fits : (x : Output) → Contains drv.outputs x → (path : List ℕ) × expected x path
     × (x.path ≡ path) = λ x is.
-    All-contains (λ (y : Output). (path : List ℕ) × expected y path × (y.path ≡ path)) drv.outputs x
+    All-contains (λ (y : Output). (path : List ℕ) × expected y path × (y.path ≡ path)) _ x
     fit is in
     let at = fits o has in
     let at' = fits p has' in
-    let title = name_of_store_path (codes "output:" ++ o.name) (sha256 at.1.0) dir
-    (path_name name o.name)
-    (All-contains (IsWellNamed name) drv.outputs o named has).1 in
-    let title' = name_of_store_path (codes "output:" ++ p.name) (sha256 at'.1.0) dir
-    (path_name name p.name)
-    (All-contains (IsWellNamed name) drv.outputs p named has').1 in
+    let title = name_of_store_path _ _ _
+    _
+    (All-contains (IsWellNamed name) _ o named has).1 in
+    let title' = name_of_store_path _ _ _
+    _
+    (All-contains (IsWellNamed name) _ p named has').1 in
     let of : name_of o.path ≡ path_name name o.name = ap name_of (at.2 ∙ at.1.2) ∙ title in
     let of' : name_of p.path ≡ path_name name p.name = ap name_of (at'.2 ∙ at'.1.2) ∙ title' in
-    one_output name o.name p.name (sym of ∙ ap name_of same ∙ of')
+    one_output _ _ _ (sym of ∙ ap name_of same ∙ of')
 one_name dir name (Fixed method digest) drv hashes has_kind named fit o p has has' same =
     search (rules, Contains-nothing, Contains-cons_cases)
 
@@ -93,10 +92,10 @@ paths_differ : (outputs : List Output) → IsRising (map (λ (o : Output). o.nam
 unfolding IsDistinct
 paths_differ [] rising same = tt
 paths_differ (x ∷ xs) rising same =
-    IsDistinct-cons (pointwise nat_eq) x.path (map (λ (o : Output). o.path) xs)
+    IsDistinct-cons (pointwise nat_eq) _ _
     (others xs (λ p has. apart p has))
     (paths_differ xs (rising_later x.name (map (λ (o : Output). o.name) xs) rising)
-    (λ o p has has'. same o p (Contains-later x xs o has) (Contains-later x xs p has')))
+    (λ o p has has'. same o p (Contains-later x _ o has) (Contains-later x _ p has')))
   where
     apart : (p : Output) → Contains xs p → x.path ≡ p.path → ⊥
     apart p has e =

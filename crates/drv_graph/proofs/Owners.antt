@@ -49,7 +49,7 @@ apart_or_same owners left i j a b right at at' =
     )))
     (λ differs. inl (λ path is is'. ⊎_elim (λ lt. omega (arith, lt, one path is is'))
     (λ gt. omega (arith, gt, one path is is')) differs))
-    (either_side mine.0 other.0)
+    (either_side _ _)
 
 -- ---- one more derivation
 
@@ -75,13 +75,13 @@ owners_new owners after left own right free entered =
         (λ mine. (
           own,
           ap (λ k. slice_get (left ++ own ∷ []) k) (sym (its_own path n mine e))
-              ∙ get_pushed left own,
+              ∙ get_pushed left _,
           mine,
         ))
         (λ other.
         let old = right.has path n (as_before path n other e)
-        in (old.0, get_grows left (own ∷ []) n old.0 old.1, old.2))
-        (known_cases own path)
+        in (old.0, get_grows _ _ n _ old.1, old.2))
+        (known_cases _ _)
 
     mine_alone : AreOwnedBy after (length left) own
     mine_alone path = (
@@ -90,7 +90,7 @@ owners_new owners after left own right free entered =
           (λ other.
           let old = right.has path (length left) (as_before path (length left) other e) in
           let low = slice_get_within left (length left) old.0 old.1 in absurd (omega (arith, low)))
-          (known_cases own path),
+          (known_cases _ _),
     )
 
     before : (n : ℕ) (outputs : List (List ℕ)) → slice_get left n ≡ Some outputs → (number : ℕ)
@@ -107,7 +107,7 @@ owners_new owners after left own right free entered =
           omega (arith, last.0),
           subst (AreOwnedBy after (length left)) last.1 mine_alone,
         ))
-        (get_push_cases left own n outputs at)
+        (get_push_cases _ _ n _ at)
 
 -- they have all the owner that an earlier derivation with as many has
 pub owners_twin : (owners after : List ℕ → Option ℕ) (left : Lists) (own theirs : List (List ℕ))
@@ -121,7 +121,7 @@ owners_twin owners after left own theirs m right at once long of_them entered =
   where
     same : (path : List ℕ) → after path ≡ owners path
     same path = ⊎_elim (λ mine. entered.here path mine ∙ sym (of_them path mine))
-        (λ other. entered.others path other) (known_cases own path)
+        (λ other. entered.others path other) (known_cases _ _)
 
     among : (path : List ℕ) → owners path ≡ Some m → Contains theirs path
     among path e = search (rules, same_element)
@@ -133,7 +133,7 @@ owners_twin owners after left own theirs m right at once long of_them entered =
     as_theirs : AreOwnedBy after m own
     as_theirs path = (
       entered.here path,
-      λ e. all_among own theirs once (λ q is. among q (of_them q is)) (omega (arith, long)) path
+      λ e. all_among _ _ once (λ q is. among q (of_them q is)) (omega (arith, long)) _
           (among path (sym (same path) ∙ e)),
     )
 
@@ -156,7 +156,7 @@ owners_twin owners after left own theirs m right at once long of_them entered =
           omega (arith, last.0, low),
           subst (AreOwnedBy after m) last.1 as_theirs,
         ))
-        (get_push_cases left own n outputs at')
+        (get_push_cases _ _ n _ at')
 
 -- ---- how paths are entered
 
@@ -196,12 +196,12 @@ entered_more before now after paths path number entered sets = record {
       (λ differs.
       sets.others other differs
       ∙ ⊎_elim (λ old. entered.here other old) (λ same. absurd (differs (sym same)))
-      (Contains-push_cases paths path other has))
-      (path_cases other path);
+      (Contains-push_cases _ _ _ has))
+      (path_cases _ _);
   others = λ other none.
       sets.others other
-      (λ same. none (subst (Contains (paths ++ path ∷ [])) (sym same) (Contains-push paths path)))
-      ∙ entered.others other (λ old. none (Contains-append_left paths (path ∷ []) other old));
+      (λ same. none (subst (Contains (paths ++ path ∷ [])) (sym same) (Contains-push _ _)))
+      ∙ entered.others other (λ old. none (Contains-append_left _ _ _ old));
 }
 
 -- a path that is read was not entered, so it has the owner that it had
@@ -229,15 +229,15 @@ pub enter_step :
 enter_step before now after paths i path key owner old number lt is copied once were entered found
     same sets =
     let taken : take i paths ++ path ∷ [] ≡ take (i + 1) paths =
-    ap (λ p. take i paths ++ p ∷ []) is ∙ sym (take_more paths i path lt) in
-    let here : before path ≡ owner = sym (unchanged before now paths i path number once lt is
+    ap (λ p. take i paths ++ p ∷ []) is ∙ sym (take_more _ i _ lt) in
+    let here : before path ≡ owner = sym (unchanged before now _ i _ _ once lt is
     entered)
     ∙ ap now (sym copied) ∙ sym found ∙ same in (
       λ other has. ⊎_elim (λ earlier. were other earlier) (λ last. ap before (sym last) ∙ here)
-          (Contains-push_cases (take i paths) path other
+          (Contains-push_cases _ _ _
           (subst (λ l. Contains l other) (sym taken) has)),
       subst (λ l. AreEntered before after l number) taken
-          (entered_more before now after (take i paths) path number entered
+          (entered_more before now after _ _ _ entered
           (subst (λ p. SetsEntry now after p number) copied sets)),
     )
 
@@ -277,7 +277,7 @@ as_many kept number n node count len within is read told =
     let long : len ≡ length node.outputs.items = omega (arith, same, node.outputs.ok.0) in
     subst (λ o. HasAsMany kept o count (nat_eq len count)) (sym is) (
       node,
-      slice_get_read kept (length kept) n node refl low read,
+      slice_get_read _ _ n _ refl low read,
       (
         λ yes. sym long ∙ eqb-true len count yes,
         λ same. eq-eqb len count (long ∙ same),
@@ -290,11 +290,11 @@ clash_of : (kept : List PlanNode) (owners : List ℕ → Option ℕ) (own : List
     → Contains own path → Contains own other → (owners other ≡ owners path → ⊥) → IsClash kept own
 clash_of kept owners own n path other right e is_own is_other differs =
     let found = right.has path n e in
-    let source = get_source (λ (k : PlanNode). output_paths_of k.drv) kept n found.0 found.1 in
+    let source = get_source (λ (k : PlanNode). output_paths_of k.drv) _ n _ found.1 in
     let its = right.of_each n found.0 found.1 in
     record {
       node = source.0;
-      is_node = Contains-from_get kept n source.0 source.1;
+      is_node = Contains-from_get _ n _ source.1;
       output = path;
       is_output = subst (λ l. Contains l path) (sym source.2) found.2;
       is_own = is_own;
@@ -308,14 +308,14 @@ clash_of kept owners own n path other right e is_own is_other differs =
 pub clash_found : (kept : List PlanNode) (owners : List ℕ → Option ℕ) (own : List (List ℕ))
     (path : List ℕ) → AreOwners owners (outputs_of kept) → Contains own path
     → (owners path ≡ first_owner owners own → ⊥) → IsClash kept own
-clash_found kept owners [] path right has differs = absurd (Contains-nothing path has)
+clash_found kept owners [] path right has differs = absurd (Contains-nothing _ has)
 clash_found kept owners (first ∷ rest) path right has differs =
     by (owners first) (owners path) refl refl
   where
     by : (a b : Option ℕ) → owners first ≡ a → owners path ≡ b → IsClash kept (first ∷ rest)
     by (Some m) b e e' = search (rules, clash_of, Contains-first, has)
-    by None (Some k) e e' = clash_of kept owners (first ∷ rest) k path first right e' has
-        (Contains-first first rest) (λ same. differs (sym same))
+    by None (Some k) e e' = clash_of _ owners _ k _ _ right e' has
+        (Contains-first _ _) (λ same. differs (sym same))
     by None None e e' = absurd (differs (e' ∙ sym e))
 
 -- the owner of the first has more outputs, or fewer
@@ -329,23 +329,23 @@ clash_long kept owners [] n node are all right once e at differs = absurd (none-
 clash_long kept owners (first ∷ rest) n node are all right once e at differs =
     let its = output_paths_of node.drv in
     let found = right.has first n e in
-    let same_list : found.0 ≡ its = same_element (outputs_of kept) n found.0 its found.1
-    (get_mapped (λ (k : PlanNode). output_paths_of k.drv) kept n node at) in
-    let among : Contains kept node = Contains-from_get kept n node at in
+    let same_list : found.0 ≡ its = same_element _ n _ _ found.1
+    (get_mapped (λ (k : PlanNode). output_paths_of k.drv) _ n _ at) in
+    let among : Contains kept node = Contains-from_get _ n _ at in
     let is_kept : IsPlanNode (nodes_of kept) node =
-    All-contains (IsPlanNode (nodes_of kept)) kept node are
+    All-contains (IsPlanNode (nodes_of kept)) _ _ are
     among in
     let distinct : AreDistinct its =
-    All-contains (λ (m : Node). AreDistinct (output_paths_of m.drv)) (nodes_of kept) (node_of node)
-    all (Contains-map node_of kept node among) in
+    All-contains (λ (m : Node). AreDistinct (output_paths_of m.drv)) _ _
+    all (Contains-map node_of _ _ among) in
     record {
       node = node;
       is_node = among;
       output = first;
       is_output = subst (λ l. Contains l first) same_list found.2;
-      is_own = Contains-first first rest;
+      is_own = Contains-first _ rest;
       no_twin = λ same. differs
-          (ap length is_kept.outputs ∙ as_long its (first ∷ rest) distinct once same);
+          (ap length is_kept.outputs ∙ as_long _ _ distinct once same);
     }
 
 -- the derivation with the owner's number has more outputs, or fewer
@@ -367,7 +367,7 @@ pub clash_entered : (kept : List PlanNode) (owners after : List ℕ → Option �
 clash_entered kept owners after own owner number answer right is entering failed =
     let one : IsEntering owners after owner own number false =
     subst (IsEntering owners after owner own number) failed entering in
-    clash_found kept owners own one.0 right one.1 (λ same. one.2 (same ∙ sym is))
+    clash_found _ owners _ _ right one.1 (λ same. one.2 (same ∙ sym is))
 
 -- all had the owner of the first, which has as many
 pub owning_all :
@@ -391,10 +391,10 @@ owning_all kept owners after own (Some m) first many entered are right once many
     let entered_right = subst (AreEntered owners after own) earlier both.1 in
     let node = many_are.0 in
     let is_kept : IsPlanNode (nodes_of kept) node =
-    All-contains (IsPlanNode (nodes_of kept)) kept node are
-    (Contains-from_get kept m node many_are.1) in
-    let made = owners_twin owners after (outputs_of kept) own (output_paths_of node.drv) m right
-    (get_mapped (λ (k : PlanNode). output_paths_of k.drv) kept m node many_are.1) once
+    All-contains (IsPlanNode (nodes_of kept)) _ _ are
+    (Contains-from_get _ m _ many_are.1) in
+    let made = owners_twin owners after _ _ _ m right
+    (get_mapped (λ (k : PlanNode). output_paths_of k.drv) _ m _ many_are.1) once
     (ap length (sym is_kept.outputs) ∙ many_are.2.0 is) both.0 entered_right in
     (made.0, subst (λ n. AreOwnedBy after n own) (sym earlier) made.1)
 

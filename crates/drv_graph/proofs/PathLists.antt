@@ -17,7 +17,7 @@ use Rattle.drv_graph.proofs.Loops.{slice_get-take}
 
 -- those that differ compare as different
 pub other_path : (a b : List ℕ) → (a ≡ b → ⊥) → pointwise nat_eq a b ≡ false
-other_path a b ne = false_from_ne_true (pointwise nat_eq a b) (λ e. ne (equal_from_eq a b e))
+other_path a b ne = false_from_ne_true _ (λ e. ne (equal_from_eq a b e))
 
 -- equality of paths is decided
 pub path_cases : (a b : List ℕ) → (a ≡ b) ⊎ (a ≡ b → ⊥)
@@ -30,20 +30,19 @@ path_cases a b = by (pointwise nat_eq a b) refl
 -- a path that isn't in a list is found by no look-up
 pub unknown : (paths : List (List ℕ)) (path : List ℕ) → (Contains paths path → ⊥)
     → list_any (pointwise nat_eq path) paths ≡ false
-unknown paths path new = false_from_ne_true (list_any (pointwise nat_eq path) paths)
-    (λ e. new (Contains-from_any equal_from_eq path paths e))
+unknown paths path new = false_from_ne_true _ (λ e. new (Contains-from_any equal_from_eq _ _ e))
 
 -- whether a path is in a list is decided
 pub known_cases : (paths : List (List ℕ)) (path : List ℕ) → Contains paths path
     ⊎ (Contains paths path → ⊥)
-known_cases [] path = inr (Contains-nothing path)
+known_cases [] path = inr (Contains-nothing _)
 known_cases (p ∷ ps) path =
-    ⊎_elim (λ same. inl (subst (Contains (p ∷ ps)) same (Contains-first p ps)))
+    ⊎_elim (λ same. inl (subst (Contains (p ∷ ps)) same (Contains-first p _)))
     (λ differs.
-    ⊎_elim (λ later. inl (Contains-later p ps path later))
-    (λ none. inr (λ has. ⊎_elim differs none (Contains-cons_cases p ps path has)))
+    ⊎_elim (λ later. inl (Contains-later p _ _ later))
+    (λ none. inr (λ has. ⊎_elim differs none (Contains-cons_cases p _ _ has)))
     (known_cases ps path))
-    (path_cases p path)
+    (path_cases p _)
 
 -- one more path, which is new
 pub distinct_push : (paths : List (List ℕ)) (path : List ℕ) → AreDistinct paths
@@ -57,9 +56,9 @@ same_place paths i j path once at_i at_j = by (either_side i j)
   where
     apart : (a b : ℕ) → a < b → slice_get paths a ≡ Some path → slice_get paths b ≡ Some path → ⊥
     apart a b below at_a at_b =
-        let same_a : get_or paths a [] ≡ path = get_or_from_slice_get paths a path [] at_a in
-        let same_b : get_or paths b [] ≡ path = get_or_from_slice_get paths b path [] at_b in
-        let other = apart_from_distinct (pointwise nat_eq) paths a b [] once below
+        let same_a : get_or paths a [] ≡ path = get_or_from_slice_get _ a _ [] at_a in
+        let same_b : get_or paths b [] ≡ path = get_or_from_slice_get _ b _ [] at_b in
+        let other = apart_from_distinct (pointwise nat_eq) _ a b [] once below
         (slice_get_within paths b path at_b) in
         false≢true (sym other ∙ ap (λ p. pointwise nat_eq p (get_or paths b [])) same_a
         ∙ ap (λ p. pointwise nat_eq path p) same_b ∙ nat_list_eq_equiv.refl path)
@@ -74,8 +73,8 @@ pub no_more_than : (xs ys : List (List ℕ)) → AreDistinct xs
     → ((path : List ℕ) → Contains xs path → Contains ys path) → length xs ≤ length ys
 no_more_than xs ys once among =
     length-le_from_is_member nat_list_eq_equiv xs ys once
-    (λ q is. list_any-from_Contains nat_list_eq_equiv q ys
-    (among q (Contains-from_any equal_from_eq q xs is)))
+    (λ q is. list_any-from_Contains nat_list_eq_equiv q _
+    (among q (Contains-from_any equal_from_eq q _ is)))
 
 -- and are all of them, where those are no more
 pub all_among : (xs ys : List (List ℕ)) → AreDistinct xs
@@ -83,26 +82,26 @@ pub all_among : (xs ys : List (List ℕ)) → AreDistinct xs
     → (path : List ℕ) → Contains ys path → Contains xs path
 all_among xs ys once among long path has =
     ⊎_elim (λ is. is) (λ none. absurd (omega (arith, more none, length_push xs path, long)))
-    (known_cases xs path)
+    (known_cases _ _)
   where
     more : (Contains xs path → ⊥) → length (xs ++ path ∷ []) ≤ length ys
     more none =
-        no_more_than (xs ++ path ∷ []) ys (distinct_push xs path once none)
+        no_more_than _ _ (distinct_push _ _ once none)
         (λ q is. ⊎_elim (λ old. among q old) (λ same. subst (Contains ys) same has)
-        (Contains-push_cases xs path q is))
+        (Contains-push_cases _ _ q is))
 
 -- lists of different paths are as long, where they have the same
 pub as_long : (xs ys : List (List ℕ)) → AreDistinct xs → AreDistinct ys → HaveSamePaths xs ys
     → length xs ≡ length ys
 as_long xs ys once once' same =
-    let up = no_more_than xs ys once (λ q is. (same q).0 is) in
-    let down = no_more_than ys xs once' (λ q is. (same q).1 is) in
+    let up = no_more_than _ _ once (λ q is. (same q).0 is) in
+    let down = no_more_than _ _ once' (λ q is. (same q).1 is) in
     omega (arith, up, down)
 
 -- a path that stands at a place stands at none before it
 pub not_before : (paths : List (List ℕ)) (i : ℕ) (path : List ℕ) → AreDistinct paths
     → slice_get paths i ≡ Some path → Contains (take i paths) path → ⊥
 not_before paths i path once at has =
-    let before = get_from_contains (take i paths) path has in
-    let there = slice_get-take paths i before.0 path before.1 in
-    omega (arith, there.0, same_place paths before.0 i path once there.1 at)
+    let before = get_from_contains _ _ has in
+    let there = slice_get-take _ i _ _ before.1 in
+    omega (arith, there.0, same_place _ _ i _ once there.1 at)

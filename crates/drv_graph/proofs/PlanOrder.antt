@@ -16,11 +16,11 @@ pub left_append : {nodes : List Node} {before paths middle : List (List ℕ)}
     → AreLeft nodes middle more after → AreLeft nodes before (paths ++ more) after
 left_append more after (none_left b) rest = rest
 left_append more after (passed_over path b paths middle has first) rest =
-    passed_over path b (paths ++ more) after has (left_append more after first rest)
+    passed_over path b (paths ++ more) after has (left_append _ _ first rest)
 left_append more after (left_behind_inputs node b inputs paths middle is_node new under apart first)
     rest =
     left_behind_inputs node b inputs (paths ++ more) after is_node new under apart
-    (left_append more after first rest)
+    (left_append _ _ first rest)
 
 -- a path that was left before is passed over
 pub left_later : {nodes : List Node} {before after : List (List ℕ)} (path : List ℕ)
@@ -35,23 +35,22 @@ pub left_keeps : {nodes : List Node} {before paths after : List (List ℕ)}
     → AreLeft nodes before paths after → (path : List ℕ) → Contains before path
     → Contains after path
 left_keeps (none_left b) path has = has
-left_keeps (passed_over p b ps a there rest) path has = left_keeps rest path has
+left_keeps (passed_over p b ps a there rest) path has = left_keeps rest _ has
 left_keeps (left_behind_inputs node b inputs ps a is_node new under apart rest) path has =
-    left_keeps rest path
-    (Contains-append_left inputs (node.path ∷ []) path (left_keeps under path has))
+    left_keeps rest _ (Contains-append_left _ _ _ (left_keeps under _ has))
 
 -- what was asked for is left
 pub left_has : {nodes : List Node} {before paths after : List (List ℕ)}
     → AreLeft nodes before paths after → (path : List ℕ) → Contains paths path → Contains after path
-left_has (none_left b) path has = absurd (Contains-nothing path has)
+left_has (none_left b) path has = absurd (Contains-nothing _ has)
 left_has (passed_over p b ps a there rest) path has =
-    ⊎_elim (λ same. left_keeps rest path (subst (Contains b) same there))
-    (λ later. left_has rest path later) (Contains-cons_cases p ps path has)
+    ⊎_elim (λ same. left_keeps rest _ (subst (Contains b) same there))
+    (λ later. left_has rest _ later) (Contains-cons_cases p _ _ has)
 left_has (left_behind_inputs node b inputs ps a is_node new under apart rest) path has =
     ⊎_elim (λ same.
-    left_keeps rest path
-    (subst (Contains (inputs ++ node.path ∷ [])) same (Contains-push inputs node.path)))
-    (λ later. left_has rest path later) (Contains-cons_cases node.path ps path has)
+    left_keeps rest _
+    (subst (Contains (inputs ++ node.path ∷ [])) same (Contains-push _ _)))
+    (λ later. left_has rest _ later) (Contains-cons_cases _ _ _ has)
 
 -- a node of some paths, all of whose inputs are among them
 abbrev pub HasNodeIn : List Node → List (List ℕ) → List ℕ → Type 0
@@ -67,7 +66,7 @@ closed_push : (nodes : List Node) (node : Node) (inputs : List (List ℕ)) → C
     → AreClosed nodes inputs → AreClosed nodes (inputs ++ node.path ∷ [])
 closed_push nodes node inputs is_node under closed path has =
     ⊎_elim (λ old. wider path (closed path old)) (λ same. wider path (node, is_node, same, under))
-    (Contains-push_cases inputs node.path path has)
+    (Contains-push_cases _ _ _ has)
   where
     wider : (path : List ℕ) → HasNodeIn nodes inputs path
         → HasNodeIn nodes (inputs ++ node.path ∷ []) path
@@ -80,8 +79,7 @@ left_closed (none_left b) closed = closed
 left_closed (passed_over p b ps a there rest) closed = left_closed rest closed
 left_closed {nodes = nodes} (left_behind_inputs node b inputs ps a is_node new under apart rest)
     closed =
-    left_closed rest
-    (closed_push nodes node inputs is_node (left_has under) (left_closed under closed))
+    left_closed rest (closed_push _ _ _ is_node (left_has under) (left_closed under closed))
 
 -- what holds of what is asked for, and goes from users to inputs, holds of all that is left
 pub left_all :
@@ -96,28 +94,28 @@ pub left_all :
     P path
 left_all P on (none_left b) old asked path has = old path has
 left_all P on (passed_over p b ps a there rest) old asked path has =
-    left_all P on rest old (λ q is. asked q (Contains-later p ps q is)) path has
+    left_all P on rest old (λ q is. asked q (Contains-later p _ q is)) _ has
 left_all P on (left_behind_inputs node b inputs ps a is_node new under apart rest) old asked path
     has =
-    let own : P node.path = asked node.path (Contains-first node.path ps) in
+    let own : P node.path = asked node.path (Contains-first _ _) in
     let earlier : (q : List ℕ) → Contains inputs q
     → P q = left_all P on under old (λ input among. on node input is_node own among) in
     left_all P on rest
     (λ q is. ⊎_elim (λ mine. earlier q mine) (λ same. subst P same own)
-    (Contains-push_cases inputs node.path q is))
-    (λ q is. asked q (Contains-later node.path ps q is)) path has
+    (Contains-push_cases _ _ q is))
+    (λ q is. asked q (Contains-later _ _ q is)) _ has
 
 -- two nodes at one path are one
 pub same_node : (nodes : List Node) (a b : Node) → AreDistinct (paths_of nodes) → Contains nodes a
     → Contains nodes b → a.path ≡ b.path → a ≡ b
 same_node nodes a b once has_a has_b same =
-    let at_a = get_from_contains nodes a has_a in
-    let at_b = get_from_contains nodes b has_b in
+    let at_a = get_from_contains _ a has_a in
+    let at_b = get_from_contains _ b has_b in
     let path_a : slice_get (paths_of nodes) at_a.0
     ≡ Some b.path = get_mapped (λ (n : Node). n.path) nodes at_a.0 a at_a.1 ∙ ap Some same in
     let path_b : slice_get (paths_of nodes) at_b.0
     ≡ Some b.path = get_mapped (λ (n : Node). n.path) nodes at_b.0 b at_b.1 in
-    let place = same_place (paths_of nodes) at_a.0 at_b.0 b.path once path_a path_b in
+    let place = same_place _ _ _ _ once path_a path_b in
     same_Some a b (sym at_a.1 ∙ ap (λ n. slice_get nodes n) place ∙ at_b.1)
 
 -- one more step
@@ -143,11 +141,11 @@ pub plan_reached : (nodes : List Node) (roots : List (List ℕ))
     → IsReachedBy (Uses nodes) roots path
 plan_reached nodes roots order =
     left_all (IsReachedBy (Uses nodes) roots)
-    (λ node input is_node reached is_input. reached_more (Uses nodes) roots node.path input reached
+    (λ node input is_node reached is_input. reached_more (Uses nodes) _ _ _ reached
     (record { node = node; is_node = is_node; is_from = refl; is_input = is_input }))
     order
-    (λ path has. absurd (Contains-nothing path has))
-    (λ path has. reached_root (Uses nodes) roots path has)
+    (λ path has. absurd (Contains-nothing _ has))
+    (λ path has. reached_root (Uses nodes) _ _ has)
 
 -- a closed list has all that is reached from its paths
 closed_leads : (nodes : List Node) (paths : List (List ℕ)) → AreDistinct (paths_of nodes)
@@ -157,7 +155,7 @@ closed_leads nodes paths once closed from to [] has leads = search rules
 closed_leads nodes paths once closed from to (next ∷ steps) has leads =
     let own = closed from has in
     let step = leads.0 in
-    let one : own.0 ≡ step.node = same_node nodes own.0 step.node once own.1 step.is_node
+    let one : own.0 ≡ step.node = same_node _ _ _ once own.1 step.is_node
     (own.2 ∙ sym step.is_from) in
     closed_leads nodes paths once closed next to steps
     (own.3 next (subst (λ (n : Node). Contains (inputs_of n.drv) next) (sym one) step.is_input))
@@ -169,6 +167,6 @@ pub plan_whole : (nodes : List Node) (roots : List (List ℕ)) → AreDistinct (
     → IsReachedBy (Uses nodes) roots path
     → Contains (paths_of nodes) path
 plan_whole nodes roots once order path reached =
-    closed_leads nodes (paths_of nodes) once
-    (left_closed order (λ p none. absurd (Contains-nothing p none))) reached.root path
-    reached.steps (left_has order reached.root reached.is_root) reached.leads
+    closed_leads _ _ once
+    (left_closed order (λ p none. absurd (Contains-nothing p none))) _ _
+    _ (left_has order _ reached.is_root) reached.leads

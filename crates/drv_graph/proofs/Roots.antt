@@ -22,7 +22,7 @@ module _ {X : Type 0} (test : X → Bool) where
       → Contains (cond b (y ∷ filter test ys) (filter test ys)) x → Contains (y ∷ ys) x
   source_step true y x ys later has =
       search (rules, Contains-first, Contains-later, Contains-cons_cases, filter)
-  source_step false y x ys later has = Contains-later y ys x (later has)
+  source_step false y x ys later has = Contains-later y _ x (later has)
 
   filter_source : (xs : List X) (x : X) → Contains (filter test xs) x → Contains xs x
   filter_source [] x has = has
@@ -37,29 +37,29 @@ module _ {X : Type 0} (test : X → Bool) where
 
   filter_has : (xs : List X) (x : X) → Contains xs x → test x ≡ true → Contains (filter test xs) x
   filter_has [] x has passes = has
-  filter_has (y ∷ ys) x has passes = has_step (test y) y x ys (λ same. ap test same ∙ passes)
+  filter_has (y ∷ ys) x has passes = has_step _ y x _ (λ same. ap test same ∙ passes)
       (λ later. filter_has ys x later passes) has
 
 -- what is among the elements once is among them, and the other way round
 once_source : (xs : List (List ℕ)) (x : List ℕ) → Contains (each_once xs) x → Contains xs x
 once_source [] x has = has
 once_source (y ∷ ys) x has =
-    ⊎_elim (λ same. subst (Contains (y ∷ ys)) same (Contains-first y ys))
+    ⊎_elim (λ same. subst (Contains (y ∷ ys)) same (Contains-first y _))
     (λ later.
-    Contains-later y ys x
+    Contains-later y _ x
     (once_source ys x (filter_source (λ z. not (same_bytes y z)) (each_once ys) x later)))
-    (Contains-cons_cases y (filter (λ z. not (same_bytes y z)) (each_once ys)) x has)
+    (Contains-cons_cases y _ x has)
 
 once_has : (xs : List (List ℕ)) (x : List ℕ) → Contains xs x → Contains (each_once xs) x
 once_has [] x has = has
 once_has (y ∷ ys) x has =
     ⊎_elim (λ same. subst (Contains (each_once (y ∷ ys))) same
-    (Contains-first y (filter (λ z. not (same_bytes y z)) (each_once ys))))
+    (Contains-first y _))
     (λ differs.
     ⊎_elim (λ same. absurd (differs same))
     (λ later. Contains-later y (filter (λ z. not (same_bytes y z)) (each_once ys)) x
     (filter_has (λ z. not (same_bytes y z)) (each_once ys) x (once_has ys x later)
-    (ap not (other_path y x differs)))) (Contains-cons_cases y ys x has))
+    (ap not (other_path y x differs)))) (Contains-cons_cases y _ x has))
     (path_cases y x)
 
 -- one element more changes nothing where it was there, and else stands last
@@ -89,12 +89,12 @@ number_source nodes (m ∷ ms) [] n e has = absurd cc
 number_source nodes (m ∷ ms) (p ∷ ps) n e has =
     ⊎_elim (λ same. (
       p,
-      Contains-first p ps,
+      Contains-first p _,
       subst (λ k. slice_get (paths_of nodes) k ≡ Some p) same
-          (first_number nodes m ms p ps e),
+          (first_number _ m _ p _ e),
     ))
-    (λ later. let rest = number_source nodes ms ps n (later_numbers nodes m ms p ps e) later
-    in (rest.0, Contains-later p ps rest.0 rest.1, rest.2)) (Contains-cons_cases m ms n has)
+    (λ later. let rest = number_source nodes ms ps n (later_numbers nodes m ms p _ e) later
+    in (rest.0, Contains-later p _ _ rest.1, rest.2)) (Contains-cons_cases m _ n has)
 
 number_of_path : (nodes : List Node) (ns : List ℕ) (ps : List (List ℕ)) (p : List ℕ)
     → AreNumbers nodes ns ps → Contains ps p → (n : ℕ) × Contains ns n
@@ -105,12 +105,12 @@ number_of_path nodes (m ∷ ms) [] p e has = absurd (Contains-nothing p has)
 number_of_path nodes (m ∷ ms) (q ∷ qs) p e has =
     ⊎_elim (λ same. (
       m,
-      Contains-first m ms,
+      Contains-first m _,
       subst (λ k. slice_get (paths_of nodes) m ≡ Some k) same
           (first_number nodes m ms q qs e),
     ))
-    (λ later. let rest = number_of_path nodes ms qs p (later_numbers nodes m ms q qs e) later
-    in (rest.0, Contains-later m ms rest.0 rest.1, rest.2)) (Contains-cons_cases q qs p has)
+    (λ later. let rest = number_of_path nodes ms qs p (later_numbers _ m _ q _ e) later
+    in (rest.0, Contains-later m _ _ rest.1, rest.2)) (Contains-cons_cases q _ p has)
 
 -- one root more
 pub roots_more : (nodes : List Node) (ns : List ℕ) (roots : List (List ℕ)) (root : List ℕ) (n : ℕ)
@@ -118,7 +118,7 @@ pub roots_more : (nodes : List Node) (ns : List ℕ) (roots : List (List ℕ)) (
     → slice_get (paths_of nodes) n ≡ Some root
     → AreNumbers nodes (insert_key nat_eq ns n) (each_once (roots ++ root ∷ []))
 roots_more nodes ns roots root n distinct right is =
-    by (list_any (nat_eq n) ns) refl (once_push roots root)
+    by (list_any (nat_eq n) ns) refl (once_push _ _)
   where
     by : (b : Bool) → list_any (nat_eq n) ns ≡ b
         → (Contains roots root × (each_once (roots ++ root ∷ []) ≡ each_once roots))
@@ -127,14 +127,14 @@ roots_more nodes ns roots root n distinct right is =
         → AreNumbers nodes (insert_key nat_eq ns n) (each_once (roots ++ root ∷ []))
     by true e (inl old) = search rules
     by true e (inr new) =
-        let source = number_source nodes ns (each_once roots) n right
-        (Contains-from_any exact_unsigned_eq n ns e) in
+        let source = number_source _ _ _ n right
+        (Contains-from_any exact_unsigned_eq n _ e) in
         let one : source.0 ≡ root = same_Some source.0 root (sym source.2 ∙ is) in
-        absurd (new.0 (subst (Contains roots) one (once_source roots source.0 source.1)))
+        absurd (new.0 (subst (Contains roots) one (once_source _ _ source.1)))
     by false e (inl old) =
-        let its = number_of_path nodes ns (each_once roots) root right (once_has roots root old.0)
+        let its = number_of_path _ _ _ _ right (once_has _ _ old.0)
         in
-        let one : its.0 ≡ n = same_place (paths_of nodes) its.0 n root distinct its.2 is in
+        let one : its.0 ≡ n = same_place _ _ n _ distinct its.2 is in
         absurd (false≢true
-        (sym e ∙ list_any-from_Contains nat_eq_equiv n ns (subst (Contains ns) one its.1)))
+        (sym e ∙ list_any-from_Contains nat_eq_equiv n _ (subst (Contains ns) one its.1)))
     by false e (inr new) = search (rules, numbers_push)

@@ -1,5 +1,5 @@
 -- Sources that give the same answers: what is true by one of them is true by the other.
-use Rattle.std.proofs.Common.{ℕ, List, [], ◌∷◌, Ok, Err, Result, rules}
+use Rattle.std.proofs.Common.{ℕ, List, [], ◌∷◌, Err, Result, rules}
 use Rattle.std.specs.Prelude.{All}
 use Rattle.std.proofs.lemmas.List.Elements.{All-weaker}
 use Rattle.nix_drv.specs.Derivation.{Drv}
@@ -58,23 +58,23 @@ module _ (dir : List ℕ) (G H : List ℕ → Answer → Type 0) (same : GivesSa
   fault_by roots (At p TooMany) at = search (rules, reached_by, All-weaker)
   fault_by roots (At p (Text text)) at = search (rules, reached_by)
   fault_by roots (At p Cycle) at = (
-    reached_by roots p at.0,
+    reached_by _ p at.0,
     record {
       user = at.1.user;
       steps = at.1.steps;
-      leads = leads_by (MayUse dir H) (MayUse dir G) uses_by p at.1.user at.1.steps at.1.leads;
-      closes = uses_by at.1.user p at.1.closes;
+      leads = leads_by (MayUse dir H) (MayUse dir G) uses_by p _ _ at.1.leads;
+      closes = uses_by _ p at.1.closes;
     },
   )
   fault_by roots (At p (Outputs outputs)) at = search (rules, reached_by, checked_by)
   fault_by roots (At p OutputClash) at = (
-    reached_by roots p at.0,
+    reached_by _ p at.0,
     record {
       kind = at.1.kind;
-      checked = checked_by p (Ok at.1.kind) at.1.checked;
+      checked = checked_by p _ at.1.checked;
       earlier = at.1.earlier;
       is_earlier = at.1.is_earlier;
-      reached = reached_by roots at.1.earlier.path at.1.reached;
+      reached = reached_by _ _ at.1.reached;
       differs = at.1.differs;
       shares = at.1.shares;
       no_twin = at.1.no_twin;

@@ -1,11 +1,10 @@
 -- Inputs are united: gathered by their paths, and their names sorted.
-use Rattle.std.proofs.Common.{◌≡◌, ◌≢◌, ◌⊎◌, ℕ, false, List, [], ◌∷◌, ◌++◌, take, get_or, nat_eq, Some, inl, inr, refl, sym, ap, subst, ◌∙◌, arith, rules}
+use Rattle.std.proofs.Common.{◌≡◌, ◌≢◌, ◌⊎◌, ℕ, false, List, [], ◌∷◌, ◌++◌, take, get_or, Some, inl, inr, refl, sym, ap, subst, ◌∙◌, arith, rules}
 use Rattle.std.specs.Prelude.{All, Contains}
-use Rattle.std.specs.Cmp.Lexicographic.{pointwise, slice_cmp}
+use Rattle.std.specs.Cmp.Lexicographic.{slice_cmp}
 use Rattle.std.specs.List.{AllZip, slice_get}
 use Rattle.std.specs.List.Sorted.{IsPermutation, IsSorted}
 use Rattle.std.specs.Ordering.{is_lt, nat_cmp}
-use Rattle.std.proofs.lemmas.Bool.{cases_Bool}
 use Rattle.std.proofs.lemmas.Cmp.{nat_list_cmp_total}
 use Rattle.std.proofs.lemmas.List.{map-append, take-map}
 use Rattle.std.proofs.lemmas.List.Elements.{All-cons, All-nil, Contains-append_cases, Contains-append_left, Contains-append_right, Contains-push, Contains-push_cases}
@@ -19,6 +18,7 @@ use Rattle.drv_graph.specs.Uniting.{IsAdded, IsGathered, IsNameSorted, input_pat
 use Rattle.drv_graph.proofs.Loops.{slice_get-take}
 use Rattle.drv_graph.proofs.OneText.{named_cases, named_first, named_later}
 use Rattle.nix_names.proofs.Lists.{Contains-nothing, get_from_contains}
+use Rattle.drv_graph.proofs.PathLists.{other_path}
 
 -- ---- sorted names
 
@@ -42,10 +42,10 @@ sorted_named [] [] zipped path name h = h
 sorted_named [] (y ∷ ys) zipped path name h = absurd zipped
 sorted_named (x ∷ xs) [] zipped path name h = absurd zipped
 sorted_named (x ∷ xs) (y ∷ ys) zipped path name h =
-    elim (named_cases y ys path name h) [
+    elim (named_cases y _ _ _ h) [
       | inl at ↦ subst (λ (p : List ℕ). IsNamed (x ∷ xs) p name) (sym zipped.0.path ∙ at.0)
-          (named_first x xs name ((zipped.0.names name).0 at.1))
-      | inr later ↦ named_later x xs path name (sorted_named xs ys zipped.1 path name later)
+          (named_first x _ _ ((zipped.0.names name).0 at.1))
+      | inr later ↦ named_later x xs path name (sorted_named _ _ zipped.1 _ _ later)
     ]
 
 named_sorted : (given sorted : List Input) → AllZip IsNameSorted given sorted → (path name : List ℕ)
@@ -54,27 +54,27 @@ named_sorted [] [] zipped path name h = h
 named_sorted [] (y ∷ ys) zipped path name h = absurd zipped
 named_sorted (x ∷ xs) [] zipped path name h = absurd zipped
 named_sorted (x ∷ xs) (y ∷ ys) zipped path name h =
-    elim (named_cases x xs path name h) [
+    elim (named_cases x _ _ _ h) [
       | inl at ↦ subst (λ (p : List ℕ). IsNamed (y ∷ ys) p name) (zipped.0.path ∙ at.0)
-          (named_first y ys name ((zipped.0.names name).1 at.1))
-      | inr later ↦ named_later y ys path name (named_sorted xs ys zipped.1 path name later)
+          (named_first y _ _ ((zipped.0.names name).1 at.1))
+      | inr later ↦ named_later y ys path name (named_sorted _ _ zipped.1 _ _ later)
     ]
 
 -- gathered inputs whose names are sorted are united
 pub united_from : (given gathered united : List Input) → IsGathered given gathered
     → AllZip IsNameSorted gathered united → IsUnited given united
 united_from given gathered united are zipped =
-    let same = sorted_paths gathered united zipped in
+    let same = sorted_paths _ _ zipped in
     record {
       rising = subst IsRising (sym same) are.rising;
-      names_rise = sorted_rise gathered united zipped;
+      names_rise = sorted_rise _ _ zipped;
       paths = λ path. (
         λ has. (are.paths path).0 (subst (λ (ps : List (List ℕ)). Contains ps path) same has),
         λ has. subst (λ (ps : List (List ℕ)). Contains ps path) (sym same) ((are.paths path).1 has),
       );
       names = λ path name. (
-        λ h. (are.names path name).0 (sorted_named gathered united zipped path name h),
-        λ h. named_sorted gathered united zipped path name ((are.names path name).1 h),
+        λ h. (are.names path name).0 (sorted_named _ _ zipped _ _ h),
+        λ h. named_sorted _ _ zipped _ _ ((are.names path name).1 h),
       );
     }
 
@@ -91,15 +91,15 @@ gathered_moved given moved gathered order are =
     record {
       rising = are.rising;
       paths = λ path. (
-        λ has. Contains-permutation (input_paths moved) (input_paths given) path
+        λ has. Contains-permutation _ _ _
             (IsPermutation-map (λ (i : Input). i.path) moved given back) ((are.paths path).0 has),
         λ has. (are.paths path).1
-            (Contains-permutation (input_paths given) (input_paths moved) path
+            (Contains-permutation _ _ _
             (IsPermutation-map (λ (i : Input). i.path) given moved order) has),
       );
       names = λ path name. (
-        λ h. named_moved moved given back path name ((are.names path name).0 h),
-        λ h. (are.names path name).1 (named_moved given moved order path name h),
+        λ h. named_moved _ _ back _ _ ((are.names path name).0 h),
+        λ h. (are.names path name).1 (named_moved _ _ order _ _ h),
       );
     }
 
@@ -117,7 +117,7 @@ named_push_cases : (xs : List Input) (x : Input) (path name : List ℕ)
     → IsNamed (xs ++ x ∷ []) path name → IsNamed xs path name
     ⊎ ((x.path ≡ path) × Contains x.names name)
 named_push_cases xs x path name h =
-    elim (Contains-push_cases xs x h.input h.is_input) [
+    elim (Contains-push_cases _ x _ h.is_input) [
       | inl before ↦ inl
           (record { input = h.input; is_input = before; is_path = h.is_path; is_name = h.is_name })
       | inr is ↦ inr (
@@ -133,17 +133,17 @@ paths_push xs x = search (rules, map-append)
 -- the path of an input among some and one more
 path_push_cases : (xs : List Input) (x : Input) (path : List ℕ)
     → Contains (input_paths (xs ++ x ∷ [])) path → Contains (input_paths xs) path ⊎ (x.path ≡ path)
-path_push_cases xs x path has = Contains-push_cases (input_paths xs) x.path path
-    (subst (λ (ps : List (List ℕ)). Contains ps path) (paths_push xs x) has)
+path_push_cases xs x path has = Contains-push_cases _ _ _
+    (subst (λ (ps : List (List ℕ)). Contains ps path) (paths_push _ x) has)
 
 path_push_left : (xs : List Input) (x : Input) (path : List ℕ) → Contains (input_paths xs) path
     → Contains (input_paths (xs ++ x ∷ [])) path
 path_push_left xs x path has = subst (λ (ps : List (List ℕ)). Contains ps path)
-    (sym (paths_push xs x)) (Contains-append_left (input_paths xs) (x.path ∷ []) path has)
+    (sym (paths_push _ x)) (Contains-append_left _ _ _ has)
 
 path_push_last : (xs : List Input) (x : Input) → Contains (input_paths (xs ++ x ∷ [])) x.path
-path_push_last xs x = subst (λ (ps : List (List ℕ)). Contains ps x.path) (sym (paths_push xs x))
-    (Contains-push (input_paths xs) x.path)
+path_push_last xs x = subst (λ (ps : List (List ℕ)). Contains ps x.path) (sym (paths_push _ x))
+    (Contains-push _ _)
 
 abbrev joined : Input → Input → Input
 joined last input = record { path = last.path; names = last.names ++ input.names }
@@ -152,19 +152,19 @@ gathered_joined : (given front : List Input) (last input : Input)
     → IsGathered given (front ++ last ∷ []) → last.path ≡ input.path
     → IsGathered (given ++ input ∷ []) (front ++ joined last input ∷ [])
 gathered_joined given front last input are same = record {
-  rising = subst IsRising (paths_push front last ∙ sym (paths_push front (joined last input)))
+  rising = subst IsRising (paths_push _ _ ∙ sym (paths_push _ _))
       are.rising;
   paths = λ path. (
-    λ has. path_push_left given input path
+    λ has. path_push_left _ _ _
         ((are.paths path).0
         (subst (λ (ps : List (List ℕ)). Contains ps path)
-        (paths_push front (joined last input) ∙ sym (paths_push front last)) has)),
+        (paths_push _ _ ∙ sym (paths_push _ _)) has)),
     λ has. subst (λ (ps : List (List ℕ)). Contains ps path)
-        (paths_push front last ∙ sym (paths_push front (joined last input)))
-        (elim (path_push_cases given input path has) [
+        (paths_push _ _ ∙ sym (paths_push _ _))
+        (elim (path_push_cases _ _ _ has) [
           | inl before ↦ (are.paths path).1 before
           | inr at ↦ subst (λ (p : List ℕ). Contains (input_paths (front ++ last ∷ [])) p)
-              (same ∙ at) (path_push_last front last)
+              (same ∙ at) (path_push_last _ _)
         ]),
   );
   names = λ path name. (there path name, back path name);
@@ -173,12 +173,12 @@ gathered_joined given front last input are same = record {
     there : (path name : List ℕ) → IsNamed (front ++ joined last input ∷ []) path name
         → IsNamed (given ++ input ∷ []) path name
     there path name h =
-        elim (named_push_cases front (joined last input) path name h) [
+        elim (named_push_cases _ _ _ _ h) [
           | inl before ↦ named_left given (input ∷ []) path name
-              ((are.names path name).0 (named_left front (last ∷ []) path name before))
-          | inr at ↦ elim (Contains-append_cases last.names input.names name at.1) [
+              ((are.names path name).0 (named_left _ _ _ _ before))
+          | inr at ↦ elim (Contains-append_cases _ _ _ at.1) [
             | inl old ↦ named_left given (input ∷ []) path name
-                ((are.names path name).0 (named_last front last path name at.0 old))
+                ((are.names path name).0 (named_last _ _ _ _ at.0 old))
             | inr new ↦ named_last given input path name (sym same ∙ at.0) new
           ]
         ]
@@ -186,15 +186,15 @@ gathered_joined given front last input are same = record {
     back : (path name : List ℕ) → IsNamed (given ++ input ∷ []) path name
         → IsNamed (front ++ joined last input ∷ []) path name
     back path name h =
-        elim (named_push_cases given input path name h) [
+        elim (named_push_cases _ _ _ _ h) [
           | inl before ↦
-              elim (named_push_cases front last path name ((are.names path name).1 before)) [
+              elim (named_push_cases _ _ _ _ ((are.names path name).1 before)) [
                 | inl earlier ↦ named_left front (joined last input ∷ []) path name earlier
                 | inr at ↦ named_last front (joined last input) path name at.0
-                    (Contains-append_left last.names input.names name at.1)
+                    (Contains-append_left _ _ _ at.1)
               ]
           | inr at ↦ named_last front (joined last input) path name (same ∙ at.0)
-              (Contains-append_right last.names input.names name at.1)
+              (Contains-append_right _ _ _ at.1)
         ]
 
 -- some inputs are none, or have a last one
@@ -202,13 +202,10 @@ ends : (xs : List Input) → (xs ≡ [])
     ⊎ ((front : List Input) × (last : Input) × (xs ≡ front ++ last ∷ []))
 ends [] = inl refl
 ends (x ∷ xs) =
-    elim (ends xs) [
+    elim (ends _) [
       | inl none ↦ inr ([], x, ap (λ (ys : List Input). x ∷ ys) none)
       | inr some ↦ inr (x ∷ some.0, some.1, ap (λ (ys : List Input). x ∷ ys) some.2)
     ]
-
-different : (x y : List ℕ) → x ≢ y → pointwise nat_eq x y ≡ false
-different x y other = search (rules, cases_Bool, nat_eq)
 
 gathered_appended : (given gathered : List Input) (input : Input) → IsGathered given gathered
     → ((path : List ℕ) → Contains (input_paths given) path
@@ -216,22 +213,22 @@ gathered_appended : (given gathered : List Input) (input : Input) → IsGathered
     → ((front : List Input) (last : Input) → gathered ≡ front ++ last ∷ [] → last.path ≢ input.path)
     → IsGathered (given ++ input ∷ []) (gathered ++ input ∷ [])
 gathered_appended given gathered input are ordered other = record {
-  rising = subst IsRising (sym (paths_push gathered input))
-      (rising_push (input_paths gathered) input.path are.rising below);
+  rising = subst IsRising (sym (paths_push _ _))
+      (rising_push _ _ are.rising below);
   paths = λ path. (
-    λ has. elim (path_push_cases gathered input path has) [
+    λ has. elim (path_push_cases _ _ _ has) [
       | inl before ↦ path_push_left given input path ((are.paths path).0 before)
       | inr at ↦ subst (λ (p : List ℕ). Contains (input_paths (given ++ input ∷ [])) p) at
-          (path_push_last given input)
+          (path_push_last _ _)
     ],
-    λ has. elim (path_push_cases given input path has) [
+    λ has. elim (path_push_cases _ _ _ has) [
       | inl before ↦ path_push_left gathered input path ((are.paths path).1 before)
       | inr at ↦ subst (λ (p : List ℕ). Contains (input_paths (gathered ++ input ∷ [])) p) at
-          (path_push_last gathered input)
+          (path_push_last _ _)
     ],
   );
   names = λ path name. (
-    λ h. elim (named_push_cases gathered input path name h) [
+    λ h. elim (named_push_cases _ _ _ _ h) [
       | inl before ↦ named_left given (input ∷ []) path name ((are.names path name).0 before)
       | inr at ↦ named_last given input path name at.0 at.1
     ],
@@ -250,7 +247,7 @@ gathered_appended given gathered input are ordered other = record {
         ((are.paths last.path).0
         (subst (λ (g : List Input). Contains (input_paths g) last.path) (sym is)
         (path_push_last front last))))
-        (different last.path input.path (other front last is))
+        (other_path _ _ (other front last is))
 
     below : (path : List ℕ) → Contains (input_paths gathered) path → IsBelow path input.path
     below path has =
@@ -278,14 +275,14 @@ not_less : (paths : List (List ℕ)) (i : ℕ) (path earlier : List ℕ)
     → Contains (take i paths) earlier
     → is_lt (slice_cmp nat_cmp path earlier) ≡ false
 not_less paths i path earlier sorted at has =
-    let found = get_from_contains (take i paths) earlier has in
-    let inside = slice_get-take paths i found.0 earlier found.1 in
+    let found = get_from_contains _ _ has in
+    let inside = slice_get-take _ i _ _ found.1 in
     let far = sorted_far (λ x y. is_lt (slice_cmp nat_cmp x y))
     (ranks_by nat_list_cmp_total (λ x. x)) paths sorted found.0 i [] (omega (arith, inside.0))
     (slice_get_within paths i path at) in
-    let here : get_or paths i [] ≡ path = get_or_from_slice_get paths i path [] at in
+    let here : get_or paths i [] ≡ path = get_or_from_slice_get paths i _ [] at in
     let there : get_or paths found.0 [] ≡ earlier =
-    get_or_from_slice_get paths found.0 earlier [] inside.1 in
+    get_or_from_slice_get paths found.0 _ [] inside.1 in
     ap (λ (x : List ℕ). is_lt (slice_cmp nat_cmp x earlier)) (sym here)
     ∙ ap (λ (y : List ℕ). is_lt (slice_cmp nat_cmp (get_or paths i []) y)) (sym there) ∙ far
 
@@ -297,12 +294,10 @@ pub gathered_more : (all given gathered after : List Input) (i : ℕ) (input : I
     → IsGathered (given ++ input ∷ []) after
 gathered_more all given gathered after i input sorted is at are (inl join) =
     subst (λ (g : List Input). IsGathered (given ++ input ∷ []) g) (sym join.is)
-    (gathered_joined given join.front join.last input
+    (gathered_joined _ _ _ _
     (subst (λ (g : List Input). IsGathered given g) join.was are) join.same)
 gathered_more all given gathered after i input sorted is at are (inr append) =
     subst (λ (g : List Input). IsGathered (given ++ input ∷ []) g) (sym append.is)
-    (gathered_appended given gathered input are
-    (λ path has. not_less (input_paths all) i input.path path sorted at
+    (gathered_appended _ _ _ are (λ path has. not_less _ i _ _ sorted at
     (subst (λ (ps : List (List ℕ)). Contains ps path)
-    (ap input_paths is ∙ sym (take-map (λ (j : Input). j.path) i all)) has))
-    append.other)
+    (ap input_paths is ∙ sym (take-map (λ (j : Input). j.path) i all)) has)) append.other)

@@ -28,17 +28,17 @@ used_path : (kept : List PlanNode) (n : ℕ) (u : UsedInput) (p : List ℕ) → 
     → slice_get (paths_of (nodes_of kept)) n ≡ Some p → u.path.now ≡ p
 used_path kept n u p used is =
     let at : slice_get (nodes_of kept) n ≡ Some (node_of used.node) =
-    get_mapped node_of kept n used.node used.is_node in
+    get_mapped node_of _ n _ used.is_node in
     let path : slice_get (paths_of (nodes_of kept)) n
-    ≡ Some used.node.path = get_mapped (λ (m : Node). m.path) (nodes_of kept) n
-    (node_of used.node) at in
+    ≡ Some used.node.path = get_mapped (λ (m : Node). m.path) _ n
+    _ at in
     used.path ∙ same_Some used.node.path p (sym path ∙ is)
 
 used_has : (kept : List PlanNode) (n : ℕ) (u : UsedInput) → IsUsed kept n u
     → Contains (nodes_of kept) (record { path = u.path.now; drv = u.drv.now })
 used_has kept n u used =
-    let there = Contains-map node_of kept used.node
-    (Contains-from_get kept n used.node used.is_node) in
+    let there = Contains-map node_of _ _
+    (Contains-from_get _ n _ used.is_node) in
     let same : ◌≡◌ {A = Node} (node_of used.node) (record { path = u.path.now; drv = u.drv.now }) =
     cc (used.path, used.drv) in
     subst (Contains (nodes_of kept)) same there
@@ -71,13 +71,13 @@ used_hashes kept (n ∷ ns) [] right zip = absurd zip
 used_hashes kept (n ∷ ns) (u ∷ us) right zip =
     let used = zip.0 in
     let node = used.node in
-    let here = Contains-from_get kept n node used.is_node in
+    let here = Contains-from_get _ n _ used.is_node in
     let own : IsPlanNode (nodes_of kept) node =
     All-contains (IsPlanNode (nodes_of kept)) kept node right
     here in
     let rest = used_hashes kept ns us right zip.1 in
     let one = one_more_hash (node_of node) node.kind own.has_hash.of_inputs node.hash
-    (used_paths_of us) (hashes_of us) (Contains-map node_of kept node here) own.has_kind
+    (used_paths_of us) (hashes_of us) (Contains-map node_of _ _ here) own.has_kind
     own.has_hash.are_hashes own.has_hash.is_hash rest in
     subst (λ path. AreHashes (nodes_of kept) (path ∷ used_paths_of us) (u.hash ∷ hashes_of us))
     (sym used.path)
@@ -101,11 +101,11 @@ pub used_more : (kept : List PlanNode) (numbers : List ℕ) (i : ℕ) (node : Pl
 used_more kept numbers i node us one lt within is path drv hash zip =
     let n = get_or numbers i 0 in
     let below : n < length kept = within i 0 lt in
-    subst (λ ns. AllZip (IsUsed kept) ns (us ++ one ∷ [])) (sym (take_more numbers i 0 lt))
-    (zip_push (IsUsed kept) (take i numbers) us n one zip
+    subst (λ ns. AllZip (IsUsed kept) ns (us ++ one ∷ [])) (sym (take_more _ i 0 lt))
+    (zip_push (IsUsed kept) _ _ n _ zip
     (record {
       node = node;
-      is_node = slice_get_read kept (length kept) n node refl below is;
+      is_node = slice_get_read _ _ n _ refl below is;
       path = path;
       drv = drv;
       hash = hash;
@@ -152,10 +152,10 @@ pub check_right :
     × HasHash (nodes_of kept) visit.drv kind hash
 check_right dir kept visit us given hashed name kind hash right numbers zip named same checked
     same_too hash_is = (
-      answer_is dir kept visit us given name (Ok kind) right numbers zip named same checked,
+      answer_is _ _ visit _ _ _ _ right numbers zip named same checked,
       record {
         of_inputs = hashes_of us;
-        are_hashes = hashes_are kept visit us right numbers zip;
+        are_hashes = hashes_are _ visit _ right numbers zip;
         is_hash = subst (λ l. IsHashBy kind visit.drv (hashes_of l) hash) same_too hash_is;
       },
     )

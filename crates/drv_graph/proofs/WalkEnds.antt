@@ -1,5 +1,5 @@
 -- A walk over derivations: how one is left, and why its faults are true.
-use Rattle.std.proofs.Common.{◌≡◌, ◌∙◌, ℕ, ◌+◌, ◌≤◌, List, [], ◌∷◌, ◌++◌, length, take, drop, refl, sym, ap, subst, inl, inr, ⊎_elim, arith, Option, Some, None, Ok, Err, Result, is_some, rules}
+use Rattle.std.proofs.Common.{◌≡◌, ◌∙◌, ℕ, ◌+◌, ◌≤◌, List, [], ◌∷◌, ◌++◌, length, drop, refl, sym, ap, subst, inl, inr, ⊎_elim, arith, Option, Some, None, Err, Result, is_some, rules}
 use Rattle.std.specs.Prelude.{All, Contains}
 use Rattle.std.specs.Cmp.Lexicographic.{nat_list_eq_equiv}
 use Rattle.std.proofs.lemmas.Bool.{false≢true}
@@ -26,7 +26,7 @@ use Rattle.drv_graph.proofs.Marks.{marks_left, pending_not_left}
 use Rattle.drv_graph.proofs.Numbers.{numbers_grow}
 use Rattle.drv_graph.proofs.PathLists.{distinct_push}
 use Rattle.drv_graph.proofs.PlanOrder.{leads_more}
-use Rattle.drv_graph.proofs.Walking.{AreOpen, IsOpen, IsWalk, IsWanted, Remains, uses_input, visits_of, wanted_reached}
+use Rattle.drv_graph.proofs.Walking.{AreOpen, IsOpen, IsWalk, IsWanted, Remains, uses_input, wanted_reached}
 use Rattle.nix_names.proofs.Lists.{All-from_contains, All-left, Contains-cons_cases, Contains-first, Contains-from_get, Contains-map, Contains-nothing}
 
 -- what is open stays right as nodes are added
@@ -39,8 +39,8 @@ open_grows dir gives roots root nodes more (v ∷ vs) are = (
   record {
     is_visit = record {
       inputs = are.0.is_visit.inputs;
-      numbers = numbers_grow nodes more v.numbers.items
-          (take (length v.numbers.items) (inputs_of v.drv)) are.0.is_visit.numbers;
+      numbers = numbers_grow _ _ _
+          _ are.0.is_visit.numbers;
     };
     stands = are.0.stands;
     reached = are.0.reached;
@@ -62,14 +62,14 @@ walk_leaves dir gives roots root start found after visit visits walk all leaves 
   walked = record {
     right = leaves.found;
     given = subst (All (λ (n : Node). MayBeAt dir gives n.path n.drv)) (sym leaves.nodes)
-        (All-push (λ (n : Node). MayBeAt dir gives n.path n.drv) (nodes_of found.nodes.items)
-        (visited visit) walk.walked.given is.stands);
+        (All-push (λ (n : Node). MayBeAt dir gives n.path n.drv) _
+        _ walk.walked.given is.stands);
     reached = subst (All (IsReachedBy (MayUse dir gives) roots)) (sym paths_grown)
-        (All-push (IsReachedBy (MayUse dir gives) roots) (paths_of (nodes_of found.nodes.items))
-        visit.path walk.walked.reached is.reached);
+        (All-push (IsReachedBy (MayUse dir gives) roots) _
+        _ walk.walked.reached is.reached);
     marks = subst (λ l. AreMarks (marked after.marks) l (pending_of visits)) (sym paths_grown)
         (marks_left (marked found.marks) (marked after.marks)
-        (paths_of (nodes_of found.nodes.items)) (pending_of visits) visit.path walk.walked.marks
+        _ _ _ walk.walked.marks
         walk.pending.1
         (subst (λ n. SetsEntry (marked found.marks) (marked after.marks) visit.path (Some n))
         (sym long) leaves.marks));
@@ -77,7 +77,7 @@ walk_leaves dir gives roots root start found after visit visits walk all leaves 
     few = omega (arith, leaves.count, walk.walked.few);
   };
   pending = subst (λ ns. AreOpen dir gives roots root ns visits) (sym leaves.nodes)
-      (open_grows dir gives roots root (nodes_of found.nodes.items) (visited visit ∷ []) visits
+      (open_grows _ gives _ _ _ _ _
       walk.pending.3);
   more = walk.more ++ visited visit ∷ [];
   grown = leaves.nodes ∙ ap (λ l. l ++ visited visit ∷ []) walk.grown
@@ -86,11 +86,11 @@ walk_leaves dir gives roots root start found after visit visits walk all leaves 
       let has_all : All (Contains nodes) (nodes_of found.nodes.items ++ visited visit ∷ []) =
       subst (All (Contains nodes)) leaves.nodes has in
       let has_visit : Contains nodes (visited visit) =
-      All-contains (Contains nodes) (nodes_of found.nodes.items ++ visited visit ∷ [])
-      (visited visit) has_all (Contains-push (nodes_of found.nodes.items) (visited visit)) in
+      All-contains (Contains nodes) _
+      _ has_all (Contains-push _ _) in
       walk.order nodes last
-      (All-left (Contains nodes) (nodes_of found.nodes.items) (visited visit ∷ []) has_all)
-      (All-cons (Contains nodes) (visited visit) (visits_of visits) has_visit open_has) (
+      (All-left (Contains nodes) _ _ has_all)
+      (All-cons (Contains nodes) _ _ has_visit open_has) (
         paths_of (nodes_of found.nodes.items),
         ended nodes,
         not_left,
@@ -122,7 +122,7 @@ walk_leaves dir gives roots root start found after visit visits walk all leaves 
         omega (arith, all, ap length is.is_visit.inputs) in
         subst (λ ps. AreLeft nodes (paths_of (nodes_of found.nodes.items)) ps
         (paths_of (nodes_of found.nodes.items)))
-        (sym (drop_all (length visit.numbers.items) (inputs_of visit.drv) short))
+        (sym (drop_all _ _ short))
         (none_left (paths_of (nodes_of found.nodes.items)))
 
 -- an open path leads to the innermost one
@@ -131,42 +131,42 @@ leads_up : (dir : List ℕ) (gives : List ℕ → Answer → Type 0) (roots : Li
     → AreOpen dir gives roots root nodes (v ∷ vs) → Contains (pending_of (v ∷ vs)) path
     → (steps : List (List ℕ)) × LeadsBy (MayUse dir gives) path v.path steps
 leads_up dir gives roots root nodes v [] path are has =
-    ⊎_elim (λ same. ([], sym same)) (λ none. absurd (Contains-nothing path none))
-    (Contains-cons_cases v.path [] path has)
+    ⊎_elim (λ same. ([], sym same)) (λ none. absurd (Contains-nothing _ none))
+    (Contains-cons_cases _ [] path has)
 leads_up dir gives roots root nodes v (w ∷ ws) path are has =
     ⊎_elim (λ same. ([], sym same))
     (λ below.
     let lower = leads_up dir gives roots root nodes w ws path are.3 below in (
       lower.0 ++ v.path ∷ [],
-      leads_more (MayUse dir gives) path w.path v.path lower.0 lower.1
-          (uses_input dir gives roots nodes w v.path (length w.numbers.items) are.3.0 are.2),
+      leads_more (MayUse dir gives) _ _ _ _ lower.1
+          (uses_input _ gives _ _ w _ _ are.3.0 are.2),
     ))
-    (Contains-cons_cases v.path (pending_of (w ∷ ws)) path has)
+    (Contains-cons_cases _ (pending_of (w ∷ ws)) _ has)
 
 -- an open path is reached
 pending_reached : (dir : List ℕ) (gives : List ℕ → Answer → Type 0) (roots : List (List ℕ))
     (root : List ℕ) (nodes : List Node) (visits : List Visit) (path : List ℕ)
     → AreOpen dir gives roots root nodes visits → Contains (pending_of visits) path
     → IsReachedBy (MayUse dir gives) roots path
-pending_reached dir gives roots root nodes [] path are has = absurd (Contains-nothing path has)
+pending_reached dir gives roots root nodes [] path are has = absurd (Contains-nothing _ has)
 pending_reached dir gives roots root nodes (v ∷ vs) path are has =
     ⊎_elim (λ same. subst (IsReachedBy (MayUse dir gives) roots) same are.0.reached)
     (λ below. pending_reached dir gives roots root nodes vs path are.3 below)
-    (Contains-cons_cases v.path (pending_of vs) path has)
+    (Contains-cons_cases _ _ _ has)
 
 -- what is open and wanted again is on a cycle
 on_cycle : (dir : List ℕ) (gives : List ℕ → Answer → Type 0) (roots : List (List ℕ)) (root : List ℕ)
     (nodes : List Node) (visits : List Visit) (path : List ℕ)
     → AreOpen dir gives roots root nodes visits → IsWanted root visits path
     → Contains (pending_of visits) path → IsOnCycle (MayUse dir gives) path
-on_cycle dir gives roots root nodes [] path are wanted has = absurd (Contains-nothing path has)
+on_cycle dir gives roots root nodes [] path are wanted has = absurd (Contains-nothing _ has)
 on_cycle dir gives roots root nodes (v ∷ vs) path are wanted has =
-    let up = leads_up dir gives roots root nodes v vs path are has in
+    let up = leads_up _ gives _ _ _ v _ _ are has in
     record {
       user = v.path;
       steps = up.0;
       leads = up.1;
-      closes = uses_input dir gives roots nodes v path (length v.numbers.items) are.0 wanted;
+      closes = uses_input _ gives _ _ v _ _ are.0 wanted;
     }
 
 -- each path that was met is reached
@@ -243,7 +243,7 @@ meeting_fault dir gives roots root start found visits path fault has_root walk w
       reached,
       (
         at.1,
-        too_many dir gives roots root start found visits path walk reached reading.1
+        too_many _ gives _ _ _ _ _ _ walk reached reading.1
             reading.2 at.2,
       ),
     )
@@ -281,27 +281,27 @@ leaving_fault dir gives roots root start found visit visits (At p (Outputs outpu
       walk.pending.0.reached,
       (
         at.1,
-        checked_behind dir gives roots root start found visit visits (Err outputs) walk at.2,
+        checked_behind _ gives _ _ _ _ _ _ _ walk at.2,
       ),
     )
 leaving_fault dir gives roots root start found visit visits (At p OutputClash) walk at =
     let other = at.2.0 in
     let left = paths_of (nodes_of found.nodes.items) in
     let there : Contains left other.path = Contains-map (λ (n : Node). n.path)
-    (nodes_of found.nodes.items) other at.2.1 in
+    _ _ at.2.1 in
     let differs : other.path ≡ visit.path → ⊥ =
-    λ same. pending_not_left (marked found.marks) left (pending_of (visit ∷ visits)) visit.path
-    walk.walked.marks (Contains-first visit.path (pending_of visits))
+    λ same. pending_not_left (marked found.marks) _ _ _
+    walk.walked.marks (Contains-first _ _)
     (subst (Contains left) same there) in
     subst (λ q. IsLoading dir gives roots (Err (At q OutputClash))) (sym at.0) (
       walk.pending.0.reached,
       record {
         kind = at.1.0;
-        checked = checked_behind dir gives roots root start found visit visits (Ok at.1.0) walk
+        checked = checked_behind _ gives _ _ _ _ _ _ _ walk
             at.1.1;
         earlier = other;
         is_earlier = at.2.1;
-        reached = All-contains (IsReachedBy (MayUse dir gives) roots) left other.path
+        reached = All-contains (IsReachedBy (MayUse dir gives) roots) _ _
             walk.walked.reached there;
         differs = differs;
         shares = at.2.2;

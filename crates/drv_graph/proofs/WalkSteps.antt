@@ -12,7 +12,7 @@ use Rattle.drv_graph.specs.Loading.{IsLoading}
 use Rattle.drv_graph.specs.Nodes.{Node, paths_of}
 use Rattle.drv_graph.specs.Plans.{MayBeAt}
 use Rattle.drv_graph.specs.PlanNodes.{nodes_of}
-use Rattle.drv_graph.specs.Walks.{IsGoingOn, IsMeetingFault, IsReadingFault, IsVisit, IsVisited, LeavesNone, Opens, marked, pending_of}
+use Rattle.drv_graph.specs.Walks.{IsGoingOn, IsMeetingFault, IsReadingFault, IsVisit, IsVisited, LeavesNone, Opens, marked}
 use Rattle.drv_graph.specs.declared.fault.GraphFault.{GraphFault}
 use Rattle.drv_graph.specs.declared.fault.GraphFault.TheVariants.{NoMemory, At, Draft, Name}
 use Rattle.drv_graph.specs.declared.fault.NodeFault.TheVariants.{Unreadable, TooMany, Text, Cycle, Outputs, OutputClash}
@@ -79,13 +79,13 @@ module _ (dir : List ℕ) (G H : List ℕ → Answer → Type 0) (roots : List (
       → IsVisit (nodes_of found.nodes.items) visit × (marked found.marks visit.path ≡ Some None)
       × (Contains (paths_of (nodes_of found.nodes.items)) visit.path → ⊥)
   popped_is found before below visit walk parts =
-      let top = popped found before below visit walk parts in (
+      let top = popped _ _ _ _ walk parts in (
         top.pending.0.is_visit,
         (top.walked.marks.is_pending visit.path).1
-            (Contains-first visit.path (pending_of (reverse below))),
-        pending_not_left (marked found.marks) (paths_of (nodes_of found.nodes.items))
-            (pending_of (visit ∷ reverse below)) visit.path top.walked.marks
-            (Contains-first visit.path (pending_of (reverse below))),
+            (Contains-first _ _),
+        pending_not_left (marked found.marks) _
+            _ _ top.walked.marks
+            (Contains-first _ _),
       )
 
   -- its sources are in the folder
@@ -93,8 +93,7 @@ module _ (dir : List ℕ) (G H : List ℕ → Answer → Type 0) (roots : List (
       → IsWalk dir G roots root start found (reverse before) → before ≡ below ++ visit ∷ []
       → All (IsPathOf dir) visit.drv.sources
   popped_sources found before below visit walk parts =
-      sources_in_store dir visit.drv
-      (popped found before below visit walk parts).pending.0.stands.found.in_store
+      sources_in_store _ _ (popped _ _ _ _ walk parts).pending.0.stands.found.in_store
 
   wanted_input : (found : Found) (visit : Visit) (below : List Visit) (input : List ℕ)
       → IsWalk dir G roots root start found (visit ∷ below)
@@ -113,23 +112,23 @@ module _ (dir : List ℕ) (G H : List ℕ → Answer → Type 0) (roots : List (
       IsWalk dir G roots root start after (reverse rest)
   walk_goes_on found after before below rest visit made has_root same walk parts (inl left) =
       subst (λ vs. IsWalk dir G roots root start after (reverse vs)) (sym left.2)
-      (walk_leaves dir G roots root start found after visit (reverse below)
-      (popped found before below visit walk parts) left.0 left.1)
+      (walk_leaves _ G _ _ _ _ _ _ _
+      (popped _ _ _ _ walk parts) left.0 left.1)
   walk_goes_on found after before below rest visit made has_root same walk parts
       (inr (inl (next, none, step, is))) =
-      subst (IsWalk dir G roots root start after) (sym (ap reverse is ∙ reverse_push below next))
-      (walk_advances dir G roots root start found after visit next (reverse below)
-      (popped found before below visit walk parts) none step)
+      subst (IsWalk dir G roots root start after) (sym (ap reverse is ∙ reverse_push below _))
+      (walk_advances _ G _ _ _ _ _ _ _ _
+      (popped _ _ _ _ walk parts) none step)
   walk_goes_on found after before below rest visit made has_root same walk parts
       (inr (inr (child, none, step, is))) =
-      let top = popped found before below visit walk parts in
+      let top = popped _ _ _ _ walk parts in
       let shape : reverse rest ≡ child ∷ visit ∷ reverse below = ap reverse is
       ∙ reverse_push (below ++ visit ∷ []) child
       ∙ ap (λ l. child ∷ l) (reverse_push below visit) in
       subst (IsWalk dir G roots root start after) (sym shape)
-      (walk_opens dir G roots root start found after (visit ∷ reverse below) step.input child
-      has_root top (wanted_input found visit (reverse below) step.input top step.is_input) none
-      (same_opens dir G H found.marks after.marks step.input child same step.opens))
+      (walk_opens _ G _ _ _ _ _ _ _ _
+      has_root top (wanted_input _ _ _ _ top step.is_input) none
+      (same_opens _ G H _ _ _ _ same step.opens))
 
   -- or ends with a fault, which is true
   pub walk_stops :
@@ -143,13 +142,12 @@ module _ (dir : List ℕ) (G H : List ℕ → Answer → Type 0) (roots : List (
   walk_stops found after before below rest visit fault has_root same walk parts (inl refused) =
       search rules
   walk_stops found after before below rest visit fault has_root same walk parts (inr (inl left)) =
-      leaving_fault dir G roots root start found visit (reverse below) fault
-      (popped found before below visit walk parts) left.1
+      leaving_fault _ G _ _ _ _ _ _ _ (popped _ _ _ _ walk parts) left.1
   walk_stops found after before below rest visit fault has_root same walk parts (inr (inr input)) =
-      let top = popped found before below visit walk parts in
-      meeting_fault dir G roots root start found (visit ∷ reverse below) input.input fault has_root
-      top (wanted_input found visit (reverse below) input.input top input.is_input)
-      (same_meeting dir G H found.marks input.input fault same input.is_true)
+      let top = popped _ _ _ _ walk parts in
+      meeting_fault _ G _ _ _ _ _ _ _ has_root
+      top (wanted_input _ _ _ _ top input.is_input)
+      (same_meeting _ G H found.marks _ _ same input.is_true)
 
   -- at the root nothing is open
   pub root_opens : (found after : Found) (visits : List Visit) (child : Visit) → Contains roots root
@@ -157,8 +155,8 @@ module _ (dir : List ℕ) (G H : List ℕ → Answer → Type 0) (roots : List (
       → LeavesNone found after → Opens dir H found.marks after.marks root child
       → IsWalk dir G roots root start after (child ∷ [])
   root_opens found after [] child has_root same walk none left opens =
-      walk_opens dir G roots root start found after [] root child has_root walk refl left
-      (same_opens dir G H found.marks after.marks root child same opens)
+      walk_opens _ G _ _ _ _ _ [] root child has_root walk refl left
+      (same_opens _ G H _ _ _ _ same opens)
   root_opens found after (v ∷ vs) child has_root same walk none left opens =
       absurd (omega (arith, none))
 
@@ -166,7 +164,7 @@ module _ (dir : List ℕ) (G H : List ℕ → Answer → Type 0) (roots : List (
       → GivesSame G H → IsWalk dir G roots root start found (reverse visits) → length visits ≡ 0
       → IsMeetingFault dir H found.marks root fault → IsLoading dir G roots (Err fault)
   root_stops found [] fault has_root same walk none at =
-      meeting_fault dir G roots root start found [] root fault has_root walk refl
+      meeting_fault _ G _ _ _ _ [] root fault has_root walk refl
       (same_meeting dir G H found.marks root fault same at)
   root_stops found (v ∷ vs) fault has_root same walk none at = absurd (omega (arith, none))
 
@@ -190,7 +188,7 @@ walk_ends dir G roots root before found [] number walk none is =
             walk.order nodes (paths_of (nodes_of found.nodes.items)) has (All-nil (Contains nodes))
             (passed_over root (paths_of (nodes_of found.nodes.items)) []
             (paths_of (nodes_of found.nodes.items))
-            (Contains-from_get (paths_of (nodes_of found.nodes.items)) number root at)
+            (Contains-from_get _ _ _ at)
             (none_left (paths_of (nodes_of found.nodes.items))));
       };
       is_number = at;

@@ -74,16 +74,16 @@ remains_wanted : (nodes : List Node) (root : List ℕ) (visits : List Visit) (ch
 remains_wanted nodes root [] child now after inputs wanted has new under apart rest =
     let at_root = subst (λ r. AreLeft nodes (inputs ++ child.path ∷ []) (r ∷ []) after) (sym wanted)
     rest in
-    let later = left_later child.path [] at_root (Contains-push inputs child.path) in
+    let later = left_later _ [] at_root (Contains-push _ _) in
     subst (λ r. AreLeft nodes now (r ∷ []) after) wanted
     (left_behind_inputs (visited child) now inputs [] after has new under apart later)
 remains_wanted nodes root (v ∷ vs) child now after inputs wanted has new under apart
     (own, left, free, rest) =
-    let parts = drop_at (inputs_of v.drv) (length v.numbers.items) child.path wanted in
+    let parts = drop_at (inputs_of v.drv) (length v.numbers.items) _ wanted in
     let rest_of = drop (suc (length v.numbers.items)) (inputs_of v.drv) in
-    let later = left_later child.path rest_of
+    let later = left_later _ _
     (subst (λ ps. AreLeft nodes (inputs ++ child.path ∷ []) ps own) parts left)
-    (Contains-push inputs child.path) in (
+    (Contains-push _ _) in (
       own,
       subst (λ ps. AreLeft nodes now ps own) (sym parts)
           (left_behind_inputs (visited child) now inputs rest_of own has new under apart later),
@@ -99,7 +99,7 @@ uses_input dir gives roots nodes v path n is wanted =
     record {
       drv = v.drv;
       stands = is.stands;
-      is_input = Contains-from_get (inputs_of v.drv) n path wanted;
+      is_input = Contains-from_get _ n _ wanted;
     }
 
 -- what is wanted is reached
@@ -136,21 +136,21 @@ walk_opens dir gives roots root start found after visits path child has_root wal
     let wanted_child : IsWanted root visits child.path =
     subst (IsWanted root visits) (sym own) wanted in
     let reached : IsReachedBy (MayUse dir gives) roots child.path =
-    wanted_reached dir gives roots root (nodes_of found.nodes.items) visits child.path has_root
+    wanted_reached _ gives _ _ _ _ _ has_root
     walk.pending wanted_child in
     let new_left : Contains left child.path → ⊥ =
     subst (λ p. Contains left p → ⊥) (sym own)
-    (new_not_left (marked found.marks) left (pending_of visits) path walk.walked.marks
+    (new_not_left (marked found.marks) _ _ _ walk.walked.marks
     opens.is_new) in
     let apart : Contains (pending_of visits) child.path
     → ⊥ = subst (λ p. Contains (pending_of visits) p → ⊥) (sym own)
-    (new_not_pending (marked found.marks) left (pending_of visits) path walk.walked.marks
+    (new_not_pending (marked found.marks) _ _ _ walk.walked.marks
     opens.is_new) in
     let stands : MayBeAt dir gives child.path child.drv =
     subst (λ p. MayBeAt dir gives p child.drv) (sym own) opens.stands in
     let marks : AreMarks (marked after.marks) left (child.path ∷ pending_of visits) =
     subst (λ p. AreMarks (marked after.marks) left (p ∷ pending_of visits)) (sym own)
-    (marks_opened (marked found.marks) (marked after.marks) left (pending_of visits) path
+    (marks_opened (marked found.marks) (marked after.marks) _ _ _
     walk.walked.marks opens.is_new opens.marks) in
     let is_open : IsOpen dir gives roots (nodes_of found.nodes.items) child =
     record {
@@ -160,7 +160,7 @@ walk_opens dir gives roots root start found after visits path child has_root wal
     } in
     record {
       walked = record {
-        right = found_same dir found after none walk.walked.right;
+        right = found_same _ _ _ none walk.walked.right;
         given = subst (All (λ (n : Node). MayBeAt dir gives n.path n.drv)) (sym nodes_same)
             walk.walked.given;
         reached = subst (λ ns. All (IsReachedBy (MayUse dir gives) roots) (paths_of ns))
@@ -176,9 +176,9 @@ walk_opens dir gives roots root start found after visits path child has_root wal
       grown = nodes_same ∙ walk.grown;
       order = λ nodes last has open_has rest.
           walk.order nodes last (subst (All (Contains nodes)) nodes_same has)
-          (All-tail (Contains nodes) (visited child) (visits_of visits) open_has)
+          (All-tail (Contains nodes) _ _ open_has)
           (goes_on nodes last
-          (All-head (Contains nodes) (visited child) (visits_of visits) open_has)
+          (All-head (Contains nodes) _ _ open_has)
           (subst (λ ns. Remains nodes root (paths_of ns) (child ∷ visits) last) nodes_same rest)
           new_left wanted_child);
     }
@@ -214,7 +214,7 @@ walk_advances dir gives roots root start found after visit next visits walk none
     ≡ Some step.input = subst (λ l. slice_get l (length visit.numbers.items) ≡ Some step.input)
     is.is_visit.inputs step.is_input in
     let long : length next.numbers.items ≡ suc (length visit.numbers.items) = ap length step.numbers
-    ∙ length_push visit.numbers.items step.number ∙ omega arith in
+    ∙ length_push _ _ ∙ omega arith in
     let numbers : AreNumbers (nodes_of found.nodes.items) next.numbers.items
     (take (length next.numbers.items) (inputs_of next.drv)) =
     subst (λ d. AreNumbers (nodes_of found.nodes.items) next.numbers.items
@@ -224,9 +224,9 @@ walk_advances dir gives roots root start found after visit next visits walk none
     (subst (λ l. AreNumbers (nodes_of found.nodes.items) l
     (take (suc (length visit.numbers.items)) (inputs_of visit.drv))) (sym step.numbers)
     (subst (AreNumbers (nodes_of found.nodes.items) (visit.numbers.items ++ step.number ∷ []))
-    (sym (take_at (inputs_of visit.drv) (length visit.numbers.items) step.input wanted))
-    (numbers_push (nodes_of found.nodes.items) visit.numbers.items
-    (take (length visit.numbers.items) (inputs_of visit.drv)) step.number step.input
+    (sym (take_at _ _ _ wanted))
+    (numbers_push _ _
+    _ _ step.input
     is.is_visit.numbers at)))) in
     let same : visited next ≡ visited visit = cc (step.path, step.drv) in
     let pending_same : pending_of (next ∷ visits) ≡ pending_of (visit ∷ visits) =

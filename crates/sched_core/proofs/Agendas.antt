@@ -168,12 +168,12 @@ pub noted_agenda : (tallies : List Tally) (agenda : Agenda) (d : ℕ) (before af
     → IsAgenda (set tallies d after) (noted agenda d before after)
 noted_agenda tallies agenda d before after at turns same is = record {
   ready = ready_now;
-  ring = All-append (IsWantedAt (set tallies d after)) agenda.ring
-      (alone_if (frees before after) d)
+  ring = All-append (IsWantedAt (set tallies d after)) _
+      _
       (All-weaker (IsWantedAt tallies) (IsWantedAt (set tallies d after))
-      (λ e. wanted_set tallies d e before after at same) agenda.ring is.ring)
-      (all_alone (IsWantedAt (set tallies d after)) (frees before after) d
-      (λ freed. (after, set_same tallies d before after at, first_of_three freed)));
+      (λ e. wanted_set _ d e _ _ at same) _ is.ring)
+      (all_alone (IsWantedAt (set tallies d after)) _ d
+      (λ freed. (after, set_same _ d _ _ at, first_of_three freed)));
   room = omega (
     arith,
     is.room,
@@ -181,10 +181,10 @@ noted_agenda tallies agenda d before after at turns same is = record {
     length_alone (frees before after) d,
     count_set (λ tally. is_blocked tally.state) tallies d before after at,
     room_one after.wanted (is_blocked before.state) (is_blocked after.state)
-        (is_ready after.state) (turn_blocked before.state after.state turns)
-        (ready_not_blocked after.state),
+        _ (turn_blocked _ _ turns)
+        (ready_not_blocked _),
   );
-  work = All-append (λ e. e < length (set tallies d after)) agenda.work
+  work = All-append (λ e. e < length (set tallies d after)) _
       (alone_if (ends before after) d)
       (All-weaker (λ e. e < length tallies) (λ e. e < length (set tallies d after))
       (λ e low. omega (arith, low, length-set tallies d after)) agenda.work is.work)
@@ -258,7 +258,7 @@ settles_most tallies agenda d before after at turns same is =
     omega (
       arith,
       is.unsettled,
-      count_set is_unsettled tallies d before after at,
+      count_set is_unsettled _ d _ after at,
       settles_one after.wanted (is_open before.state) (is_open after.state)
           (turn_open before.state after.state turns),
     )
@@ -296,7 +296,7 @@ pub ring_falls : (tallies : List Tally) (agenda : Agenda) (d : ℕ) (tally : Tal
     → is_ready tally.state ≡ false → IsAgenda tallies agenda
     → IsAgenda tallies (record agenda { ring = drop 1 agenda.ring })
 ring_falls tallies agenda d tally first at waits is = record {
-  ready = λ e other there wanted now. in_rest agenda.ring d e first
+  ready = λ e other there wanted now. in_rest _ d e first
       (λ same.
       let both : other ≡ tally = cc in
       let told : is_ready tally.state ≡ true = ap (λ (t : Tally). is_ready t.state) (sym both)
@@ -314,8 +314,8 @@ pub ring_falls_at : (tallies : List Tally) (agenda : Agenda) (d : ℕ) (default 
     → slice_get agenda.ring 0 ≡ Some d → is_ready (get_or tallies d default).state ≡ false
     → IsAgenda tallies agenda → IsAgenda tallies (record agenda { ring = drop 1 agenda.ring })
 ring_falls_at tallies agenda d default first waits is =
-    ring_falls tallies agenda d (get_or tallies d default) first
-    (slice_get-get_or tallies d default low) waits is
+    ring_falls _ _ d _ first
+    (slice_get-get_or _ d _ low) waits is
   where
     low : d < length tallies
     low = search (rules, get_or_from_slice_get, slice_get_within)
@@ -373,14 +373,14 @@ agenda_more xs ring unsettled x is = record {
       let both_are : (x.wanted && is_ready x.state) ≡ true = cc in
       subst (λ b. Contains (ring ++ alone_if b (length xs)) e) (sym both_are)
       (subst (λ n. Contains (ring ++ length xs ∷ []) n) (sym both.0)
-      (Contains-push ring (length xs))))
-      (λ was. Contains-append_left ring (alone_if (x.wanted && is_ready x.state) (length xs)) e
+      (Contains-push _ _)))
+      (λ was. Contains-append_left _ _ e
       (is.ready e tally was wanted now))
-      (push_cases xs x tally e at);
-  ring = All-append (IsWantedAt (xs ++ x ∷ [])) ring
-      (alone_if (x.wanted && is_ready x.state) (length xs))
+      (push_cases _ x _ e at);
+  ring = All-append (IsWantedAt (xs ++ x ∷ [])) _
+      _
       (All-weaker (IsWantedAt xs) (IsWantedAt (xs ++ x ∷ []))
-      (λ e has. (has.0, push_old xs x has.0 e has.1, has.2)) ring is.ring)
+      (λ e has. (has.0, push_old _ x _ e has.1, has.2)) ring is.ring)
       (all_alone (IsWantedAt (xs ++ x ∷ [])) (x.wanted && is_ready x.state) (length xs)
       (λ both. (x, push_new xs x, first_of_two x.wanted (is_ready x.state) both)));
   room = omega (
@@ -421,7 +421,7 @@ opening_more : (tallies : List Tally) (d : ℕ) (ring : List ℕ) (unsettled : �
 opening_more tallies d ring unsettled x default low read before =
     let first = take d tallies in
     let long : length first ≡ d = length-take-le d tallies (omega (arith, low)) in
-    let next : take (d + 1) tallies ≡ first ++ x ∷ [] = take_more tallies d default low
+    let next : take (d + 1) tallies ≡ first ++ x ∷ [] = take_more _ d _ low
     ∙ ap (λ t. first ++ t ∷ []) read in
     let was : IsAgenda first (record {
       ring = ring;
@@ -436,7 +436,7 @@ opening_more tallies d ring unsettled x default low read before =
       space = n;
       unsettled = unsettled;
     })) (sym long) before.is in
-    let more = agenda_more first ring unsettled x was in
+    let more = agenda_more _ _ _ x was in
     record {
       is = subst (λ l. IsAgenda l (record {
         ring = ring ++ alone_if (x.wanted && is_ready x.state) d;
@@ -451,12 +451,12 @@ opening_more tallies d ring unsettled x default low read before =
         space = n + 1;
         unsettled = unsettled + one (is_unsettled x);
       })) long more);
-      ready = All-append (λ e. kept (states_in tallies) e ≡ Ready) ring
-          (alone_if (x.wanted && is_ready x.state) d) before.ready
-          (all_alone (λ e. kept (states_in tallies) e ≡ Ready) (x.wanted && is_ready x.state) d
-          (λ both. get_or-map (λ (t : Tally). t.state) tallies d default Blocked low
+      ready = All-append (λ e. kept (states_in tallies) e ≡ Ready) _
+          _ before.ready
+          (all_alone (λ e. kept (states_in tallies) e ≡ Ready) _ d
+          (λ both. get_or-map (λ (t : Tally). t.state) _ d _ _ low
           ∙ ap (λ (t : Tally). t.state) read
-          ∙ ready_is x.state (second_of_two x.wanted (is_ready x.state) both)));
+          ∙ ready_is _ (second_of_two x.wanted (is_ready x.state) both)));
     }
   where
     second_of_two : (w r : Bool) → (w && r) ≡ true → r ≡ true
@@ -481,7 +481,7 @@ opening_ready tallies d ring unsettled default now count low w o r ring_is count
     ∙ ap (λ b. unsettled + one b) (sym unsettled_is) in
     subst (λ l. IsOpening tallies (d + 1) l count) (sym ring_was)
     (subst (λ n. IsOpening tallies (d + 1) (ring ++ alone_if (x.wanted && is_ready x.state) d) n)
-    (sym count_was) (opening_more tallies d ring unsettled x default low refl before))
+    (sym count_was) (opening_more _ d _ _ x _ low refl before))
 
 pub opening_open : (tallies : List Tally) (d : ℕ) (ring : List ℕ) (unsettled : ℕ)
     (default : Tally) (now : List ℕ) (count : ℕ) → d < length tallies
@@ -500,7 +500,7 @@ opening_open tallies d ring unsettled default now count low w o r ring_is count_
     ∙ ap (λ b. unsettled + one b) (sym unsettled_is) in
     subst (λ l. IsOpening tallies (d + 1) l count) (sym ring_was)
     (subst (λ n. IsOpening tallies (d + 1) (ring ++ alone_if (x.wanted && is_ready x.state) d) n)
-    (sym count_was) (opening_more tallies d ring unsettled x default low refl before))
+    (sym count_was) (opening_more _ d _ _ x _ low refl before))
 
 ready_open : (s : State) → is_open s ≡ false → is_ready s ≡ false
 ready_open Blocked is = refl
@@ -521,7 +521,7 @@ opening_passed tallies d ring unsettled default now count low either ring_is cou
     let x = get_or tallies d default in
     let begun : (x.wanted && is_ready x.state) ≡ false = ⊎_elim
     (λ w. ap (λ b. b && is_ready x.state) w)
-    (λ o. ap (λ b. x.wanted && b) (ready_open x.state o) ∙ and_false x.wanted) either in
+    (λ o. ap (λ b. x.wanted && b) (ready_open _ o) ∙ and_false x.wanted) either in
     let unsettled_is : is_unsettled x ≡ false = ⊎_elim
     (λ w. ap (λ b. b && is_open x.state) w)
     (λ o. ap (λ b. x.wanted && b) o ∙ and_false x.wanted) either in
@@ -531,7 +531,7 @@ opening_passed tallies d ring unsettled default now count low either ring_is cou
     let count_was : count ≡ unsettled + one (is_unsettled x) = omega arith in
     subst (λ l. IsOpening tallies (d + 1) l count) (sym ring_was)
     (subst (λ n. IsOpening tallies (d + 1) (ring ++ alone_if (x.wanted && is_ready x.state) d) n)
-    (sym count_was) (opening_more tallies d ring unsettled x default low refl before))
+    (sym count_was) (opening_more _ d _ _ x _ low refl before))
   where
     and_false : (w : Bool) → (w && false) ≡ false
     and_false true = refl

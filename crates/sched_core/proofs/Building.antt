@@ -29,8 +29,7 @@ builds_over_all run history legal job number lease =
 pub builds_behind_begin : (run : Run) (history : History) (d : ℕ) → IsLegal run history
     → CanBegin run history d → BuildsOver run (begun history d) history.entries
 builds_behind_begin run history d legal can =
-    builds_over_all run (begun history d)
-    (legal_begin history d legal can.within can.wanted can.ready)
+    builds_over_all _ _ (legal_begin history d legal can.within can.wanted can.ready)
 
 -- which gives a lease
 pub begun_lease : (run : Run) (history : History) (d : ℕ) (job : Job) → IsJob run.graph d job
@@ -65,7 +64,7 @@ builds_behind : (run : Run) (history after : History) (event : Event) (shown : L
 builds_behind run history after event shown builds added ends job number lease =
     builds job number
     (record {
-      building = begun_before history.events event job.derivation number ends
+      building = begun_before history.events _ job.derivation _ ends
           (subst (λ es. phase_of es job.derivation ≡ Begun number) added lease.building);
       is_job = lease.is_job;
     })
@@ -74,9 +73,7 @@ pub builds_behind_fail : (run after_run : Run) (history after : History) (d leas
     (reason : Reason) (shown : List Entry) → BuildsOver run history shown → after_run ≡ run
     → after ≡ failed history d lease reason → BuildsOver after_run after shown
 builds_behind_fail run after_run history after d lease reason shown builds same is =
-    rw (same, is)
-    (builds_behind run history (failed history d lease reason) (Fail d lease reason) shown builds
-    refl refl)
+    rw (same, is) (builds_behind _ _ _ _ shown builds refl refl)
 
 pub builds_behind_done : (run after_run : Run) (history between after : History) (d lease : ℕ)
     (entry : Entry) (shown after_shown : List Entry) → BuildsOver run history shown
@@ -85,7 +82,7 @@ pub builds_behind_done : (run after_run : Run) (history between after : History)
 builds_behind_done run after_run history between after d lease entry shown after_shown builds same
     still is stays =
     rw (same, is, still, stays)
-    (builds_behind run history (ended history d lease entry) (Finish d lease) shown builds refl
+    (builds_behind _ _ (ended history d lease entry) _ shown builds refl
     refl)
 
 -- ---- where no event is added

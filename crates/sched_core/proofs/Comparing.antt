@@ -29,9 +29,9 @@ pub same_there : {X Y V : Type 0} (f : X → V) (g : Y → V) (xs : List X) (ys 
     → x ≡ get_or xs n x → y ≡ get_or ys n y → map f xs ≡ map g ys → f x ≡ g y
 same_there f g xs ys n x y low low' is is' same =
     let left = slice_get-map f xs n ∙ ap (option_map f)
-    (slice_get_read xs (length xs) n x refl low is) in
+    (slice_get_read _ _ n x refl low is) in
     let right = slice_get-map g ys n ∙ ap (option_map g)
-    (slice_get_read ys (length ys) n y refl low' is') in
+    (slice_get_read _ _ n y refl low' is') in
     let both : Some (f x) ≡ Some (g y) = sym left ∙ ap (λ l. slice_get l n) same ∙ right in
     cc
 
@@ -41,10 +41,10 @@ pub same_more : {X Y V : Type 0} (f : X → V) (g : Y → V) (xs : List X) (ys :
     → x ≡ get_or xs n x → y ≡ get_or ys n y → f x ≡ g y → map f (take n xs) ≡ map g (take n ys)
     → map f (take (n + 1) xs) ≡ map g (take (n + 1) ys)
 same_more f g xs ys n x y low low' is is' here before =
-    ap (map f) (take_more xs n x low ∙ ap (λ z. take n xs ++ z ∷ []) (sym is))
+    ap (map f) (take_more _ n x low ∙ ap (λ z. take n xs ++ z ∷ []) (sym is))
     ∙ map-append f (take n xs) (x ∷ [])
     ∙ rw (before, here) refl
-    ∙ sym (ap (map g) (take_more ys n y low' ∙ ap (λ z. take n ys ++ z ∷ []) (sym is'))
+    ∙ sym (ap (map g) (take_more _ n y low' ∙ ap (λ z. take n ys ++ z ∷ []) (sym is'))
     ∙ map-append g (take n ys) (y ∷ []))
 
 -- the same of outputs and of the paths beside them
@@ -53,7 +53,7 @@ pub path_there : (made : List JobOutput) (paths : List (List ℕ)) (n : ℕ) (ou
     → output ≡ get_or made n output → path ≡ get_or paths n path
     → map (λ (o : JobOutput). o.path) made ≡ paths → output.path ≡ path
 path_there made paths n output path low low' is is' same =
-    same_there (λ (o : JobOutput). o.path) (λ (p : List ℕ). p) made paths n output path low low' is
+    same_there (λ (o : JobOutput). o.path) (λ (p : List ℕ). p) _ _ n _ _ low low' is
     is' (same ∙ sym (map-id paths))
 
 pub paths_more : (made : List JobOutput) (paths : List (List ℕ)) (n : ℕ) (output : JobOutput)
@@ -62,7 +62,7 @@ pub paths_more : (made : List JobOutput) (paths : List (List ℕ)) (n : ℕ) (ou
     → map (λ (o : JobOutput). o.path) (take n made) ≡ take n paths
     → map (λ (o : JobOutput). o.path) (take (n + 1) made) ≡ take (n + 1) paths
 paths_more made paths n output path low low' is is' here before =
-    same_more (λ (o : JobOutput). o.path) (λ (p : List ℕ). p) made paths n output path low low' is
+    same_more (λ (o : JobOutput). o.path) (λ (p : List ℕ). p) _ _ n _ _ low low' is
     is' here (before ∙ sym (map-id (take n paths)))
     ∙ map-id (take (n + 1) paths)
 
@@ -93,8 +93,8 @@ pub as_many_paths : (graph : Graph) (d : ℕ) (drv : Drv) (lent : List OutputStr
     → map output_of lent ≡ drv.outputs → IfSome (slice_get graph.nodes d)
     (λ (n : Node). paths ≡ output_paths_of n.drv) → length paths ≡ length lent
 as_many_paths graph d drv lent paths low at view told =
-    let own = element_at graph.nodes d low in
-    let same : drv ≡ own.0.drv = drv_is graph.nodes d drv own.0 own.1 at in
+    let own = element_at _ d low in
+    let same : drv ≡ own.0.drv = drv_is _ d _ _ own.1 at in
     let are : paths ≡ output_paths_of own.0.drv =
     subst (λ o. IfSome o (λ (n : Node). paths ≡ output_paths_of n.drv)) own.1 told in
     ap (length {A = List ℕ}) are ∙ length-map own.0.drv.outputs (λ (o : Output). o.path)
@@ -114,9 +114,9 @@ pub job_by_parts : (graph : Graph) (d : ℕ) (job : Job) (drv : Drv) (kind : Kin
     → IsTrue told ↔ IsJob graph d job
 job_by_parts graph d job drv kind lent paths told low at number kinds kind_is recipe view path makes
     seeds =
-    let own = element_at graph.nodes d low in
+    let own = element_at _ d low in
     let node : Node = own.0 in
-    let same : drv ≡ node.drv = drv_is graph.nodes d drv node own.1 at in
+    let same : drv ≡ node.drv = drv_is _ d _ _ own.1 at in
     let both = subst (λ o.
     IfSome o (λ (n : Node). IsTrue told ↔ (job.seeds.items ≡ seeds_of graph.nodes n.drv))) own.1
     seeds in
@@ -128,7 +128,7 @@ job_by_parts graph d job drv kind lent paths told low at number kinds kind_is re
         builder = its.builder;
         args = its.args;
         env = its.env;
-        names = makes.names ∙ names_of lent node.drv (view ∙ ap (λ (x : Drv). x.outputs) same);
+        names = makes.names ∙ names_of _ node.drv (view ∙ ap (λ (x : Drv). x.outputs) same);
         paths = makes.paths_are
             ∙ subst (λ o. IfSome o (λ (n : Node). paths ≡ output_paths_of n.drv)) own.1 path;
         kind = rw kind_is (subst (λ o. IfSome o (λ (n : Node). HasKind n.drv kind)) own.1 kinds);
@@ -136,5 +136,5 @@ job_by_parts graph d job drv kind lent paths told low at number kinds kind_is re
       },
       λ is.
           both.1 (subst (λ (n : Node). job.seeds.items ≡ seeds_of graph.nodes n.drv)
-          (same_element graph.nodes d is.node node is.is_node own.1) is.seeds),
+          (same_element _ d _ _ is.is_node own.1) is.seeds),
     )

@@ -8,7 +8,6 @@ use Rattle.sched_core.specs.Coursing.{kept}
 use Rattle.sched_core.specs.States.{is_bad, is_good}
 use Rattle.sched_core.specs.Nearest.{News, Open, Good, Bad, news_of}
 use Rattle.sched_core.specs.Tallies.{is_bad_news, is_good_news, news_in, states_in, waiting}
-use Rattle.sched_core.specs.declared.reason.State.TheVariants.{Blocked}
 use Rattle.sched_core.specs.declared.tally.Tally.{Tally}
 use Rattle.sched_core.proofs.KnownNews.{bad_news, good_news}
 
@@ -43,7 +42,7 @@ module _ (heard : List News) (place waits first : ℕ) (low : place < length hea
   news = slice_index_or heard place Open
 
   taken : waiting (take (place + 1) heard) ≡ waiting (take place heard) + waiting (news ∷ [])
-  taken = ap waiting (take_more heard place Open low) ∙ waiting-push (take place heard) news
+  taken = ap waiting (take_more _ _ _ low) ∙ waiting-push _ _
 
   counted_more : (fewer : ℕ) → fewer + 1 ≡ waits + waiting (news ∷ []) → (now : ℕ)
       → now ≤ length heard
@@ -65,8 +64,8 @@ module _ (heard : List News) (place waits first : ℕ) (low : place < length hea
       let one : waiting (news ∷ []) ≡ 0 = rw good refl in
       let some : 1 ≤ waits = omega (arith, are.number, low) in (
         some,
-        counted_more (waits - 1) (omega (arith, one, some)) first are.short
-            (before_more first (λ sooner. good_is_harmless news good) (omega arith)) are.here,
+        counted_more _ (omega (arith, one, some)) _ are.short
+            (before_more _ (λ sooner. good_is_harmless _ good) (omega arith)) are.here,
       )
 
   -- the first of which there is bad news
@@ -74,8 +73,8 @@ module _ (heard : List News) (place waits first : ℕ) (low : place < length hea
       → AreCounted heard (place + 1) waits place
   bad_counted good bad sooner =
       let one : waiting (news ∷ []) ≡ 1 = rw good refl in
-      counted_more waits (omega (arith, one)) place (omega (arith, low))
-      (before_more place (λ under. absurd (omega (arith, under))) (omega (arith, sooner)))
+      counted_more _ (omega (arith, one)) _ (omega (arith, low))
+      (before_more _ (λ under. absurd (omega (arith, under))) (omega (arith, sooner)))
       (λ inside. bad)
 
   -- another
@@ -83,8 +82,8 @@ module _ (heard : List News) (place waits first : ℕ) (low : place < length hea
       → (place < first → is_bad_news news ≡ false) → AreCounted heard (place + 1) waits first
   other_counted good harmless =
       let one : waiting (news ∷ []) ≡ 1 = rw good refl in
-      counted_more waits (omega (arith, one)) first are.short
-      (before_more first harmless (omega arith)) are.here
+      counted_more _ (omega (arith, one)) _ are.short
+      (before_more _ harmless (omega arith)) are.here
 
 -- all were counted
 pub all_counted : (heard : List News) (place waits first : ℕ) → length heard ≤ place
@@ -92,7 +91,7 @@ pub all_counted : (heard : List News) (place waits first : ℕ) → length heard
     → (waits ≡ waiting heard) × (first ≡ position_or_len is_bad_news heard)
 all_counted heard place waits first past within are = (
   omega (arith, are.number, ap waiting (take_all place heard past)),
-  sym (position_or_len_is is_bad_news heard first Open are.short
+  sym (position_or_len_is is_bad_news _ _ _ are.short
       (λ k low. are.before k (omega (arith, low, are.short, past)) low) are.here),
 )
 
@@ -104,9 +103,9 @@ module _ (tallies : List Tally) (inputs : List ℕ) (place : ℕ) (any : Tally)
   heard = slice_index_or (news_in (kept (states_in tallies)) inputs) place Open
 
   read : heard ≡ news_of (get_or tallies (get_or inputs place 0) any).state
-  read = get_or-map (λ i. news_of (kept (states_in tallies) i)) inputs place 0 Open low
+  read = get_or-map (λ i. news_of (kept (states_in tallies) i)) _ _ 0 _ low
       ∙ ap news_of
-      (get_or-map (λ (t : Tally). t.state) tallies (get_or inputs place 0) any Blocked below)
+      (get_or-map (λ (t : Tally). t.state) _ _ _ _ below)
 
   pub good_read : (served result : Bool)
       → served ≡ is_good (get_or tallies (get_or inputs place 0) any).state → served ≡ result

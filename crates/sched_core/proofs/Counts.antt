@@ -61,7 +61,7 @@ places_have test from (t ∷ tallies) zero tally at passes =
 places_have test from (t ∷ tallies) (suc i) tally at passes =
     let next : suc from + i ≡ from + suc i = omega arith in
     by (test t) (subst (Contains (places test (suc from) tallies)) next
-    (places_have test (suc from) tallies i tally at passes))
+    (places_have test _ _ i _ at passes))
   where
     by : (is : Bool) → Contains (places test (suc from) tallies) (from + suc i)
         → Contains (before_if is from (places test (suc from) tallies)) (from + suc i)
@@ -98,14 +98,14 @@ tallies_counted test tallies is_such such its = record {
   rising = places_rise test 0 tallies;
   just = λ d. (
     λ has.
-        let held = places_hold test 0 tallies d has in
+        let held = places_hold test 0 _ d has in
         let same : held.0 ≡ d = omega (arith, held.4) in
         subst is_such same (such held.0 held.1 held.2 held.3),
     λ is.
         let own = its d is in
         let same : 0 + d ≡ d = omega arith in
         subst (Contains (places test 0 tallies)) same
-        (places_have test 0 tallies d own.0 own.1 own.2),
+        (places_have test 0 _ d _ own.1 own.2),
   );
   count_is = places_count test 0 tallies;
 }

@@ -22,15 +22,15 @@ module _ (paths : List (List ℕ)) (infos : List PathInfo) (links : List (Vec �
   goes_leads : (from to : ℕ) → Goes links from to → (a b : List ℕ) → slice_get have.keys from
       ≡ Some a → slice_get have.keys to ≡ Some b
       → (steps : List (List ℕ)) × LeadsBy (OutputRefersTo paths infos) a b steps
-  goes_leads _ _ (goes_nowhere n) a b at at' = ([], same_element have.keys n a b at at')
+  goes_leads _ _ (goes_nowhere n) a b at at' = ([], same_element _ n a b at at')
   goes_leads _ _ (goes_on from next to linked rest) a b at at' =
       let h = have.are.sound from next linked in
-      let same : h.0 ≡ a = same_element have.keys from h.0 a h.2 at in
-      let later = goes_leads next to rest h.1 b h.3 at' in
+      let same : h.0 ≡ a = same_element have.keys from _ a h.2 at in
+      let later = goes_leads _ _ rest _ b h.3 at' in
       let may : MayLink paths infos (length infos) a h.1 =
       subst (λ (p : List ℕ). MayLink paths infos (length infos) p h.1) same h.4 in
       let among : Contains paths h.1 =
-      (have.once.same h.1).0 (Contains-from_get have.keys next h.1 h.3)
+      (have.once.same h.1).0 (Contains-from_get _ _ _ h.3)
       in
       (h.1 ∷ later.0, ((may.0, may.1, may.3, may.4, may.5, among), later.1))
 
@@ -57,7 +57,7 @@ module _ (paths : List (List ℕ)) (infos : List PathInfo) (links : List (Vec �
       → OutputRefersTo paths infos a next → (m : ℕ) × (slice_get have.keys m ≡ Some next)
       × IsLinked links n m
   linked_by n a next at (k, info, here, has, refers, among) =
-      let place = get_from_contains have.keys next ((have.once.same next).1 among) in (
+      let place = get_from_contains _ _ ((have.once.same next).1 among) in (
         place.0,
         place.1,
         have.are.whole n place.0 a next at place.1
@@ -91,9 +91,9 @@ module _ (paths : List (List ℕ)) (infos : List PathInfo) (links : List (Vec �
       → LeadsBy (OutputRefersTo paths infos) a b there
       → LeadsBy (OutputRefersTo paths infos) b a back → ⊥
   no_round _ (grounded n next_is) a b there back at apart leads leads' =
-      let step = first_away a b there apart leads in
-      let to = linked_by n a step.0 at step.3 in
-      let elsewhere : n ≢ to.0 = λ e. step.2 (same_element have.keys n a step.0 at (rw e to.1)) in
+      let step = first_away a b _ apart leads in
+      let to = linked_by n a _ at step.3 in
+      let elsewhere : n ≢ to.0 = λ e. step.2 (same_element _ n a _ at (rw e to.1)) in
       no_round to.0 (next_is to.0 to.2 elsewhere) step.0 a (step.1 ++ back) (step.0 ∷ []) to.1
       (λ e. step.2 (sym e))
       (leads_on step.0 b a step.1 back step.4 leads') (step.3, refl)
@@ -101,13 +101,13 @@ module _ (paths : List (List ℕ)) (infos : List PathInfo) (links : List (Vec �
   pub grounded_is_acyclic : ((n : ℕ) → n < length links → IsGrounded links n) → IsCyclic paths infos
       → ⊥
   grounded_is_acyclic all (a, b, there, back, apart, leads, leads') =
-      let step = first_away a b there apart leads in
-      let place = get_from_contains have.keys a
-      ((have.once.same a).1 (Contains-from_get paths step.3.0 a step.3.2)) in
-      no_round place.0
+      let step = first_away a b _ apart leads in
+      let place = get_from_contains _ a
+      ((have.once.same a).1 (Contains-from_get _ _ a step.3.2)) in
+      no_round _
       (all place.0
-      (omega (arith, slice_get_within have.keys place.0 a place.1, have.are.places))) a b there
-      back place.1 apart leads leads'
+      (omega (arith, slice_get_within have.keys place.0 a place.1, have.are.places))) a b _
+      _ place.1 apart leads leads'
 
   -- what a walk tells of the links, it tells of the outputs
   pub told : (cyclic : Bool) → TellsRound links cyclic → IsTrue cyclic ↔ IsCyclic paths infos
@@ -116,5 +116,5 @@ module _ (paths : List (List ℕ)) (infos : List PathInfo) (links : List (Vec �
 
   pub told_of : {E : Type 0} (answer : Result Bool E) → IfOk answer (TellsRound links)
       → IfOk answer (λ cyclic. IsTrue cyclic ↔ IsCyclic paths infos)
-  told_of (Ok cyclic) tells = told cyclic tells
+  told_of (Ok cyclic) tells = told _ tells
   told_of (Err e) tells = tells

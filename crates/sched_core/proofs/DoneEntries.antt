@@ -47,7 +47,7 @@ pub new_more : (known : List Registration) (paths : List (List ℕ)) (i : ℕ) (
     → (IsTrue found ↔ IsValid known path)
     → All (IsNotValid known) (take (i + 1) paths)
 new_more known paths i path below is so_far found none tells =
-    rw (taken_more paths i path below is) (All-push (IsNotValid known) (take i paths) path so_far
+    rw (taken_more _ i _ below is) (All-push (IsNotValid known) _ _ so_far
     (λ valid. false≢true (sym none ∙ tells.1 valid)))
 
 pub all_new : (known : List Registration) (paths : List (List ℕ)) (i : ℕ) → length paths ≤ i
@@ -74,12 +74,12 @@ fitting_own entries drv kind infos has_kind fitting = (
   record {
     count = fitting.count ∙ length-map drv.outputs (λ (o : Output). o.path);
     fixed = λ method digest is_fixed info has.
-        let same = one_kind drv kind (Fixed method digest) has_kind is_fixed in
-        All-contains (λ (i : PathInfo). i.digest ≡ Some digest) infos info
+        let same = one_kind drv _ (Fixed method digest) has_kind is_fixed in
+        All-contains (λ (i : PathInfo). i.digest ≡ Some digest) _ _
         (subst (λ (k : Kind). HaveDigest k infos) same fitting.digests)
         has;
   },
-  λ path has. All-contains (IsNotValid (registered entries)) (output_paths_of drv) path
+  λ path has. All-contains (IsNotValid (registered entries)) _ _
       fitting.new has,
 )
 
@@ -88,14 +88,14 @@ own_fitting : (entries : List Entry) (drv : Drv) (kind : Kind) (infos : List Pat
     → AreFitting (registered entries) kind (output_paths_of drv) infos
 own_fitting entries drv kind infos has_kind own new = record {
   count = own.count ∙ sym (length-map drv.outputs (λ (o : Output). o.path));
-  new = All-from_contains (IsNotValid (registered entries)) (output_paths_of drv) new;
+  new = All-from_contains (IsNotValid (registered entries)) _ new;
   digests = digests kind has_kind;
 }
   where
     digests : (k : Kind) → HasKind drv k → HaveDigest k infos
     digests Addressed has = tt
     digests (Fixed method digest) has = All-from_contains (λ (i : PathInfo). i.digest ≡ Some digest)
-        infos (own.fixed method digest has)
+        _ (own.fixed method digest has)
 
 -- ---- the entry
 
@@ -116,7 +116,7 @@ beside all path info = (there, back)
         → (n : ℕ) × (slice_get (paths_registered all) n ≡ Some path)
         × (slice_get (infos_of all) n ≡ Some info)
     there has =
-        let at = get_from_contains all (record { path = path; info = info }) has in (
+        let at = get_from_contains _ _ has in (
           at.0,
           slice_get-map path_in all at.0 ∙ ap (option_map path_in) at.1,
           slice_get-map info_in all at.0 ∙ ap (option_map info_in) at.1,
@@ -172,8 +172,8 @@ pub fitting_new : (graph : Graph) (d : ℕ) (entries : List Entry) (kind : Kind)
     → AreFitting (registered entries) kind paths infos → AreNewRecords graph entries d infos
 fitting_new graph d entries kind paths infos told fitting node at =
     let own : paths ≡ output_paths_of node.drv =
-    node_at graph.nodes d node (λ n. paths ≡ output_paths_of n.drv) told.outputs at in
-    let has_kind = node_at graph.nodes d node (λ n. HasKind n.drv kind) told.has_kind at in
+    node_at _ d _ (λ n. paths ≡ output_paths_of n.drv) told.outputs at in
+    let has_kind = node_at _ d _ (λ n. HasKind n.drv kind) told.has_kind at in
     fitting_own entries node.drv kind infos has_kind
     (subst (λ (ps : List (List ℕ)). AreFitting (registered entries) kind ps infos) own fitting)
 
@@ -187,11 +187,11 @@ pub done_is : (graph : Graph) (d : ℕ) (entries : List Entry) (kind : Kind) (pa
 done_is graph d entries kind paths infos all outputs path told is fitting acyclic are same sorted
     node at =
     let own : paths ≡ output_paths_of node.drv =
-    node_at graph.nodes d node (λ n. paths ≡ output_paths_of n.drv) told.outputs at in
-    let new = fitting_new graph d entries kind paths infos told fitting node at in (
+    node_at _ d _ (λ n. paths ≡ output_paths_of n.drv) told.outputs at in
+    let new = fitting_new _ d entries _ _ _ told fitting node at in (
       subst (λ (p : List ℕ). IsEntryOf node infos (Done p outputs))
-          (path_at graph.nodes d node path is at)
-          (sorted_entry node infos all outputs (are ∙ own) same sorted),
+          (path_at _ d _ _ is at)
+          (sorted_entry _ _ _ _ (are ∙ own) same sorted),
       record {
         own = new.0;
         acyclic = subst (λ (ps : List (List ℕ)). IsCyclic ps infos → ⊥) own acyclic;
@@ -213,8 +213,8 @@ pub not_fitting : (graph : Graph) (d : ℕ) (entries : List Entry) (kind : Kind)
     → IsNotAllowed graph entries d infos
 not_fitting graph d entries kind paths infos told not_fit node at allowed =
     let own : paths ≡ output_paths_of node.drv =
-    node_at graph.nodes d node (λ n. paths ≡ output_paths_of n.drv) told.outputs at in
-    let has_kind = node_at graph.nodes d node (λ n. HasKind n.drv kind) told.has_kind at in
+    node_at _ d _ (λ n. paths ≡ output_paths_of n.drv) told.outputs at in
+    let has_kind = node_at _ d _ (λ n. HasKind n.drv kind) told.has_kind at in
     not_fit (subst (λ (ps : List (List ℕ)). AreFitting (registered entries) kind ps infos)
     (sym own)
     (own_fitting entries node.drv kind infos has_kind allowed.records.own allowed.new))
@@ -231,11 +231,11 @@ pub can_be_sorted : (graph : Graph) (d : ℕ) (kind : Kind) (paths : List (List 
     → AreDistinct paths
     → IsTold graph d kind paths → paths_registered all ≡ paths → (all ≢ []) × IsOnce all
 can_be_sorted graph d kind paths all within distinct told are =
-    let found = element_at graph.nodes d within in
+    let found = element_at _ d within in
     let node = found.0 in
     let own : paths ≡ output_paths_of node.drv =
-    node_at graph.nodes d node (λ n. paths ≡ output_paths_of n.drv) told.outputs found.1 in
-    let has_kind = node_at graph.nodes d node (λ n. HasKind n.drv kind) told.has_kind found.1 in (
+    node_at _ d _ (λ n. paths ≡ output_paths_of n.drv) told.outputs found.1 in
+    let has_kind = node_at _ d _ (λ n. HasKind n.drv kind) told.has_kind found.1 in (
       λ none. some_outputs node.drv kind has_kind
           (no_outputs node.drv.outputs (sym own ∙ sym are ∙ ap paths_registered none)),
       subst AreDistinct (sym are) distinct,

@@ -11,11 +11,10 @@ use Rattle.drv_graph.specs.Nodes.{Node}
 use Rattle.drv_graph.specs.PlanNodes.{output_paths_of}
 use Rattle.valid_table.specs.Adding.{AreClosed, AreNew}
 use Rattle.valid_table.specs.Closure.{LeadsByReferences}
-use Rattle.valid_table.specs.Entries.{paths_registered, registered, registered_by}
+use Rattle.valid_table.specs.Entries.{registered, registered_by}
 use Rattle.valid_table.specs.PathInfos.{PathInfo}
-use Rattle.valid_table.specs.Valid.{IsJournal, IsNotValid, IsValid, references_of}
+use Rattle.valid_table.specs.Valid.{IsJournal, IsNotValid, IsValid}
 use Rattle.valid_table.specs.declared.entry.Entry.{Entry}
-use Rattle.valid_table.specs.declared.entry.Entry.TheVariants.{Done}
 use Rattle.valid_table.specs.declared.entry.Registration.{Registration}
 use Rattle.valid_table.proofs.AddedEntries.{journal_push}
 use Rattle.valid_table.proofs.JournalLists.{still_valid}
@@ -32,9 +31,9 @@ pub part_with : {A B : Type 0} (f : A → List B) (xs : List A) (y : B) → Cont
 part_with f [] y has = absurd (Contains-nothing y has)
 part_with f (z ∷ zs) y has =
     ⊎_elim
-    (λ here. (z, Contains-first z zs, here))
+    (λ here. (z, Contains-first z _, here))
     (λ later. let it = part_with f zs y later in (it.0, Contains-later z zs it.0 it.1, it.2))
-    (Contains-append_cases (f z) (flat_map f zs) y has)
+    (Contains-append_cases _ _ y has)
 
 -- ---- what is registered
 
@@ -52,10 +51,10 @@ pub output_registered : (node : Node) (infos : List PathInfo) (outputs : List Re
     → length infos ≡ length (output_paths_of node.drv) → (path : List ℕ)
     → Contains (output_paths_of node.drv) path → IsValid is.outputs path
 output_registered node infos outputs entry is count path has =
-    let at = get_from_contains (output_paths_of node.drv) path has in
+    let at = get_from_contains _ _ has in
     let info = element_at infos at.0
     (omega (arith, count, slice_get_within (output_paths_of node.drv) at.0 path at.1)) in
-    Contains-map (λ (r : Registration). r.path) is.outputs (record { path = path; info = info.0 })
+    Contains-map (λ (r : Registration). r.path) _ _
     ((is.each path info.0).1 (at.0, at.1, info.1))
 
 -- and nothing else
@@ -64,8 +63,8 @@ pub registered_output : (node : Node) (infos : List PathInfo) (entry : Entry)
     → Contains is.outputs r → Contains (output_paths_of node.drv) r.path × Contains infos r.info
 registered_output node infos entry is r has =
     let at = (is.each r.path r.info).0 has in (
-      Contains-from_get (output_paths_of node.drv) at.0 r.path at.1,
-      Contains-from_get infos at.0 r.info at.2,
+      Contains-from_get _ _ _ at.1,
+      Contains-from_get _ _ _ at.2,
     )
 
 -- as many records as outputs
@@ -80,23 +79,23 @@ records_for_paths run entries node infos allowed = allowed.records.own.count
 module _ (run : Run) (entries : List Entry) (node : Node) (infos : List PathInfo) (entry : Entry)
     (allowed : IsAllowed run.graph entries node infos) (is : IsEntryOf node infos entry) where
   new_outputs : AreNew (registered entries) is.outputs
-  new_outputs = All-from_contains (IsNotValid (registered entries)) (paths_registered is.outputs)
+  new_outputs = All-from_contains (IsNotValid (registered entries)) _
       (λ path there valid.
       let r = Contains-from_map (λ (x : Registration). x.path) is.outputs path there in
-      let own = registered_output node infos entry is r.0 r.1 in
+      let own = registered_output node infos entry is _ r.1 in
       allowed.new path (subst (Contains (output_paths_of node.drv)) r.2 own.0) valid)
 
   closed_outputs : AreClosed (registered entries) is.outputs
   closed_outputs = All-from_contains (IsValid (registered entries ++ is.outputs))
-      (references_of is.outputs) (λ path there.
+      _ (λ path there.
       let part = part_with (λ (r : Registration). r.info.references) is.outputs path there in
-      let own = registered_output node infos entry is part.0 part.1 in
+      let own = registered_output node infos entry is _ part.1 in
       ⊎_elim
-      (λ reached. still_valid (registered entries) is.outputs path
-      (reached_is_valid (registered entries) reached.0 path reached.2.0 reached.2.1))
+      (λ reached. still_valid _ _ _
+      (reached_is_valid _ _ _ _ reached.2.1))
       (λ output. valid_by_some (registered entries) is.outputs path
       (output_registered node infos is.outputs entry is
-      (records_for_paths run entries node infos allowed) path output))
+      (records_for_paths run entries node infos allowed) _ output))
       (allowed.permitted part.0.info path own.1 part.2))
 
   -- none of its paths is valid before
@@ -113,5 +112,5 @@ module _ (run : Run) (entries : List Entry) (node : Node) (infos : List PathInfo
   pub done_is_journal : IsJournal entries → IsDrvPath node.path → IsJournal (entries ++ entry ∷ [])
   done_is_journal journal named =
       subst (λ (e : Entry). IsJournal (entries ++ e ∷ [])) (sym is.is_done)
-      (journal_push entries (Done node.path is.outputs) journal named closed_outputs
-      (once_more (registered entries) is.outputs journal.once is.rising new_outputs))
+      (journal_push _ _ journal named closed_outputs
+      (once_more _ _ journal.once is.rising new_outputs))

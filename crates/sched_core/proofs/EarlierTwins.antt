@@ -36,11 +36,11 @@ valid_twin system opening (Some a) (Some b) are valid =
     let x = output_paths_of a.drv in
     let y = output_paths_of b.drv in
     let one : list_all (is_valid opening) x ≡ true =
-    standing_all (list_all (is_valid opening) x) (own_cause system opening a.drv) valid in
+    standing_all _ _ valid in
     let two : list_all (is_valid opening) y ≡ true =
     all_pass (is_valid opening) y (λ path has.
-    list_all_has (is_valid opening) x path one
-    (twins_path b.drv a.drv path (turned (Some a) (Some b) are) has)) in
+    list_all_has (is_valid opening) x _ one
+    (twins_path b.drv a.drv _ (turned (Some a) (Some b) are) has)) in
     ap (λ all. cond all AllValid (by_cause (own_cause system opening b.drv))) two
 valid_twin system opening (Some a) None are valid = absurd (false≢true are)
 valid_twin system opening None b are valid = absurd (false≢true are)
@@ -55,7 +55,7 @@ passing_more : (test : ℕ → Bool) (n : ℕ)
 passing_more test n =
     let next : suc n ≡ n + 1 = omega arith in
     ap (passing test) next ∙ ap (filter test) (range_more n)
-    ∙ filter-append test (range_with_len 0 n) (n ∷ [])
+    ∙ filter-append test _ _
 
 passing_from : (test : ℕ → Bool) (n t : ℕ) → t < n → test t ≡ true → Contains (passing test n) t
 passing_from test zero t low is = absurd (omega arith)
@@ -65,9 +65,9 @@ passing_from test (suc n) t low is =
     (λ same.
     subst (λ b. Contains (passing test n ++ cond b (n ∷ []) []) t)
     (sym (ap test (sym same) ∙ is))
-    (subst (Contains (passing test n ++ n ∷ [])) (sym same) (Contains-push (passing test n) n)))
+    (subst (Contains (passing test n ++ n ∷ [])) (sym same) (Contains-push _ n)))
     (λ apart. ⊎_elim
-    (λ less. Contains-append_left (passing test n) (cond (test n) (n ∷ []) []) t
+    (λ less. Contains-append_left _ _ t
     (passing_from test n t less is))
     (λ past. absurd (omega arith)) apart)
     (either_side t n))
@@ -139,7 +139,7 @@ module _ (run : Run) (opening : List Entry) where
 
   has_twin : (d t : ℕ) → Contains (earlier_twins run opening d) t
       → IsEarlierTwin run opening d t
-  has_twin = is_earlier_twin run opening
+  has_twin = is_earlier_twin _ _
 
   is_twin_same : (d t : ℕ) → are_twins_at (node t) (node d) ≡ true → (u : ℕ)
       → is_twin t u ≡ is_twin d u

@@ -92,7 +92,7 @@ pub journal_behind : (run : Run) (entries more : List Entry) (d : ℕ) (infos : 
     → more ≡ entries ++ entry ∷ [] → IsJournal more
 journal_behind run entries more d infos entry done derived journal more_is =
     rw more_is
-    (done_is_journal run entries done.node infos entry done.allowed done.is_entry journal
+    (done_is_journal run _ _ infos entry done.allowed done.is_entry journal
     (subst HasDrvPath done.is_entry.is_done derived))
 
 -- what ending a lease by a Done comes to

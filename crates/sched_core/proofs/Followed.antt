@@ -43,7 +43,7 @@ pub behind_step : (paths front more : List (List ℕ)) (left next : Option (Bor 
     → IsBehind paths front left → IsStep left more next → IsBehind paths (front ++ more) next
 behind_step paths front more (Some between) next first step = search (rules, behind_both)
 behind_step paths front more None next first step =
-    subst (IsBehind paths (front ++ more)) (sym step) (behind_none paths front more first)
+    subst (IsBehind paths (front ++ more)) (sym step) (behind_none _ _ _ first)
 
 -- nothing more is left
 pub all_left : (paths front : List (List ℕ)) (rest : Bor (List (List ℕ)))
@@ -89,26 +89,26 @@ pub used_step : (inputs : List Input) (place : ℕ) (used : Drv) (seeds paths : 
     → IsBehind seeds (first_named input.names used.outputs (n + 1)) next
 used_step inputs place used seeds paths lent n output text told left next view are low is_output
     is_text told_is either before input at_place =
-    let below : n < length lent = omega (arith, low, outputs_count used paths lent view are) in
-    let at : slice_get lent n ≡ Some output = read_at lent n output below is_output in
+    let below : n < length lent = omega (arith, low, outputs_count used _ _ view are) in
+    let at : slice_get lent n ≡ Some output = read_at _ n _ below is_output in
     let named = subst (λ t. IfSome (slice_get inputs place)
     (λ used. IsTrue told ↔ Contains used.names t)) is_text told_is in
-    let there = output_at lent used n output view at in
-    let is_named = at_input inputs place input told output.name.items at_place named in
+    let there = output_at _ used n _ view at in
+    let is_named = at_input inputs place _ _ _ at_place named in
     ⊎_elim
     (λ is_used.
     let its : get_or paths n [] ≡ output.path.items =
-    path_at paths used n (get_or paths n []) (output_of output) are
-    (slice_get-get_or paths n [] low) there in
+    path_at _ used n _ _ are
+    (slice_get-get_or _ n [] low) there in
     subst (λ l. IsBehind seeds l next)
-    (sym (first_more input.names used.outputs n (output_of output) true there
+    (sym (first_more _ _ n _ _ there
     (is_named ∙ is_used.0)))
-    (behind_step seeds (first_named input.names used.outputs n) (output.path.items ∷ []) left next
+    (behind_step _ _ _ _ _
     (before input at_place) (subst (λ p. IsStep left (p ∷ []) next) its is_used.1)))
     (λ unused.
     subst (λ o. IsBehind seeds (first_named input.names used.outputs (n + 1)) o) (sym unused.1)
     (subst (λ l. IsBehind seeds l left)
-    (sym (first_more input.names used.outputs n (output_of output) false there
+    (sym (first_more _ _ n _ _ there
     (is_named ∙ unused.0) ∙ append-nil (first_named input.names used.outputs n)))
     (before input at_place)))
     either
@@ -142,17 +142,17 @@ pub input_step : (nodes : List Node) (d : ℕ) (drv used : Drv) (numbers : List 
     → IsBehind seeds (first_seeds nodes node (place + 1)) next
 input_step nodes d drv used numbers place number seeds left next once is_drv are at_number at_used
     within step before node at =
-    let there = element_at drv.inputs place within in
+    let there = element_at _ _ within in
     let after : List (List ℕ) = first_seeds nodes node place ++ paths_named there.0.names used in
     let more : after ≡ first_seeds nodes node (place + 1) =
-    input_added nodes d drv used numbers place number (first_seeds nodes node place) after once
+    input_added _ d _ _ _ _ _ _ _ once
     is_drv are at_number at_used within
     (λ input is. ap (λ (i : Input). first_seeds nodes node place ++ paths_named i.names used)
     (one_input drv.inputs place there.0 input there.1 is))
     (λ other is. ap (λ (x : Node). first_seeds nodes x place) (one_node nodes d node other at is))
     node at in
     subst (λ l. IsBehind seeds l next) more
-    (behind_step seeds (first_seeds nodes node place) (paths_named there.0.names used) left next
+    (behind_step _ _ _ _ _
     (before node at) (step there.0 there.1))
   where
     one_input : (inputs : List Input) (n : ℕ) (a b : Input) → slice_get inputs n ≡ Some a
@@ -194,7 +194,7 @@ seeds_left nodes d numbers seeds count left are all behind = by (slice_get nodes
     by None is its = tt
     by (Some node) is its =
         let counts : length numbers ≡ length (inputs_of node.drv) =
-        numbers_length nodes numbers (inputs_of node.drv) its in
+        numbers_length _ _ _ its in
         subst (λ l. IsBehind seeds (node.drv.sources ++ flat_map (named_outputs nodes) l) left)
         (take_all count node.drv.inputs
         (omega (arith, all, counts, length-map node.drv.inputs (λ (i : Input). i.path))))

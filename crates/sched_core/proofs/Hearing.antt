@@ -131,7 +131,7 @@ module _ (inputs : ℕ → Awaited) (count : ℕ) (users : List (List Edge)) (ta
   in_plan u t is = search (rules, slice_get_within)
 
   state_at : slice_get (states_in tallies) d ≡ Some tally.state
-  state_at = get_mapped state_of tallies d tally at
+  state_at = get_mapped state_of _ d _ at
 
   before_is : before d ≡ tally.state
   before_is = search (rules, get_or_from_slice_get, state_at)
@@ -157,22 +157,22 @@ module _ (inputs : ℕ → Awaited) (count : ℕ) (users : List (List Edge)) (ta
       ⊎_elim
       (λ here.
       let it = eqb-true input d here in
-      subst (λ n. Knows known (news_of (after input)) n) (sym (times_more u place input low is))
+      subst (λ n. Knows known (news_of (after input)) n) (sym (times_more u _ _ low is))
       (subst (λ s. Knows known (news_of s)
       (times u place left + (if news then (if input == d then 1 else 0) else 0)))
       (sym (ap after it ∙ after_is))
-      (knows_turned tally.state new.state known (times u place left) (if input == d then 1 else 0)
+      (knows_turned _ _ _ _ _
       turns (rw here refl)
       (subst (λ s. Knows known (news_of s) (times u place left)) (ap before it ∙ before_is)
       knows))))
       (λ other.
       let apart = eqb-false input d other in
-      subst (λ n. Knows known (news_of (after input)) n) (sym (times_more u place input low is))
+      subst (λ n. Knows known (news_of (after input)) n) (sym (times_more u _ _ low is))
       (subst (λ s. Knows known (news_of s)
       (times u place left + (if news then (if input == d then 1 else 0) else 0)))
-      (sym (after_other input apart))
-      (knows_more known (news_of (before input)) (times u place left)
-      (if news then (if input == d then 1 else 0) else 0) (rw other (nothing news)) knows)))
+      (sym (after_other _ apart))
+      (knows_more _ _ _
+      _ (rw other (nothing news)) knows)))
       (cases_Bool (input == d))
     where
       nothing : (b : Bool) → ◌≡◌ {A = ℕ} (if b then 0 else 0) 0
@@ -191,16 +191,16 @@ module _ (inputs : ℕ → Awaited) (count : ℕ) (users : List (List Edge)) (ta
         (λ here.
         subst (λ n. Hears (inputs n) after (λ place. times n place more) t) (sym here.0)
         (subst (λ w. Hears (inputs d) after (λ place. times d place more) w) here.1
-        (hears_others (inputs d) before after (λ place. times d place left)
-        (λ place. times d place more) new
-        (λ place input known it. knows_step d place input known (in_plan d tally at) it) own)))
+        (hears_others _ before after (λ place. times d place left)
+        (λ place. times d place more) _
+        (λ place input known it. knows_step d _ _ _ (in_plan d _ at) it) own)))
         (λ other.
-        hears_others (inputs u) before after (λ place. times u place earlier)
+        hears_others _ before after (λ place. times u place earlier)
         (λ place. times u place more) t
-        (λ place input known it knows. knows_step u place input known (in_plan u t other.1) it
+        (λ place input known it knows. knows_step u _ _ _ (in_plan u t other.1) it
         (subst (λ n. Knows known (news_of (before input)) n) (same u place other.0) knows))
         (have.each u t other.1))
-        (get_set_cases tallies d u new t is);
+        (get_set_cases _ d u _ t is);
   }
 
 -- ---- an event
@@ -215,7 +215,7 @@ pub heard_turned : (inputs : ℕ → Awaited) (count : ℕ) (users : List (List 
     → HaveHeard inputs (slice_set tallies d (record tally { state = after }))
     (left ++ to_tell tally.state after (users_of users d))
 heard_turned inputs count users tallies d tally after left long are at turns begun have =
-    heard_step inputs count users tallies d tally (record tally { state = after }) left long are at
+    heard_step _ count users tallies d tally (record tally { state = after }) left long are at
     turns left (λ u place apart. refl) have
     (let hears = have.each d tally at in
     record {
@@ -271,7 +271,7 @@ module _ (inputs : ℕ → Awaited) (tallies : List Tally) (edge : Edge) (w : �
   hearing : CanHear (inputs edge.user) hears.heard tally edge.place w
   hearing = record {
     is = hears.is;
-    unknown = slice_get-get_or hears.heard edge.place Open low ∙ ap Some unheard.0;
+    unknown = slice_get-get_or _ _ _ low ∙ ap Some unheard.0;
     is_awaited = it;
   }
 
@@ -285,7 +285,7 @@ module _ (inputs : ℕ → Awaited) (tallies : List Tally) (edge : Edge) (w : �
   knows_told place input is = ⊎_elim
       (λ here.
       let same : place ≡ edge.place = eqb-true place edge.place here in
-      let one : w ≡ input = same_element (all_of (inputs edge.user)) edge.place w input it
+      let one : w ≡ input = same_element (all_of (inputs edge.user)) edge.place w _ it
       (subst (λ n. slice_get (all_of (inputs edge.user)) n ≡ Some input) same is) in
       inl (
         ap (λ n. get_or told_news n Open) same
@@ -298,7 +298,7 @@ module _ (inputs : ℕ → Awaited) (tallies : List Tally) (edge : Edge) (w : �
       subst (λ n. Knows n (news_of (state input)) (times edge.user place left))
       (sym (get_or-set_other hears.heard edge.place place (news_of (state w)) Open apart))
       (subst (λ n. Knows (get_or hears.heard place Open) (news_of (state input)) n)
-      (times-other_place edge.user place edge left apart) (hears.knows place input is)))
+      (times-other_place _ _ _ _ apart) (hears.knows place input is)))
       (cases_Bool (place == edge.place))
 
   pub hears_told : (new : Tally)
@@ -320,9 +320,9 @@ pub heard_told : (inputs : ℕ → Awaited) (count : ℕ) (users : List (List Ed
     → HaveHeard inputs (slice_set tallies edge.user new)
     (left ++ to_tell tally.state new.state (users_of users edge.user))
 heard_told inputs count users tallies edge w tally new left long are at it have told turns =
-    heard_step inputs count users tallies edge.user tally new left long are at turns (edge ∷ left)
-    (λ u place apart. times-other_user u place edge left apart) have
-    (hears_told inputs tallies edge w tally left at it have new told)
+    heard_step _ count users tallies edge.user tally new left long are at turns (edge ∷ left)
+    (λ u place apart. times-other_user u _ _ _ apart) have
+    (hears_told _ tallies edge w tally left at it have new told)
 
 -- ---- one more tally, in plan order
 
@@ -339,7 +339,7 @@ heard_more inputs tallies tally first have hears = record {
       subst (λ n. Hears (inputs n) after (λ place. 0) t) (sym last.0)
       (subst (λ w. Hears (inputs (length tallies)) after (λ place. 0) w) last.1
       (grown (length tallies) tally (le_refl (length tallies)) hears)))
-      (get_push_cases tallies tally d t is);
+      (get_push_cases _ _ d t is);
 }
   where
     after : ℕ → State
@@ -370,8 +370,8 @@ all_known awaited heard state same known =
     (same ∙ sym (length-map (all_of awaited) (λ i. news_of (state i))))
     (λ i low.
     let inside : i < length (all_of awaited) = omega (arith, low, same) in
-    known i (get_or (all_of awaited) i 0) (slice_get-get_or (all_of awaited) i 0 inside)
-    ∙ sym (get_or-map (λ n. news_of (state n)) (all_of awaited) i 0 Open inside))
+    known i (get_or (all_of awaited) i 0) (slice_get-get_or _ i 0 inside)
+    ∙ sym (get_or-map (λ n. news_of (state n)) _ i 0 _ inside))
 
 news_of_parts : (state : ℕ → State) (xs ys : List ℕ)
     → (take (length xs) (news_in state (xs ++ ys)) ≡ news_in state xs)
@@ -385,8 +385,8 @@ pub heard_states : (rows : Rows) (tallies : List Tally) → IsInOrder rows
     → HaveHeard (λ d. record { inputs = rows.inputs d; twins = rows.twins d }) tallies []
     → AreStatesOf rows (length tallies) (states_in tallies)
 unfolding near_table
-heard_states rows tallies first stand have = near_are_one rows state (length tallies) first
-    (λ d low. let (tally, at) = element_at tallies d low in
+heard_states rows tallies first stand have = near_are_one _ state _ first
+    (λ d low. let (tally, at) = element_at _ d low in
     by_table d tally at (have.each d tally at))
   where
     state : ℕ → State
@@ -399,7 +399,7 @@ heard_states rows tallies first stand have = near_are_one rows state (length tal
         → Hears (awaited d) state (λ place. 0) tally → state d ≡ near_table rows state d
     by_table d tally at hears =
         let is : state d ≡ tally.state =
-        get_or_from_slice_get (states_in tallies) d tally.state Blocked
+        get_or_from_slice_get _ d _ _
         (get_mapped (λ (t : Tally). t.state) tallies d tally at) in
         let known : (place one : ℕ) → slice_get (all_of (awaited d)) place ≡ Some one
         → slice_index_or hears.heard place Open ≡ news_of (state one) =

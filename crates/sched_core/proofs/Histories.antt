@@ -59,7 +59,7 @@ ready_by_phase (Broken reason) s is = absurd cc
 pub ready_is_idle : (run : Run) (history : History) (d : ℕ) → state_in run history d ≡ Ready
     → phase_of history.events d ≡ Idle
 unfolding state table
-ready_is_idle run history d is = ready_by_phase (phase_of history.events d) _ is
+ready_is_idle run history d is = ready_by_phase _ _ is
 
 -- a derivation that has begun is building
 pub building_from_begun : (run : Run) (history : History) (d lease : ℕ)
@@ -71,13 +71,11 @@ building_from_begun run history d lease is = rw is refl
 pub opening_legal : (run : Run) (history : History) → IsLegal run history
     → IsLegal run (opened history.opening)
 opening_legal run _ (legal_opening entries journal) = legal_opening entries journal
-opening_legal run _ (legal_begin history e legal within wanted ready) =
-    opening_legal run history legal
+opening_legal run _ (legal_begin history e legal within wanted ready) = opening_legal _ _ legal
 opening_legal run _
     (legal_done history e lease node infos entry legal phase is_node allowed is_entry) =
-    opening_legal run history legal
-opening_legal run _ (legal_fail history e lease reason legal phase) =
-    opening_legal run history legal
+    opening_legal _ _ legal
+opening_legal run _ (legal_fail history e lease reason legal phase) = opening_legal _ _ legal
 
 begins_push : (es : List Event) (e : Event) → begins es ≤ begins (es ++ e ∷ [])
 begins_push es e = search (rules, sum_by_push)
@@ -96,7 +94,7 @@ leases_below run _ (legal_begin history e legal within wanted ready) d n i is =
     ))
     (λ last. let same : begins history.events ≡ n = cc
     in omega (arith, begins_begin history.events e (begins history.events)))
-    (at_push history.events (Begin e (begins history.events)) (Begin d n) i is)
+    (at_push _ _ _ i is)
 leases_below run _
     (legal_done history e lease node infos entry legal phase is_node allowed is_entry) d n i is =
     ⊎_elim
@@ -106,7 +104,7 @@ leases_below run _
       begins_push history.events (Finish e lease),
     ))
     (λ last. absurd cc)
-    (at_push history.events (Finish e lease) (Begin d n) i is)
+    (at_push _ _ _ i is)
 leases_below run _ (legal_fail history e lease reason legal phase) d n i is =
     ⊎_elim
     (λ before. omega (
@@ -115,7 +113,7 @@ leases_below run _ (legal_fail history e lease reason legal phase) d n i is =
       begins_push history.events (Fail e lease reason),
     ))
     (λ last. absurd cc)
-    (at_push history.events (Fail e lease reason) (Begin d n) i is)
+    (at_push _ _ _ i is)
 
 pub leases_apart : LeasesApart
 leases_apart run _ (legal_opening entries journal) d e n i j is other = absurd cc
@@ -138,15 +136,15 @@ leases_apart run _
     other =
     leases_apart run history legal d e n i j
     (⊎_elim (λ here. here) (λ last. absurd cc)
-    (at_push history.events (Finish k lease) (Begin d n) i is))
+    (at_push _ _ _ i is))
     (⊎_elim (λ here. here) (λ last. absurd cc)
-    (at_push history.events (Finish k lease) (Begin e n) j other))
+    (at_push _ _ _ j other))
 leases_apart run _ (legal_fail history k lease reason legal phase) d e n i j is other =
     leases_apart run history legal d e n i j
     (⊎_elim (λ here. here) (λ last. absurd cc)
-    (at_push history.events (Fail k lease reason) (Begin d n) i is))
+    (at_push _ _ _ i is))
     (⊎_elim (λ here. here) (λ last. absurd cc)
-    (at_push history.events (Fail k lease reason) (Begin e n) j other))
+    (at_push _ _ _ j other))
 
 pub begins_once : BeginsOnce
 begins_once run _ (legal_opening entries journal) d n m i j is other = absurd cc
@@ -170,12 +168,12 @@ begins_once run _ (legal_done history k lease node infos entry legal phase is_no
     d n m i j is other =
     begins_once run history legal d n m i j
     (⊎_elim (λ here. here) (λ last. absurd cc)
-    (at_push history.events (Finish k lease) (Begin d n) i is))
+    (at_push _ _ _ i is))
     (⊎_elim (λ here. here) (λ last. absurd cc)
-    (at_push history.events (Finish k lease) (Begin d m) j other))
+    (at_push _ _ _ j other))
 begins_once run _ (legal_fail history k lease reason legal phase) d n m i j is other =
     begins_once run history legal d n m i j
     (⊎_elim (λ here. here) (λ last. absurd cc)
-    (at_push history.events (Fail k lease reason) (Begin d n) i is))
+    (at_push _ _ _ i is))
     (⊎_elim (λ here. here) (λ last. absurd cc)
-    (at_push history.events (Fail k lease reason) (Begin d m) j other))
+    (at_push _ _ _ j other))

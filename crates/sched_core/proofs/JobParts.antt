@@ -34,18 +34,18 @@ pub made_more : (outputs : List OutputStruct) (paths : List (List ℕ)) (made : 
 made_more outputs paths made n output path one low same is_output is_path name its before =
     let name_of = λ (o : OutputStruct). o.name.items in
     let at_output : slice_get outputs n ≡ Some output =
-    read_at outputs n output (omega (arith, low, same)) is_output in
-    let at_path : slice_get paths n ≡ Some path = read_at paths n path low is_path in
+    read_at _ n _ (omega (arith, low, same)) is_output in
+    let at_path : slice_get paths n ≡ Some path = read_at _ n _ low is_path in
     record {
-      names = map_push (λ (o : JobOutput). o.name.items) made one
+      names = map_push (λ (o : JobOutput). o.name.items) _ _
           ∙ ap (λ l. l ++ one.name.items ∷ []) before.names
           ∙ ap (λ t. output_texts (take n outputs) ++ t ∷ []) name
-          ∙ sym (ap output_texts (take_next outputs n output at_output)
-          ∙ map_push name_of (take n outputs) output);
-      paths_are = map_push (λ (o : JobOutput). o.path) made one
+          ∙ sym (ap output_texts (take_next _ n _ at_output)
+          ∙ map_push name_of _ _);
+      paths_are = map_push (λ (o : JobOutput). o.path) _ _
           ∙ ap (λ l. l ++ one.path ∷ []) before.paths_are
           ∙ ap (λ p. take n paths ++ p ∷ []) its
-          ∙ sym (take_next paths n path at_path);
+          ∙ sym (take_next _ n _ at_path);
     }
 
 pub made_all : (outputs : List OutputStruct) (paths : List (List ℕ)) (made : List JobOutput) (n : ℕ)
@@ -59,11 +59,11 @@ pub paths_count : (nodes : List Node) (d : ℕ) (drv : Drv) (lent : List OutputS
     → map output_of lent ≡ drv.outputs → IfSome (slice_get nodes d)
     (λ node. paths ≡ output_paths_of node.drv) → length paths ≡ length lent
 paths_count nodes d drv lent paths low is_drv view are =
-    let there = element_at nodes d low in
+    let there = element_at _ d low in
     let its : paths ≡ output_paths_of there.0.drv =
     subst (λ (o : Option Node). IfSome o (λ (n : Node). paths ≡ output_paths_of n.drv)) there.1
     are in
-    let same : drv ≡ there.0.drv = drv_is nodes d drv there.0 there.1 is_drv in
+    let same : drv ≡ there.0.drv = drv_is _ d _ _ there.1 is_drv in
     let many : length paths ≡ length (output_paths_of there.0.drv) = ap length its in
     let size : length drv.outputs ≡ length there.0.drv.outputs =
     ap (λ (x : Drv). length x.outputs) same in
@@ -92,10 +92,10 @@ pub job_is : (graph : Graph) (d : ℕ) (drv : Drv) (lent : List OutputStruct) (p
     → IsJob graph d job
 job_is graph d drv lent paths copy job low is_drv view are names made same number builder args env
     kind seeds =
-    let there = element_at graph.nodes d low in
-    let is_node : drv_of copy ≡ there.0.drv = same ∙ drv_is graph.nodes d drv there.0 there.1 is_drv
+    let there = element_at _ d low in
+    let is_node : drv_of copy ≡ there.0.drv = same ∙ drv_is _ d _ _ there.1 is_drv
     in
-    let own : drv ≡ there.0.drv = drv_is graph.nodes d drv there.0 there.1 is_drv in
+    let own : drv ≡ there.0.drv = drv_is _ d _ _ there.1 is_drv in
     record {
       node = there.0;
       is_node = there.1;

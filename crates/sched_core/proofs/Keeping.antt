@@ -78,13 +78,13 @@ behind_event system before after course given more room d event p kept legal ope
           kept.twins;
       count = length-set course.phases d p ∙ kept.count;
       phases = λ e.
-          phases_set course.phases before.events d event p within kept.phases own last e
+          phases_set _ before.events d _ p within kept.phases own last e
           ∙ sym (ap (λ es. phase_of es e) events);
       given_is = counted;
       has_room =
           subst (λ es. length es + sum_by events_left (slice_set course.phases d p) ≤ room)
           (sym events)
-          (room_set course.phases before.events d room event p within
+          (room_set _ _ d _ _ p within
           (subst (λ q. events_left p + 1 ≤ events_left q) (sym (kept.phases d)) less)
           kept.has_room);
     }
@@ -199,14 +199,13 @@ pub room_to_begin : (system : List ℕ) (history : History) (course : Course) (g
     → (d : ℕ) → CanBegin (run_over course system) history d → length history.events < room
 room_to_begin system history course given room kept d can =
     let idle = ready_is_idle (run_over course system) history d can.ready in
-    room_for system history course given room kept d can.within (rw idle (omega arith))
+    room_for _ _ _ _ _ kept d can.within (rw idle (omega arith))
 
 pub room_to_end : (system : List ℕ) (history : History) (course : Course) (given room : ℕ)
     → IsRunKept system history course given room
     → (d lease : ℕ) → phase_of history.events d ≡ Begun lease → length history.events < room
 room_to_end system history course given room kept d lease is =
-    room_for system history course given room kept d
-    (has_begun system history course given room kept d lease is).0 (rw is (omega arith))
+    room_for _ _ _ _ _ kept d (has_begun _ _ _ _ _ kept d _ is).0 (rw is (omega arith))
 
 -- ---- the opening
 

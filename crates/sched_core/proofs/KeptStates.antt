@@ -45,13 +45,13 @@ rows_same : (system : List ℕ) (history : History) (course : Course) (given roo
 rows_same system history course given room kept =
     record {
       inputs = λ d. refl;
-      twins = twins_same system history course given room kept;
+      twins = twins_same _ _ _ _ _ kept;
       standing = λ d. ⊎_elim
           (λ below. kept.standings.each d below)
           (λ past.
-          get_or_past course.standings d Free (omega (arith, kept.standings.count))
+          get_or_past _ d _ (omega (arith, kept.standings.count))
           ∙ sym (ap (standing_at system history.opening)
-          (slice_get_past course.graph.nodes d past)))
+          (slice_get_past _ d past)))
           (cases_lt d (length course.graph.nodes));
       phase = kept.phases;
     }
@@ -61,10 +61,7 @@ pub states_told : (system : List ℕ) (history : History) (course : Course) (giv
     → IsRunKept system history course given room
     → (d : ℕ) → course_state course d ≡ state_in (run_over course system) history d
 states_told system history course given room kept d =
-    near_same (course_rows course)
-    (nearest (rows_of (run_over course system) history.opening history.events))
-    (rows_same system history course given room kept) d
-    ∙ nearest_told (run_over course system) history kept.legal d
+    near_same _ _ (rows_same _ _ _ _ _ kept) d ∙ nearest_told _ _ kept.legal d
 
 -- ---- what can be begun
 
@@ -75,7 +72,7 @@ can_begin system history course given room kept d next =
     record {
       within = next.0;
       wanted = kept.wanted.yes d next.1;
-      ready = sym (states_told system history course given room kept d) ∙ next.2;
+      ready = sym (states_told _ _ _ _ _ kept d) ∙ next.2;
     }
 
 pub is_next : (system : List ℕ) (history : History) (course : Course) (given room : ℕ)
@@ -84,7 +81,7 @@ pub is_next : (system : List ℕ) (history : History) (course : Course) (given r
 is_next system history course given room kept d can = (
   can.within,
   kept.wanted.no d can.wanted,
-  states_told system history course given room kept d
+  states_told _ _ _ _ _ kept d
       ∙ can.ready,
 )
 
@@ -93,16 +90,16 @@ pub unsettled_told : (system : List ℕ) (history : History) (course : Course) (
     → (count : ℕ) → AreSoMany (IsUnsettledIn course) count
     → AreSoMany (IsUnsettled (run_over course system) history) count
 unsettled_told system history course given room kept count =
-    so_many_same (IsUnsettledIn course) (IsUnsettled (run_over course system) history) count
+    so_many_same (IsUnsettledIn course) (IsUnsettled (run_over course system) history) _
     (λ d still. (
       still.0,
       kept.wanted.yes d still.1,
-      subst IsOpen (states_told system history course given room kept d) still.2,
+      subst IsOpen (states_told _ _ _ _ _ kept d) still.2,
     ))
     (λ d still. (
       still.0,
       kept.wanted.no d still.1,
-      subst IsOpen (sym (states_told system history course given room kept d)) still.2,
+      subst IsOpen (sym (states_told _ _ _ _ _ kept d)) still.2,
     ))
 
 pub settled_told : (system : List ℕ) (history : History) (course : Course) (given room : ℕ)
@@ -111,10 +108,10 @@ pub settled_told : (system : List ℕ) (history : History) (course : Course) (gi
 settled_told system history course given room kept = (
   λ settled d within wanted still.
       settled d within (kept.wanted.no d wanted)
-      (subst IsOpen (sym (states_told system history course given room kept d)) still),
+      (subst IsOpen (sym (states_told _ _ _ _ _ kept d)) still),
   λ settled d within wanted still.
       settled d within (kept.wanted.yes d wanted)
-      (subst IsOpen (states_told system history course given room kept d) still),
+      (subst IsOpen (states_told _ _ _ _ _ kept d) still),
 )
 
 -- what is known of an answer, weakened
@@ -155,9 +152,9 @@ pub begun_from_building : (run : Run) (history : History) (d lease : ℕ) → st
     ≡ Building lease → phase_of history.events d ≡ Begun lease
 begun_from_building run history d lease is =
     let rows = rows_of run history.opening history.events in
-    begun_by_phase (phase_of history.events d) (rows.standing d) (any_twin rows is_done d)
-    (any_twin rows is_open d) (first_bad rows d) (all_good rows d) lease
-    (sym (state_is rows (run_twins run history.opening history.events) d) ∙ is)
+    begun_by_phase _ (rows.standing d) (any_twin rows is_done d)
+    (any_twin rows is_open d) (first_bad rows d) (all_good rows d) _
+    (sym (state_is _ (run_twins _ _ history.events) d) ∙ is)
 
 -- ---- whether a lease is out
 
@@ -167,11 +164,11 @@ pub building_told : (system : List ℕ) (history : History) (course : Course) (g
     ↔ (phase_of history.events d ≡ Begun number)
 building_told system history course given room kept d lease number is =
     let begun_is : phase_of history.events d ≡ Begun lease =
-    begun_from_building (run_over course system) history d lease
-    (sym (states_told system history course given room kept d) ∙ is) in (
+    begun_from_building _ history d _
+    (sym (states_told _ _ _ _ _ kept d) ∙ is) in (
       λ yes. begun_is ∙ ap Begun (eqb_yes (subst T (sym yes) tt)),
       λ other. let same : Begun lease ≡ Begun number = sym begun_is ∙ other in let one : lease
-          ≡ number = cc in subst (λ n. IsTrue (eqb lease n)) one (eqb_same lease),
+          ≡ number = cc in subst (λ n. IsTrue (eqb lease n)) one (eqb_same _),
     )
 
 pub not_building : (system : List ℕ) (history : History) (course : Course) (given room : ℕ)
@@ -179,8 +176,8 @@ pub not_building : (system : List ℕ) (history : History) (course : Course) (gi
     → (d number : ℕ) → ((lease : ℕ) → course_state course d ≡ Building lease → ⊥)
     → phase_of history.events d ≡ Begun number → ⊥
 not_building system history course given room kept d number none is =
-    none number (states_told system history course given room kept d
-    ∙ building_from_begun (run_over course system) history d number is)
+    none number (states_told _ _ _ _ _ kept d
+    ∙ building_from_begun (run_over course system) history d _ is)
 
 -- ---- the report
 
@@ -208,7 +205,7 @@ told_kept system history course given room kept =
     awaited_same : (d : ℕ) → all_of (awaited_at course.graph course.twins d)
         ≡ awaited_by run history d
     awaited_same d = ap (λ l. inputs_at course.graph.nodes (slice_get course.graph.nodes d) ++ l)
-        (twins_same system history course given room kept d)
+        (twins_same _ _ _ _ _ kept d)
 
     ahead_same : (a b : ℕ → State) → ((d : ℕ) → a d ≡ b d)
         → edges_ahead (λ d. all_of (awaited_at course.graph course.twins d)) a count
@@ -218,16 +215,16 @@ told_kept system history course given room kept =
     same : AreSame (course_rows (rested course)) (nearest (rows_of run history.opening []))
     same = record {
       inputs = λ d. refl;
-      twins = twins_same system history course given room kept;
-      standing = (rows_same system history course given room kept).standing;
+      twins = twins_same _ _ _ _ _ kept;
+      standing = (rows_same _ _ _ _ _ kept).standing;
       phase = λ d. refl;
     }
 
     then' : course_ahead (rested course) ≡ edges_ahead_in run (opened history.opening)
     then' = ahead_same (course_state (rested course)) (state_in run (opened history.opening))
-        (λ d. near_same (course_rows (rested course))
-        (nearest (rows_of run history.opening [])) same d
-        ∙ nearest_told run (opened history.opening) (opening_legal run history kept.legal) d)
+        (λ d. near_same _
+        _ same d
+        ∙ nearest_told _ _ (opening_legal _ _ kept.legal) d)
 
     now : course_ahead course ≡ edges_ahead_in run history
     now = search (rules, ahead_same, run, states_told)

@@ -150,8 +150,8 @@ pub last_unwanted : (nodes : List Node) (wanted : List Bool) (last : List (Optio
 last_unwanted nodes wanted last d is_not before = record {
   size = before.size;
   each = λ first within. before.each first within
-      ∙ ap last_alone (sym (none_with nodes wanted first d
-      (and_left (slice_index_or wanted d false) (first_twin_of nodes d == first) is_not)));
+      ∙ ap last_alone (sym (none_with _ _ _ d
+      (and_left _ _ is_not)));
 }
 
 -- ---- what is known in the end
@@ -163,12 +163,11 @@ pub near_smaller : (nodes : List Node) (wanted : List Bool) (twins : List (Optio
 near_smaller nodes wanted twins count near d =
     ⊎_elim
     (λ low. subst (All (λ t. t < d)) (sym (near.each d low))
-    (All-from_contains (λ t. t < d) (last_alone (wanted_with nodes wanted (first_twin_of nodes d)
-    d))
-    (λ t has. All-contains (λ t. t < d) (wanted_with nodes wanted (first_twin_of nodes d) d) t
+    (All-from_contains (λ t. t < d) _
+    (λ t has. All-contains (λ t. t < d) _ t
     (All-filter (is_wanted_with nodes wanted (first_twin_of nodes d)) (λ t. t < d)
-    (range_with_len 0 d) (range_below d))
-    (last_is_one (wanted_with nodes wanted (first_twin_of nodes d) d) t has))))
+    _ (range_below d))
+    (last_is_one _ t has))))
     (λ past. subst (λ o. All (λ t. t < d) (listed o))
     (sym (get_or_past twins d None (omega (arith, past, near.size)))) (All-nil (λ t. t < d)))
     (cases_lt d count)
@@ -185,8 +184,8 @@ nearest_are graph wanted twins sound near run opening same are = record {
       ∙ ap last_alone (filter_agree (is_wanted_with nodes wanted (first_twin_of nodes d))
       (λ t. is_wanted run opening t && are_twins_at (slice_get nodes t) (slice_get nodes d))
       (λ t. ap (λ b. b && (first_twin_of nodes t == first_twin_of nodes d)) (told t)
-      ∙ ap (λ b. is_wanted run opening t && b) (same_first nodes d t low))
-      (range_with_len 0 d));
+      ∙ ap (λ b. is_wanted run opening t && b) (same_first _ d t low))
+      _);
 }
   where
     nodes : List Node

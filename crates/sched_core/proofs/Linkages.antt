@@ -37,21 +37,21 @@ same_key keys distinct i j path at at' =
   where
     ordered : (a b : ℕ) → a < b → slice_get keys a ≡ Some path → slice_get keys b ≡ Some path → ⊥
     ordered a b below here there =
-        let differ = apart_from_distinct (pointwise nat_eq) keys a b [] distinct below
+        let differ = apart_from_distinct (pointwise nat_eq) _ a b [] distinct below
         (slice_get_within keys b path there) in
-        unequal_from_eq (get_or keys a []) (get_or keys b []) differ
-        (get_or_from_slice_get keys a path [] here
-        ∙ sym (get_or_from_slice_get keys b path [] there))
+        unequal_from_eq _ _ differ
+        (get_or_from_slice_get _ a _ [] here
+        ∙ sym (get_or_from_slice_get _ b _ [] there))
 
 -- what a look-up answers is the place of the path, or that it is none of the keys
 pub place_found : (keys : List (List ℕ)) (path : List ℕ) (r : Option ℕ) → r
     ≡ position (pointwise nat_eq path) keys → is_some r ≡ list_any (pointwise nat_eq path) keys
     → MatchOption r (Contains keys path → ⊥) (λ n. slice_get keys n ≡ Some path)
 place_found keys path None is found = λ has. false≢true
-    (found ∙ list_any-from_Contains nat_list_eq_equiv path keys has)
+    (found ∙ list_any-from_Contains nat_list_eq_equiv _ _ has)
 place_found keys path (Some n) is found =
-    let at = position-Some (pointwise nat_eq path) keys n [] (sym is) in
-    slice_get-get_or keys n [] at.0 ∙ ap Some (sym (equal_from_eq path (get_or keys n []) at.1))
+    let at = position-Some (pointwise nat_eq path) _ n [] (sym is) in
+    slice_get-get_or _ n [] at.0 ∙ ap Some (sym (equal_from_eq _ _ at.1))
 
 -- ---- the paths, each once
 
@@ -62,7 +62,7 @@ insert_cases keys key path = by (list_any (pointwise nat_eq key) keys)
     by : (b : Bool) → Contains (cond b keys (keys ++ key ∷ [])) path → Contains keys path
         ⊎ (key ≡ path)
     by true has = inl has
-    by false has = Contains-push_cases keys key path has
+    by false has = Contains-push_cases _ _ _ has
 
 insert_keeps : (keys : List (List ℕ)) (key path : List ℕ) → Contains keys path
     → Contains (insert_key (pointwise nat_eq) keys key) path
@@ -70,7 +70,7 @@ insert_keeps keys key path has = by (list_any (pointwise nat_eq key) keys)
   where
     by : (b : Bool) → Contains (cond b keys (keys ++ key ∷ [])) path
     by true = has
-    by false = Contains-append_left keys (key ∷ []) path has
+    by false = Contains-append_left _ _ _ has
 
 pub once_none : (keys : List (List ℕ)) → keys ≡ [] → IsDistinct (pointwise nat_eq) keys
     → AreEachOnce [] keys
@@ -84,22 +84,22 @@ pub once_more : (outputs : List (List ℕ)) (i : ℕ) (output copy : List ℕ) (
 once_more outputs i output copy keys new below is same before new_is distinct =
     let old = take i outputs in
     let more : take (i + 1) outputs ≡ old ++ copy
-    ∷ [] = taken_more outputs i copy below (same ∙ is ∙ ap (get_or outputs i) (sym same)) in
+    ∷ [] = taken_more _ i _ below (same ∙ is ∙ ap (get_or outputs i) (sym same)) in
     record {
       distinct = distinct;
       same = λ path. (
         λ has. subst (λ (l : List (List ℕ)). Contains l path) (sym more)
             (⊎_elim
-            (λ earlier. Contains-append_left old (copy ∷ []) path ((before.same path).0 earlier))
-            (λ e. subst (Contains (old ++ copy ∷ [])) e (Contains-push old copy))
-            (insert_cases keys copy path
+            (λ earlier. Contains-append_left _ _ _ ((before.same path).0 earlier))
+            (λ e. subst (Contains (old ++ copy ∷ [])) e (Contains-push _ _))
+            (insert_cases _ _ _
             (subst (λ (l : List (List ℕ)). Contains l path) new_is has))),
         λ has. subst (λ (l : List (List ℕ)). Contains l path) (sym new_is)
             (⊎_elim
-            (λ earlier. insert_keeps keys copy path ((before.same path).1 earlier))
+            (λ earlier. insert_keeps _ _ _ ((before.same path).1 earlier))
             (λ e. subst (Contains (insert_key (pointwise nat_eq) keys copy)) e
-            (Contains-insert_key (pointwise nat_eq) equal_from_eq keys copy))
-            (Contains-push_cases old copy path
+            (Contains-insert_key (pointwise nat_eq) equal_from_eq _ _))
+            (Contains-push_cases _ _ _
             (subst (λ (l : List (List ℕ)). Contains l path) more has))),
       );
     }
@@ -120,23 +120,23 @@ pub adds_place : (keys references : List (List ℕ)) (path : List ℕ) (old befo
 adds_place keys references path old before new to distinct prior at is n = (
   λ has. ⊎_elim
       (λ earlier. ⊎_elim inl
-      (λ h. inr (h.0, h.1, Contains-append_left references (path ∷ []) h.0 h.2))
+      (λ h. inr (h.0, h.1, Contains-append_left _ _ _ h.2))
       ((prior n).0 earlier))
       (λ (e : to ≡ n). inr (
         path,
         subst (λ k. slice_get keys k ≡ Some path) e at,
-        Contains-push references path,
+        Contains-push _ _,
       ))
-      (Contains-push_cases before to n (subst (λ (l : List ℕ). Contains l n) is has)),
+      (Contains-push_cases _ _ n (subst (λ (l : List ℕ). Contains l n) is has)),
   λ h. subst (λ (l : List ℕ). Contains l n) (sym is)
       (⊎_elim
-      (λ earlier. Contains-append_left before (to ∷ []) n ((prior n).1 (inl earlier)))
+      (λ earlier. Contains-append_left _ _ n ((prior n).1 (inl earlier)))
       (λ f. ⊎_elim
-      (λ earlier. Contains-append_left before (to ∷ []) n ((prior n).1 (inr (f.0, f.1, earlier))))
-      (λ e. let place : to ≡ n = same_key keys distinct to n path at
+      (λ earlier. Contains-append_left _ _ n ((prior n).1 (inr (f.0, f.1, earlier))))
+      (λ e. let place : to ≡ n = same_key _ distinct _ n _ at
       (subst (λ (p : List ℕ). slice_get keys n ≡ Some p) (sym e) f.1)
-      in subst (Contains (before ++ to ∷ [])) place (Contains-push before to))
-      (Contains-push_cases references path f.0 f.2))
+      in subst (Contains (before ++ to ∷ [])) place (Contains-push _ _))
+      (Contains-push_cases _ _ _ f.2))
       h),
 )
 
@@ -144,16 +144,16 @@ pub adds_no_place : (keys references : List (List ℕ)) (path : List ℕ) (old b
     → AddsLinks keys references old before → (Contains keys path → ⊥)
     → AddsLinks keys (references ++ path ∷ []) old before
 adds_no_place keys references path old before prior none n = (
-  λ has. ⊎_elim inl (λ h. inr (h.0, h.1, Contains-append_left references (path ∷ []) h.0 h.2))
+  λ has. ⊎_elim inl (λ h. inr (h.0, h.1, Contains-append_left _ _ _ h.2))
       ((prior n).0 has),
   λ h. ⊎_elim
       (λ earlier. (prior n).1 (inl earlier))
       (λ f. ⊎_elim
       (λ earlier. (prior n).1 (inr (f.0, f.1, earlier)))
       (λ e. absurd (none
-      (Contains-from_get keys n path
+      (Contains-from_get _ n _
       (subst (λ (p : List ℕ). slice_get keys n ≡ Some p) (sym e) f.1))))
-      (Contains-push_cases references path f.0 f.2))
+      (Contains-push_cases _ _ _ f.2))
       h,
 )
 
@@ -180,16 +180,16 @@ linked_set : (links : List (Vec ℕ)) (i : ℕ) (own new : Vec ℕ) (from to : �
 linked_set links i own new from to at more (old, has, leads) =
     ⊎_elim
     (λ e.
-    let same : old ≡ own = same_element links i old own
+    let same : old ≡ own = same_element _ i _ _
     (subst (λ k. slice_get links k ≡ Some old) e has) at in (
       new,
       subst (λ k. slice_get (set links i new) k ≡ Some new) (sym e)
-          (set_same links i own new at),
+          (set_same _ i _ _ at),
       more to
           (subst (λ (v : Vec ℕ). Contains v.items to) same leads),
     ))
-    (λ apart. (old, set_other links i from new old apart has, leads))
-    (elim (either_side from i) [
+    (λ apart. (old, set_other _ i _ _ _ apart has, leads))
+    (elim (either_side _ i) [
       | inl e ↦ inl e
       | inr h ↦ inr
           (λ e. ⊎_elim (λ below. absurd (omega arith)) (λ above. absurd (omega arith)) h)
@@ -274,7 +274,7 @@ no_links_more links after own none empty is from to (other, at, has) =
         (λ front. none from to (other, front, has))
         (λ h. let gone : Contains [] to = subst (λ (l : List ℕ). Contains l to)
         (ap (λ (v : Vec ℕ). v.items) (sym h.1) ∙ empty) has in omega (arith, gone.1))
-        (get_push_cases links own from other at)
+        (get_push_cases _ _ from other at)
 
 pub links_inner : (paths : List (List ℕ)) (infos : List PathInfo) (links : List (Vec ℕ))
     → HaveLinks paths infos links → AreInner links

@@ -56,14 +56,14 @@ path_before : (nodes : List Node) (marks : List Bool) (n : ℕ) (listed : List L
     (path : List ℕ) → AreDistinct (paths_of nodes) → AreListed nodes (IsMarked marks n) listed
     → slice_get (paths_of nodes) n ≡ Some path → Contains (listed_paths listed) path → ⊥
 path_before nodes marks n listed path distinct are at has =
-    let found = Contains-from_map (λ (l : Listed). l.path.now) listed path has in
+    let found = Contains-from_map (λ (l : Listed). l.path.now) _ _ has in
     let one = found.0 in
     let there : slice_get (paths_of nodes) one.number
-    ≡ Some path = All-contains (HasItsPath nodes) listed one are.each found.1 ∙ ap Some found.2
+    ≡ Some path = All-contains (HasItsPath nodes) _ _ are.each found.1 ∙ ap Some found.2
     in
     let before = (are.just one.number).0
-    (Contains-map (λ (l : Listed). l.number) listed one found.1) in
-    let same = same_place (paths_of nodes) one.number n path distinct there at in
+    (Contains-map (λ (l : Listed). l.number) _ _ found.1) in
+    let same = same_place _ _ n _ distinct there at in
     omega (arith, before.0, same)
 
 -- a marked one
@@ -74,7 +74,7 @@ listed_push : (nodes : List Node) (marks : List Bool) (n : ℕ) (listed : List L
     → AreListed nodes (IsMarked marks n) listed
     → AreListed nodes (IsMarked marks (n + 1)) (listed ++ one ∷ [])
 listed_push nodes marks n listed one distinct is at marked are = record {
-  each = All-push (HasItsPath nodes) listed one are.each
+  each = All-push (HasItsPath nodes) _ _ are.each
       (subst (λ k. slice_get (paths_of nodes) k ≡ Some one.path.now) (sym is) at);
   just = λ d. (
     λ has. ⊎_elim
@@ -84,19 +84,19 @@ listed_push nodes marks n listed one distinct is at marked are = record {
           omega (arith, d_is),
           subst (λ k. slice_index_or marks k false ≡ true) d_is marked,
         ))
-        (Contains-push_cases (numbers_of listed) one.number d
+        (Contains-push_cases _ _ d
         (subst (λ numbers. Contains numbers d) numbers has)),
     λ was. subst (λ numbers. Contains numbers d) (sym numbers)
         (⊎_elim
-        (λ below. Contains-append_left (numbers_of listed) (one.number ∷ []) d
+        (λ below. Contains-append_left _ _ d
         ((are.just d).1 (below, was.1)))
         (λ same. subst (Contains (numbers_of listed ++ one.number ∷ [])) (is ∙ sym same)
-        (Contains-push (numbers_of listed) one.number))
+        (Contains-push _ _))
         (below_or_same d n was.0)),
   );
   once = subst AreDistinct (sym paths)
-      (distinct_push (listed_paths listed) one.path.now are.once
-      (path_before nodes marks n listed one.path.now distinct are at));
+      (distinct_push _ _ are.once
+      (path_before _ _ n _ _ distinct are at));
 }
   where
     numbers : numbers_of (listed ++ one ∷ []) ≡ numbers_of listed ++ one.number ∷ []
@@ -115,7 +115,7 @@ pub keyed_new : (nodes : List Node) (marks : List Bool) (n : ℕ) (keyed more : 
 keyed_new nodes marks n keyed more one distinct is at marked more_is are =
     subst (AreListed nodes (IsMarked marks (n + 1)))
     (sym (ap listed_behind more_is ∙ map-append (λ (k : Keyed). k.listed) keyed (one ∷ [])))
-    (listed_push nodes marks n (listed_behind keyed) one.listed distinct is at marked are)
+    (listed_push _ _ n _ _ distinct is at marked are)
 
 -- ---- by path
 
@@ -135,20 +135,20 @@ listed_by_path nodes is_such listed sorted are moved ordered = record {
   just = λ d.
       let same = IsPermutation-map (λ (l : Listed). l.number) listed sorted moved in (
         λ has. (are.just d).0
-            (Contains-permutation (numbers_of sorted) (numbers_of listed) d
+            (Contains-permutation _ _ d
             (IsPermutation-sym (numbers_of listed) (numbers_of sorted) same) has),
-        λ is. Contains-permutation (numbers_of listed) (numbers_of sorted) d same
+        λ is. Contains-permutation _ _ d same
             ((are.just d).1 is),
       );
   rising =
       let distinct = IsDistinct-IsPermutation (pointwise nat_eq) nat_list_eq_equiv.symm
-      (listed_paths listed) (listed_paths sorted)
+      _ _
       (IsPermutation-map (λ (l : Listed). l.path.now) listed sorted moved) are.once in
-      let rises = rising_sorted (listed_paths sorted)
-      (sorted_map (λ (l : Listed). l.path.now) sorted ordered) distinct in
+      let rises = rising_sorted _
+      (sorted_map (λ (l : Listed). l.path.now) _ ordered) distinct in
       subst IsRising
-      (paths_are nodes sorted
-      (All-permutation (HasItsPath nodes) listed sorted moved are.each)) rises;
+      (paths_are _ _
+      (All-permutation (HasItsPath nodes) _ _ moved are.each)) rises;
 }
 
 -- so they do where they were sorted by key before
@@ -158,8 +158,8 @@ pub keyed_by_path : (nodes : List Node) (is_such : ℕ → Type 0) (keyed by_key
     → IsSortedBy (λ (a b : Listed). is_lt (slice_cmp nat_cmp a.path.now b.path.now)) sorted
     → AreByPath nodes is_such (numbers_of sorted)
 keyed_by_path nodes is_such keyed by_key listed sorted are by is moved ordered =
-    listed_by_path nodes is_such (listed_behind keyed) sorted are
-    (IsPermutation-trans (listed_behind keyed) listed sorted
+    listed_by_path _ is_such _ _ are
+    (IsPermutation-trans _ _ _
     (subst (IsPermutation (listed_behind keyed)) (sym is)
     (IsPermutation-map (λ (k : Keyed). k.listed) keyed by_key by)) moved) ordered
 
@@ -167,9 +167,9 @@ keyed_by_path nodes is_such keyed by_key listed sorted are by is moved ordered =
 pub by_path_within : (nodes : List Node) (marks : List Bool) (count : ℕ) (listed : List Listed)
     → AreByPath nodes (IsMarked marks count) (numbers_of listed) → AreWithin count listed
 by_path_within nodes marks count listed by_path =
-    All-from_contains (λ (l : Listed). l.number < count) listed
+    All-from_contains (λ (l : Listed). l.number < count) _
     (λ l has. ((by_path.just l.number).0
-    (Contains-map (λ (m : Listed). m.number) listed l has)).0)
+    (Contains-map (λ (m : Listed). m.number) _ l has)).0)
 
 -- ---- what is written
 

@@ -27,10 +27,10 @@ same_first key x y xs ys rises rises' same =
     (λ is. is)
     (λ y_later. absurd
     (not_below_itself (key x)
-    (below_trans (key x) (key y) (key x) (below_later key x xs y rises y_later)
-    (below_later key y ys x rises' x_later))))
-    (Contains-cons_cases x xs y ((same y).1 (Contains-first y ys))))
-    (Contains-cons_cases y ys x ((same x).0 (Contains-first x xs)))
+    (below_trans (key x) (key y) (key x) (below_later key x _ y rises y_later)
+    (below_later key y _ x rises' x_later))))
+    (Contains-cons_cases x _ y ((same y).1 (Contains-first y _))))
+    (Contains-cons_cases y _ x ((same x).0 (Contains-first x _)))
 
 -- a later number of the one list is a later one of the other
 later_too : (key : ℕ → List ℕ) (x y : ℕ) (xs ys : List ℕ) (d : ℕ) → IsRising (map key (x ∷ xs)) → x
@@ -40,7 +40,7 @@ later_too key x y xs ys d rises first there has =
     (λ is. absurd
     (not_below_itself (key x)
     (subst (λ e. IsBelow (key x) (key e)) (sym (first ∙ is))
-    (below_later key x xs d rises has))))
+    (below_later key x _ d rises has))))
     (λ later. later)
     (Contains-cons_cases y ys d (there (Contains-later x xs d has)))
 
@@ -49,17 +49,17 @@ one_list : (key : ℕ → List ℕ) (xs ys : List ℕ) → IsRising (map key xs)
     → HaveSame xs ys → xs ≡ ys
 one_list key [] [] rises rises' same = refl
 one_list key [] (y ∷ ys) rises rises' same = absurd
-    (Contains-nothing y ((same y).1 (Contains-first y ys)))
+    (Contains-nothing y ((same y).1 (Contains-first y _)))
 one_list key (x ∷ xs) [] rises rises' same = absurd
-    (Contains-nothing x ((same x).0 (Contains-first x xs)))
+    (Contains-nothing x ((same x).0 (Contains-first x _)))
 one_list key (x ∷ xs) (y ∷ ys) rises rises' same =
-    let first = same_first key x y xs ys rises rises' same in
+    let first = same_first key x y _ _ rises rises' same in
     let rest =
-    one_list key xs ys (rising_later (key x) (map key xs) rises)
-    (rising_later (key y) (map key ys) rises')
+    one_list key _ _ (rising_later _ _ rises)
+    (rising_later _ _ rises')
     (λ d. (
-      later_too key x y xs ys d rises first (same d).0,
-      later_too key y x ys xs d rises' (sym first) (same d).1,
+      later_too key x y _ _ d rises first (same d).0,
+      later_too key y x _ _ d rises' (sym first) (same d).1,
     )) in
     ap (λ d. d ∷ xs) first ∙ ap (λ ds. y ∷ ds) rest
 
@@ -67,7 +67,7 @@ pub one_report : (graph : Graph) (is_wanted : ℕ → Type 0) (state : ℕ → S
     → IsReport graph is_wanted state a → IsReport graph is_wanted state b → a ≡ b
 one_report graph is_wanted state a b of_a of_b =
     let same : of_a.wanted ≡ of_b.wanted =
-    one_list (path_at graph.nodes) of_a.wanted of_b.wanted of_a.by_path.rising of_b.by_path.rising
+    one_list (path_at graph.nodes) _ _ of_a.by_path.rising of_b.by_path.rising
     (λ d. (
       λ has. (of_b.by_path.just d).1 ((of_a.by_path.just d).0 has),
       λ has. (of_a.by_path.just d).1 ((of_b.by_path.just d).0 has),

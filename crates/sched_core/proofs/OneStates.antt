@@ -30,8 +30,8 @@ pub not_freed : (state : State) (standing : Standing) (twins : List News) (first
     → state ≡ by_phase (phase_in state) (by_all standing twins (by_first first false))
     → state ≡ by_phase (phase_in state) (by_all standing twins (by_first first all))
 not_freed state standing twins first all apart is =
-    begun_else state (by_all standing twins (by_first first false))
-    (by_all standing twins (by_first first all)) is (by standing twins first)
+    begun_else _ _
+    _ is (by standing twins first)
   where
     by : (standing : Standing) (twins : List News) (first : Option ℕ)
         → state ≡ by_all standing twins (by_first first false)
@@ -57,8 +57,8 @@ pub not_refused : (state : State) (standing : Standing) (twins : List News) (fir
 not_refused state AllValid twins first input free apart known is = absurd cc
 not_refused state (Hindered cause) twins first input free apart known is = absurd cc
 not_refused state Free twins first input free apart known is =
-    begun_else state (by_all Free twins (by_first first false))
-    (by_all Free twins (by_first (Some input) false)) is (by twins first)
+    begun_else _ _
+    _ is (by twins first)
   where
     by : (twins : List News) (first : Option ℕ)
         → state ≡ by_all Free twins (by_first first false)
@@ -97,8 +97,8 @@ pub not_released : (state : State) (standing : Standing) (more : List News) (bef
     → state ≡ by_phase (phase_in state) (by_all standing (Open ∷ more) before)
     → state ≡ by_phase (phase_in state) (by_all standing (news_by good ∷ more) before)
 not_released state standing more before good apart is =
-    begun_else state (by_all standing (Open ∷ more) before)
-    (by_all standing (news_by good ∷ more) before) is (by standing)
+    begun_else _ _
+    _ is (by standing)
   where
     by : (standing : Standing) → state ≡ by_all standing (Open ∷ more) before
         → state ≡ by_all standing (news_by good ∷ more) before
@@ -114,6 +114,6 @@ first_turns None false = turns_stays Blocked
 -- how its own cause and its inputs turn one that was Blocked
 pub own_turns : (standing : Standing) (first : Option ℕ) (all : Bool)
     → Turns Blocked (by_hindrance standing (by_first first all))
-own_turns AllValid first all = first_turns first all
+own_turns AllValid first all = first_turns _ _
 own_turns (Hindered cause) first all = turns_refused cause
-own_turns Free first all = first_turns first all
+own_turns Free first all = first_turns _ _

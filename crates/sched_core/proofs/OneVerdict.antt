@@ -41,7 +41,7 @@ same_list (x ∷ xs) (y ∷ ys) long same =
 one_record : (algorithm : Algorithm) (permitted : List (List ℕ)) (tree : Tree) (a b : PathInfo)
     → IsRecordOf algorithm permitted tree a → IsRecordOf algorithm permitted tree b → a ≡ b
 one_record algorithm permitted tree a b of of' =
-    let found = rising_same a.references b.references of.found.rising of'.found.rising (λ path. (
+    let found = rising_same _ _ of.found.rising of'.found.rising (λ path. (
       λ has. (of'.found.each path).1 ((of.found.each path).0 has),
       λ has. (of.found.each path).1 ((of'.found.each path).0 has),
     )) in
@@ -109,89 +109,79 @@ module _ (job : Job) (permitted : List (List ℕ)) (answer : Answer) where
       same_list a b (records.count ∙ sym records'.count) (λ n x y at at'.
       let of = records.each n x at in
       let of' = records'.each n y at' in
-      one_record (algorithm_for job.kind) permitted of'.0 x y
+      one_record _ _ _ x y
       (subst (λ (t : Tree). IsRecordOf (algorithm_for job.kind) permitted t x)
-      (one_tree answer n of.0 of'.0 of.1 of'.1) of.2) of'.2)
+      (one_tree answer n _ _ of.1 of'.1) of.2) of'.2)
 
   one_fault : (a b : Reason) → IsFirstFault job answer a → IsFirstFault job answer b → a ≡ b
   one_fault a b (n, first, (tree, at, fault)) (m, first', (tree', at', fault')) =
       let place : n ≡ m = one_number (λ k. (why : Reason) × IsFaulty job answer why k)
-      (length job.outputs.items) n m first first' in
+      _ n m first first' in
       let same : tree ≡ tree' = one_tree answer m tree tree'
       (subst (λ k. tree_at answer k ≡ Some tree) place at) at' in
-      one_tree_fault job.kind tree' a b
-      (tree_fault_cases job.kind tree' a
+      one_tree_fault _ _ a b
+      (tree_fault_cases _ _ a
       (subst (λ (t : Tree). IsTreeFault job.kind t a) same fault))
-      (tree_fault_cases job.kind tree' b fault')
+      (tree_fault_cases _ _ b fault')
 
   one : (a b : Result (List PathInfo) Reason) → Outcome a → Outcome b → a ≡ b
   one _ _ (killed e) (killed e2) = refl
-  one _ _ (killed e) (exited n2 e2 apart2) = absurd (none_or_some answer.status _ e e2)
-  one _ _ (killed e) (missing n2 e2 first2) = absurd (none_or_some answer.status _ e e2)
-  one _ _ (killed e) (faulty why2 there2 fault2) = absurd (none_or_some answer.status _ e there2.0)
-  one _ _ (killed e) (cyclic infos2 taken2 records2 round2) =
-      absurd (none_or_some answer.status _ e taken2.0.0)
-  one _ _ (killed e) (well infos2 taken2 records2 acyclic2) =
-      absurd (none_or_some answer.status _ e taken2.0.0)
-  one _ _ (exited n e apart) (killed e2) = absurd (none_or_some answer.status _ e2 e)
+  one _ _ (killed e) (exited n2 e2 apart2) = absurd (none_or_some _ _ e e2)
+  one _ _ (killed e) (missing n2 e2 first2) = absurd (none_or_some _ _ e e2)
+  one _ _ (killed e) (faulty why2 there2 fault2) = absurd (none_or_some _ _ e there2.0)
+  one _ _ (killed e) (cyclic infos2 taken2 records2 round2) = absurd (none_or_some _ _ e taken2.0.0)
+  one _ _ (killed e) (well infos2 taken2 records2 acyclic2) = absurd (none_or_some _ _ e taken2.0.0)
+  one _ _ (exited n e apart) (killed e2) = absurd (none_or_some _ _ e2 e)
   one _ _ (exited n e apart) (exited n2 e2 apart2) =
-      ap (λ k. Err (ExitStatus k)) (some_is_one answer.status n n2 e e2)
-  one _ _ (exited n e apart) (missing n2 e2 first2) =
-      absurd (apart (some_is_one answer.status n (pos 0) e e2))
+      ap (λ k. Err (ExitStatus k)) (some_is_one _ n _ e e2)
+  one _ _ (exited n e apart) (missing n2 e2 first2) = absurd (apart (some_is_one _ n _ e e2))
   one _ _ (exited n e apart) (faulty why2 there2 fault2) =
-      absurd (apart (some_is_one answer.status n (pos 0) e there2.0))
+      absurd (apart (some_is_one _ n _ e there2.0))
   one _ _ (exited n e apart) (cyclic infos2 taken2 records2 round2) =
-      absurd (apart (some_is_one answer.status n (pos 0) e taken2.0.0))
+      absurd (apart (some_is_one _ n _ e taken2.0.0))
   one _ _ (exited n e apart) (well infos2 taken2 records2 acyclic2) =
-      absurd (apart (some_is_one answer.status n (pos 0) e taken2.0.0))
-  one _ _ (missing n e first) (killed e2) = absurd (none_or_some answer.status _ e2 e)
-  one _ _ (missing n e first) (exited n2 e2 apart2) =
-      absurd (apart2 (some_is_one answer.status n2 (pos 0) e2 e))
+      absurd (apart (some_is_one _ n _ e taken2.0.0))
+  one _ _ (missing n e first) (killed e2) = absurd (none_or_some _ _ e2 e)
+  one _ _ (missing n e first) (exited n2 e2 apart2) = absurd (apart2 (some_is_one _ _ _ e2 e))
   one _ _ (missing n e first) (missing n2 e2 first2) =
-      ap (λ k. Err (MissingOutput k))
-      (one_number (λ m. tree_at answer m ≡ None) (length job.outputs.items) n n2 first first2)
+      ap (λ k. Err (MissingOutput k)) (one_number (λ m. tree_at answer m ≡ None) _ n _ first first2)
   one _ _ (missing n e first) (faulty why2 there2 fault2) =
       absurd (there2.1 n (missing_within n first) first.is)
   one _ _ (missing n e first) (cyclic infos2 taken2 records2 round2) =
       absurd (taken2.0.1 n (missing_within n first) first.is)
   one _ _ (missing n e first) (well infos2 taken2 records2 acyclic2) =
       absurd (taken2.0.1 n (missing_within n first) first.is)
-  one _ _ (faulty why there fault) (killed e2) = absurd (none_or_some answer.status _ e2 there.0)
+  one _ _ (faulty why there fault) (killed e2) = absurd (none_or_some _ _ e2 there.0)
   one _ _ (faulty why there fault) (exited n2 e2 apart2) =
-      absurd (apart2 (some_is_one answer.status n2 (pos 0) e2 there.0))
+      absurd (apart2 (some_is_one _ _ _ e2 there.0))
   one _ _ (faulty why there fault) (missing n2 e2 first2) =
-      absurd (there.1 n2 (missing_within n2 first2) first2.is)
-  one _ _ (faulty why there fault) (faulty why2 there2 fault2) =
-      ap Err (one_fault why why2 fault fault2)
+      absurd (there.1 n2 (missing_within _ first2) first2.is)
+  one _ _ (faulty why there fault) (faulty why2 there2 fault2) = ap Err (one_fault _ _ fault fault2)
   one _ _ (faulty why there fault) (cyclic infos2 taken2 records2 round2) =
       absurd (taken2.1 fault.0 why (faulty_within why fault) fault.2)
   one _ _ (faulty why there fault) (well infos2 taken2 records2 acyclic2) =
       absurd (taken2.1 fault.0 why (faulty_within why fault) fault.2)
-  one _ _ (cyclic infos taken records round) (killed e2) =
-      absurd (none_or_some answer.status _ e2 taken.0.0)
+  one _ _ (cyclic infos taken records round) (killed e2) = absurd (none_or_some _ _ e2 taken.0.0)
   one _ _ (cyclic infos taken records round) (exited n2 e2 apart2) =
-      absurd (apart2 (some_is_one answer.status n2 (pos 0) e2 taken.0.0))
+      absurd (apart2 (some_is_one _ _ _ e2 taken.0.0))
   one _ _ (cyclic infos taken records round) (missing n2 e2 first2) =
-      absurd (taken.0.1 n2 (missing_within n2 first2) first2.is)
+      absurd (taken.0.1 n2 (missing_within _ first2) first2.is)
   one _ _ (cyclic infos taken records round) (faulty why2 there2 fault2) =
       absurd (taken.1 fault2.0 why2 (faulty_within why2 fault2) fault2.2)
   one _ _ (cyclic infos taken records round) (cyclic infos2 taken2 records2 round2) = refl
   one _ _ (cyclic infos taken records round) (well infos2 taken2 records2 acyclic2) =
-      absurd (acyclic2
-      (subst (IsCyclic (outputs_of job)) (one_list infos infos2 records records2) round))
-  one _ _ (well infos taken records acyclic) (killed e2) =
-      absurd (none_or_some answer.status _ e2 taken.0.0)
+      absurd (acyclic2 (subst (IsCyclic (outputs_of job)) (one_list _ _ records records2) round))
+  one _ _ (well infos taken records acyclic) (killed e2) = absurd (none_or_some _ _ e2 taken.0.0)
   one _ _ (well infos taken records acyclic) (exited n2 e2 apart2) =
-      absurd (apart2 (some_is_one answer.status n2 (pos 0) e2 taken.0.0))
+      absurd (apart2 (some_is_one _ _ _ e2 taken.0.0))
   one _ _ (well infos taken records acyclic) (missing n2 e2 first2) =
-      absurd (taken.0.1 n2 (missing_within n2 first2) first2.is)
+      absurd (taken.0.1 n2 (missing_within _ first2) first2.is)
   one _ _ (well infos taken records acyclic) (faulty why2 there2 fault2) =
-      absurd (taken.1 fault2.0 why2 (faulty_within why2 fault2) fault2.2)
+      absurd (taken.1 fault2.0 why2 (faulty_within _ fault2) fault2.2)
   one _ _ (well infos taken records acyclic) (cyclic infos2 taken2 records2 round2) =
-      absurd (acyclic
-      (subst (IsCyclic (outputs_of job)) (one_list infos2 infos records2 records) round2))
+      absurd (acyclic (subst (IsCyclic (outputs_of job)) (one_list _ _ records2 records) round2))
   one _ _ (well infos taken records acyclic) (well infos2 taken2 records2 acyclic2) =
-      ap Ok (one_list infos infos2 records records2)
+      ap Ok (one_list _ _ records records2)
 
 pub has_one_verdict : HasOneVerdict
 has_one_verdict job permitted answer a b verdict verdict' = search (rules, one, outcome_of)

@@ -2,7 +2,7 @@
 use Rattle.std.proofs.Common.{◌≡◌, ◌⊎◌, ℕ, Bool, true, false, List, [], ◌∷◌, ◌++◌, refl, if◌then◌else◌, rules}
 use Rattle.std.proofs.Math.Dec.{eqb}
 use Rattle.nix_names.proofs.Lists.{either_side}
-use Rattle.sched_core.specs.States.{Begun, Broken, Ended, Idle, Phase, phase_by, phase_of}
+use Rattle.sched_core.specs.States.{Begun, Idle, Phase, phase_by, phase_of}
 use Rattle.sched_core.specs.declared.reason.Event.{Event}
 use Rattle.sched_core.specs.declared.reason.Event.TheVariants.{Begin, Done as Finish, Fail}
 use Rattle.sched_core.proofs.Seeds.{phase_push, same_number}
@@ -26,9 +26,9 @@ idle_unless p e d other = by (eqb e d) refl
     by false is = refl
 
 pub phase_by_other : (x : Event) (d : ℕ) → (number_of x ≡ d → ⊥) → phase_by x d ≡ Idle
-phase_by_other (Begin e n) d other = idle_unless (Begun n) e d other
-phase_by_other (Finish e n) d other = idle_unless Ended e d other
-phase_by_other (Fail e n reason) d other = idle_unless (Broken reason) e d other
+phase_by_other (Begin e n) d other = idle_unless _ e d other
+phase_by_other (Finish e n) d other = idle_unless _ e d other
+phase_by_other (Fail e n reason) d other = idle_unless _ e d other
 
 -- so it changes no other phase
 pub phase_other : (events : List Event) (x : Event) (d : ℕ) → (number_of x ≡ d → ⊥)

@@ -13,7 +13,7 @@ use Rattle.nix_drv.specs.declared.derivation.EnvEntry.{EnvEntry as EnvEntryStruc
 use Rattle.nix_drv.specs.declared.derivation.Output.{Output as OutputStruct}
 use Rattle.drv_graph.specs.Nodes.{Node}
 use Rattle.drv_graph.specs.PlanNodes.{drvs_of, output_paths_of}
-use Rattle.valid_table.specs.Entries.{paths_registered, registered}
+use Rattle.valid_table.specs.Entries.{registered}
 use Rattle.valid_table.specs.Valid.{IsValid}
 use Rattle.valid_table.specs.declared.entry.Entry.{Entry}
 use Rattle.sched_core.specs.Runs.{cause_at, is_unsupported, is_valid, left_out, own_cause, standing_at}
@@ -26,14 +26,14 @@ use Rattle.nix_names.proofs.Lists.{get_mapped}
 pub told_valid : (told : Bool) (entries : List Entry) (path : List ℕ) → IsTrue told
     ↔ IsValid (registered entries) path → told ≡ is_valid entries path
 told_valid true entries path (there, back) = sym
-    (list_any-from_Contains nat_list_eq_equiv path (paths_registered (registered entries))
+    (list_any-from_Contains nat_list_eq_equiv _ _
     (there refl))
 told_valid false entries path (there, back) = by (is_valid entries path) refl
   where
     by : (b : Bool) → is_valid entries path ≡ b → false ≡ b
     by true is = absurd
         (false≢true
-        (back (Contains-from_any equal_from_eq path (paths_registered (registered entries)) is)))
+        (back (Contains-from_any equal_from_eq _ _ is)))
     by false is = refl
 
 -- The first standings, so many.
@@ -75,7 +75,7 @@ last_cause system entries nodes d drv outputs sources first is_drv lent given ow
         → IfSome o (λ node. cause_at MissingSource first ≡ own_cause system entries node.drv)
     by None is paths its = tt
     by (Some node) is paths its =
-        let same : drv ≡ node.drv = drv_is nodes d drv node is is_drv in
+        let same : drv ≡ node.drv = drv_is _ d _ _ is is_drv in
         let of_node : first ≡ position (λ path. not (is_valid entries path)) node.drv.sources =
         found ∙ ap (position (λ path. not (is_valid entries path))) its in
         let here : same_bytes node.drv.system system
@@ -105,8 +105,8 @@ pub key_asks : (drv : Drv) (env : List EnvEntryStruct) (told : Bool) → map ent
 key_asks drv env told same is told_true =
     let builtin = starts_with nat_eq drv.builder (codes "builtin:") in
     let tree = list_any (λ (o : Output). same_bytes o.algo (codes "r:sha256")) drv.outputs in
-    ap (λ b. builtin || b || tree) (sym (keys_told drv env told same is) ∙ told_true)
-    ∙ ap (λ b. b || tree) (or_true builtin)
+    ap (λ b. builtin || b || tree) (sym (keys_told drv _ _ same is) ∙ told_true)
+    ∙ ap (λ b. b || tree) (or_true _)
 
 pub tree_asks : (drv : Drv) (builder : List ℕ) (env : List EnvEntryStruct)
     (outputs : List OutputStruct) (builtin keys tree : Bool)

@@ -31,9 +31,9 @@ pub all_are_valid : (registrations : List Registration) (roots : List (List ℕ)
 all_are_valid registrations roots path valid first =
     let there : Contains roots path = subst (λ (paths : List (List ℕ)). Contains paths path)
     (sym first.parts)
-    (Contains-append_right first.before (path ∷ first.after) path
-    (Contains-first path first.after)) in
-    first.is (All-contains (IsValid registrations) roots path valid there)
+    (Contains-append_right first.before (path ∷ first.after) _
+    (Contains-first _ first.after)) in
+    first.is (All-contains (IsValid registrations) _ _ valid there)
 
 -- such a closure is refused for want of memory alone
 pub only_memory : (registrations : List Registration) (roots : List (List ℕ)) (fault : TableFault)
@@ -114,6 +114,6 @@ pub seeds_of_lease : (run : Run) (history : History) (job : Job) (number : ℕ) 
     → (path : List ℕ) → Contains job.seeds.items path → IsValid (registered history.entries) path
 seeds_of_lease run history job number legal lease path has =
     seeds_are_valid run history legal job.derivation number
-    (begun_event history.events job.derivation number lease.building) lease.is_job.node
+    (begun_event _ _ _ lease.building) lease.is_job.node
     lease.is_job.is_node path
     (subst (λ (seeds : List (List ℕ)). Contains seeds path) lease.is_job.seeds has)

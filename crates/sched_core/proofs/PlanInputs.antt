@@ -25,14 +25,14 @@ place_is : (paths : List (List ℕ)) (n : ℕ) (path : List ℕ) → AreDistinct
     ≡ Some path → position_or_len (same_bytes path) paths ≡ n
 place_is paths n path once at =
     let low : n < length paths = slice_get_within paths n path at in
-    let here : get_or paths n [] ≡ path = get_or_from_slice_get paths n path [] at in
+    let here : get_or paths n [] ≡ path = get_or_from_slice_get _ n _ [] at in
     let apart : (k : ℕ) → k < n → pointwise nat_eq path (get_or paths k []) ≡ false = λ k less.
-    other_path path (get_or paths k []) (λ same.
+    other_path _ _ (λ same.
     let there : slice_get paths k ≡ Some path =
-    slice_get-get_or paths k [] (omega (arith, less, low)) ∙ ap Some (sym same) in
-    let place : k ≡ n = same_place paths k n path once there at in
+    slice_get-get_or _ k [] (omega (arith, less, low)) ∙ ap Some (sym same) in
+    let place : k ≡ n = same_place _ k n _ once there at in
     omega (arith, less, place)) in
-    position_or_len_is (same_bytes path) paths n [] (omega (arith, low)) apart
+    position_or_len_is (same_bytes path) _ n [] (omega (arith, low)) apart
     (λ within. ap (pointwise nat_eq path) here ∙ nat_list_eq_equiv.refl path)
 
 -- numbers of paths are the places at which these are found
@@ -51,21 +51,21 @@ path_before : (graph : Graph) (d : ℕ) (node : Node) (path : List ℕ) → IsSo
     → position_or_len (same_bytes path) (paths_of graph.nodes) < d
 path_before graph d node path sound at has =
     let lt : d < length graph.nodes = slice_get_within graph.nodes d node at in
-    let read : get_or graph.nodes d node ≡ node = get_or_from_slice_get graph.nodes d node node at
+    let read : get_or graph.nodes d node ≡ node = get_or_from_slice_get _ d _ _ at
     in
     let parts : graph.nodes ≡ take d graph.nodes ++ node ∷ drop (suc d) graph.nodes =
     split_at graph.nodes d node lt
     ∙ ap (λ (m : Node). take d graph.nodes ++ m ∷ drop (suc d) graph.nodes) read in
     let lawful = sound.lawful (take d graph.nodes) (drop (suc d) graph.nodes) node parts in
     let before : Contains (paths_of (take d graph.nodes)) path =
-    drvs_paths (take d graph.nodes) (inputs_of node.drv) lawful.right.used lawful.right.are_used
-    path has in
-    let place = get_from_contains (paths_of (take d graph.nodes)) path before in
+    drvs_paths _ _ _ lawful.right.are_used
+    _ has in
+    let place = get_from_contains _ _ before in
     let there : slice_get (paths_of graph.nodes) place.0 ≡ Some path =
     subst (λ l. slice_get (paths_of l) place.0 ≡ Some path) (sym parts)
-    (number_grows (take d graph.nodes) (node ∷ drop (suc d) graph.nodes) place.0 path place.1)
+    (number_grows (take d graph.nodes) (node ∷ drop (suc d) graph.nodes) place.0 _ place.1)
     in
-    let same = place_is (paths_of graph.nodes) place.0 path sound.distinct there in
+    let same = place_is _ _ _ sound.distinct there in
     let low : place.0 < length (paths_of (take d graph.nodes)) =
     slice_get_within (paths_of (take d graph.nodes)) place.0 path place.1 in
     omega (
@@ -86,9 +86,9 @@ inputs_first graph sound d i has = by (slice_get graph.nodes d) refl has
     by None at has = absurd (Contains-nothing i has)
     by (Some node) at has =
         let found = Contains-from_map
-        (λ path. position_or_len (same_bytes path) (paths_of graph.nodes)) (inputs_of node.drv)
+        (λ path. position_or_len (same_bytes path) (paths_of graph.nodes)) _
         i has in
-        subst (λ n. n < d) found.2 (path_before graph d node found.0 sound at found.1)
+        subst (λ n. n < d) found.2 (path_before _ d _ _ sound at found.1)
 
 -- what the state of each derivation follows from has smaller numbers
 pub rows_in_order : RowsInOrder
@@ -98,8 +98,8 @@ rows_in_order run opening events sound = search (rules, inputs_first, twins_firs
 pub numbers_at : (graph : Graph) (d : ℕ) (ns : List ℕ) → d < length graph.nodes → IsSound graph
     → IfSome (slice_get graph.nodes d) (λ node. AreNumbers graph.nodes ns (inputs_of node.drv)) → ns
     ≡ inputs_at graph.nodes (slice_get graph.nodes d)
-numbers_at graph d ns low sound are = by (element_at graph.nodes d low).0
-    (element_at graph.nodes d low).1
+numbers_at graph d ns low sound are = by (element_at _ d low).0
+    (element_at _ d low).1
   where
     by : (node : Node) → slice_get graph.nodes d ≡ Some node → ns
         ≡ inputs_at graph.nodes (slice_get graph.nodes d)

@@ -1,13 +1,13 @@
 -- What the Done events of a legal history register: its entries stay a journal, and each Done is
 -- allowed.
-use Rattle.std.proofs.Common.{◌≡◌, ℕ, List, [], ◌∷◌, ◌++◌, refl, sym, subst, ⊎_elim, append_assoc, rules}
+use Rattle.std.proofs.Common.{◌≡◌, ℕ, List, [], ◌++◌, refl, sym, subst, ⊎_elim, append_assoc, rules}
 use Rattle.std.proofs.lemmas.List.{append-nil}
 use Rattle.std.proofs.lemmas.List.Elements.{Contains-append_cases}
 use Rattle.valid_table.specs.declared.entry.Entry.{Entry}
 use Rattle.sched_core.specs.Headline.{DonesAreAllowed, EntriesAreJournal, WasDone}
-use Rattle.sched_core.specs.Legal.{legal_opening, legal_begin, legal_done, legal_fail, begins, ended}
+use Rattle.sched_core.specs.Legal.{legal_opening, legal_begin, legal_done, legal_fail, ended}
 use Rattle.sched_core.specs.Runs.{History, Run}
-use Rattle.sched_core.specs.declared.reason.Event.TheVariants.{Begin, Done as Finish, Fail}
+use Rattle.sched_core.specs.declared.reason.Event.TheVariants.{Done as Finish}
 use Rattle.sched_core.proofs.Dones.{done_is_journal}
 use Rattle.sched_core.proofs.Seeds.{opened_with}
 use Rattle.nix_names.proofs.Lists.{Contains-cons_cases, Contains-from_get, Contains-nothing}
@@ -33,30 +33,27 @@ done_with_more run history after d more same opening was = search (rules, append
 
 pub dones_are_allowed : DonesAreAllowed
 dones_are_allowed run _ (legal_opening entries journal) d lease has =
-    absurd (Contains-nothing (Finish d lease) has)
+    absurd (Contains-nothing _ has)
 dones_are_allowed run _ (legal_begin history e legal within wanted ready) d lease has =
-    let event = Begin e (begins history.events) in
     ⊎_elim
-    (λ before. done_with_more run history _ d [] (sym (append-nil history.entries)) refl
+    (λ before. done_with_more _ _ _ d [] (sym (append-nil history.entries)) refl
     (dones_are_allowed run history legal d lease before))
-    (λ last. ⊎_elim (λ same. absurd cc) (λ none. absurd (Contains-nothing (Finish d lease) none))
-    (Contains-cons_cases event [] (Finish d lease) last))
-    (Contains-append_cases history.events (event ∷ []) (Finish d lease) has)
+    (λ last. ⊎_elim (λ same. absurd cc) (λ none. absurd (Contains-nothing _ none))
+    (Contains-cons_cases _ [] (Finish d lease) last))
+    (Contains-append_cases _ _ _ has)
 dones_are_allowed run _ (legal_fail history e number reason legal phase) d lease has =
-    let event = Fail e number reason in
     ⊎_elim
-    (λ before. done_with_more run history _ d [] (sym (append-nil history.entries)) refl
+    (λ before. done_with_more _ _ _ d [] (sym (append-nil history.entries)) refl
     (dones_are_allowed run history legal d lease before))
-    (λ last. ⊎_elim (λ same. absurd cc) (λ none. absurd (Contains-nothing (Finish d lease) none))
-    (Contains-cons_cases event [] (Finish d lease) last))
-    (Contains-append_cases history.events (event ∷ []) (Finish d lease) has)
+    (λ last. ⊎_elim (λ same. absurd cc) (λ none. absurd (Contains-nothing _ none))
+    (Contains-cons_cases _ [] (Finish d lease) last))
+    (Contains-append_cases _ _ _ has)
 dones_are_allowed run _
     (legal_done history e number node infos entry legal phase is_node allowed is_entry) d lease
     has =
-    let event = Finish e number in
-    let opened = opened_with run history legal in
+    let opened = opened_with _ _ legal in
     ⊎_elim
-    (λ before. done_with_more run history _ d (entry ∷ []) refl refl
+    (λ before. done_with_more _ _ _ d _ refl refl
     (dones_are_allowed run history legal d lease before))
     (λ last. ⊎_elim
     (λ same. let number_is : e ≡ d = cc in
@@ -74,6 +71,6 @@ dones_are_allowed run _
       allowed = allowed;
       is_entry = is_entry;
     }))
-    (λ none. absurd (Contains-nothing (Finish d lease) none))
-    (Contains-cons_cases event [] (Finish d lease) last))
-    (Contains-append_cases history.events (event ∷ []) (Finish d lease) has)
+    (λ none. absurd (Contains-nothing _ none))
+    (Contains-cons_cases _ [] (Finish d lease) last))
+    (Contains-append_cases _ _ _ has)

@@ -53,7 +53,7 @@ fixed_digest tree method digest taken = by (digest_of (algorithm_of digest) tree
         → digest_of (algorithm_of digest) tree ≡ Some digest
     by_test found is true e = search (rules, equal_from_eq, one_digest, found_by)
     by_test found is false e =
-        let other = unequal_from_eq (bytes_of found) (bytes_of digest) e in
+        let other = unequal_from_eq _ _ e in
         absurd (taken TooLarge (λ fits.
         taken HashMismatch (fits, (found, is, λ same. other (ap bytes_of same)))))
 
@@ -69,14 +69,14 @@ pub taken_fixed : (kind : Kind) (tree : Tree) (method : Method) (digest : Digest
     → digest_of (algorithm_for kind) tree ≡ Some digest
 taken_fixed kind tree method digest is taken =
     subst (λ (k : Kind). digest_of (algorithm_for k) tree ≡ Some digest) (sym is)
-    (fixed_digest tree method digest
+    (fixed_digest _ method _
     (subst (λ (k : Kind). (why : Reason) → IsTreeFault k tree why → ⊥) is taken))
 
 -- ---- the records of a verdict
 
 pub verdicts_are_registrable : VerdictsAreRegistrable
 verdicts_are_registrable graph d job node permitted answer infos of at (taken, records, acyclic) =
-    let same : of.node ≡ node = same_element graph.nodes d of.node node of.is_node at in
+    let same : of.node ≡ node = same_element _ d _ _ of.is_node at in
     subst (λ (n : Node). AreRegistrable n permitted infos) same (record {
       records = record {
         own = record {
@@ -85,19 +85,19 @@ verdicts_are_registrable graph d job node permitted answer infos of at (taken, r
               ∙ ap length of.paths
               ∙ length-map of.node.drv.outputs (λ (o : Output). o.path);
           fixed = λ method digest kind info has.
-              let place = get_from_contains infos info has in
+              let place = get_from_contains _ _ has in
               let is_record = records.each place.0 info place.1 in
               let below = slice_get_within infos place.0 info place.1 in
-              let fixed = one_kind of.node.drv job.kind (Fixed method digest) of.kind kind in
+              let fixed = one_kind of.node.drv _ _ of.kind kind in
               let fault = λ (why : Reason) (h : IsTreeFault job.kind is_record.0 why).
               taken.1 place.0 why (omega (arith, records.count)) (is_record.0, is_record.1, h) in
-              is_record.2.digest ∙ taken_fixed job.kind is_record.0 method digest fixed fault;
+              is_record.2.digest ∙ taken_fixed _ _ _ _ fixed fault;
         };
         acyclic = λ cyclic.
             acyclic (subst (λ (paths : List (List ℕ)). IsCyclic paths infos) (sym of.paths) cyclic);
       };
       among = λ info path has refers.
-          let place = get_from_contains infos info has in
+          let place = get_from_contains _ _ has in
           let is_record = records.each place.0 info place.1 in
           ((is_record.2.found.each path).0 refers).0;
     })

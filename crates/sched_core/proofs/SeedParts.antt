@@ -30,13 +30,13 @@ use Rattle.nix_names.proofs.Lists.{Contains-from_get, element_at}
 
 pub read_at : {X : Type 0} (xs : List X) (n : ℕ) (x : X) → n < length xs → x ≡ get_or xs n x
     → slice_get xs n ≡ Some x
-read_at xs n x low is = slice_get_read xs (length xs) n x refl low is
+read_at xs n x low is = slice_get_read _ _ n x refl low is
 
 pub take_next : {X : Type 0} (xs : List X) (n : ℕ) (x : X) → slice_get xs n ≡ Some x
     → take (n + 1) xs ≡ take n xs ++ x ∷ []
 take_next xs n x at =
-    take_more xs n x (slice_get_within xs n x at)
-    ∙ ap (λ y. take n xs ++ y ∷ []) (get_or_from_slice_get xs n x x at)
+    take_more _ n x (slice_get_within xs n x at)
+    ∙ ap (λ y. take n xs ++ y ∷ []) (get_or_from_slice_get _ n x x at)
 
 -- one path more of a list was added
 pub added_more : (old seeds paths : List (List ℕ)) (n : ℕ) (path copy : List ℕ) → n < length paths
@@ -50,12 +50,11 @@ added_more old seeds paths n path copy low is before same =
 -- whether a name is among some, as a search tells it
 told_named : (told : Bool) (names : List (List ℕ)) (name : List ℕ) → IsTrue told
     ↔ Contains names name → list_any (same_bytes name) names ≡ told
-told_named true names name (there, back) = list_any-from_Contains nat_list_eq_equiv name names
-    (there refl)
+told_named true names name (there, back) = list_any-from_Contains nat_list_eq_equiv _ _ (there refl)
 told_named false names name (there, back) = by (list_any (same_bytes name) names) refl
   where
     by : (b : Bool) → list_any (same_bytes name) names ≡ b → b ≡ false
-    by true is = absurd (false≢true (back (Contains-from_any equal_from_eq name names is)))
+    by true is = absurd (false≢true (back (Contains-from_any equal_from_eq _ _ is)))
     by false is = refl
 
 -- the paths of the first outputs, so many, that have one of the names
@@ -71,8 +70,8 @@ pub first_more : (names : List (List ℕ)) (outputs : List Output) (n : ℕ) (ou
 first_more names outputs n output told at is =
     let test = λ (o : Output). list_any (same_bytes o.name) names in
     let path = λ (o : Output). o.path in
-    ap (λ l. map path (filter test l)) (take_next outputs n output at)
-    ∙ ap (map path) (filter-append test (take n outputs) (output ∷ [])
+    ap (λ l. map path (filter test l)) (take_next _ n _ at)
+    ∙ ap (map path) (filter-append test _ _
     ∙ ap (λ b. filter test (take n outputs) ++ cond b (output ∷ []) []) is)
     ∙ map-append path (filter test (take n outputs)) (cond told (output ∷ []) [])
 
@@ -91,7 +90,7 @@ pub at_input : (inputs : List Input) (place : ℕ) (input : Input) (told : Bool)
     → IfSome (slice_get inputs place) (λ used. IsTrue told ↔ Contains used.names name)
     → list_any (same_bytes name) input.names ≡ told
 at_input inputs place input told name at told_is =
-    told_named told input.names name
+    told_named _ _ _
     (subst (λ (o : Option Input). IfSome o (λ used. IsTrue told ↔ Contains used.names name)) at
     told_is)
 
@@ -116,15 +115,15 @@ pub adds_used : (inputs : List Input) (place : ℕ) (used : Drv) (old seeds path
     → AddsFirst inputs place used old (seeds ++ copy ∷ []) (n + 1)
 adds_used inputs place used old seeds paths lent n output path copy told view are at at_path same
     told_is is_used before input at_place =
-    let there = output_at lent used n output view at in
-    let named = at_input inputs place input told output.name.items at_place told_is ∙ is_used in
+    let there = output_at _ used n _ view at in
+    let named = at_input inputs place _ _ _ at_place told_is ∙ is_used in
     let its : copy ≡ output.path.items = same
-    ∙ path_at paths used n path (output_of output) are at_path there in
+    ∙ path_at _ used n _ _ are at_path there in
     ap (λ l. l ++ copy ∷ []) (before input at_place)
     ∙ append_assoc old (first_named input.names used.outputs n) (copy ∷ [])
     ∙ ap (λ p. old ++ (first_named input.names used.outputs n ++ p ∷ [])) its
     ∙ ap (λ l. old ++ l)
-    (sym (first_more input.names used.outputs n (output_of output) true there named))
+    (sym (first_more _ _ n _ _ there named))
 
 -- an output isn't used
 pub adds_unused : (inputs : List Input) (place : ℕ) (used : Drv) (old seeds : List (List ℕ))
@@ -139,7 +138,7 @@ adds_unused inputs place used old seeds lent n output told view at told_is is_un
     let named = at_input inputs place input told output.name.items at_place told_is ∙ is_unused in
     before input at_place
     ∙ ap (λ l. old ++ l)
-    (sym (first_more input.names used.outputs n (output_of output) false there named
+    (sym (first_more _ _ n _ _ there named
     ∙ append-nil (first_named input.names used.outputs n)))
 
 -- there is an output for each path
@@ -162,17 +161,17 @@ pub output_seen : (inputs : List Input) (place : ℕ) (used : Drv)
     → AddsFirst inputs place used old seeds n → AddsFirst inputs place used old new (n + 1)
 output_seen inputs place used old seeds new paths lent n output text told view are low is_output
     is_text told_is either before =
-    let below : n < length lent = omega (arith, low, outputs_count used paths lent view are) in
-    let at : slice_get lent n ≡ Some output = read_at lent n output below is_output in
+    let below : n < length lent = omega (arith, low, outputs_count used _ _ view are) in
+    let at : slice_get lent n ≡ Some output = read_at _ n _ below is_output in
     let named = subst (λ t. IfSome (slice_get inputs place)
     (λ used. IsTrue told ↔ Contains used.names t)) is_text told_is in
     ⊎_elim
     (λ yes_used. subst (λ l. AddsFirst inputs place used old l (n + 1)) (sym yes_used.1)
-    (adds_used inputs place used old seeds paths lent n output (get_or paths n [])
-    (get_or paths n []) told view are at (slice_get-get_or paths n [] low) refl named yes_used.0
+    (adds_used inputs place used _ _ _ _ n _ _
+    _ _ view are at (slice_get-get_or _ n [] low) refl named yes_used.0
     before))
     (λ unused. subst (λ l. AddsFirst inputs place used old l (n + 1)) (sym unused.1)
-    (adds_unused inputs place used old seeds lent n output told view at named unused.0 before))
+    (adds_unused inputs place used _ _ _ n _ _ view at named unused.0 before))
     either
 
 -- all outputs were seen
@@ -197,7 +196,7 @@ used_named nodes node numbers place number input used once are at_number at_inpu
     ≡ Some input.path = slice_get-map (λ (i : Input). i.path) node.drv.inputs place
     ∙ ap (option_map (λ (i : Input). i.path)) at_input_place in
     let at_place : slice_get numbers place ≡ Some (place_of input.path) =
-    ap (λ l. slice_get l place) (numbers_are nodes numbers (inputs_of node.drv) once are)
+    ap (λ l. slice_get l place) (numbers_are _ _ _ once are)
     ∙ slice_get-map place_of (inputs_of node.drv) place ∙ ap (option_map place_of) at_path in
     let both : Some number ≡ Some (place_of input.path) = sym at_number ∙ at_place in
     let same : number ≡ place_of input.path = cc in
@@ -227,14 +226,14 @@ pub input_within : (nodes : List Node) (d : ℕ) (drv : Drv) (numbers : List ℕ
     → IfSome (slice_get nodes d) (λ node. AreNumbers nodes numbers (inputs_of node.drv)) → place
     < length numbers → place < length drv.inputs
 input_within nodes d drv numbers place low is_drv are within =
-    let there = element_at nodes d low in
+    let there = element_at _ d low in
     let its : AreNumbers nodes numbers (inputs_of there.0.drv) =
     subst (λ (o : Option Node).
     IfSome o (λ (n : Node). AreNumbers nodes numbers (inputs_of n.drv))) there.1 are in
-    let same : drv ≡ there.0.drv = drv_is nodes d drv there.0 there.1 is_drv in
+    let same : drv ≡ there.0.drv = drv_is _ d _ _ there.1 is_drv in
     let inputs : List Input = there.0.drv.inputs in
     let counts : length numbers ≡ length (inputs_of there.0.drv) =
-    numbers_length nodes numbers (inputs_of there.0.drv) its in
+    numbers_length _ _ _ its in
     let size : length drv.inputs ≡ length there.0.drv.inputs =
     ap (λ (x : Drv). length x.inputs) same in
     omega (arith, within, counts, size, length-map there.0.drv.inputs (λ (i : Input). i.path))
@@ -261,12 +260,12 @@ input_added nodes d drv used numbers place number before after once is_drv are a
     let its : AreNumbers nodes numbers (inputs_of node.drv) =
     subst (λ (o : Option Node).
     IfSome o (λ (n : Node). AreNumbers nodes numbers (inputs_of n.drv))) at are in
-    let same : drv ≡ node.drv = drv_is nodes d drv node at is_drv in
-    let there = element_at drv.inputs place within in
+    let same : drv ≡ node.drv = drv_is _ d _ _ at is_drv in
+    let there = element_at _ _ within in
     let input : Input = there.0 in
     let at_input_place : slice_get node.drv.inputs place
     ≡ Some there.0 = ap (λ (x : Drv). slice_get x.inputs place) (sym same) ∙ there.1 in
-    let named = used_named nodes node numbers place number there.0 used once its at_number
+    let named = used_named _ node _ _ _ _ _ once its at_number
     at_input_place at_used in
     adds there.0 there.1
     ∙ ap (λ l. l ++ paths_named there.0.names used) (first node at)
@@ -277,8 +276,8 @@ input_added nodes d drv used numbers place number before after once is_drv are a
     (sym named ∙ sym (append-nil (named_outputs nodes there.0)))
     ∙ ap (λ l. node.drv.sources ++ l)
     (sym (ap (flat_map (named_outputs nodes))
-    (take_next node.drv.inputs place there.0 at_input_place)
-    ∙ flat_map-append (named_outputs nodes) (take place node.drv.inputs) (there.0 ∷ [])))
+    (take_next _ _ _ at_input_place)
+    ∙ flat_map-append (named_outputs nodes) _ _))
 
 -- all inputs were seen
 pub all_seeds : (nodes : List Node) (d : ℕ) (numbers : List ℕ) (seeds : List (List ℕ)) (count : ℕ)
@@ -293,7 +292,7 @@ all_seeds nodes d numbers seeds count are all first = by (slice_get nodes d) ref
     by None is its = tt
     by (Some node) is its =
         let counts : length numbers ≡ length (inputs_of node.drv) =
-        numbers_length nodes numbers (inputs_of node.drv) its in
+        numbers_length _ _ _ its in
         first node is
         ∙ ap (λ l. node.drv.sources ++ flat_map (named_outputs nodes) l)
         (take_all count node.drv.inputs

@@ -1,7 +1,7 @@
 -- The seeds of a derivation that has begun are valid.
 use Rattle.std.proofs.Common.{◌≡◌, ◌⊎◌, inl, inr, ℕ, suc, ◌+◌, Bool, true, false, List, [], ◌∷◌, ◌++◌, Option, Some, None, refl, sym, ap, ◌∙◌, subst, ⊎_elim, arith, append_assoc, append-nil, rules}
-use Rattle.std.specs.Prelude.{Contains, slice_get, cond, not, if◌then◌else◌, filter, find, flat_map}
-use Rattle.std.specs.List.{list_all, list_any, position, position_or_len, slice_index_or}
+use Rattle.std.specs.Prelude.{Contains, slice_get, cond, not, if◌then◌else◌, filter, find}
+use Rattle.std.specs.List.{list_any, position, position_or_len, slice_index_or}
 use Rattle.std.proofs.Math.Dec.{T, eqb}
 use Rattle.std.proofs.Math.Facts.{eqb_yes}
 use Rattle.std.proofs.lemmas.Bool.{cases_lt, ltb-false}
@@ -10,7 +10,7 @@ use Rattle.std.proofs.lemmas.List.Sums.{fails_before_first}
 use Rattle.std.proofs.lemmas.List.Elements.{Contains-append_cases}
 use Rattle.nix_names.specs.Names.{same_bytes}
 use Rattle.nix_drv.specs.Derivation.{Input, Output}
-use Rattle.drv_graph.specs.Nodes.{Node, inputs_of, paths_of as node_paths}
+use Rattle.drv_graph.specs.Nodes.{Node, paths_of as node_paths}
 use Rattle.drv_graph.specs.PlanNodes.{output_paths_of}
 use Rattle.valid_table.specs.Entries.{paths_registered, registered, registered_by}
 use Rattle.valid_table.specs.Valid.{IsValid}
@@ -25,8 +25,8 @@ use Rattle.nix_names.proofs.RisingLists.{equal_from_eq}
 use Rattle.sched_core.specs.Headline.{PermittedStays, SeedsAreValid}
 use Rattle.sched_core.specs.Jobs.{named_outputs, paths_of_found, seeds_of}
 use Rattle.sched_core.specs.Legal.{IsLegal, legal_opening, legal_begin, legal_done, legal_fail, begins}
-use Rattle.sched_core.specs.Runs.{History, Run, by_cause, cause_at, input_numbers, inputs_at, is_unsupported, is_valid, or_else, own_cause, rows_of, standing_at, standing_of, state_in}
-use Rattle.sched_core.specs.States.{Phase, Idle, Begun, Ended, Broken, Rows, by_first, by_hindrance, by_inputs, by_phase, by_validity, is_bad, is_done, is_good, is_open, later, phase_by, phase_of, state, states_by, table}
+use Rattle.sched_core.specs.Runs.{History, Run, by_cause, cause_at, input_numbers, inputs_at, is_unsupported, is_valid, or_else, rows_of, standing_at, standing_of, state_in}
+use Rattle.sched_core.specs.States.{Phase, Idle, Begun, Ended, Broken, Rows, by_first, by_hindrance, by_phase, by_validity, is_done, is_good, later, phase_by, phase_of, state, states_by, table}
 use Rattle.sched_core.specs.declared.reason.Event.{Event}
 use Rattle.sched_core.specs.declared.reason.Event.TheVariants.{Begin, Done as Finish, Fail}
 use Rattle.sched_core.specs.declared.reason.Refusal.{Refusal}
@@ -57,7 +57,7 @@ later_idle (Broken reason) = refl
 
 pub phase_push : (events : List Event) (e : Event) (d : ℕ) → phase_of (events ++ e ∷ []) d
     ≡ later (phase_of events d) (phase_by e d)
-phase_push [] e d = sym (later_idle (phase_by e d))
+phase_push [] e d = sym (later_idle _)
 phase_push (x ∷ xs) e d = search (rules, later_assoc, phase_push xs e d)
 
 -- it was built before, if not now
@@ -93,13 +93,13 @@ pub ended_is_valid : (run : Run) (history : History) → IsLegal run history →
 ended_is_valid run _ (legal_opening entries journal) d node is_node ended path has = absurd cc
 ended_is_valid run _ (legal_begin history e legal within wanted ready) d node is_node ended path
     has =
-    ended_is_valid run history legal d node is_node
-    (ended_by_begin (eqb e d) (phase_of history.events d) (begins history.events)
-    (sym (phase_push history.events (Begin e (begins history.events)) d) ∙ ended)) path has
+    ended_is_valid _ _ legal d _ is_node
+    (ended_by_begin (eqb e d) _ (begins history.events)
+    (sym (phase_push history.events (Begin e (begins history.events)) d) ∙ ended)) _ has
 ended_is_valid run _ (legal_fail history e lease reason legal phase) d node is_node ended path has =
     ended_is_valid run history legal d node is_node
-    (ended_by_fail (eqb e d) (phase_of history.events d) reason
-    (sym (phase_push history.events (Fail e lease reason) d) ∙ ended)) path has
+    (ended_by_fail (eqb e d) _ reason
+    (sym (phase_push history.events (Fail e lease reason) d) ∙ ended)) _ has
 ended_is_valid run _
     (legal_done history e lease own infos entry legal phase is_own allowed is_entry) d node is_node
     ended path has =
@@ -110,25 +110,25 @@ ended_is_valid run _
     let node_is : own ≡ node = cc in
     let own_has : Contains (output_paths_of own.drv) path =
     subst (λ (n : Node). Contains (output_paths_of n.drv) path) (sym node_is) has in
-    let there = output_registered own infos is_entry.outputs entry is_entry
-    (records_for_paths run history.entries own infos allowed) path own_has in
+    let there = output_registered own _ is_entry.outputs entry is_entry
+    (records_for_paths run _ _ _ allowed) path own_has in
     subst (λ (rs : List Registration). IsValid rs path)
     (sym (registered_push history.entries entry))
-    (valid_by_some (registered history.entries) (registered_by entry) path
+    (valid_by_some (registered history.entries) _ _
     (subst (λ (x : Entry). IsValid (registered_by x) path) (sym is_entry.is_done) there)))
-    (λ before. valid_behind history.entries entry path
-    (ended_is_valid run history legal d node is_node before path has))
-    (ended_by_done (eqb e d) (phase_of history.events d)
+    (λ before. valid_behind history.entries entry _
+    (ended_is_valid run history legal d node is_node before _ has))
+    (ended_by_done _ _
     (sym (phase_push history.events (Finish e lease) d) ∙ ended))
 
 -- the entries begin with the opening ones
 pub opened_with : (run : Run) (history : History) → IsLegal run history → (more : List Entry)
     × (history.entries ≡ history.opening ++ more)
 opened_with run _ (legal_opening entries journal) = ([], sym (append-nil entries))
-opened_with run _ (legal_begin history e legal within wanted ready) = opened_with run history legal
-opened_with run _ (legal_fail history e lease reason legal phase) = opened_with run history legal
+opened_with run _ (legal_begin history e legal within wanted ready) = opened_with _ _ legal
+opened_with run _ (legal_fail history e lease reason legal phase) = opened_with _ _ legal
 opened_with run _ (legal_done history e lease own infos entry legal phase is_own allowed is_entry) =
-    let before = opened_with run history legal in (
+    let before = opened_with _ _ legal in (
       before.0 ++ entry ∷ [],
       ap (λ (es : List Entry). es ++ entry ∷ []) before.1
           ∙ append_assoc history.opening before.0 (entry ∷ []),
@@ -138,7 +138,7 @@ opened_with run _ (legal_done history e lease own infos entry legal phase is_own
 pub opening_stays_valid : (run : Run) (history : History) → IsLegal run history → (path : List ℕ)
     → is_valid history.opening path ≡ true → IsValid (registered history.entries) path
 opening_stays_valid run history legal path is =
-    let more = opened_with run history legal in
+    let more = opened_with _ _ legal in
     let whole : registered history.entries ≡ registered history.opening ++ registered more.0 =
     ap registered more.1 ∙ flat_map-append registered_by history.opening more.0 in
     subst (λ (rs : List Registration). IsValid rs path) (sym whole)
@@ -192,7 +192,7 @@ good_by Idle (Hindered cause) false true first all is = absurd cc
 good_by Idle (Hindered cause) false false first all is = absurd cc
 good_by Idle Free true still first all is = inr (inr refl)
 good_by Idle Free false true first all is = absurd cc
-good_by Idle Free false false first all is = absurd (not_good_by_first first all is)
+good_by Idle Free false false first all is = absurd (not_good_by_first _ _ is)
 good_by (Begun n) s built still first all is = absurd cc
 good_by Ended s built still first all is = inl refl
 good_by (Broken reason) s built still first all is = absurd cc
@@ -213,7 +213,7 @@ done_by Idle (Hindered cause) false true first all is = absurd cc
 done_by Idle (Hindered cause) false false first all is = absurd cc
 done_by Idle Free true still first all is = absurd cc
 done_by Idle Free false true first all is = absurd cc
-done_by Idle Free false false first all is = absurd (not_done_by_first first all is)
+done_by Idle Free false false first all is = absurd (not_done_by_first _ _ is)
 done_by (Begun n) s built still first all is = absurd cc
 done_by Ended s built still first all is = refl
 done_by (Broken reason) s built still first all is = absurd cc
@@ -265,11 +265,10 @@ twin_is_valid : (run : Run) (history : History) → IsLegal run history → (d t
     → (node : Node) → slice_get run.graph.nodes d ≡ Some node → (path : List ℕ)
     → Contains (output_paths_of node.drv) path → IsValid (registered history.entries) path
 twin_is_valid run history legal d t twin done node is_node path has =
-    let nodes = run.graph.nodes in
-    let there = is_there (slice_get nodes t) (slice_get nodes d) twin.twins in
-    ended_is_valid run history legal t there.0 there.1
-    (done_is_ended (rows_of run history.opening history.events) t done) path
-    (path_of_twin (slice_get nodes t) (slice_get nodes d) there.0 node path there.1 is_node
+    let there = is_there _ _ twin.twins in
+    ended_is_valid _ _ legal t _ there.1
+    (done_is_ended _ t done) _
+    (path_of_twin _ _ _ _ _ there.1 is_node
     twin.twins has)
 
 -- a derivation that is good has valid outputs
@@ -283,24 +282,24 @@ at_number run history legal i good node is_node path has =
     let f : ℕ → State = λ j. slice_index_or (states_by (table rows) i) j Blocked in
     let built : ℕ → Bool = λ t. is_done (f t) in
     ⊎_elim
-    (λ ended. ended_is_valid run history legal i node is_node ended path has)
+    (λ ended. ended_is_valid _ _ legal i _ is_node ended _ has)
     (λ other. ⊎_elim
     (λ all.
     let own : standing_of run.system history.opening node.drv ≡ AllValid =
     sym (ap (standing_at run.system history.opening) is_node) ∙ all in
-    let there = standing_all (list_all (is_valid history.opening) (output_paths_of node.drv))
-    (own_cause run.system history.opening node.drv) own in
-    opening_stays_valid run history legal path
-    (list_all_has (is_valid history.opening) (output_paths_of node.drv) path there has))
+    let there = standing_all _
+    _ own in
+    opening_stays_valid _ _ legal _
+    (list_all_has (is_valid history.opening) _ _ there has))
     (λ by_twin.
-    let found = one_passes built (rows.twins i) by_twin in
-    let twin = is_earlier_twin run history.opening i found.0 found.1 in
+    let found = one_passes built _ by_twin in
+    let twin = is_earlier_twin _ _ i _ found.1 in
     let done : is_done (state_in run history found.0) ≡ true =
-    sym (ap is_done (state_at (table rows) i found.0 twin.earlier)) ∙ found.2 in
-    twin_is_valid run history legal i found.0 twin done node is_node path has) other)
-    (good_by (phase_of history.events i) (rows.standing i) (list_any built (rows.twins i))
-    (list_any (λ t. is_open (f t)) (rows.twins i)) (find (λ j. is_bad (f j)) (rows.inputs i))
-    (list_all (λ j. is_good (f j)) (rows.inputs i)) good)
+    sym (ap is_done (state_at (table rows) i _ twin.earlier)) ∙ found.2 in
+    twin_is_valid _ _ legal i _ twin done _ is_node _ has) other)
+    (good_by _ _ _
+    _ _
+    _ good)
 
 -- ---- the seeds
 
@@ -350,7 +349,7 @@ named_at nodes input path has =
         in
         let kept = filter (λ (o : Output). list_any (same_bytes o.name) input.names)
         node.drv.outputs in
-        let output = Contains-from_map (λ (o : Output). o.path) kept path there in
+        let output = Contains-from_map (λ (o : Output). o.path) _ _ there in
         let among = filtered (λ (o : Output). list_any (same_bytes o.name) input.names)
         node.drv.outputs output.0 output.1 in (
           node,
@@ -373,82 +372,79 @@ seeds_at run history legal d ready node is_node path has =
     let nodes = run.graph.nodes in
     let rows = rows_of run history.opening history.events in
     let f : ℕ → State = λ j. slice_index_or (states_by (table rows) d) j Blocked in
-    let facts = ready_by (phase_of history.events d) (rows.standing d)
-    (list_any (λ t. is_done (f t)) (rows.twins d)) (list_any (λ t. is_open (f t)) (rows.twins d))
-    (by_inputs f (rows.inputs d)) ready in
+    let facts = ready_by _ _
+    _ _
+    _ ready in
     let free : standing_of run.system history.opening node.drv
     ≡ Free = sym (ap (standing_at run.system history.opening) is_node) ∙ facts.free in
-    let no_cause = standing_free (list_all (is_valid history.opening) (output_paths_of node.drv))
-    (own_cause run.system history.opening node.drv) free in
+    let no_cause = standing_free _
+    _ free in
     let none_missing = cause_none MissingSource
-    (position (λ p. not (is_valid history.opening p)) node.drv.sources)
+    _
     (or_else_none
     (cause_at PartlyValid (position (is_valid history.opening) (output_paths_of node.drv))) _
     (or_else_none (if is_unsupported node.drv then Some Unsupported else None) _
     (or_else_none (if same_bytes node.drv.system run.system then None else Some WrongSystem) _
     no_cause))) in
-    let good = all_good (find (λ i. is_bad (f i)) (rows.inputs d))
-    (list_all (λ i. is_good (f i)) (rows.inputs d)) facts.open_is in
+    let good = all_good _
+    _ facts.open_is in
     ⊎_elim
     (λ source.
-    opening_stays_valid run history legal path
-    (not_false (is_valid history.opening path)
-    (none_found (λ p. not (is_valid history.opening p)) node.drv.sources none_missing path
+    opening_stays_valid _ _ legal _
+    (not_false _
+    (none_found (λ p. not (is_valid history.opening p)) _ none_missing _
     source)))
     (λ named.
-    let part = part_with (named_outputs nodes) node.drv.inputs path named in
+    let part = part_with (named_outputs nodes) _ _ named in
     let input = part.0 in
     let i = position_or_len (same_bytes input.path) (node_paths nodes) in
-    let at = named_at nodes input path part.2 in
+    let at = named_at nodes input _ part.2 in
     let listed : Contains (input_numbers nodes node.drv) i =
     Contains-map (λ (p : List ℕ). position_or_len (same_bytes p) (node_paths nodes))
-    (inputs_of node.drv) input.path
-    (Contains-map (λ (x : Input). x.path) node.drv.inputs input part.1) in
+    _ _
+    (Contains-map (λ (x : Input). x.path) _ _ part.1) in
     let is_input : Contains (rows.inputs d) i =
     subst (λ (o : Option Node). Contains (inputs_at nodes o) i) (sym is_node) listed in
-    let well = list_all_has (λ j. is_good (f j)) (rows.inputs d) i good is_input in
+    let well = list_all_has (λ j. is_good (f j)) _ i good is_input in
     ⊎_elim
-    (λ less. at_number run history legal i
-    (sym (ap is_good (state_at (table rows) d i less)) ∙ well) at.0 at.1 path at.2)
+    (λ less. at_number _ _ legal i
+    (sym (ap is_good (state_at (table rows) d i less)) ∙ well) _ at.1 _ at.2)
     (λ past. absurd
-    (blocked_is_not_good (f i) (state_past (table rows) d i past) well))
+    (blocked_is_not_good _ (state_past (table rows) d i past) well))
     (cases_lt i d))
-    (Contains-append_cases node.drv.sources (flat_map (named_outputs nodes) node.drv.inputs) path
+    (Contains-append_cases _ _ _
     has)
 
 pub seeds_are_valid : SeedsAreValid
 seeds_are_valid run _ (legal_opening entries journal) d lease has node is_node path seed =
-    absurd (Contains-nothing (Begin d lease) has)
+    absurd (Contains-nothing _ has)
 seeds_are_valid run _ (legal_begin history e legal within wanted ready) d lease has node is_node
     path seed =
-    let event = Begin e (begins history.events) in
     ⊎_elim
     (λ before. seeds_are_valid run history legal d lease before node is_node path seed)
     (λ last. ⊎_elim
     (λ same. let number : e ≡ d = cc in
-    seeds_at run history legal d (subst (λ n. state_in run history n ≡ Ready) number ready) node
-    is_node path seed)
-    (λ none. absurd (Contains-nothing (Begin d lease) none))
-    (Contains-cons_cases event [] (Begin d lease) last))
-    (Contains-append_cases history.events (event ∷ []) (Begin d lease) has)
+    seeds_at _ _ legal d (subst (λ n. state_in run history n ≡ Ready) number ready) _
+    is_node _ seed)
+    (λ none. absurd (Contains-nothing _ none))
+    (Contains-cons_cases _ [] (Begin d lease) last))
+    (Contains-append_cases _ _ _ has)
 seeds_are_valid run _ (legal_fail history e number reason legal phase) d lease has node is_node path
     seed =
-    let event = Fail e number reason in
     ⊎_elim
     (λ before. seeds_are_valid run history legal d lease before node is_node path seed)
-    (λ last. ⊎_elim (λ same. absurd cc) (λ none. absurd (Contains-nothing (Begin d lease) none))
-    (Contains-cons_cases event [] (Begin d lease) last))
-    (Contains-append_cases history.events (event ∷ []) (Begin d lease) has)
+    (λ last. ⊎_elim (λ same. absurd cc) (λ none. absurd (Contains-nothing _ none))
+    (Contains-cons_cases _ [] (Begin d lease) last))
+    (Contains-append_cases _ _ _ has)
 seeds_are_valid run _
     (legal_done history e number own infos entry legal phase is_own allowed is_entry) d lease has
     node is_node path seed =
-    let event = Finish e number in
     ⊎_elim
-    (λ before. valid_behind history.entries entry path
+    (λ before. valid_behind history.entries entry _
     (seeds_are_valid run history legal d lease before node is_node path seed))
-    (λ last. ⊎_elim (λ same. absurd cc) (λ none. absurd (Contains-nothing (Begin d lease) none))
-    (Contains-cons_cases event [] (Begin d lease) last))
-    (Contains-append_cases history.events (event ∷ []) (Begin d lease) has)
+    (λ last. ⊎_elim (λ same. absurd cc) (λ none. absurd (Contains-nothing _ none))
+    (Contains-cons_cases _ [] (Begin d lease) last))
+    (Contains-append_cases _ _ _ has)
 
 -- ---- what is permitted
 

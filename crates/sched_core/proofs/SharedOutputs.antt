@@ -17,10 +17,10 @@ pub sharers : (graph : Graph) → IsSound graph → (a b : ℕ) (x y : Node) (pa
     → are_twins_at (slice_get graph.nodes a) (slice_get graph.nodes b) ≡ true
 sharers graph sound a b x y path at at' own own' =
     let path_in : Output → List ℕ = λ o. o.path in
-    let one = Contains-from_map path_in x.drv.outputs path own in
-    let two = Contains-from_map path_in y.drv.outputs path own' in
-    let twins = sharers_are_twins graph x y sound (Contains-from_get graph.nodes a x at)
-    (Contains-from_get graph.nodes b y at')
+    let one = Contains-from_map path_in _ _ own in
+    let two = Contains-from_map path_in _ _ own' in
+    let twins = sharers_are_twins graph x y sound (Contains-from_get _ a x at)
+    (Contains-from_get _ b y at')
     (one.0, two.0, one.1, two.1, one.2 ∙ sym two.2) in
     subst (λ o. are_twins_at o (slice_get graph.nodes b) ≡ true) (sym at)
     (subst (λ o. are_twins_at (Some x) o ≡ true) (sym at')

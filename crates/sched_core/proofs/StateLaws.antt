@@ -97,7 +97,7 @@ pub find_same : (f g : ℕ → State) (numbers : List ℕ)
     → find (λ i. is_bad (f i)) numbers ≡ find (λ i. is_bad (g i)) numbers
 find_same f g [] same = refl
 find_same f g (i ∷ is) same =
-    let here = same i (Contains-first i is) in
+    let here = same i (Contains-first i _) in
     let rest = find_same f g is (λ j has. same j (Contains-later i is j has)) in
     rw (here, rest) refl
 
@@ -106,7 +106,7 @@ pub all_same : (f g : ℕ → State) (numbers : List ℕ)
     → list_all (λ i. is_good (f i)) numbers ≡ list_all (λ i. is_good (g i)) numbers
 all_same f g [] same = refl
 all_same f g (i ∷ is) same =
-    let here = same i (Contains-first i is) in
+    let here = same i (Contains-first i _) in
     let rest = all_same f g is (λ j has. same j (Contains-later i is j has)) in
     rw (here, rest) refl
 
@@ -115,7 +115,7 @@ pub any_same : (test : State → Bool) (f g : ℕ → State) (numbers : List ℕ
     → list_any (λ i. test (f i)) numbers ≡ list_any (λ i. test (g i)) numbers
 any_same test f g [] same = refl
 any_same test f g (i ∷ is) same =
-    let here = same i (Contains-first i is) in
+    let here = same i (Contains-first i _) in
     let rest = any_same test f g is (λ j has. same j (Contains-later i is j has)) in
     rw (here, rest) refl
 
@@ -124,7 +124,7 @@ pub news_same : (f g : ℕ → State) (numbers : List ℕ)
     → map (λ i. news_of (f i)) numbers ≡ map (λ i. news_of (g i)) numbers
 news_same f g [] same = refl
 news_same f g (i ∷ is) same =
-    let here = same i (Contains-first i is) in
+    let here = same i (Contains-first i _) in
     let rest = news_same f g is (λ j has. same j (Contains-later i is j has)) in
     rw (here, rest) refl
 
@@ -136,10 +136,10 @@ table_reads rows order f g d same =
     let twins : (t : ℕ) → Contains (rows.twins d) t → f t ≡ g t = λ t has.
     same t (order.twins d t has) in
     rw (
-      find_same f g (rows.inputs d) inputs,
-      all_same f g (rows.inputs d) inputs,
-      any_same is_done f g (rows.twins d) twins,
-      any_same is_open f g (rows.twins d) twins,
+      find_same f g _ inputs,
+      all_same f g _ inputs,
+      any_same is_done f g _ twins,
+      any_same is_open f g _ twins,
     ) refl
 
 near_reads : (rows : Rows) → IsInOrder rows → ReadsBelow (near_table rows)
@@ -150,26 +150,25 @@ near_reads rows order f g d same =
     let twins : (t : ℕ) → Contains (rows.twins d) t → f t ≡ g t = λ t has.
     same t (order.twins d t has) in
     rw (
-      find_same f g (rows.inputs d) inputs,
-      all_same f g (rows.inputs d) inputs,
-      news_same f g (rows.twins d) twins,
+      find_same f g _ inputs,
+      all_same f g _ inputs,
+      news_same f g _ twins,
     ) refl
 
 -- ---- the two tables
 
 pub states_agree : StatesAgree
 unfolding state
-states_agree rows d order = rule_agrees (table rows) (table_reads rows order) d
+states_agree rows d order = rule_agrees _ (table_reads _ order) d
 
 pub states_are_one : StatesAreOne
 unfolding state
-states_are_one rows other count order =
-    rule_is_one (table rows) (table_reads rows order) other count
+states_are_one rows other count order = rule_is_one (table rows) (table_reads rows order) other _
 
 pub near_agree : (rows : Rows) (d : ℕ) → IsInOrder rows
     → near_state rows d ≡ near_table rows (near_state rows) d
 unfolding near_state
-near_agree rows d order = rule_agrees (near_table rows) (near_reads rows order) d
+near_agree rows d order = rule_agrees _ (near_reads _ order) d
 
 pub near_are_one : (rows : Rows) (other : ℕ → State) (count : ℕ) → IsInOrder rows
     → ((d : ℕ) → d < count → other d ≡ near_table rows other d)

@@ -13,9 +13,9 @@ first_is_idle None false = refl
 
 pub own_is_idle : (standing : Standing) (first : Option ℕ) (all : Bool)
     → phase_in (by_hindrance standing (by_first first all)) ≡ Idle
-own_is_idle AllValid first all = first_is_idle first all
+own_is_idle AllValid first all = first_is_idle _ _
 own_is_idle (Hindered cause) first all = refl
-own_is_idle Free first all = first_is_idle first all
+own_is_idle Free first all = first_is_idle _ _
 
 pub opening_is_idle : (standing : Standing) (held : Bool) (first : Option ℕ) (all : Bool)
     → phase_in (by_validity standing
@@ -24,4 +24,4 @@ opening_is_idle AllValid held first all = refl
 opening_is_idle (Hindered cause) true first all = refl
 opening_is_idle (Hindered cause) false first all = refl
 opening_is_idle Free true first all = refl
-opening_is_idle Free false first all = first_is_idle first all
+opening_is_idle Free false first all = first_is_idle _ _

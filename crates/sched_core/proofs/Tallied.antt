@@ -40,8 +40,8 @@ part_at : {X : Type 0} (part : Tally → X) (tallies : List Tally) (d : ℕ) (ta
     (default : X) → slice_get tallies d ≡ Some tally
     → get_or (map part tallies) d default ≡ part tally
 part_at part tallies d tally default at =
-    get_or-map part tallies d tally default (slice_get_within tallies d tally at)
-    ∙ ap part (get_or_from_slice_get tallies d tally tally at)
+    get_or-map part _ d tally _ (slice_get_within tallies d tally at)
+    ∙ ap part (get_or_from_slice_get _ d _ _ at)
 
 phase_at : (tallies : List Tally) (d : ℕ) (tally : Tally) → slice_get tallies d ≡ Some tally
     → get_or (phases_in tallies) d Idle ≡ phase_in tally.state
@@ -77,9 +77,9 @@ module _ (graph : Graph) (tallies : List Tally) (users : List (List Edge)) (agen
   in_order : IsInOrder (course_rows course)
   in_order = record {
     inputs = λ d i has. is.steady.told.first d i
-        (Contains-append_left (awaited d).inputs (awaited d).twins i has);
+        (Contains-append_left _ _ i has);
     twins = λ d t has. is.steady.told.first d t
-        (Contains-append_right (awaited d).inputs (awaited d).twins t has);
+        (Contains-append_right _ _ t has);
   }
 
   -- the states that are kept are the course's
@@ -90,7 +90,7 @@ module _ (graph : Graph) (tallies : List Tally) (users : List (List Edge)) (agen
   pub state_told : (d : ℕ) (none : Tally) → d < length graph.nodes
       → (get_or tallies d none).state ≡ course_state course d
   state_told d none low =
-      sym (get_or-map (λ (t : Tally). t.state) tallies d none Blocked
+      sym (get_or-map (λ (t : Tally). t.state) _ d none Blocked
       (omega (arith, low, is.count)))
       ∙ state_kept d low
 
@@ -112,17 +112,17 @@ module _ (graph : Graph) (tallies : List Tally) (users : List (List Edge)) (agen
           let low : d < length tallies = omega (arith, next.0, is.count) in
           let tally : Tally = get_or tallies d unknown in
           Contains-nothing d (subst (λ l. Contains l d) (empty agenda.ring at)
-          (is.steady.told.listed.ready d tally (slice_get-get_or tallies d unknown low)
-          (wanted_told d unknown next.0 ∙ next.1) (state_told d unknown next.0 ∙ next.2)))
+          (is.steady.told.listed.ready d tally (slice_get-get_or _ d _ low)
+          (wanted_told d _ next.0 ∙ next.1) (state_told d _ next.0 ∙ next.2)))
   next_told (Some d) at =
       let has = is.steady.told.listed.ring 0 d (slice_get_within agenda.ring 0 d (sym at)) in
       let there : slice_get tallies d ≡ Some has.0 =
       subst (λ n. slice_get tallies n ≡ Some has.0)
-      (get_or_from_slice_get agenda.ring 0 d d (sym at)) has.1 in
+      (get_or_from_slice_get _ 0 d d (sym at)) has.1 in
       let low : d < length graph.nodes =
       omega (arith, is.count, slice_get_within tallies d has.0 there) in (
         low,
-        part_at (λ (t : Tally). t.wanted) tallies d has.0 false there ∙ has.2,
+        part_at (λ (t : Tally). t.wanted) _ d _ _ there ∙ has.2,
         sym (state_kept d low) ∙ is.steady.fresh d (sym at),
       )
 
@@ -150,11 +150,11 @@ module _ (graph : Graph) (tallies : List Tally) (users : List (List Edge)) (agen
   unsettled_at d still =
       let within : d < length tallies = omega (arith, still.0, is.count) in
       let tally : Tally = get_or tallies d unknown in
-      let w : tally.wanted ≡ true = wanted_told d unknown still.0 ∙ still.1 in
-      let o : is_open tally.state ≡ true = ap is_open (state_told d unknown still.0)
-      ∙ is_open_of (course_state course d) still.2 in
+      let w : tally.wanted ≡ true = wanted_told d _ still.0 ∙ still.1 in
+      let o : is_open tally.state ≡ true = ap is_open (state_told d _ still.0)
+      ∙ is_open_of _ still.2 in
       let both : is_unsettled tally ≡ true = cc in
-      (tally, slice_get-get_or tallies d unknown within, both)
+      (tally, slice_get-get_or _ d _ within, both)
 
   unsettled_of : (d : ℕ) (tally : Tally) → slice_get tallies d ≡ Some tally
       → is_unsettled tally ≡ true → IsUnsettledIn course d
@@ -162,13 +162,13 @@ module _ (graph : Graph) (tallies : List Tally) (users : List (List Edge)) (agen
       let within : d < length tallies = slice_get_within tallies d tally at in
       let low : d < length graph.nodes = omega (arith, within, is.count) in
       let read : get_or tallies d unknown ≡ tally =
-      get_or_from_slice_get tallies d tally unknown at in
-      let parts = both_true tally.wanted (is_open tally.state) both in
+      get_or_from_slice_get _ d _ _ at in
+      let parts = both_true _ _ both in
       let wanted : slice_index_or course.wanted d false ≡ true =
-      sym (wanted_told d unknown low) ∙ ap (λ (t : Tally). t.wanted) read ∙ parts.0 in
+      sym (wanted_told d _ low) ∙ ap (λ (t : Tally). t.wanted) read ∙ parts.0 in
       let same : tally.state ≡ course_state course d =
-      ap (λ (t : Tally). t.state) (sym read) ∙ state_told d unknown low in
-      (low, wanted, subst IsOpen same (open_is tally.state parts.1))
+      ap (λ (t : Tally). t.state) (sym read) ∙ state_told d _ low in
+      (low, wanted, subst IsOpen same (open_is _ parts.1))
 
   -- what the number of unsettled ones says
   pub unsettled_told : (count : ℕ) → count ≡ agenda.unsettled
@@ -176,7 +176,7 @@ module _ (graph : Graph) (tallies : List Tally) (users : List (List Edge)) (agen
   unsettled_told count count_is =
       subst (AreSoMany (IsUnsettledIn course))
       (sym (count_is ∙ is.steady.told.listed.unsettled))
-      (tallies_counted is_unsettled tallies (IsUnsettledIn course) unsettled_of unsettled_at)
+      (tallies_counted is_unsettled _ (IsUnsettledIn course) unsettled_of unsettled_at)
 
   pub settled_told : (settled : Bool) → settled ≡ (agenda.unsettled == 0)
       → IsTrue settled ↔ IsSettled course
@@ -188,8 +188,8 @@ module _ (graph : Graph) (tallies : List Tally) (users : List (List Edge)) (agen
       back : IsSettled course → IsTrue settled
       back settled =
           let none : agenda.unsettled ≡ 0 = is.steady.told.listed.unsettled
-          ∙ none_counted is_unsettled tallies (λ d tally at both.
-          let still = unsettled_of d tally at both in settled d still.0 still.1 still.2) in
+          ∙ none_counted is_unsettled _ (λ d tally at both.
+          let still = unsettled_of d _ at both in settled d still.0 still.1 still.2) in
           settled_is ∙ eq-eqb agenda.unsettled 0 none
 
 -- ---- along how many edges users were told
@@ -233,13 +233,13 @@ module _ (graph : Graph) (tallies : List Tally) (users : List (List Edge)) (agen
   open_ahead =
       edges_by (sizes users)
       (uses (λ e. all_of (awaited_at graph (twins_in tallies) e)) (length graph.nodes))
-      (λ d. is_open (course_state (course_by graph tallies) d)) tallies
+      (λ d. is_open (course_state (course_by graph tallies) d)) _
       (λ d tally at.
       let low : d < length graph.nodes =
       omega (arith, slice_get_within tallies d tally at, is.count) in (
         ap (λ (t : Tally). is_open t.state)
-            (sym (get_or_from_slice_get tallies d tally tally at))
-            ∙ ap is_open (state_told graph tallies users agenda is d tally low),
+            (sym (get_or_from_slice_get _ d _ _ at))
+            ∙ ap is_open (state_told _ _ users agenda is d tally low),
         size d low,
       ))
       ∙ ap (total (λ d. if is_open (course_state (course_by graph tallies) d) then
@@ -277,7 +277,7 @@ pub noted_course : (graph : Graph) (before after : List Tally) (users : List (Li
     → IsSteady (awaited_at graph (twins_in before)) users after later
     → IsCourse graph after users later
 noted_course graph before after users agenda later is stand twin steady = record {
-  count = sym (same_length before after stand) ∙ is.count;
+  count = sym (same_length _ _ stand) ∙ is.count;
   steady = subst (λ l. IsSteady (awaited_at graph l) users after later) (sym twin) steady;
 }
 
@@ -314,10 +314,10 @@ pub awaited_first : (graph : Graph) (twins : List (Option ℕ)) → IsSound grap
     → ((d : ℕ) → All (λ t. t < d) (listed (slice_index_or twins d None))) → (d i : ℕ)
     → Contains (all_of (awaited_at graph twins d)) i → i < d
 awaited_first graph twins sound smaller d i has = ⊎_elim
-    (λ input. inputs_first graph sound d i input)
-    (λ twin. All-contains (λ t. t < d) (listed (slice_index_or twins d None)) i (smaller d) twin)
-    (Contains-append_cases (inputs_at graph.nodes (slice_get graph.nodes d))
-    (listed (slice_index_or twins d None)) i has)
+    (λ input. inputs_first _ sound d i input)
+    (λ twin. All-contains (λ t. t < d) _ i (smaller d) twin)
+    (Contains-append_cases _
+    _ i has)
 
 module _ (graph : Graph) (standings : List Standing) (wanted : List Bool)
     (twins : List (Option ℕ)) (sound : IsSound graph)
@@ -336,21 +336,21 @@ module _ (graph : Graph) (standings : List Standing) (wanted : List Bool)
       wants twin_is are hears idle pushed before =
       subst (AreOpened graph standings wanted twins (d + 1)) (sym pushed) (record {
         count = omega (arith, before.count, length_push tallies tally);
-        stand = map_push (λ (t : Tally). t.standing) tallies tally
+        stand = map_push (λ (t : Tally). t.standing) _ _
             ∙ ap (λ l. l ++ tally.standing ∷ []) before.stand
             ∙ ap (λ s. take d standings ++ s ∷ []) stands
-            ∙ sym (take_more standings d no_standing low);
-        are_wanted = map_push (λ (t : Tally). t.wanted) tallies tally
+            ∙ sym (take_more _ d _ low);
+        are_wanted = map_push (λ (t : Tally). t.wanted) _ _
             ∙ ap (λ l. l ++ tally.wanted ∷ []) before.are_wanted
             ∙ ap (λ w. take d wanted ++ w ∷ []) wants
-            ∙ sym (take_more wanted d not_wanted within);
-        are_twins = map_push (λ (t : Tally). t.twin) tallies tally
+            ∙ sym (take_more _ d _ within);
+        are_twins = map_push (λ (t : Tally). t.twin) _ _
             ∙ ap (λ l. l ++ tally.twin ∷ []) before.are_twins
             ∙ ap (λ w. take d twins ++ w ∷ []) twin_is
-            ∙ sym (take_more twins d no_twin inside);
-        idle = idle_push tallies tally before.idle idle;
-        heard = heard_more (awaited_at graph twins) tallies tally
-            (awaited_first graph twins sound smaller) before.heard
+            ∙ sym (take_more _ d _ inside);
+        idle = idle_push _ _ before.idle idle;
+        heard = heard_more (awaited_at graph twins) _ _
+            (awaited_first _ _ sound smaller) before.heard
             (subst (λ n. Hears (awaited_at graph twins n) (kept (states_in tallies)) (λ place. 0)
             tally) (sym before.count)
             (subst (λ (a : Awaited). Hears a (kept (states_in tallies)) (λ place. 0) tally) here
@@ -373,7 +373,7 @@ module _ (graph : Graph) (standings : List Standing) (wanted : List Bool)
     are_wanted = before.are_wanted ∙ take_all d wanted (omega (arith, all, wide));
     are_twins = before.are_twins ∙ take_all d twins (omega (arith, all, deep));
     idle = before.idle;
-    first = awaited_first graph twins sound smaller;
+    first = awaited_first _ _ sound smaller;
     heard = before.heard;
   }
 

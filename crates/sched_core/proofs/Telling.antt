@@ -45,12 +45,12 @@ edge_is : (inputs : ℕ → List ℕ) (users : List (List Edge)) (count w i : �
     → (edge.user < count) × (slice_get (inputs edge.user) edge.place ≡ Some w)
 edge_is inputs users count w i edge edges low at =
     let user : edge.user < count =
-    subst (λ (e : Edge). e.user < count) (get_or_from_slice_get (users_of users w) i edge edge at)
+    subst (λ (e : Edge). e.user < count) (get_or_from_slice_get _ i _ _ at)
     (edges.within w i edge (slice_get_within (users_of users w) i edge at)) in (
       user,
-      once_is (slice_get (inputs edge.user) edge.place) w
+      once_is _ w
           (subst (λ n. 0 < n) (edges.each w edge.user edge.place low user)
-          (times_has (users_of users w) i edge at)),
+          (times_has _ i _ at)),
     )
 
 users_of_more : (users : List (List Edge)) (xs ys : List ℕ)
@@ -100,7 +100,7 @@ noted_edges users tallies agenda u before after at turns =
           (users_of_all users (alone_if (ends before after) u)),
       length_of_alone users (ends before after) u,
       edges_one (is_open before.state) (is_open after.state) (sizes users u)
-          (turn_open before.state after.state turns),
+          (turn_open _ _ turns),
     )
 
 -- what is news to users ends a derivation
@@ -160,7 +160,7 @@ part_stays : {X : Type 0} (part : Tally → X) (tallies : List Tally) (u : ℕ) 
 part_stays part [] u before after at same = refl
 part_stays part (t ∷ tallies) zero before after at same = search (rules, before)
 part_stays part (t ∷ tallies) (suc u) before after at same =
-    ap (λ l. part t ∷ l) (part_stays part tallies u before after at same)
+    ap (λ l. part t ∷ l) (part_stays part tallies u _ _ at same)
 
 phases_are : (tallies : List Tally)
     → phases_in tallies ≡ map (λ (t : Tally). phase_in t.state) tallies
@@ -186,14 +186,14 @@ module _ (inputs : ℕ → Awaited) (users : List (List Edge)) (tallies : List T
   before = get_or tallies edge.user no_tally
 
   its : (edge.user < length tallies) × (slice_get (all_of (inputs edge.user)) edge.place ≡ Some w)
-  its = edge_is (λ e. all_of (inputs e)) users (length tallies) w i edge is.edges low
-      (subst (λ l. slice_get l i ≡ Some edge) row_is (slice_get-get_or row i no_edge here))
+  its = edge_is (λ e. all_of (inputs e)) _ _ w i _ is.edges low
+      (subst (λ l. slice_get l i ≡ Some edge) row_is (slice_get-get_or _ i _ here))
 
   pub user_within : edge.user < length tallies
   user_within = its.0
 
   at : slice_get tallies edge.user ≡ Some before
-  at = slice_get-get_or tallies edge.user no_tally user_within
+  at = slice_get-get_or _ _ _ user_within
 
   abbrev rest : List Edge
   rest = drop (i + 1) (users_of users w) ++ users_of_all users agenda.work
@@ -204,21 +204,19 @@ module _ (inputs : ℕ → Awaited) (users : List (List Edge)) (tallies : List T
   -- what `told` requires
   pub can_tell : (ins : Awaited) × (heard : List News) × CanHear ins heard before edge.place w
   can_tell =
-      let can = can_hear inputs tallies edge w before rest at its.1 heard in
+      let can = can_hear inputs tallies edge w _ _ at its.1 heard in
       (inputs edge.user, can.0, can.1)
 
   user_apart : w ≢ edge.user
   user_apart same =
-      let less = is.first edge.user w
-      (Contains-from_get (all_of (inputs edge.user)) edge.place w its.1) in
-      omega (arith, less, same)
+      let less = is.first edge.user w (Contains-from_get _ _ w its.1) in omega (arith, less, same)
 
   has_news : news_of (kept (states_in tallies) w) ≡ Open → ⊥
   has_news none = ⊎_elim
       (λ heard_it. absurd (omega (
         arith,
         heard_it.1,
-        times_has (edge ∷ rest) 0 edge refl,
+        times_has (edge ∷ rest) 0 _ refl,
       )))
       (λ unheard. unheard.1 none)
       ((heard.each edge.user before at).knows edge.place w its.1)
@@ -228,7 +226,7 @@ module _ (inputs : ℕ → Awaited) (users : List (List Edge)) (tallies : List T
     -- the agenda, noted
     pub told_agenda : IsAgenda (set tallies edge.user after)
         (noted agenda edge.user before after)
-    told_agenda = noted_agenda tallies agenda edge.user before after at turns same.wanted is.listed
+    told_agenda = noted_agenda _ _ _ _ _ at turns same.wanted is.listed
 
     pub told_room : length (noted agenda edge.user before after).ring ≤ agenda.room
     told_room = omega (arith, told_agenda.room)
@@ -244,7 +242,7 @@ module _ (inputs : ℕ → Awaited) (users : List (List Edge)) (tallies : List T
     told_good = search (rules, map-set, after, get_or-set_other, user_apart)
 
     pub told_same : AreSameElse tallies (set tallies edge.user after)
-    told_same = same_set tallies edge.user before after at same
+    told_same = same_set _ _ _ _ at same
 
     pub told_measure : to_end (set tallies edge.user after)
         (noted agenda edge.user before after) ≡ to_end tallies agenda
@@ -253,7 +251,7 @@ module _ (inputs : ℕ → Awaited) (users : List (List Edge)) (tallies : List T
     pub told_edges : open_edges (sizes users) (set tallies edge.user after)
         + length (users_of_all users (noted agenda edge.user before after).work)
         ≡ open_edges (sizes users) tallies + length (users_of_all users agenda.work)
-    told_edges = noted_edges users tallies agenda edge.user before after at turns
+    told_edges = noted_edges _ _ agenda _ _ _ at turns
 
     pub told_user : (good : Bool) → good ≡ is_good (kept (states_in tallies) w)
         → ((ins : Awaited) (heard : List News) → CanHear ins heard before edge.place w
@@ -265,8 +263,8 @@ module _ (inputs : ℕ → Awaited) (users : List (List Edge)) (tallies : List T
       edges = subst (λ n. AreUsers (λ e. all_of (inputs e)) n users)
           (sym (length-set tallies edge.user after)) is.edges;
       heard = subst (HaveHeard inputs (set tallies edge.user after))
-          (left_noted users agenda edge.user before after (drop (i + 1) (users_of users w)))
-          (heard_told inputs (length tallies) users tallies edge w before after rest refl is.edges
+          (left_noted users agenda edge.user before after _)
+          (heard_told inputs _ users tallies edge w before after rest refl is.edges
           at its.1 heard
           (λ known can. subst
           (λ news. IsTally (inputs edge.user) (slice_set known edge.place news) after)
@@ -289,14 +287,14 @@ pub work_taken : (inputs : ℕ → Awaited) (users : List (List Edge)) (tallies 
 work_taken inputs users tallies agenda w at is = record {
   first = is.first;
   edges = is.edges;
-  heard = subst (λ l. HaveHeard inputs tallies (users_of_all users l)) (first_work agenda.work w at)
+  heard = subst (λ l. HaveHeard inputs tallies (users_of_all users l)) (first_work _ w at)
       is.heard;
   listed = record {
     ready = is.listed.ready;
     ring = is.listed.ring;
     room = is.listed.room;
-    work = All-drop (λ d. d < length tallies) 1 agenda.work is.listed.work;
-    space = omega (arith, is.listed.space, ap length (first_work agenda.work w at));
+    work = All-drop (λ d. d < length tallies) 1 _ is.listed.work;
+    space = omega (arith, is.listed.space, ap length (first_work _ w at));
     unsettled = is.listed.unsettled;
   };
 }
@@ -323,14 +321,14 @@ module _ (tallies : List Tally) (agenda : Agenda) (d : ℕ) (none : Tally) (stat
   now = record old { state = state }
 
   old_at : slice_get tallies d ≡ Some old
-  old_at = slice_get-get_or tallies d none low
+  old_at = slice_get-get_or _ d _ low
 
   turned : Turns old.state state
   turned = search (rules, state_read)
 
   module _ (listed : IsAgenda tallies agenda) where
     pub turned_agenda : IsAgenda (set tallies d now) (noted agenda d old now)
-    turned_agenda = noted_agenda tallies agenda d old now old_at turned refl listed
+    turned_agenda = noted_agenda _ _ d _ _ old_at turned refl listed
 
     pub turned_room : length (noted agenda d old now).ring ≤ agenda.room
     turned_room = omega (arith, turned_agenda.room)
@@ -339,7 +337,7 @@ module _ (tallies : List Tally) (agenda : Agenda) (d : ℕ) (none : Tally) (stat
     turned_space = omega (arith, turned_agenda.space)
 
     pub turned_settles : one (settles old now) ≤ agenda.unsettled
-    turned_settles = settles_most tallies agenda d old now old_at turned refl listed
+    turned_settles = settles_most _ _ d old now old_at turned refl listed
 
   pub turned_standings : standings_in (set tallies d now) ≡ standings_in tallies
   turned_standings = search (rules, part_stays, old, now, old_at)
@@ -356,7 +354,7 @@ module _ (tallies : List Tally) (agenda : Agenda) (d : ℕ) (none : Tally) (stat
   pub turned_edges : (users : List (List Edge)) → open_edges (sizes users) (set tallies d now)
       + length (users_of_all users (noted agenda d old now).work)
       ≡ open_edges (sizes users) tallies + length (users_of_all users agenda.work)
-  turned_edges users = noted_edges users tallies agenda d old now old_at turned
+  turned_edges users = noted_edges _ _ agenda d old now old_at turned
 
   pub turned_spreading : (inputs : ℕ → Awaited) (users : List (List Edge))
       → (phase_in state ≡ Idle → ⊥) → IsSpreading inputs users tallies agenda []

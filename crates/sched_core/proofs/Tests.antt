@@ -12,16 +12,16 @@ use Rattle.sched_core.specs.Runs.{is_one_of}
 
 pub any_passes : {X : Type 0} (p : X → Bool) (xs : List X) (x : X) → Contains xs x → p x ≡ true
     → list_any p xs ≡ true
-any_passes p xs x (k, low, at) is = list_any_at p xs k x low (ap p at ∙ is)
+any_passes p xs x (k, low, at) is = list_any_at p _ k x low (ap p at ∙ is)
 
 pub one_passes : {X : Type 0} (p : X → Bool) (xs : List X) → list_any p xs ≡ true → (x : X)
     × Contains xs x × (p x ≡ true)
 one_passes p [] is = absurd (false≢true is)
 one_passes p (x ∷ xs) is =
-    ⊎_elim (λ here. (x, Contains-first x xs, here))
+    ⊎_elim (λ here. (x, Contains-first x _, here))
     (λ later. let found = one_passes p xs later in (
       found.0,
-      Contains-later x xs found.0 found.1,
+      Contains-later x _ _ found.1,
       found.2,
     ))
     (or_cases (p x) (list_any p xs) is)
@@ -30,7 +30,7 @@ pub all_pass : {X : Type 0} (p : X → Bool) (xs : List X)
     → ((x : X) → Contains xs x → p x ≡ true) → list_all p xs ≡ true
 all_pass p [] each = refl
 all_pass p (x ∷ xs) each =
-    and_from (p x) (list_all p xs) (each x (Contains-first x xs))
+    and_from _ _ (each x (Contains-first x _))
     (all_pass p xs (λ y has. each y (Contains-later x xs y has)))
 
 pub list_all_has : {X : Type 0} (p : X → Bool) (xs : List X) (x : X) → list_all p xs ≡ true

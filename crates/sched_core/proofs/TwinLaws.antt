@@ -1,7 +1,6 @@
 -- Twins: which derivations are each other's, the first of them, and the earlier ones.
 use Rattle.std.proofs.Common.{◌≡◌, ◌∙◌, ℕ, ◌<◌, ◌≤◌, Bool, true, false, List, length, Option, Some, None, refl, sym, ap, subst, rules}
-use Rattle.std.specs.Prelude.{◌==◌, ◌&&◌, Contains, filter, slice_get}
-use Rattle.std.specs.List.{range_with_len}
+use Rattle.std.specs.Prelude.{◌==◌, ◌&&◌, Contains, slice_get}
 use Rattle.std.proofs.lemmas.Bool.{and_from, and_parts, both_ways, eq-eqb, false≢true, ne_eqb}
 use Rattle.std.proofs.lemmas.List.Elements.{All-contains, All-filter, filter_passes}
 use Rattle.std.proofs.lemmas.List.Sums.{passes_at_first}
@@ -22,7 +21,7 @@ use Rattle.drv_graph.proofs.FirstTwins.{among_has, among_from, twins_alone, no_l
 pub twins_path : (a b : Drv) (path : List ℕ) → are_twins a b ≡ true
     → Contains (output_paths_of a) path → Contains (output_paths_of b) path
 twins_path a b path are has =
-    among_has (output_paths_of a) (output_paths_of b) path
+    among_has _ _ _
     (and_parts (are_among (output_paths_of a) (output_paths_of b))
     (are_among (output_paths_of b) (output_paths_of a)) are).0 has
 
@@ -63,7 +62,7 @@ path_of_twin a b x y path is_x is_y are has =
     let both : are_twins_at (Some x) (Some y) ≡ true =
     subst (λ o. are_twins_at (Some x) o ≡ true) is_y
     (subst (λ o. are_twins_at o b ≡ true) is_x are) in
-    twins_path y.drv x.drv path (twins_turned x.drv y.drv both) has
+    twins_path y.drv x.drv _ (twins_turned x.drv y.drv both) has
 
 -- ---- the first of some twins
 
@@ -73,10 +72,10 @@ pub first_is_twin : (nodes : List Node) (d : ℕ) → first_twin_of nodes d < le
 first_is_twin nodes d low =
     let test : Node → Bool = λ n. are_twins_at (Some n) (slice_get nodes d) in
     let first = first_twin_of nodes d in
-    let there = element_at nodes first low in
+    let there = element_at _ _ low in
     subst (λ (o : Option Node). are_twins_at o (slice_get nodes d) ≡ true) (sym there.1)
     (sym (ap test (get_or_from_slice_get nodes first there.0 there.0 there.1))
-    ∙ passes_at_first test nodes there.0 low)
+    ∙ passes_at_first test _ _ low)
 
 -- twins are those that have the same first one
 pub same_first : (nodes : List Node) (d t : ℕ) → d < length nodes
@@ -93,9 +92,9 @@ same_first nodes d t low = by (are_twins_at (slice_get nodes t) (slice_get nodes
         → first_twin_of nodes a ≤ first_twin_of nodes b
     before a b below are =
         let first = first_twin_of nodes b in
-        let there = element_at nodes first (first_low b below) in
-        no_later nodes a first there.0 there.1
-        (through (slice_get nodes first) (slice_get nodes b) (slice_get nodes a)
+        let there = element_at _ _ (first_low b below) in
+        no_later _ a _ _ there.1
+        (through (slice_get nodes first) _ _
         (first_is_twin nodes b (first_low b below)) are)
 
     equal : are_twins_at (slice_get nodes t) (slice_get nodes d) ≡ true → first_twin_of nodes t
@@ -134,13 +133,12 @@ is_earlier_twin run opening d t has =
     let twins : ℕ → Bool = λ k.
     are_twins_at (slice_get run.graph.nodes k) (slice_get run.graph.nodes d) in
     let test : ℕ → Bool = λ k. wanted k && twins k in
-    let kept = filter test (range_with_len 0 d) in
     let passes : test t ≡ true =
-    All-contains (λ k. test k ≡ true) kept t (filter_passes test (range_with_len 0 d)) has in
+    All-contains (λ k. test k ≡ true) _ t (filter_passes test _) has in
     let parts = and_parts (wanted t) (twins t) passes in
     record {
-      earlier = All-contains (λ k. k < d) kept t
-          (All-filter test (λ k. k < d) (range_with_len 0 d) (range_below d)) has;
+      earlier = All-contains (λ k. k < d) _ t
+          (All-filter test (λ k. k < d) _ (range_below d)) has;
       wanted = parts.0;
       twins = parts.1;
     }

@@ -25,9 +25,9 @@ rising_across [] ys x y rises has has' = absurd (Contains-nothing x has)
 rising_across (z ∷ zs) ys x y rises has has' =
     ⊎_elim
     (λ is. subst (λ w. IsBelow w y) is
-    (first_below z (zs ++ ys) y rises (Contains-append_right zs ys y has')))
+    (first_below z _ y rises (Contains-append_right _ _ y has')))
     (λ later. rising_across zs ys x y (rising_later z (zs ++ ys) rises) later has')
-    (Contains-cons_cases z zs x has)
+    (Contains-cons_cases z _ x has)
 
 rising_append : (xs ys : List (List ℕ)) → IsRising xs → IsRising ys
     → ((x y : List ℕ) → Contains xs x → Contains ys y → IsBelow x y) → IsRising (xs ++ ys)
@@ -55,7 +55,7 @@ pub found_told :
 found_told paths path place within here = (
   place,
   within,
-  equal_from_eq (get_or paths place path) path
+  equal_from_eq _ _
       (texts_ties (get_or paths place path) path ∙ ap is_eq (here path)),
 )
 
@@ -71,7 +71,7 @@ gap_told paths path place rises within told =
     (λ j d low lt. ap is_lt
     (nat_list_cmp_total.antisymm (get_or paths (j + 1) d) (get_or paths j d)
     ∙ ap ordering_reverse
-    (Less-from_sorted (slice_cmp nat_cmp) paths j (j + 1) d (sorted_from_rising paths rises)
+    (Less-from_sorted (slice_cmp nat_cmp) _ j _ d (sorted_from_rising _ rises)
     (omega arith) lt)))) in
     record {
       before = λ x has.
@@ -120,21 +120,21 @@ module _ (paths others below left above : List (List ℕ)) (path : List ℕ)
   uniting_found there = record {
     below_rises = before.below_rises;
     left_rises =
-        rising_append left above left_alone
-        (rising_back (left ++ path ∷ []) above before.left_rises)
-        (λ x y has has'. below_trans x path y (left_below x has) (last_below y has'));
+        rising_append _ _ left_alone
+        (rising_back _ _ before.left_rises)
+        (λ x y has has'. below_trans x _ y (left_below x has) (last_below y has'));
     each = λ p. (
       λ has. ⊎_elim inl
           (λ more. ⊎_elim
           (λ last. ⊎_elim (λ earlier. inr (inl earlier))
           (λ is. inl (subst (Contains below) is there))
-          (Contains-push_cases left path p last))
+          (Contains-push_cases _ _ p last))
           (λ up. inr (inr up)) more)
           ((before.each p).0 has),
       λ has. (before.each p).1
           (⊎_elim inl
           (λ more. inr
-          (⊎_elim (λ earlier. inl (Contains-append_left left (path ∷ []) p earlier)) inr more))
+          (⊎_elim (λ earlier. inl (Contains-append_left _ _ p earlier)) inr more))
           has),
     );
   }
@@ -151,54 +151,54 @@ module _ (paths others below left above : List (List ℕ)) (path : List ℕ)
       ∙ append_assoc front tail above in
       let rises = subst IsRising joined before.below_rises in
       let up : (y : List ℕ) → Contains (tail ++ above) y → IsBelow path y =
-      λ y has. ⊎_elim (higher y) (last_below y) (Contains-append_cases tail above y has) in
+      λ y has. ⊎_elim (higher y) (last_below y) (Contains-append_cases _ _ y has) in
       let head : IsRising (path ∷ (tail ++ above)) =
-      rising_append (path ∷ []) (tail ++ above) tt (rising_back front (tail ++ above) rises)
+      rising_append (path ∷ []) _ tt (rising_back _ _ rises)
       (λ x y has has'. ⊎_elim (λ is. subst (λ w. IsBelow w y) is (up y has'))
-      (λ none. absurd (Contains-nothing x none)) (Contains-cons_cases path [] x has)) in
+      (λ none. absurd (Contains-nothing x none)) (Contains-cons_cases _ [] x has)) in
       let over : (x y : List ℕ) → IsBelow x path → Contains (path ∷ (tail ++ above)) y
       → IsBelow x y =
       λ x y less has. ⊎_elim (λ is. subst (IsBelow x) is less)
-      (λ later. below_trans x path y less (up y later))
-      (Contains-cons_cases path (tail ++ above) y has) in
+      (λ later. below_trans x _ y less (up y later))
+      (Contains-cons_cases _ _ y has) in
       record {
         below_rises =
-            rising_append front (path ∷ (tail ++ above))
-            (rising_front front (tail ++ above) rises) head
+            rising_append _ _
+            (rising_front _ _ rises) head
             (λ x y has has'. over x y (lower x has) has');
         left_rises =
-            rising_append left (path ∷ (tail ++ above)) left_alone head
+            rising_append _ _ left_alone head
             (λ x y has has'. over x y (left_below x has) has');
         each = λ p.
             let later : Contains (tail ++ above) p → Contains (path ∷ (tail ++ above)) p =
-            Contains-later path (tail ++ above) p in (
+            Contains-later _ _ p in (
               λ has. ⊎_elim
                   (λ there. ⊎_elim inl
-                  (λ behind. inr (inr (later (Contains-append_left tail above p behind))))
-                  (Contains-append_cases front tail p
+                  (λ behind. inr (inr (later (Contains-append_left _ _ p behind))))
+                  (Contains-append_cases _ _ p
                   (subst (λ l. Contains l p) parts there)))
                   (λ more. ⊎_elim
                   (λ last. ⊎_elim (λ earlier. inr (inl earlier))
                   (λ is. inr (inr (subst (Contains (path ∷ (tail ++ above))) is
-                  (Contains-first path (tail ++ above)))))
-                  (Contains-push_cases left path p last))
-                  (λ high. inr (inr (later (Contains-append_right tail above p high)))) more)
+                  (Contains-first _ _))))
+                  (Contains-push_cases _ _ p last))
+                  (λ high. inr (inr (later (Contains-append_right _ _ p high)))) more)
                   ((before.each p).0 has),
               λ has. (before.each p).1
                   (⊎_elim
                   (λ low. inl (subst (λ l. Contains l p) (sym parts)
-                  (Contains-append_left front tail p low)))
+                  (Contains-append_left _ _ p low)))
                   (λ more. ⊎_elim
-                  (λ earlier. inr (inl (Contains-append_left left (path ∷ []) p earlier)))
+                  (λ earlier. inr (inl (Contains-append_left _ _ p earlier)))
                   (λ high. ⊎_elim
                   (λ is. inr (inl (subst (Contains (left ++ path ∷ [])) is
-                  (Contains-push left path))))
+                  (Contains-push _ _))))
                   (λ rest. ⊎_elim
                   (λ behind. inl (subst (λ l. Contains l p) (sym parts)
-                  (Contains-append_right front tail p behind)))
+                  (Contains-append_right _ _ p behind)))
                   (λ top. inr (inr top))
-                  (Contains-append_cases tail above p rest))
-                  (Contains-cons_cases path (tail ++ above) p high)) more)
+                  (Contains-append_cases _ _ p rest))
+                  (Contains-cons_cases _ _ p high)) more)
                   has),
             );
       }
@@ -210,10 +210,10 @@ uniting_all paths others below above done = record {
   rising = done.below_rises;
   each = λ path. (
     λ has. (done.each path).1
-        (⊎_elim inl (λ high. inr (inr high)) (Contains-append_cases below above path has)),
-    λ has. ⊎_elim (Contains-append_left below above path)
-        (λ more. ⊎_elim (λ none. absurd (Contains-nothing path none))
-        (Contains-append_right below above path) more)
+        (⊎_elim inl (λ high. inr (inr high)) (Contains-append_cases _ _ _ has)),
+    λ has. ⊎_elim (Contains-append_left _ _ _)
+        (λ more. ⊎_elim (λ none. absurd (Contains-nothing _ none))
+        (Contains-append_right _ _ _) more)
         ((done.each path).0 has),
   );
 }

@@ -40,9 +40,9 @@ pub counted : (inputs : List ℕ) (k i : ℕ) (before counts : List ℕ) → k <
 counted inputs k i before counts low is within each n less =
     omega (
       arith,
-      counted_one counts i n within,
+      counted_one _ i n within,
       each n less,
-      ap (often n) (taken_more inputs k i low is),
+      ap (often n) (taken_more _ k i low is),
       often_both n (take k inputs) (i ∷ []),
     )
 

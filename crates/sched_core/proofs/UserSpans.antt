@@ -73,8 +73,8 @@ adds_more user k seen i count old mid new size at others prior = record {
         subst (λ d. new d ≡ mid d ++ record { user = user; place = k } ∷ []) (sym same) at
         in
         subst (All (λ (edge : Edge). edge.user < bound)) (sym here)
-        (All-push (λ (edge : Edge). edge.user < bound) (mid input)
-        (record { user = user; place = k }) (prior.within input bound low less all) less)
+        (All-push (λ (edge : Edge). edge.user < bound) _
+        _ (prior.within input bound low less all) less)
     within input bound low less all (inr apart) = search (rules, apart)
 
 -- ---- the edges of the first users
@@ -151,13 +151,13 @@ pub room_next : (spans : List Span) (i places : ℕ) (more left : ℕ → ℕ) �
 room_next spans i places more left low here others room = record {
   rise = λ n within. omega (
     arith,
-    start_kept spans i n low,
+    start_kept _ i n low,
     ends n,
     room.rise n (omega (arith, within, size)),
   );
   apart = λ n m below within. omega (
     arith,
-    start_kept spans i m low,
+    start_kept _ i m low,
     ends n,
     room.apart n m below (omega (arith, within, size)),
   );
@@ -186,7 +186,7 @@ module _ (inputs : ℕ → List ℕ) (count d : ℕ) (spans : List Span) (places
     (room : HaveRoom spans places (λ n. uses inputs count n - uses inputs d n)) where
   pub room_own : (numbers : List ℕ) → numbers ≡ inputs d
       → HaveRoom spans places (λ n. often n numbers)
-  room_own numbers same = room_less spans places (λ n. uses inputs count n - uses inputs d n)
+  room_own numbers same = room_less _ _ (λ n. uses inputs count n - uses inputs d n)
       (λ n. often n numbers) room
       (λ n within. omega (
         arith,
@@ -261,7 +261,7 @@ part_pushed edges span edge rise within =
     ap (λ k. take k (drop span.start (set edges span.end edge))) count
     ∙ ap (λ e. take (n + 1) (drop span.start (set edges e edge))) at
     ∙ ap (take (n + 1)) (drop-set-add span.start edges n edge)
-    ∙ take_more_set (drop span.start edges) n edge room
+    ∙ take_more_set _ n _ room
 
 part_kept : (edges : List Edge) (at : ℕ) (edge : Edge) (span : Span) → span.start ≤ span.end
     → (at < span.start) ⊎ (span.end ≤ at) → part (set edges at edge) span ≡ part edges span
@@ -297,12 +297,12 @@ module _ (spans : List Span) (edges : List Edge) (i : ℕ) (edge : Edge) (more :
       (set edges (span_at spans i).end edge)) n
       ≡ users_of (parts spans edges) n
   others_stay n less differ =
-      parts_at (set spans i (longer (span_at spans i))) (set edges (span_at spans i).end edge) n
+      parts_at _ _ n
       (omega (arith, less, length-set spans i (longer (span_at spans i))))
       ∙ ap (part (set edges (span_at spans i).end edge))
       (get_or-set_other spans i n (longer (span_at spans i)) (record { start = 0; end = 0 })
       differ)
-      ∙ part_kept edges (span_at spans i).end edge (span_at spans n) (room.rise n less)
+      ∙ part_kept _ _ _ _ (room.rise n less)
       (⊎_elim
       (λ (below : n < i). inr (omega (arith, room.apart n i below low, room.rise i low)))
       (λ past. inl (omega (
@@ -312,4 +312,4 @@ module _ (spans : List Span) (edges : List Edge) (i : ℕ) (edge : Edge) (more :
         some,
       )))
       (cases_lt n i))
-      ∙ sym (parts_at spans edges n less)
+      ∙ sym (parts_at _ _ n less)

@@ -40,7 +40,7 @@ sound_more job answer count tree before at taken n why below faulty =
     (λ e.
     let there = subst (λ k. IsFaulty job answer why k) e faulty in
     taken why (subst (λ (t : Tree). IsTreeFault job.kind t why)
-    (one_tree answer count there.0 tree there.1 at) there.2))
+    (one_tree answer count _ _ there.1 at) there.2))
     (λ less. before n why less faulty)
     (eq-or-lt_of_le {n = n} {m = count} (omega arith))
 
@@ -85,7 +85,7 @@ records_more algorithm permitted answer infos more count tree info before at is_
           let place : n ≡ count = h.0 ∙ before.as_many in
           subst (λ k. IsRecordAt algorithm permitted answer k other) (sym place)
           (tree, at, subst (IsRecordOf algorithm permitted tree) h.1 is_record))
-          (get_push_cases infos info n other here);
+          (get_push_cases _ _ n _ here);
     })
   where
     pushed : (xs : List PathInfo) (x : PathInfo) → length (xs ++ x ∷ []) ≡ suc (length xs)
@@ -135,10 +135,10 @@ pub first_fault : (job : Job) (permitted : List (List ℕ)) (answer : Answer) (c
     → SoundSoFar job answer count → tree_at answer count ≡ Some tree
     → IsTreeFault job.kind tree why → IsVerdict job permitted answer (Err why)
 first_fault job permitted answer count tree why below there sound at fault =
-    by why (tree_fault_cases job.kind tree why fault) (
+    by why (tree_fault_cases _ _ _ fault) (
       count,
       first_number (λ m. (reason : Reason) × IsFaulty job answer reason m)
-          (length job.outputs.items) count below (why, (tree, at, fault))
+          _ _ below (why, (tree, at, fault))
           (λ m less h. sound m h.0 less h.1),
       (tree, at, fault),
     )

@@ -28,7 +28,7 @@ left_grounded : (links : List (Vec ℕ)) (nodes : List Node) (top : ℕ) (node :
     → IsAfter links nodes → slice_get nodes top ≡ Some node → node.left ≡ 0 → IsGrounded links top
 left_grounded links nodes top node after at none =
     grounded top (λ to linked apart.
-    let place = get_from_contains linked.0.items to linked.2 in
+    let place = get_from_contains _ _ linked.2 in
     after.passed top node linked.0 place.0 to at linked.1 (omega arith) place.1 apart)
 
 after_leave : (links : List (Vec ℕ)) (before after : List Node) (top : ℕ) → IsAfter links before
@@ -50,18 +50,18 @@ pub walk_leave : (links : List (Vec ℕ)) (before after : List Node) (rest : Lis
     → IsWalk links before (rest ++ top ∷ []) → IsWalkStep links before after top Leave
     → IsWalk links after rest
 walk_leave links before after rest top was step = record {
-  after = after_leave links before after top was.after step;
+  after = after_leave _ _ _ _ was.after step;
   opened = λ from later here mark. ⊎_elim
       (λ h. let clash : Closed ≡ Open = sym (ap (λ (n : Node). n.mark) h.1) ∙ mark in absurd cc)
       (λ h. ⊎_elim (λ has. has) (λ is. absurd (h.0 (sym is)))
-      (Contains-push_cases rest top from (was.opened from later h.1 mark)))
-      (set_cases before top from _ later
+      (Contains-push_cases _ _ _ (was.opened from later h.1 mark)))
+      (set_cases _ _ _ _ _
       (subst (λ (nodes : List Node). slice_get nodes from ≡ Some later) step.3 here));
-  within = λ k n at. let old = was.within k n (get_grows rest (top ∷ []) k n at) in
+  within = λ k n at. let old = was.within k n (get_grows _ _ k n at) in
       let same : length after
       ≡ length before = ap length step.3 ∙ length-set before top _ in omega arith;
-  chain = λ k from to at at'. was.chain k from to (get_grows rest (top ∷ []) k from at)
-      (get_grows rest (top ∷ []) (suc k) to at');
+  chain = λ k from to at at'. was.chain k from to (get_grows _ _ k _ at)
+      (get_grows rest (top ∷ []) (suc k) _ at');
 }
 
 pub walk_pass : (links : List (Vec ℕ)) (before after : List Node) (trail : List ℕ) (top : ℕ)
@@ -133,13 +133,13 @@ pub walk_return : (links : List (Vec ℕ)) (before after : List Node) (rest : Li
     → HaveRound links
 walk_return links before after rest top was (node, to, other, next, mark, apart) =
     let has : Contains rest to = ⊎_elim (λ front. front) (λ is. absurd (apart is))
-    (Contains-push_cases rest top to (was.opened to other next.other_at mark)) in
+    (Contains-push_cases _ _ _ (was.opened to other next.other_at mark)) in
     record {
       one = top;
       other = to;
       different = apart;
-      there = goes_on top to to (next_linked links before top to node other next) (goes_nowhere to);
-      back = goes_to_last links rest top to was.chain has;
+      there = goes_on top to to (next_linked _ _ _ _ _ _ next) (goes_nowhere to);
+      back = goes_to_last _ _ _ _ was.chain has;
     }
 
 -- numbers that were met stay so where one more mark is set
@@ -159,7 +159,7 @@ pub weight_set : (before after : List Node) (i : ℕ) (old new : Node) → slice
     → after ≡ set before i new → sum_by weight after + weight old ≡ sum_by weight before
     + weight new
 weight_set before after i old new at is =
-    rw (is, sym (ap weight (get_or_from_slice_get before i old old at)))
+    rw (is, sym (ap weight (get_or_from_slice_get _ i old old at)))
     (sum_by-set weight before i new old (slice_get_within before i old at))
 
 -- before a walk
@@ -193,14 +193,14 @@ walk_none links nodes is = record {
     not_other from node mark at is_mark other =
         let below = slice_get_within nodes from node at in
         let long : length nodes ≡ length links = ap length is ∙ length-map links fresh in
-        let own = element_at links from (omega arith) in
+        let own = element_at _ from (omega arith) in
         other (sym is_mark ∙ ap (λ (n : Node). n.mark) (fresh_at from node own.0 at own.1))
 
 -- where all numbers were met and none is on the trail, all are grounded
 pub all_grounded : (links : List (Vec ℕ)) (nodes : List Node) → IsWalk links nodes []
     → ((n : ℕ) → n < length links → IsMet nodes n) → (n : ℕ) → n < length links → IsGrounded links n
 all_grounded links nodes walk met n below =
-    let found = element_at nodes n (omega (arith, walk.after.count))
+    let found = element_at _ n (omega (arith, walk.after.count))
     in by_mark found.0 found.1 found.0.mark refl
   where
     by_mark : (node : Node) → slice_get nodes n ≡ Some node → (mark : Mark) → node.mark ≡ mark
@@ -218,11 +218,11 @@ next_of links nodes top to own d inner after below own_is some to_is =
     let node = get_or nodes top d in
     let at : slice_get nodes top ≡ Some node =
     slice_get-get_or nodes top d (omega (arith, after.count)) in
-    let has : slice_get links top ≡ Some own = slice_get-get_or links top own below
+    let has : slice_get links top ≡ Some own = slice_get-get_or _ _ _ below
     ∙ ap Some (sym own_is) in
     let low = after.left top node own at has in
     let k = node.left - 1 in
-    let leads : slice_get own.items k ≡ Some to = slice_get-get_or own.items k to (omega arith)
+    let leads : slice_get own.items k ≡ Some to = slice_get-get_or _ k to (omega arith)
     ∙ ap Some (sym to_is) in
     let within = inner top to (own, has, Contains-from_get own.items k to leads) in
     record {
@@ -253,7 +253,7 @@ split_last : (trail : List ℕ) (top : ℕ) → slice_get trail (length trail - 
 split_last trail top at =
     let below = slice_get_within trail (length trail - 1) top at in
     sym (take_all (length trail - 1 + 1) trail (omega arith))
-    ∙ take_more trail (length trail - 1) top below
+    ∙ take_more _ _ _ below
     ∙ ap (λ t. take (length trail - 1) trail ++ t ∷ [])
     (get_or_from_slice_get trail (length trail - 1) top top at)
 
@@ -269,15 +269,15 @@ pub stepped_leave : (links : List (Vec ℕ)) (start : ℕ) (first before after :
     ≡ take (length trail - 1) trail → Stepped links start first before after trail later
 stepped_leave links start first before after trail later top walk keeps met at step later_is =
     let rest = take (length trail - 1) trail in
-    let parts = split_last trail top at in
+    let parts = split_last _ _ at in
     let new : Node = record { mark = Closed; left = 0 } in
     let other : new.mark ≢ New = λ e. absurd cc in
-    let weights = weight_set before after top step.0 new step.1 step.3 in
-    let lengths : length trail ≡ suc (length rest) = ap length parts ∙ longer rest top in
+    let weights = weight_set _ _ _ _ _ step.1 step.3 in
+    let lengths : length trail ≡ suc (length rest) = ap length parts ∙ longer _ _ in
     subst (Stepped links start first before after trail) (sym later_is) (record {
-      walk = walk_leave links before after rest top (subst (IsWalk links before) parts walk) step;
-      keeps = keeps_set first before after top step.0 new keeps step.1 (λ was. other) step.3;
-      met = met_set before after top start step.0 new met step.1 (λ was. other) step.3;
+      walk = walk_leave _ _ _ _ _ (subst (IsWalk links before) parts walk) step;
+      keeps = keeps_set _ _ _ _ _ _ keeps step.1 (λ was. other) step.3;
+      met = met_set _ _ _ _ _ _ met step.1 (λ was. other) step.3;
       less = omega (arith, weights, lengths);
     })
 
@@ -287,13 +287,12 @@ pub stepped_pass : (links : List (Vec ℕ)) (start : ℕ) (first before after : 
     → IsWalkStep links before after top Pass → Stepped links start first before after trail trail
 stepped_pass links start first before after trail top walk keeps met
     (node, to, other, next, passes, k, last, is) =
-    let new : Node = record { mark = node.mark; left = k } in
-    let weights = weight_set before after top node new next.at is in
+    let weights = weight_set _ _ _ _ _ next.at is in
     record {
-      walk = walk_pass links before after trail top walk
+      walk = walk_pass _ _ _ _ _ walk
           (node, to, other, next, passes, k, last, is);
-      keeps = keeps_set first before after top node new keeps next.at (λ was. was) is;
-      met = met_set before after top start node new met next.at (λ was. was) is;
+      keeps = keeps_set _ _ _ _ _ _ keeps next.at (λ was. was) is;
+      met = met_set _ _ _ _ _ _ met next.at (λ was. was) is;
       less = omega (arith, weights, last);
     }
 
@@ -304,19 +303,18 @@ pub stepped_enter : (links : List (Vec ℕ)) (start : ℕ) (first before after :
     → later ≡ trail ++ to ∷ [] → Stepped links start first before after trail later
 stepped_enter links start first before after trail later top to walk keeps met at
     (node, other, next, is_new, is) later_is =
-    let rest = take (length trail - 1) trail in
-    let parts = split_last trail top at in
+    let parts = split_last _ _ at in
     let new : Node = record { mark = Open; left = other.left } in
     let apart : new.mark ≢ New = λ e. absurd cc in
-    let weights = weight_set before after to other new next.other_at is in
+    let weights = weight_set _ _ _ _ _ next.other_at is in
     let heavy : weight other ≡ 2 + other.left = ap (λ (m : Mark). mark_weight m + other.left) is_new
     in
     subst (Stepped links start first before after trail) (sym later_is) (record {
       walk = subst (λ (t : List ℕ). IsWalk links after (t ++ to ∷ [])) (sym parts)
-          (walk_enter links before after rest top to (subst (IsWalk links before) parts walk)
+          (walk_enter _ _ _ _ _ _ (subst (IsWalk links before) parts walk)
           (node, other, next, is_new, is));
-      keeps = keeps_set first before after to other new keeps next.other_at (λ was. apart) is;
-      met = met_set before after to start other new met next.other_at (λ was. apart) is;
+      keeps = keeps_set _ _ _ _ _ _ keeps next.other_at (λ was. apart) is;
+      met = met_set _ _ _ _ _ _ met next.other_at (λ was. apart) is;
       less = omega (arith, weights, heavy, longer trail to);
     })
 

@@ -32,10 +32,9 @@ grows n (suc m) run opening d no_more is =
     (λ less.
     let same : n ≡ suc m = omega arith in
     subst (λ k. is_wanted_over k run opening d ≡ true) same is)
-    (λ within. or_left (is_wanted_over m run opening d)
-    (list_any (λ user. is_used_by run opening d user && is_wanted_over m run opening user)
-    (range_with_len 0 (length run.graph.nodes)))
-    (grows n m run opening d within is))
+    (λ within. or_left _
+    _
+    (grows n m _ _ d within is))
     (cases_lt m n)
 
 free_stands : (s : Standing) → is_free s ≡ true → s ≡ Free
@@ -47,13 +46,13 @@ free_stands (Hindered cause) is = absurd (false≢true is)
 wanted_if_told : (users : ℕ) (run : Run) (opening : List Entry) (d : ℕ)
     → is_wanted_over users run opening d ≡ true → IsWanted run opening d
 unfolding is_wanted_over
-wanted_if_told zero run opening d is = wanted_root d (is_among run.graph.roots d is)
+wanted_if_told zero run opening d is = wanted_root d (is_among _ d is)
 wanted_if_told (suc users) run opening d is =
     let test : ℕ → Bool = λ user.
     is_used_by run opening d user && is_wanted_over users run opening user in
     ⊎_elim (λ before. wanted_if_told users run opening d before)
     (λ by_one.
-    let found = one_passes test (range_with_len 0 (length run.graph.nodes)) by_one in
+    let found = one_passes test _ by_one in
     let user = found.0 in
     let parts = and_parts (is_used_by run opening d user)
     (is_wanted_over users run opening user) found.2 in
@@ -61,7 +60,7 @@ wanted_if_told (suc users) run opening d is =
     let inputs = inputs_at run.graph.nodes (slice_get run.graph.nodes user) in
     let used = and_parts (is_free stands) (is_one_of inputs d) parts.0 in
     wanted_input user d (wanted_if_told users run opening user parts.1)
-    (free_stands stands used.0) (is_among inputs d used.1))
+    (free_stands _ used.0) (is_among _ d used.1))
     (or_cases (is_wanted_over users run opening d)
     (list_any test (range_with_len 0 (length run.graph.nodes))) is)
 
@@ -82,24 +81,22 @@ told_if_wanted : (run : Run) (opening : List Entry) → IsSound run.graph → (d
     → is_wanted_over users run opening d ≡ true
 unfolding is_wanted_over
 told_if_wanted run opening sound d (wanted_root _ has) users enough =
-    grows 0 users run opening d (omega arith) (is_found run.graph.roots d has)
+    grows 0 users run opening d (omega arith) (is_found _ d has)
 told_if_wanted run opening sound d (wanted_input user _ by_user free has) users enough =
     let nodes = run.graph.nodes in
-    let low : user < length nodes = user_within run user d has in
-    let after : d < user = inputs_first run.graph sound user d has in
+    let low : user < length nodes = user_within run _ d has in
+    let after : d < user = inputs_first _ sound _ d has in
     let fewer : ℕ = length nodes - user in
     let told = told_if_wanted run opening sound user by_user fewer (omega (arith, low)) in
-    let stands = standing_at run.system opening (slice_get nodes user) in
     let inputs = inputs_at nodes (slice_get nodes user) in
     let used : is_used_by run opening d user ≡ true =
-    and_from (is_free stands) (is_one_of inputs d) (ap is_free free) (is_found inputs d has) in
+    and_from _ _ (ap is_free free) (is_found inputs d has) in
     grows (suc fewer) users run opening d (omega (arith, low, after, enough))
-    (or_right (is_wanted_over fewer run opening d)
-    (list_any (λ u. is_used_by run opening d u && is_wanted_over fewer run opening u)
-    (range_with_len 0 (length nodes)))
+    (or_right _
+    _
     (any_passes (λ u. is_used_by run opening d u && is_wanted_over fewer run opening u)
-    (range_with_len 0 (length nodes)) user (in_range (length nodes) user low)
-    (and_from (is_used_by run opening d user) (is_wanted_over fewer run opening user) used told)))
+    _ _ (in_range _ _ low)
+    (and_from _ _ used told)))
 
 pub wanted_told : WantedIsTold
 wanted_told run opening d sound = search (rules, wanted_if_told, told_if_wanted, sound)
@@ -182,7 +179,7 @@ passed_over graph standings wanted rest d next none before = record {
       (λ apart. before.closed user e
       (⊎_elim (λ less. omega (arith, past, less)) (λ less. omega (arith, next, less)) apart) is
       free has)
-      (either_side user d);
+      (either_side _ d);
 }
 
 -- the inputs of a wanted derivation are marked
@@ -200,11 +197,11 @@ inputs_marked graph standings old new numbers rest d is_sound low next are marke
           (λ has. by_user run opening same standing e has)
           ((marks.each e).0 is);
       closed = λ user e past is free has. (marks.each e).1
-          (closed_at user e past is free has (either_side user d));
+          (closed_at user e past is free has (either_side _ d));
     }
   where
     same_numbers : numbers ≡ inputs_at graph.nodes (slice_get graph.nodes d)
-    same_numbers = numbers_at graph d numbers low is_sound are
+    same_numbers = numbers_at _ d _ low is_sound are
 
     by_user : (run : Run) (opening : List Entry) → run.graph ≡ graph
         → AreStandings run.system opening graph.nodes standings → (e : ℕ) → Contains numbers e
@@ -217,7 +214,7 @@ inputs_marked graph standings old new numbers rest d is_sound low next are marke
         (subst (λ l. Contains l e) same_numbers has))
 
     smaller : (e : ℕ) → Contains numbers e → e < d
-    smaller e has = inputs_first graph is_sound d e (subst (λ l. Contains l e) same_numbers has)
+    smaller e has = inputs_first _ is_sound d e (subst (λ l. Contains l e) same_numbers has)
 
     was_marked : (user : ℕ) → d ≤ user → IsMarked new user → IsMarked old user
     was_marked user past is = ⊎_elim (λ was. was)
@@ -251,7 +248,7 @@ all_wanted : (run : Run) (opening : List Entry) (standings : List Standing) (wan
     → AreMarked run.graph standings wanted 0 → (d : ℕ) → IsWanted run opening d → IsMarked wanted d
 all_wanted run opening standings wanted standing marked d (wanted_root _ has) = marked.roots d has
 all_wanted run opening standings wanted standing marked d (wanted_input user _ by_user free has) =
-    search (rules, by_user, marked_within, all_wanted run opening standings wanted standing marked user by_user)
+    search (rules, by_user, marked_within, all_wanted _ _ _ _ standing marked _ by_user)
 
 pub wanted_are : (graph : Graph) (standings : List Standing) (wanted : List Bool)
     → AreMarked graph standings wanted 0
@@ -266,5 +263,5 @@ wanted_are graph standings wanted marked run opening same standing =
     record {
       count = marked_here.count;
       yes = λ d is. marked.sound run opening same standing d is;
-      no = λ d is. all_wanted run opening standings wanted standing_here marked_here d is;
+      no = λ d is. all_wanted _ _ _ _ standing_here marked_here d is;
     }

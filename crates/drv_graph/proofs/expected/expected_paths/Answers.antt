@@ -1,6 +1,5 @@
-use Rattle.std.proofs.Common.{map, sym, subst}
+use Rattle.std.proofs.Common.{sym, subst}
 use Rattle.std.specs.Prelude.{IfOk}
-use Rattle.nix_drv.specs.Parts.{output_of}
 use Rattle.drv_graph.specs.Checking.{AreExpected}
 use Rattle.drv_graph.specs.declared.kinds.Kind.{Kind}
 use Rattle.drv_graph.proofs.Checks.{addressed_from}
@@ -12,5 +11,5 @@ returns-in_ok-inner-in-Addressed c =
     (λ paths. AreExpected c.args.dir.now c.args.name.now k c.args.drv.now c.args.hashes.now
     paths.items)) (sym c.in-Addressed.is)
     (addressed_from _ _ _ _
-    _ (map output_of _) _
+    _ _ _
     c.in_ok-inner-in-Addressed.ensures c.outputs.ensures c.output_paths.ensures)

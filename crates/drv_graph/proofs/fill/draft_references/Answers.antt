@@ -3,9 +3,4 @@ use Rattle.drv_graph.proofs.FillAnswers.{stray_draft}
 use Rattle.drv_graph.proofs.fill.draft_references.Goals as goal
 
 pub returns-in-Err : goal.returns-in-Err
-returns-in-Err c =
-    record {
-      ok = tt;
-      err = stray_draft _ _ _ (search rules)
-          c.in-Err.ensures.err;
-    }
+returns-in-Err c = search (rules, stray_draft)

@@ -1,11 +1,11 @@
-use Rattle.std.proofs.Common.{◌≡◌, ◌∙◌, ap, ℕ, List, subst, sym, inr}
+use Rattle.std.proofs.Common.{◌≡◌, ℕ, List, subst, inr, rules}
 use Rattle.std.specs.List.{AllZip}
 use Rattle.nix_drv.specs.Derivation.{Drv}
 use Rattle.drv_graph.specs.Nodes.{Node, inputs_of}
 use Rattle.drv_graph.specs.FillSteps.{AreUsed}
 use Rattle.drv_graph.specs.Plans.{AreNumbers}
 use Rattle.drv_graph.specs.PlanNodes.{AreKept, nodes_of}
-use Rattle.drv_graph.specs.UsedInputs.{drvs_of_uses, hashes_of, paths_of_uses as used_paths_of}
+use Rattle.drv_graph.specs.UsedInputs.{drvs_of_uses, hashes_of}
 use Rattle.drv_graph.specs.Walks.{IsUsed}
 use Rattle.drv_graph.specs.declared.node.PlanNode.{PlanNode}
 use Rattle.drv_graph.specs.declared.outputs.UsedInput.{UsedInput}
@@ -17,9 +17,7 @@ use Rattle.drv_graph.proofs.fill.fill.Goals as goal
 are_numbers : (kept : List PlanNode) (nodes : List Node) (numbers roots : List ℕ)
     (paths : List (List ℕ)) → nodes_of kept ≡ nodes → numbers ≡ roots
     → AreNumbers nodes roots paths → AreNumbers (nodes_of kept) numbers paths
-are_numbers kept nodes numbers roots paths view same are =
-    subst (λ (ns : List Node). AreNumbers ns numbers paths) (sym view)
-    (subst (λ (rs : List ℕ). AreNumbers nodes rs paths) (sym same) are)
+are_numbers kept nodes numbers roots paths view same are = search rules
 
 behind : (kept : List PlanNode) (nodes : List Node) (numbers roots : List ℕ)
     (used given : List UsedInput) (draft : Drv) → nodes_of kept ≡ nodes → numbers ≡ roots
@@ -27,21 +25,14 @@ behind : (kept : List PlanNode) (nodes : List Node) (numbers roots : List ℕ)
     → given ≡ used → AreUsed nodes draft (drvs_of_uses given) (hashes_of given)
 behind kept nodes numbers roots used given draft view same are right zip lent =
     subst (λ (ns : List Node). AreUsed ns draft (drvs_of_uses given) (hashes_of given)) view
-    (are_used kept numbers used given draft right
-    (are_numbers kept nodes numbers roots (inputs_of draft) view same are) zip lent)
+    (are_used _ _ _ _ _ right
+    (are_numbers _ _ _ _ _ view same are) zip lent)
 
 pub used_inputs-requires : goal.used_inputs-requires
-used_inputs-requires c =
-    kept_within _ _ (inputs_of c.args.draft.now)
-    (are_numbers _ _ _ _ _ c.nodes.ensures.nodes
-    c.roots.ensures c.requires)
+used_inputs-requires c = search (rules, kept_within, are_numbers)
 
 pub draft_paths-requires : goal.draft_paths-requires
-draft_paths-requires c = ap used_paths_of c.deref.ensures.value
-    ∙ used_paths _ _ _
-    (inputs_of c.args.draft.now) c.in_ok-used.ensures.ok
-    (are_numbers _ _ _ _ _ c.nodes.ensures.nodes
-    c.roots.ensures c.requires)
+draft_paths-requires c = search (rules, used_paths, are_numbers)
 
 pub returns-in_err-paths-clause-err : goal.returns-in_err-paths-clause-err
 returns-in_err-paths-clause-err c =
@@ -57,15 +48,12 @@ returns-in_err-paths-clause-err c =
     ))
 
 pub place-requires : goal.place-requires
-place-requires c =
-    paths_long _ _ _ (drvs_of_uses _)
-    (hashes_of _) _ _
-    c.in_ok-paths.ensures.ok c.deref-2.ensures.value
+place-requires c = paths_long _ _ _ _ _ _ _ c.in_ok-paths.ensures.ok c.deref-2.ensures.value
 
 pub returns-clause-ok : goal.returns-clause-ok
 returns-clause-ok c =
     filled_behind _ _ _ _
-    _ (drvs_of_uses _) (hashes_of _)
+    _ _ _
     _ _
     (behind _ _ _ _
     _ _ _ c.nodes.ensures.nodes

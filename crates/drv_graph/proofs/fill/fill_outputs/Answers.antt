@@ -1,4 +1,4 @@
-use Rattle.std.proofs.Common.{◌≡◌, List, ℕ, subst, sym, true}
+use Rattle.std.proofs.Common.{rules}
 use Rattle.nix_names.specs.Names.{is_name}
 use Rattle.drv_graph.proofs.Counting.{fill_counted, target_counted, text_counted}
 use Rattle.drv_graph.proofs.InStore.{inputs_in_store}
@@ -7,33 +7,19 @@ use Rattle.drv_graph.proofs.Ends.{err_is}
 use Rattle.drv_graph.proofs.fill.fill_outputs.Goals as goal
 
 pub load_inputs-requires : goal.load_inputs-requires
-load_inputs-requires g c =
-    inputs_in_store _ _ c.in_ok-target.ensures.ok.in_store
+load_inputs-requires g c = search (rules, inputs_in_store)
 
 pub own_path-requires-clause-named : goal.own_path-requires-clause-named
-own_path-requires-clause-named g c =
-    let is_target = c.in_ok-target.ensures.ok in
-    subst (λ (file : List ℕ). is_name file ≡ true) (sym is_target.file) is_target.names.1
+own_path-requires-clause-named g c = search (rules, is_name)
 
 pub returns-in_err-target-clause-device : goal.returns-in_err-target-clause-device
-returns-in_err-target-clause-device g c = rw (err_is _ _ c.from_residual.ensures.1)
-    (target_counted (g.S.DrvSource.gives _)
-    (g.S.DrvSource.failures _) (g.S.DrvSource.failures _)
-    _ _ _ _
-    c.in_err-target.ensures.err)
+returns-in_err-target-clause-device g c = search (rules, err_is, target_counted)
 
 pub returns-in_err-filled-clause-device : goal.returns-in_err-filled-clause-device
-returns-in_err-filled-clause-device g c = rw (err_is _ _ c.from_residual-in_err-filled.ensures.1)
-    (fill_counted (g.S.DrvSource.gives _)
-    (g.S.DrvSource.failures _) (g.S.DrvSource.failures _)
-    _ _ _ _
-    _ c.in_err-filled.ensures.err)
+returns-in_err-filled-clause-device g c = search (rules, err_is, fill_counted)
 
 pub returns-in_err-path-clause-device : goal.returns-in_err-path-clause-device
-returns-in_err-path-clause-device g c = rw (err_is _ _ c.from_residual-in_err-path.ensures.1)
-    (text_counted (g.S.DrvSource.gives _)
-    (g.S.DrvSource.failures _) (g.S.DrvSource.failures _)
-    _ _ c.in_err-path.ensures.err)
+returns-in_err-path-clause-device g c = search (rules, err_is, text_counted)
 
 pub returns-in_err-plan-clause-filling : goal.returns-in_err-plan-clause-filling
 returns-in_err-plan-clause-filling g c = rw (err_is _ _ c.from_residual-in_err-plan.ensures.1)

@@ -3,7 +3,6 @@ use Rattle.std.specs.Prelude.{All}
 use Rattle.nix_names.specs.StorePaths.{IsPathOf}
 use Rattle.nix_drv.specs.Parts.{path_of}
 use Rattle.drv_graph.specs.Loading.{IsLoading}
-use Rattle.drv_graph.specs.Nodes.{inputs_of}
 use Rattle.drv_graph.proofs.EmptyPlaces.{inputs_rise}
 use Rattle.drv_graph.proofs.FillAnswers.{numbers_loaded, same_inputs}
 use Rattle.drv_graph.proofs.fill.load_inputs.Goals as goal
@@ -12,7 +11,7 @@ pub input_paths-requires : goal.input_paths-requires
 input_paths-requires g c =
     let paths = map path_of _ in
     subst (All (IsPathOf _))
-    (sym (same_inputs c.parts.result.now _ _ paths paths
+    (sym (same_inputs c.parts.result.now _ _ _ paths
     c.parts.ensures.parts c.deref.ensures.value refl refl)) c.requires
 
 pub returns-clause-loading : goal.returns-clause-loading
@@ -28,8 +27,8 @@ returns-clause-numbers g c =
     let same = same_inputs c.parts.result.now _ _
     _ _ c.parts.ensures.parts c.deref.ensures.value
     c.in_ok-inputs.ensures.ok c.deref-2.ensures.value in
-    numbers_loaded c.args.dir.now (g.S.DrvSource.gives c.args.source.now)
-    (inputs_of c.args.draft.now) _
+    numbers_loaded _ (g.S.DrvSource.gives c.args.source.now)
+    _ _
     (inputs_rise _ c.parts.ensures.in_order)
     (subst (λ (roots : List (List ℕ)). IsLoading c.args.dir.now
     (g.S.DrvSource.gives c.args.source.now) roots c.load.result) same c.load.ensures.loading)

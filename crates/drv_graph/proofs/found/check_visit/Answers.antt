@@ -1,31 +1,17 @@
-use Rattle.std.proofs.Common.{subst}
+use Rattle.std.proofs.Common.{subst, rules}
 use Rattle.std.specs.List.{AllZip}
-use Rattle.drv_graph.specs.Nodes.{inputs_of}
-use Rattle.drv_graph.specs.Walks.{IsOutputFaultAt, IsUsed}
+use Rattle.drv_graph.specs.Walks.{IsUsed}
 use Rattle.drv_graph.proofs.UsedNodes.{check_right, check_wrong, kept_within, used_paths}
 use Rattle.drv_graph.proofs.found.check_visit.Goals as goal
 
 pub used_inputs-requires : goal.used_inputs-requires
-used_inputs-requires c =
-    rw c.deref.ensures.value
-    (kept_within _ _ (inputs_of c.args.visit.now.drv)
-    c.requires.numbers)
+used_inputs-requires c = search (rules, kept_within)
 
 pub check_outputs-requires : goal.check_outputs-requires
-check_outputs-requires c =
-    let zip = subst (λ ns. AllZip (IsUsed c.args.kept.now) ns c.in_ok-used.used.items)
-    c.deref.ensures.value c.in_ok-used.ensures.ok in
-    rw c.deref-2.ensures.value
-    (used_paths _ _ _
-    (inputs_of c.args.visit.now.drv) zip c.requires.numbers)
+check_outputs-requires c = search (rules, used_paths)
 
 pub modulo_hash-requires-clause-paths : goal.modulo_hash-requires-clause-paths
-modulo_hash-requires-clause-paths c =
-    let zip = subst (λ ns. AllZip (IsUsed c.args.kept.now) ns c.in_ok-used.used.items)
-    c.deref.ensures.value c.in_ok-used.ensures.ok in
-    rw c.deref-in-Ok.ensures.value
-    (used_paths _ _ _
-    (inputs_of c.args.visit.now.drv) zip c.requires.numbers)
+modulo_hash-requires-clause-paths c = search (rules, used_paths)
 
 pub returns-in-Ok : goal.returns-in-Ok
 returns-in-Ok c =
@@ -38,12 +24,4 @@ returns-in-Ok c =
     c.in_ok-hash-in-Ok.ensures
 
 pub returns : goal.returns
-returns c =
-    let zip = subst (λ ns. AllZip (IsUsed c.args.kept.now) ns c.in_ok-used.used.items)
-    c.deref.ensures.value c.in_ok-used.ensures.ok in
-    check_wrong _ _ c.args.visit.now _
-    _ _ _ _
-    c.requires.kept c.requires.numbers zip c.drv_name-name.ensures c.deref-2.ensures.value
-    c.in-Err.ensures
-    (subst (λ path. IsOutputFaultAt path c.in-Err.fault c.output_fault_at.result)
-    c.in_ok-copy-in-Err.ensures.same c.output_fault_at.ensures)
+returns c = search (rules, check_wrong)

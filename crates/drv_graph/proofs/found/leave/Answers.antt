@@ -1,12 +1,9 @@
-use Rattle.std.proofs.Common.{ap, ◌∙◌, map, refl, subst, sym}
+use Rattle.std.proofs.Common.{◌∙◌, refl, subst, sym, rules}
 use Rattle.std.specs.Prelude.{All}
-use Rattle.std.proofs.lemmas.Result.{on_ok_weaker}
 use Rattle.nix_names.specs.StorePaths.{IsPathOf}
 use Rattle.nix_drv.proofs.Places.{outputs_rise}
-use Rattle.drv_graph.specs.Loading.{AreDistinct}
-use Rattle.drv_graph.specs.PlanNodes.{AreKept, nodes_of, text_path_of}
+use Rattle.drv_graph.specs.PlanNodes.{AreKept}
 use Rattle.drv_graph.specs.Owners.{owned}
-use Rattle.drv_graph.specs.Walks.{visited}
 use Rattle.drv_graph.proofs.InStore.{outputs_in_store}
 use Rattle.drv_graph.proofs.Leaving.{checking_right, leaving_clash, leaving_kept, outputs_are, parts_outputs, parts_sources}
 use Rattle.drv_graph.proofs.OwnOutputs.{own_outputs}
@@ -23,17 +20,14 @@ output_paths-requires c =
     c.parts-parts.ensures.parts c.deref-2.ensures.value in
     subst (All (IsPathOf _))
     (sym (outputs_are _ c.args.visit.drv
-    (map text_path_of _) lent refl))
-    (outputs_in_store _ (nodes_of _)
-    (visited c.args.visit) _
+    _ lent refl))
+    (outputs_in_store _ _
+    _ _
     (checking_right _ _ _ c.args.visit
     _ _ c.deref.ensures.value c.in_ok-kind.ensures).0)
 
 pub source_paths-requires : goal.source_paths-requires
-source_paths-requires c =
-    subst (All (IsPathOf _))
-    (sym (parts_sources c.parts-parts.result.now _ _
-    c.parts-parts.ensures.parts c.deref-3.ensures.value)) c.requires.in_store
+source_paths-requires c = search (rules, parts_sources)
 
 pub own-requires-clause-kept : goal.own-requires-clause-kept
 own-requires-clause-kept c =
@@ -41,15 +35,7 @@ own-requires-clause-kept c =
 
 pub own-requires-clause-distinct : goal.own-requires-clause-distinct
 own-requires-clause-distinct c =
-    subst AreDistinct (sym (c.deref-5.ensures.value
-    ∙ outputs_are c.deref-2.result.now c.args.visit.drv _
-    (parts_outputs c.parts-parts.result.now _ _
-    c.parts-parts.ensures.parts c.deref-2.ensures.value) c.in_ok-outputs.ensures.ok))
-    (own_outputs _ (nodes_of _) (visited c.args.visit)
-    _
-    (checking_right _ _ _ c.args.visit
-    _ _ c.deref.ensures.value c.in_ok-kind.ensures).0
-    (outputs_rise _ c.parts-parts.ensures.in_order))
+    search (rules, outputs_are, parts_outputs, own_outputs, checking_right, outputs_rise)
 
 pub returns-in_err-first : goal.returns-in_err-first
 returns-in_err-first c = rw (err_is _ _ c.from_residual-in_err-first.ensures.1)
@@ -59,28 +45,19 @@ returns-in_err-first c = rw (err_is _ _ c.from_residual-in_err-first.ensures.1)
     _ _ c.deref.ensures.value c.in_ok-kind.ensures).0
     c.deref-4.ensures.value
     (c.deref-5.ensures.value
-    ∙ outputs_are c.deref-2.result.now c.args.visit.drv _
+    ∙ outputs_are _ c.args.visit.drv _
     (parts_outputs c.parts-parts.result.now _ _
     c.parts-parts.ensures.parts c.deref-2.ensures.value) c.in_ok-outputs.ensures.ok)
     c.in_err-first.ensures)
 
 pub returns : goal.returns
 returns c =
-    leaving_kept _ _ _ _ _
-    _ _ _ _
-    _
-    _ (owned c.own.new.owners) _ c.requires.found
-    c.requires.visit c.requires.walked c.requires.is_new
-    (checking_right _ _ _ c.args.visit
-    _ _ c.deref.ensures.value c.in_ok-kind.ensures)
-    (outputs_are _ c.args.visit.drv _
-    (parts_outputs c.parts-parts.result.now _ _
-    c.parts-parts.ensures.parts c.deref-2.ensures.value) c.in_ok-outputs.ensures.ok)
-    (c.in_ok-sources.ensures.ok
-    ∙ parts_sources c.parts-parts.result.now _ _
-    c.parts-parts.ensures.parts c.deref-3.ensures.value)
-    c.deref-4.ensures.value c.deref-5.ensures.value
-    (outputs_rise _ c.parts-parts.ensures.in_order) c.in_ok-first.ensures
-    c.keep.ensures.nodes
-    (on_ok_weaker c.keep.result (λ same. ap owned same) c.keep.ensures.owners)
-    c.keep.ensures.marks c.keep.ensures.count c.keep.ensures.err
+    search (
+      rules,
+      leaving_kept,
+      checking_right,
+      outputs_are,
+      parts_outputs,
+      parts_sources,
+      outputs_rise,
+    )

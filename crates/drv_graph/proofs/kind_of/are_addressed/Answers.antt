@@ -1,4 +1,4 @@
-use Rattle.std.proofs.Common.{sym, map}
+use Rattle.std.proofs.Common.{sym}
 use Rattle.nix_drv.specs.Parts.{output_of}
 use Rattle.drv_graph.specs.Kinds.{IsAddressed}
 use Rattle.drv_graph.proofs.Loops.{all_took_more, seen_at}
@@ -15,8 +15,8 @@ returns-then-not-is_addressed c = (
 
 pub loop-output-preserved : goal.loop-output-preserved
 loop-output-preserved c =
-    all_took_more IsAddressed (map output_of _) _
-    (output_of c.output-item.result)
+    all_took_more IsAddressed _ _
+    _
     (seen_at output_of _ _ _
     c.loop-output-test.true c.output-item.is)
     c.loop-output.invariant c.if-not-is_addressed.ensures

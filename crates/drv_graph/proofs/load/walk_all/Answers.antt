@@ -1,4 +1,4 @@
-use Rattle.std.proofs.Common.{arith, get_or, subst, sym, take, []}
+use Rattle.std.proofs.Common.{arith, get_or, subst, sym, [], rules}
 use Rattle.std.proofs.lemmas.List.{take_more}
 use Rattle.std.proofs.lemmas.Option.{slice_get-get_or}
 use Rattle.drv_graph.proofs.Counting.{counted_before}
@@ -9,20 +9,10 @@ use Rattle.drv_graph.proofs.Ends.{err_is}
 use Rattle.drv_graph.proofs.load.walk_all.Goals as goal
 
 pub roots-init : goal.roots-init
-roots-init g c = record {
-  keeps = gives_itself (g.S.DrvSource.gives _);
-  counts = omega arith;
-  some = loading_begins _ (g.S.DrvSource.gives _) _
-      _ _ c.nothing-found.ensures
-      c.new-numbers.ensures.empty c.new-numbers.ensures.unique;
-}
+roots-init g c = search (rules, gives_itself, loading_begins)
 
 pub walk-requires-clause-walked : goal.walk-requires-clause-walked
-walk-requires-clause-walked g c =
-    walked_by _ (g.S.DrvSource.gives _)
-    (g.S.DrvSource.gives _)
-    (gives_back (g.S.DrvSource.gives _) (g.S.DrvSource.gives _)
-    c.roots.invariant.keeps) _ _ [] c.roots.invariant.some.walked
+walk-requires-clause-walked g c = search (rules, walked_by, gives_back)
 
 pub returns-in_err-number-clause-walking : goal.returns-in_err-number-clause-walking
 returns-in_err-number-clause-walking g c =
@@ -34,11 +24,7 @@ returns-in_err-number-clause-walking g c =
     (c.in_err-number.ensures.walking (get_or c.args.roots.now c.roots.place []) at))
 
 pub returns-in_err-number-clause-device : goal.returns-in_err-number-clause-device
-returns-in_err-number-clause-device g c = rw (err_is _ _ c.from_residual.ensures.1)
-    (counted_before (g.S.DrvSource.gives _) (g.S.DrvSource.gives _)
-    (g.S.DrvSource.failures _) (g.S.DrvSource.failures _)
-    (g.S.DrvSource.failures _) _
-    c.roots.invariant.keeps c.roots.invariant.counts c.in_err-number.ensures.device)
+returns-in_err-number-clause-device g c = search (rules, err_is, counted_before)
 
 pub roots-preserved : goal.roots-preserved
 roots-preserved g c =
@@ -53,14 +39,12 @@ roots-preserved g c =
           (sym (take_more _ _ [] c.roots-test.true))
           (loading_more _ (g.S.DrvSource.gives _)
           (g.S.DrvSource.gives _) _
-          (take _ _) _ _
-          _ _ (get_or c.args.roots.now c.roots.place [])
+          _ _ _
+          _ _ _
           _ c.roots.invariant.keeps c.roots.invariant.some
           (c.in_ok-number.ensures.walking (get_or c.args.roots.now c.roots.place []) at)
           c.in_ok-insert.ensures.keys c.in_ok-insert.ensures.unique);
     }
 
 pub returns-clause-walking : goal.returns-clause-walking
-returns-clause-walking g c = loading_ends _ (g.S.DrvSource.gives _)
-    _ _ _ _ c.roots-test.false
-    c.roots.invariant.some
+returns-clause-walking g c = search (rules, loading_ends)

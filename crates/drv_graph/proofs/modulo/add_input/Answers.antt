@@ -1,4 +1,4 @@
-use Rattle.std.proofs.Common.{◌≡◌, ◌∙◌, ◌++◌, ◌∷◌, ◌-◌, [], List, set, vec_len, ap, sym, rules}
+use Rattle.std.proofs.Common.{◌≡◌, ◌∙◌, ◌++◌, ◌∷◌, ◌-◌, [], List, set, vec_len, ap, rules}
 use Rattle.std.specs.Cmp.Lexicographic.{bytes_decides}
 use Rattle.std.proofs.lemmas.Bool.{false≢true}
 use Rattle.std.proofs.lemmas.List.{set-get_or}
@@ -8,11 +8,7 @@ use Rattle.drv_graph.proofs.Gathering.{appends_other, joins}
 use Rattle.drv_graph.proofs.modulo.add_input.Goals as goal
 
 pub returns-then-eq : goal.returns-then-eq
-returns-then-eq c =
-    joins _ _ _ c.args.input _
-    _ c.args.gathered.now.ok.0
-    (c.in-Some.ensures.variant.0 (search rules)) c.in-Some.ensures.value
-    ((bytes_decides _ _).0 (sym c.if-eq.ensures)) c.append.ensures.items
+returns-then-eq c = search (rules, joins)
 
 pub returns : goal.returns
 returns c =
@@ -23,7 +19,7 @@ returns c =
     ∙ set-get_or items at last in
     on_ok_weaker _
     (λ (is : c.push_input.new.gathered.items ≡ set items at last ++ c.args.input ∷ []).
-    appends_other items _ _ last _ c.args.gathered.now.ok.0
+    appends_other _ _ _ _ _ c.args.gathered.now.ok.0
     (c.in-Some.ensures.variant.0 (search rules)) c.in-Some.ensures.value
     (λ same. false≢true (c.if-eq.ensures ∙ (bytes_decides _ _).1 same))
     (is ∙ ap (λ (xs : List Input). xs ++ c.args.input ∷ []) kept))

@@ -1,4 +1,4 @@
-use Rattle.std.proofs.Common.{◌∙◌, ℕ, List, get_or, sym, ap, arith}
+use Rattle.std.proofs.Common.{◌∙◌, ℕ, List, get_or, sym, ap, arith, rules}
 use Rattle.nix_drv.specs.Derivation.{EnvEntry as DrvEntry}
 use Rattle.nix_drv.specs.Parts.{entry_of}
 use Rattle.drv_graph.specs.Modulo.{masked_entry, names_of}
@@ -18,18 +18,17 @@ loop-entry-preserved c =
           c.if-is_some.env _ _ c.entry-item.result
           (omega arith) c.loop-entry.auto.env c.loop-entry.invariant w.env-is
           (ap with_value w.clear.ensures.items
-          ∙ masked_found names (entry_of was) _ _
+          ∙ masked_found _ _ _ _
           c.output_place.ensures.found c.deref.ensures.value
           (sym c.is_some.ensures ∙ w.if-is_some.true))
       | else-is_some w ↦
           written_more entry_of (masked_entry names) _ _
           c.if-is_some.env _ was c.entry-item.result
           (omega arith) c.loop-entry.auto.env c.loop-entry.invariant w.env-is
-          (masked_missing names (entry_of was) _ _
+          (masked_missing _ _ _ _
           c.output_place.ensures.found c.deref.ensures.value
           (sym c.is_some.ensures ∙ w.if-is_some.false))
     ]
 
 pub returns : goal.returns
-returns c = written_all entry_of (masked_entry (names_of _)) _
-    _ _ (omega arith) c.loop-entry.invariant
+returns c = search (rules, written_all)

@@ -1,36 +1,32 @@
-use Rattle.std.proofs.Common.{◌∙◌, ◌<◌, ◌++◌, ◌∷◌, [], length, map, get_or, ap, arith}
+use Rattle.std.proofs.Common.{◌∙◌, ◌<◌, ◌++◌, ◌∷◌, [], length, map, ap, arith}
 use Rattle.std.proofs.lemmas.List.{length-map, map-append}
 use Rattle.std.proofs.lemmas.Option.{slice_get-get_or}
-use Rattle.hex.specs.Hex.{encode_lower}
 use Rattle.nix_drv.specs.Derivation.{Input}
-use Rattle.nix_drv.specs.Parts.{bytes_of, input_of}
-use Rattle.drv_graph.specs.Modulo.{replaced}
+use Rattle.nix_drv.specs.Parts.{input_of}
 use Rattle.drv_graph.proofs.Loops.{seen_at, took_all, took_more}
 use Rattle.drv_graph.proofs.Masking.{input_parts, replaced_at, replaced_length}
 use Rattle.drv_graph.proofs.modulo.replaced.Goals as goal
 
 pub loop-place-preserved : goal.loop-place-preserved
 loop-place-preserved c =
-    let hash = get_or c.args.hashes.now c.loop-place.place [] in
     let below : c.loop-place.place < length c.args.hashes.now = omega arith in
-    let item = c.index-inputs-place.result in
-    took_more (replaced (map input_of _) _) _
-    (record { path = encode_lower hash; names = map bytes_of item.names.items })
-    (map input_of _) _
+    took_more _ _
+    _
+    _ _
     (replaced_at (map input_of c.args.inputs.now) c.args.hashes.now c.loop-place.place
-    (input_of item) hash
-    (seen_at input_of _ _ item c.loop-place-test.true
+    _ _
+    (seen_at input_of _ _ _ c.loop-place-test.true
     c.index-inputs-place.is) (slice_get-get_or _ _ [] below))
     c.loop-place.invariant
     (ap (map input_of) c.in_ok-push.ensures.items
     ∙ map-append input_of _ (c.in_ok-with_hash.field-0 ∷ [])
     ∙ ap (λ (i : Input). map input_of c.loop-place.placed.items ++ i ∷ [])
-    (input_parts c.in_ok-with_hash.field-0 (encode_lower hash) (map bytes_of item.names.items)
+    (input_parts c.in_ok-with_hash.field-0 _ _
     c.in_ok-with_hash.ensures.path c.in_ok-with_hash.ensures.names))
 
 pub returns : goal.returns
 returns c =
-    took_all (replaced (map input_of c.args.inputs.now) c.args.hashes.now) _ c.loop-place.place
+    took_all _ _ _
     (omega (
       arith,
       replaced_length (map input_of c.args.inputs.now) c.args.hashes.now,

@@ -1,4 +1,4 @@
-use Rattle.std.proofs.Common.{ℕ, get_or, map, nat_eq, refl, arith}
+use Rattle.std.proofs.Common.{ℕ, nat_eq, refl, arith}
 use Rattle.std.specs.Global.{Vec}
 use Rattle.std.specs.Cmp.Lexicographic.{pointwise}
 use Rattle.std.proofs.lemmas.List.{length-map}
@@ -11,13 +11,12 @@ use Rattle.drv_graph.proofs.modulo.sort_names.Goals as goal
 
 pub loop-input-preserved : goal.loop-input-preserved
 loop-input-preserved c =
-    let was = get_or c.loop-input.inputs c.loop-input.input-index c.input-item.result in
-    let names = names_sorted was.names.items c.sort_unstable.new.self.items c.dedup.new.self.items
+    let names = names_sorted _ _ _
     c.sort_unstable.ensures.permutation c.sort_unstable.ensures.sorted
     (dedup_is (λ (x y : Vec ℕ). pointwise nat_eq x.items y.items) _ _ c.dedup.ensures.filtered) in
-    let step = zipped_in_place IsNameSorted input_of c.args.inputs.now c.loop-input.inputs _
-    c.loop-input.input-index (record { path = was.path; names = c.dedup.new.self })
-    c.input-item.result
+    let step = zipped_in_place IsNameSorted input_of _ _ _
+    _ _
+    _
     (omega arith) c.loop-input.auto.inputs c.loop-input.invariant.sorted c.loop-input.invariant.rest
     refl
     (record { path = refl; rising = names.0; names = names.1 }) in
@@ -25,7 +24,7 @@ loop-input-preserved c =
 
 pub returns : goal.returns
 returns c =
-    zipped_all IsNameSorted (map input_of c.args.inputs.now) (map input_of c.loop-input.inputs)
-    c.loop-input.input-index
+    zipped_all IsNameSorted _ _
+    _
     (omega (arith, length-map c.args.inputs.now input_of))
     (omega (arith, length-map c.loop-input.inputs input_of)) c.loop-input.invariant.sorted

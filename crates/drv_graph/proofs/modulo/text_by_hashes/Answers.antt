@@ -11,8 +11,8 @@ pub returns-then-mask : goal.returns-then-mask
 returns-then-mask c =
     let given = c.in_ok-replaced.ensures ∙ ap
     (λ (inputs : List Input). replaced inputs c.args.hashes.now) c.inputs.ensures in
-    text_from _ (masked _) _ _
-    (map input_of _) _
+    text_from _ _ _ _
+    _ _
     (subst (λ (inputs : List Input). IsUnited inputs (map input_of c.as_slice-inputs.result.now))
     given
     (subst (λ (items : List InputStruct). IsUnited (map input_of c.in_ok-replaced.replaced.items)
@@ -25,7 +25,7 @@ returns c =
     let given = c.in_ok-replaced.ensures ∙ ap
     (λ (inputs : List Input). replaced inputs c.args.hashes.now) c.inputs.ensures in
     text_from _ _ _ _
-    (map input_of _) _
+    _ _
     (subst (λ (inputs : List Input). IsUnited inputs (map input_of c.as_slice-inputs.result.now))
     given
     (subst (λ (items : List InputStruct). IsUnited (map input_of c.in_ok-replaced.replaced.items)

@@ -25,8 +25,8 @@ returns c =
     let gathered = c.in_ok-gathered.gathered in
     let long : length sorted ≡ gathered.len = omega arith in
     rw (take_at sorted (drop (length sorted) gathered.items) gathered.len long)
-    (united_from (map input_of _) (map input_of gathered.items)
-    (map input_of sorted)
+    (united_from _ _
+    _
     (gathered_moved _ _ _ (IsPermutation-map input_of _ _ c.sort_unstable_by.ensures.permutation)
     c.in_ok-gathered.ensures)
     (subst (λ (items : List Input). AllZip IsNameSorted (map input_of items) (map input_of sorted))

@@ -1,4 +1,4 @@
-use Rattle.std.proofs.Common.{◌∙◌, ℕ, List, sym, subst, map}
+use Rattle.std.proofs.Common.{◌∙◌, ℕ, List, sym, subst}
 use Rattle.std.specs.Prelude.{IsTrue}
 use Rattle.std.proofs.lemmas.Bool.{false≢true}
 use Rattle.nix_names.specs.Names.{is_name}
@@ -25,8 +25,8 @@ returns-then-not-named-clause-err c = (
 
 pub loop-output-preserved : goal.loop-output-preserved
 loop-output-preserved c =
-    all_took_more (IsWellNamed _) (map output_of _)
-    _ (output_of c.output-item.result)
+    all_took_more (IsWellNamed _) _
+    _ _
     (seen_at output_of _ _ _
     c.loop-output-test.true c.output-item.is)
     c.loop-output.invariant

@@ -1,22 +1,16 @@
-use Rattle.std.proofs.Common.{◌∙◌, map, sym, ap}
+use Rattle.std.proofs.Common.{◌∙◌, map, sym, ap, rules}
 use Rattle.std.proofs.lemmas.Simd.{map-map}
 use Rattle.nix_drv.specs.Derivation.{Input}
-use Rattle.nix_drv.specs.Parts.{input_of, output_of}
-use Rattle.drv_graph.specs.UsedInputs.{drvs_of_uses}
+use Rattle.nix_drv.specs.Parts.{input_of}
 use Rattle.drv_graph.proofs.Checks.{all_sound, kind_is_sound, name_is_sound, use_is_sound}
 use Rattle.drv_graph.proofs.Ends.{err_is}
 use Rattle.drv_graph.proofs.outputs.check_sound.Goals as goal
 
 pub returns-in_err-kind : goal.returns-in_err-kind
-returns-in_err-kind c = rw (err_is _ _ c.from_residual.ensures.1)
-    (kind_is_sound _ c.args.drv.now (drvs_of_uses c.args.used.now) _
-    c.in_err-kind.ensures.err)
+returns-in_err-kind c = search (rules, err_is, kind_is_sound)
 
 pub returns-in_err-check_names : goal.returns-in_err-check_names
-returns-in_err-check_names c = rw (err_is _ _ c.from_residual-in_err-check_names.ensures.1)
-    (name_is_sound _ c.args.drv.now (drvs_of_uses c.args.used.now) _
-    (map output_of _) _ c.in_ok-kind.ensures.ok c.outputs.ensures
-    c.in_err-check_names.ensures.err)
+returns-in_err-check_names c = search (rules, err_is, name_is_sound)
 
 pub check_uses-requires : goal.check_uses-requires
 check_uses-requires c =
@@ -24,14 +18,10 @@ check_uses-requires c =
     ∙ map-map (λ (i : Input). i.path) input_of _
 
 pub returns-in_err-check_uses : goal.returns-in_err-check_uses
-returns-in_err-check_uses c = rw (err_is _ _ c.from_residual-in_err-check_uses.ensures.1)
-    (use_is_sound _ c.args.drv.now (drvs_of_uses _) _
-    (map output_of _) (map input_of _) _
-    c.in_ok-kind.ensures.ok c.outputs.ensures c.in_ok-check_names.ensures.ok c.inputs.ensures
-    c.in_err-check_uses.ensures.err)
+returns-in_err-check_uses c = search (rules, err_is, use_is_sound)
 
 pub returns : goal.returns
-returns c = all_sound _ _ (drvs_of_uses _)
+returns c = all_sound _ _ _
     _
-    (map output_of _) (map input_of _) c.in_ok-kind.ensures.ok
+    _ _ c.in_ok-kind.ensures.ok
     c.outputs.ensures c.in_ok-check_names.ensures.ok c.inputs.ensures c.in_ok-check_uses.ensures.ok

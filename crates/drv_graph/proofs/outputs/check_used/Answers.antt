@@ -6,7 +6,6 @@ use Rattle.nix_drv.specs.Parts.{bytes_of}
 use Rattle.nix_drv.specs.Places.{output_names}
 use Rattle.drv_graph.specs.Checking.{IsUnknownOutput}
 use Rattle.drv_graph.specs.Outputs.{IsKnownUse, Use}
-use Rattle.drv_graph.specs.UsedInputs.{uses_of}
 use Rattle.drv_graph.proofs.Checks.{unknown_use}
 use Rattle.drv_graph.proofs.Loops.{all_took_all, all_took_more, first_without, seen_twice}
 use Rattle.drv_graph.proofs.outputs.check_used.Goals as goal
@@ -16,10 +15,10 @@ loop-name-preserved c =
     let path = c.args.used.now.path.now in
     let drv = c.args.used.now.drv.now in
     let use_of : List ℕ → Use = λ name. record { input = path; output = name; drv = drv } in
-    let found = Contains-from_get (output_names drv) _ _
+    let found = Contains-from_get _ _ _
     c.in-Some.ensures.found in
-    all_took_more IsKnownUse (uses_of path drv (map bytes_of _))
-    _ (use_of _)
+    all_took_more IsKnownUse _
+    _ _
     (seen_twice use_of bytes_of _ _ _
     c.loop-name-test.true c.name-item.is)
     c.loop-name.invariant
@@ -30,10 +29,10 @@ returns-in_default-clause-err c =
     let path = c.args.used.now.path.now in
     let drv = c.args.used.now.drv.now in
     let use_of : List ℕ → Use = λ name. record { input = path; output = name; drv = drv } in
-    unknown_use (uses_of path drv (map bytes_of _)) (use_of _)
+    unknown_use _ _
     _
-    (first_without IsKnownUse (uses_of path drv (map bytes_of _))
-    _ (use_of _)
+    (first_without IsKnownUse _
+    _ _
     (seen_twice use_of bytes_of _ _ _
     c.loop-name-test.true c.name-item.is)
     c.loop-name.invariant
@@ -48,8 +47,8 @@ returns-clause-ok c =
     let path = c.args.used.now.path.now in
     let drv = c.args.used.now.drv.now in
     let use_of : List ℕ → Use = λ name. record { input = path; output = name; drv = drv } in
-    all_took_all IsKnownUse (uses_of path drv (map bytes_of c.args.names.now))
-    c.loop-name.name-index
+    all_took_all IsKnownUse _
+    _
     (omega (
       arith,
       length-map (map bytes_of c.args.names.now) use_of,

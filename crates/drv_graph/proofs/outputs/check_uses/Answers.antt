@@ -1,4 +1,4 @@
-use Rattle.std.proofs.Common.{◌≡◌, ◌∙◌, ◌<◌, ◌≤◌, ℕ, List, Some, length, map, take, get_or, sym, ap, subst, arith}
+use Rattle.std.proofs.Common.{◌≡◌, ◌∙◌, ◌<◌, ◌≤◌, ℕ, List, Some, length, map, take, get_or, sym, ap, subst, arith, rules}
 use Rattle.std.specs.Prelude.{All}
 use Rattle.std.specs.Global.{Vec}
 use Rattle.std.specs.List.{slice_get}
@@ -30,12 +30,12 @@ here inputs used i item by same lt at_item at_by =
       length-map used (λ (u : UsedInput). u.path.now),
       length-map inputs path_of,
     ) in (
-      seen_at input_of inputs i item lt at_item,
-      seen_at (λ (u : UsedInput). u.drv.now) used i by below at_by,
+      seen_at input_of _ i _ lt at_item,
+      seen_at (λ (u : UsedInput). u.drv.now) _ i _ below at_by,
       same_Some by.path.now item.path.items
-          (sym (seen_at (λ (u : UsedInput). u.path.now) used i by below at_by)
+          (sym (seen_at (λ (u : UsedInput). u.path.now) _ i _ below at_by)
           ∙ ap (λ (ps : List (List ℕ)). slice_get ps i) same
-          ∙ seen_at path_of inputs i item lt at_item),
+          ∙ seen_at path_of _ i _ lt at_item),
     )
 
 -- what holds of the uses at the lent path holds of those of the input
@@ -43,32 +43,28 @@ of_item : (P : List Use → Type 0) (path : List ℕ) (drv : Drv) (item : InputS
     (names : List (Vec ℕ)) → path ≡ item.path.items → names ≡ item.names.items
     → P (uses_of path drv (map bytes_of names))
     → P (uses_of item.path.items drv (map bytes_of item.names.items))
-of_item P path drv item names same lent h =
-    subst (λ (p : List ℕ). P (uses_of p drv (map bytes_of item.names.items))) same
-    (subst (λ (ns : List (Vec ℕ)). P (uses_of path drv (map bytes_of ns))) lent h)
+of_item P path drv item names same lent h = search rules
 
 pub loop-place-preserved : goal.loop-place-preserved
 loop-place-preserved c =
     let item = c.index-inputs-place.result in
-    let by = c.index-used-place.result in
-    let at = here _ _ _ item by c.requires
+    let at = here _ _ _ _ _ c.requires
     c.loop-place-test.true c.index-inputs-place.is c.index-used-place.is in
     known_more (map input_of c.args.inputs.now) (drvs_of_uses c.args.used.now) c.loop-place.place
-    (input_of item) by.drv.now at.0 at.1 c.loop-place.invariant
-    (of_item (All IsKnownUse) by.path.now by.drv.now item _ at.2
+    _ _ at.0 at.1 c.loop-place.invariant
+    (of_item (All IsKnownUse) _ _ item _ at.2
     c.deref.ensures.value c.in_ok-check_used.ensures.ok)
 
 pub returns-in_err-check_used-clause-err : goal.returns-in_err-check_used-clause-err
 returns-in_err-check_used-clause-err c =
     let item = c.index-inputs-place.result in
-    let by = c.index-used-place.result in
     let fault = c.in_err-check_used.field-0.0 in
-    let at = here _ _ _ item by c.requires
+    let at = here _ _ _ _ _ c.requires
     c.loop-place-test.true c.index-inputs-place.is c.index-used-place.is in
     rw (err_is _ _ c.from_residual.ensures.1)
     (use_fault_at (map input_of c.args.inputs.now) (drvs_of_uses c.args.used.now) c.loop-place.place
-    (input_of item) by.drv.now fault at.0 at.1 c.loop-place.invariant
-    (of_item (λ us. IsUseFault us fault) by.path.now by.drv.now item _ at.2
+    _ _ fault at.0 at.1 c.loop-place.invariant
+    (of_item (λ us. IsUseFault us fault) _ _ item _ at.2
     c.deref.ensures.value c.in_err-check_used.ensures.err))
 
 pub returns-clause-ok : goal.returns-clause-ok

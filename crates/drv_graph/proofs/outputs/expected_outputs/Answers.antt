@@ -1,4 +1,4 @@
-use Rattle.std.proofs.Common.{◌∙◌, List, ℕ, length, ap, sym, subst}
+use Rattle.std.proofs.Common.{◌∙◌, List, ℕ, length, ap, sym, subst, rules}
 use Rattle.std.proofs.lemmas.Result.{err_from_is_err_and}
 use Rattle.std.proofs.lemmas.Slice.Zip.{AllZip-long}
 use Rattle.drv_graph.specs.Checking.{AreExpected}
@@ -10,10 +10,10 @@ use Rattle.drv_graph.proofs.Ends.{err_is}
 use Rattle.drv_graph.proofs.outputs.expected_outputs.Goals as goal
 
 pub returns-in_err-hashes : goal.returns-in_err-hashes
-returns-in_err-hashes c = rw (err_is _ _ c.from_residual-in_err-hashes.ensures.1) (kind_not_mixed c.args.drv.now _ c.in_ok-kind.ensures.has_kind)
+returns-in_err-hashes c = search (rules, err_is, kind_not_mixed)
 
 pub returns-in_err-paths : goal.returns-in_err-paths
-returns-in_err-paths c = rw (err_is _ _ c.from_residual-in_err-paths.ensures.1) (kind_not_mixed c.args.drv.now _ c.in_ok-kind.ensures.has_kind)
+returns-in_err-paths c = search (rules, err_is, kind_not_mixed)
 
 pub check_values-requires : goal.check_values-requires
 check_values-requires c =
@@ -51,7 +51,7 @@ returns c =
     subst (λ (ps : List (List ℕ)). AreExpected c.args.dir.now c.args.name.now c.in_ok-kind.kind
     c.args.drv.now (hashes_of c.args.used.now) ps) (sym c.as_slice.ensures.value) expected in (
       all_right _ _ _ _ _
-          (hashes_of _) _ slice (drvs_of_uses _)
+          _ _ slice _
           c.in_ok-kind.ensures c.in_ok-check_values.ensures.paths c.in_ok-check_values.ensures.env,
       expected,
     )

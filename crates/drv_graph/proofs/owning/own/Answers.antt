@@ -1,3 +1,4 @@
+use Rattle.std.proofs.Common.{rules}
 use Rattle.drv_graph.specs.Owners.{owned}
 use Rattle.drv_graph.proofs.Owners.{clash_entered, clash_many, owner_within, owning_all, owning_clash}
 use Rattle.drv_graph.proofs.owning.own.Goals as goal
@@ -8,21 +9,10 @@ has_as_many-requires c =
     _ c.requires.owners c.first_owner-owner.ensures
 
 pub returns-then-not-has_as_many : goal.returns-then-not-has_as_many
-returns-then-not-has_as_many c =
-    owning_clash _ _ _ (owned c.args.owners.now)
-    _ c.in_ok-clash.ensures
-    (clash_many _ (owned c.args.owners.now) _
-    _ _ c.requires.kept c.requires.own_outputs
-    c.requires.owners c.requires.distinct c.first_owner-owner.ensures c.has_as_many.ensures
-    c.if-not-has_as_many.true)
+returns-then-not-has_as_many c = search (rules, owning_clash, clash_many)
 
 pub returns-then-not-branch : goal.returns-then-not-branch
-returns-then-not-branch c =
-    owning_clash _ _ _ (owned c.enter.new.owners)
-    _ c.in_ok-clash-2.ensures
-    (clash_entered _ (owned c.args.owners.now) (owned c.enter.new.owners)
-    _ _ _ _
-    c.requires.owners c.first_owner-owner.ensures c.in_ok-enter.ensures c.if-not-branch.true)
+returns-then-not-branch c = search (rules, owning_clash, clash_entered)
 
 pub returns : goal.returns
 returns c =

@@ -22,14 +22,14 @@ placed_now : (parts : Parts) (draft : Drv) (os outputs : List Output) (es env : 
       env = with_items parts.env env;
     }))
 placed_now parts draft os outputs es env paths view long_outputs long_env lent lent_env is is_env =
-    placed_parts parts draft outputs env paths view long_outputs long_env
+    placed_parts parts _ _ _ _ view long_outputs long_env
     (is ∙ ap (λ (xs : List Output). placed_outputs (map output_of xs) paths) lent)
     (subst (λ (xs : List EnvEntry). AllZip (IsPlacedEntry (names_of draft.outputs) paths)
     (map entry_of xs) (map entry_of env)) lent_env is_env)
 
 pub unreachable-requires : goal.unreachable-requires
 unreachable-requires c = c.in-Err.ensures.1
-    (placed_order c.args.paths.now c.args.draft.now _
+    (placed_order _ c.args.draft.now _
     (placed_now c.in_ok-parts.parts c.args.draft.now _ c.place_outputs.new.outputs _
     c.place_env.new.env c.args.paths.now (c.in_ok-parts.ensures ∙ c.parts.ensures.parts)
     (omega arith) (omega arith) c.deref_mut.ensures.value c.deref_mut-2.ensures.value

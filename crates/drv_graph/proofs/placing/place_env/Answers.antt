@@ -1,4 +1,4 @@
-use Rattle.std.proofs.Common.{◌≡◌, ◌<◌, ℕ, List, Some, get_or, length, refl, subst, arith, map}
+use Rattle.std.proofs.Common.{◌≡◌, ◌<◌, ℕ, List, Some, get_or, length, refl, subst, arith}
 use Rattle.std.specs.Prelude.{Contains}
 use Rattle.std.specs.List.{slice_get}
 use Rattle.std.proofs.lemmas.List.{length-map}
@@ -34,31 +34,31 @@ loop-entry-preserved c =
           ) in
           let at_path : slice_get c.args.paths.now w.in-Some.place
           ≡ Some w.index-paths-place.result =
-          slice_get_read c.args.paths.now (length c.args.paths.now) w.in-Some.place
-          w.index-paths-place.result refl below w.index-paths-place.is in
-          let step = zipped_in_place IsPlacedHere entry_of c.args.env.now c.loop-entry.env
-          c.match-output_place.env c.loop-entry.entry-index _ c.entry-item.result
+          slice_get_read _ _ _
+          _ refl below w.index-paths-place.is in
+          let step = zipped_in_place IsPlacedHere entry_of _ _
+          _ _ _ _
           (omega arith) c.loop-entry.auto.env c.loop-entry.invariant.placed
           c.loop-entry.invariant.rest w.env-is
-          (entry_under names c.args.paths.now (entry_of was) _ w.in-Some.place
-          w.index-paths-place.result w.in-Some.ensures.rising at at_path refl
+          (entry_under _ _ _ _ _
+          _ w.in-Some.ensures.rising at at_path refl
           w.in_ok-place_value.ensures) in
           record { placed = step.0; rest = step.1 }
       | in_default w ↦
           let none : Contains names was.key.items
           → ⊥ = subst (λ (key : List ℕ). Contains names key → ⊥) c.deref.ensures.value
           w.in_default.ensures.found in
-          let step = zipped_in_place IsPlacedHere entry_of c.args.env.now c.loop-entry.env
-          c.match-output_place.env c.loop-entry.entry-index was c.entry-item.result
+          let step = zipped_in_place IsPlacedHere entry_of _ _
+          _ _ _ _
           (omega arith) c.loop-entry.auto.env c.loop-entry.invariant.placed
           c.loop-entry.invariant.rest w.env-is
-          (entry_other names c.args.paths.now (entry_of was) none) in
+          (entry_other _ _ _ none) in
           record { placed = step.0; rest = step.1 }
     ]
 
 pub returns : goal.returns
 returns c =
     zipped_all (IsPlacedEntry (names_of c.args.draft.now.outputs) c.args.paths.now)
-    (map entry_of c.args.env.now) (map entry_of c.loop-entry.env) c.loop-entry.entry-index
+    _ _ _
     (omega (arith, length-map c.args.env.now entry_of))
     (omega (arith, length-map c.loop-entry.env entry_of)) c.loop-entry.invariant.placed

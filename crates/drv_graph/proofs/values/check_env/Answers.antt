@@ -15,11 +15,11 @@ loop-place-preserved c =
     let below : c.loop-place.place < length c.args.paths.now =
     omega (arith, ap length c.outputs-output-items.ensures, length-map outputs output_of) in
     fit_more (EntriesFit _ _) _ _
-    _ (output_of c.output-item.result) _
+    _ _ _
     (ap (λ (os : List Output). slice_get os c.loop-place.place) (sym c.outputs-output-items.ensures)
-    ∙ seen_at output_of outputs _ _ c.loop-place-test.true
+    ∙ seen_at output_of _ _ _ c.loop-place-test.true
     c.output-item.is)
-    (slice_get_read _ (length _) _
+    (slice_get_read _ _ _
     _ refl below c.index-paths-place.is)
     c.loop-place.invariant c.if-not-entry_fits.ensures
 
@@ -29,10 +29,10 @@ returns-then-not-entry_fits-clause-err c =
     let below : c.loop-place.place < length c.args.paths.now =
     omega (arith, ap length c.outputs-output-items.ensures, length-map outputs output_of) in
     env_mismatch _ _ _ _
-    _ (output_of c.output-item.result) _ _
+    _ _ _ _
     (ap (λ (os : List Output). slice_get os c.loop-place.place) (sym c.outputs-output-items.ensures)
-    ∙ seen_at output_of outputs _ _ c.loop-place-test.true
+    ∙ seen_at output_of _ _ _ c.loop-place-test.true
     c.output-item.is)
-    (slice_get_read _ (length _) _
+    (slice_get_read _ _ _
     _ refl below c.index-paths-place.is)
     c.loop-place.invariant c.if-not-entry_fits.ensures c.in_ok-env_mismatch.ensures

@@ -1,32 +1,22 @@
-use Rattle.std.proofs.Common.{◌<◌, ℕ, List, length, map, refl, subst, arith}
+use Rattle.std.proofs.Common.{◌<◌, ℕ, List, length, refl, subst, arith, rules}
 use Rattle.std.proofs.lemmas.Option.{slice_get_read}
 use Rattle.nix_drv.specs.Parts.{output_of}
-use Rattle.drv_graph.specs.Checking.{FitsExpected, PathFits}
+use Rattle.drv_graph.specs.Checking.{FitsExpected}
 use Rattle.drv_graph.proofs.Checks.{fit_more, mismatch}
 use Rattle.drv_graph.proofs.Loops.{seen_at}
 use Rattle.drv_graph.proofs.values.check_paths.Goals as goal
 
 pub loop-place-preserved : goal.loop-place-preserved
-loop-place-preserved c =
-    let below : c.loop-place.place < length c.args.paths.now = omega arith in
-    fit_more (PathFits _) (map output_of _) _
-    _ (output_of c.index-outputs-place.result) _
-    (seen_at output_of _ _ _
-    c.loop-place-test.true c.index-outputs-place.is)
-    (slice_get_read _ (length _) _
-    _ refl below c.index-paths-place.is)
-    c.loop-place.invariant
-    (subst (λ (v : List ℕ). FitsExpected c.args.in_draft v c.index-paths-place.result)
-    c.deref.ensures.value c.if-not-fits.ensures)
+loop-place-preserved c = search (rules, fit_more, seen_at, slice_get_read)
 
 pub returns-then-not-fits-clause-err : goal.returns-then-not-fits-clause-err
 returns-then-not-fits-clause-err c =
     let below : c.loop-place.place < length c.args.paths.now = omega arith in
-    mismatch _ (map output_of _) _ _
-    (output_of c.index-outputs-place.result) _ _
+    mismatch _ _ _ _
+    _ _ _
     (seen_at output_of _ _ _
     c.loop-place-test.true c.index-outputs-place.is)
-    (slice_get_read _ (length _) _
+    (slice_get_read _ _ _
     _ refl below c.index-paths-place.is)
     c.loop-place.invariant
     (subst (λ (v : List ℕ). FitsExpected c.args.in_draft v c.index-paths-place.result → ⊥)

@@ -23,11 +23,11 @@ returns-in-Some c =
       ap length c.env-env.ensures,
       length-map c.env-env.result.now entry_of,
     ) in
-    entry_answer c.args.in_draft c.args.drv.now.env c.args.output.now.name.items c.args.path.now
-    c.fits.result c.in-Some.place (entry_of c.index-env-place.result) c.in-Some.ensures.rising
+    entry_answer _ _ _ _
+    _ _ _ c.in-Some.ensures.rising
     (c.in-Some.ensures.found ∙ ap (λ (n : List ℕ). Some n) c.as_slice-name.ensures.value)
     (ap (λ (es : List EnvEntry). slice_get es c.in-Some.place) (sym c.env-env.ensures)
-    ∙ seen_at entry_of c.env-env.result.now c.in-Some.place c.index-env-place.result below
+    ∙ seen_at entry_of _ _ _ below
     c.index-env-place.is)
     (subst (λ (v : List ℕ). MatchBool c.fits.result (FitsExpected c.args.in_draft v c.args.path.now)
     (FitsExpected c.args.in_draft v c.args.path.now → ⊥)) c.deref.ensures.value c.fits.ensures)

@@ -1,15 +1,12 @@
-use Rattle.std.proofs.Common.{map, refl, subst, sym}
+use Rattle.std.proofs.Common.{refl, subst, sym}
 use Rattle.std.specs.Prelude.{All}
 use Rattle.nix_names.specs.StorePaths.{IsPathOf}
-use Rattle.nix_drv.specs.Parts.{path_of}
 use Rattle.drv_graph.proofs.Leaving.{inputs_are}
 use Rattle.drv_graph.proofs.walk.begin.Goals as goal
 
 pub input_paths-requires : goal.input_paths-requires
 input_paths-requires c =
-    subst (All (IsPathOf _))
-    (sym (inputs_are _ c.args.drv (map path_of _)
-    c.inputs.ensures refl)) c.requires
+    subst (All (IsPathOf _)) (sym (inputs_are _ c.args.drv _ c.inputs.ensures refl)) c.requires
 
 pub returns-clause-inputs : goal.returns-clause-inputs
 returns-clause-inputs c = inputs_are _ c.args.drv _

@@ -1,4 +1,4 @@
-use Rattle.std.proofs.Common.{◌≡◌, ◌∙◌, ap, inl, refl, subst, None, Ok}
+use Rattle.std.proofs.Common.{◌≡◌, ◌∙◌, ap, refl, subst, None, Ok, rules}
 use Rattle.drv_graph.specs.Walks.{IsStepping}
 use Rattle.drv_graph.proofs.Going.{went_along, went_down}
 use Rattle.drv_graph.proofs.Ends.{err_is}
@@ -6,10 +6,10 @@ use Rattle.drv_graph.proofs.walk.go_on.Goals as goal
 use Rattle.drv_graph.proofs.walk.go_on.Goals.{in-Some+in_ok-push-2, in_default}
 
 pub returns-in_err-push-clause-going_on : goal.returns-in_err-push-clause-going_on
-returns-in_err-push-clause-going_on g c = rw (err_is _ _ c.from_residual-in_err-push.ensures.1) (inl refl)
+returns-in_err-push-clause-going_on g c = search (rules, err_is)
 
 pub returns-in_err-push-2-clause-going_on : goal.returns-in_err-push-2-clause-going_on
-returns-in_err-push-2-clause-going_on g c = rw (err_is _ _ c.from_residual-in_err-push-2.ensures.1) (inl refl)
+returns-in_err-push-2-clause-going_on g c = search (rules, err_is)
 
 pub returns-clause-going_on : goal.returns-clause-going_on
 returns-clause-going_on g c =
@@ -30,12 +30,8 @@ returns-clause-going_on g c =
       | in_default w ↦
           let none : c.in_ok-child.child ≡ None = cc in
           went_along _ (g.S.DrvSource.gives _) _
-          (record {
-            nodes = c.args.found.now.nodes;
-            marks = c.step.new.marks;
-            owners = c.args.found.now.owners;
-          }) _
-          _ _ _ _ tt
+          _ _
+          _ _ _ _ _
           (record { nodes = refl; owners = refl }) none c.in_ok-child.ensures.stepping
           (ap (λ v. v.items) w.visits-is ∙ c.in_ok-push.ensures.items)
     ]

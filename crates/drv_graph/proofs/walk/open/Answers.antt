@@ -1,10 +1,10 @@
+use Rattle.std.proofs.Common.{rules}
 use Rattle.drv_graph.proofs.Reading.{opens_made}
 use Rattle.drv_graph.proofs.InStore.{inputs_in_store}
 use Rattle.drv_graph.proofs.walk.open.Goals as goal
 
 pub begin-requires : goal.begin-requires
-begin-requires g c =
-    inputs_in_store _ _ c.in_ok-drv.ensures.reading.0.found.in_store
+begin-requires g c = search (rules, inputs_in_store)
 
 pub returns-clause-opening : goal.returns-clause-opening
 returns-clause-opening g c =

@@ -1,4 +1,4 @@
-use Rattle.std.proofs.Common.{◌≡◌, arith, length, refl, subst, sym}
+use Rattle.std.proofs.Common.{◌≡◌, arith, length, refl, subst, sym, rules}
 use Rattle.drv_graph.specs.PlanNodes.{nodes_of}
 use Rattle.drv_graph.specs.Walks.{IsVisited}
 use Rattle.drv_graph.proofs.Counting.{counted_before}
@@ -12,41 +12,33 @@ pub go_on-requires-clause-pending : goal.go_on-requires-clause-pending
 go_on-requires-clause-pending g c =
     (popped_is _ (g.S.DrvSource.gives _)
     (g.S.DrvSource.gives c.walk.source) _ _
-    (nodes_of _) _ _
+    _ _ _
     _ _ c.walk.invariant.walk c.in-Some.ensures.items).1
 
 pub go_on-requires-clause-is_new : goal.go_on-requires-clause-is_new
 go_on-requires-clause-is_new g c =
     (popped_is _ (g.S.DrvSource.gives _)
     (g.S.DrvSource.gives c.walk.source) _ _
-    (nodes_of _) _ _
+    _ _ _
     _ _ c.walk.invariant.walk c.in-Some.ensures.items).2
 
 pub go_on-requires-clause-in_store : goal.go_on-requires-clause-in_store
 go_on-requires-clause-in_store g c =
     popped_sources _ (g.S.DrvSource.gives _)
     (g.S.DrvSource.gives c.walk.source) _ _
-    (nodes_of _) _ _
+    _ _ _
     _ _ c.walk.invariant.walk c.in-Some.ensures.items
 
 pub returns-in_err-go_on-in-Some-clause-device : goal.returns-in_err-go_on-in-Some-clause-device
-returns-in_err-go_on-in-Some-clause-device g c = rw (err_is _ _ c.from_residual.ensures.1)
-    (counted_before (g.S.DrvSource.gives _) (g.S.DrvSource.gives _)
-    (g.S.DrvSource.failures _) (g.S.DrvSource.failures _)
-    (g.S.DrvSource.failures _) _
-    c.walk.invariant.keeps c.walk.invariant.counts c.in_err-go_on-in-Some.ensures.device)
+returns-in_err-go_on-in-Some-clause-device g c = search (rules, err_is, counted_before)
 
 pub returns-in_err-number-in-None-clause-device : goal.returns-in_err-number-in-None-clause-device
-returns-in_err-number-in-None-clause-device g c = rw (err_is _ _ c.from_residual-in_err-number-in-None.ensures.1)
-    (counted_before (g.S.DrvSource.gives _) (g.S.DrvSource.gives _)
-    (g.S.DrvSource.failures _) (g.S.DrvSource.failures _)
-    (g.S.DrvSource.failures _) _
-    c.walk.invariant.keeps c.walk.invariant.counts c.in_err-number-in-None.ensures.device)
+returns-in_err-number-in-None-clause-device g c = search (rules, err_is, counted_before)
 
 pub walk-smaller-in-Continue-1 : goal.walk-smaller-in-Continue-1
 walk-smaller-in-Continue-1 g c =
     less_going _ (g.S.DrvSource.gives _) _ _
-    _ _ _ _ tt
+    _ _ _ _ _
     c.in-Some.ensures.items c.in_ok-go_on-in-Some.ensures.going_on
 
 pub walk-preserved-in-Continue-1 : goal.walk-preserved-in-Continue-1
@@ -60,8 +52,8 @@ walk-preserved-in-Continue-1 g c =
       counts = omega (arith, c.walk.invariant.counts, c.in_ok-go_on-in-Some.ensures.counts);
       walk = walk_goes_on _ (g.S.DrvSource.gives _)
           (g.S.DrvSource.gives _) _ _
-          (nodes_of _) _ _ _
-          _ _ _ tt has_root
+          _ _ _ _
+          _ _ _ _ has_root
           c.walk.invariant.keeps c.walk.invariant.walk c.in-Some.ensures.items
           c.in_ok-go_on-in-Some.ensures.going_on;
     }
@@ -73,7 +65,7 @@ returns-in_err-go_on-in-Some-clause-walking g c = λ root at.
     rw (err_is _ _ c.from_residual.ensures.1)
     (walk_stops _ (g.S.DrvSource.gives _)
     (g.S.DrvSource.gives _) _ _
-    (nodes_of _) _ c.go_on.new.found _
+    _ _ c.go_on.new.found _
     _ c.go_on.new.visits.items _
     _ has_root c.walk.invariant.keeps c.walk.invariant.walk
     c.in-Some.ensures.items c.in_err-go_on-in-Some.ensures.going_on)
@@ -87,7 +79,7 @@ returns-in_err-number-in-None-clause-walking g c = λ root at.
     rw (err_is _ _ c.from_residual-in_err-number-in-None.ensures.1)
     (root_stops _ (g.S.DrvSource.gives _)
     (g.S.DrvSource.gives _) _ _
-    (nodes_of _) _ _
+    _ _ _
     _ has_root c.walk.invariant.keeps c.walk.invariant.walk none
     c.in_err-number-in-None.ensures.meeting)
 
@@ -96,10 +88,10 @@ returns-in-Done-clause-walking g c = λ root at.
     let cases = c.in-None.ensures.cases in
     let none : length c.walk.visits.items ≡ 0 = omega (arith, cases.0, c.walk.visits.ok.0) in
     let met = rw c.in-Done.is at c.in_ok-number-in-None.ensures.meeting in
-    let same = root_read _ _ _ root
+    let same = root_read _ _ _ _
     c.requires.place c.index-roots-place.is at in
     let ends = walk_ends _ (g.S.DrvSource.gives _) _
-    _ c.args.found.now _ _
+    _ _ _ _
     _ c.walk.invariant.walk none met.1 in
     subst (λ r. IsVisited c.args.dir.now (g.S.DrvSource.gives c.args.source.now) c.args.roots.now r
     c.args.found.now
@@ -137,12 +129,8 @@ walk-preserved g c =
           })) (sym shape)
           (root_opens _ (g.S.DrvSource.gives _)
           (g.S.DrvSource.gives _) _ _
-          (nodes_of _) _
-          (record {
-            nodes = c.walk.found.nodes;
-            marks = c.meet.new.marks;
-            owners = c.walk.found.owners;
-          }) _ _ has_root
+          _ _
+          _ _ _ has_root
           c.walk.invariant.keeps c.walk.invariant.walk none
           (record { nodes = refl; owners = refl }) met);
     }

@@ -3,10 +3,7 @@ use Rattle.sched_core.proofs.Linkages.{links_inner}
 use Rattle.sched_core.proofs.cycle.is_cyclic.Goals as goal
 
 pub has_round-requires : goal.has_round-requires
-has_round-requires c = rw c.deref.ensures.value
-    (links_inner c.args.paths.now c.args.records.now c.in_ok-links.links.items
-    c.in_ok-links.ensures)
+has_round-requires c = rw c.deref.ensures.value (links_inner _ _ _ c.in_ok-links.ensures)
 
 pub returns : goal.returns
-returns c = told_of c.args.paths.now c.args.records.now c.in_ok-links.links.items
-    c.in_ok-links.ensures c.has_round.result (rw c.deref.ensures.value at c.has_round.ensures)
+returns c = told_of _ _ _ c.in_ok-links.ensures _ (rw c.deref.ensures.value at c.has_round.ensures)

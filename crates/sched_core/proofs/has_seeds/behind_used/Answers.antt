@@ -7,9 +7,9 @@ use Rattle.sched_core.proofs.has_seeds.behind_used.Goals.{then-uses+in-Some, the
 
 pub loop-n-preserved : goal.loop-n-preserved
 loop-n-preserved c =
-    used_step c.args.drv.now.inputs c.args.place c.args.used.now c.args.seeds.now c.args.paths.now
-    c.outputs-outputs.result.now c.loop-n.n
-    c.index-outputs-n.result c.deref.result.now c.uses.result c.loop-n.left c.if-uses.left
+    used_step c.args.drv.now.inputs c.args.place c.args.used.now _ _
+    _ _
+    _ _ _ _ _
     c.outputs-outputs.ensures c.requires.paths c.loop-n-test.true c.index-outputs-n.is
     (c.deref.ensures.value ∙ ap (λ (o : Output). o.name.items) (sym c.index-outputs-n.is))
     c.uses.ensures
@@ -17,14 +17,14 @@ loop-n-preserved c =
       | then-uses+in-Some w ↦
           inl (
             w.if-uses.true,
-            element_some c.loop-n.left c.if-uses.left w.behind_path-left.result w.in-Some.rest
-                c.args.paths.now c.loop-n.n w.index-paths-n.result c.loop-n-test.true
+            element_some _ _ _ _
+                _ _ _ c.loop-n-test.true
                 w.index-paths-n.is w.in-Some.is
                 w.behind_path-left.ensures w.left-is,
           )
       | then-uses+in-None w ↦ inl (
         w.if-uses.true,
-        element_none c.loop-n.left c.if-uses.left c.args.paths.now c.loop-n.n w.in-None.is
+        element_none _ _ c.args.paths.now c.loop-n.n w.in-None.is
             w.left-is,
       )
       | else-uses w ↦ inr (w.if-uses.false, w.left-is)
@@ -33,11 +33,11 @@ loop-n-preserved c =
 
 pub returns : goal.returns
 returns c =
-    used_all c.args.drv.now.inputs c.args.place c.args.used.now c.args.seeds.now c.loop-n.n
-    c.loop-n.left
+    used_all c.args.drv.now.inputs c.args.place c.args.used.now _ _
+    _
     (omega (
       arith,
       c.loop-n-test.false,
-      paths_count_is c.args.used.now c.args.paths.now
+      paths_count_is c.args.used.now _
           c.requires.paths,
     )) c.loop-n.invariant

@@ -11,15 +11,13 @@ use Rattle.sched_core.proofs.has_seeds.has_seeds.Goals.{in-Some, in-None}
 
 pub loop-place-preserved : goal.loop-place-preserved
 loop-place-preserved c =
-    let nodes = c.args.plan.now.nodes in
-    let numbers = c.inputs-inputs.result.now in
-    let within = input_within nodes c.args.d c.drv-drv.result.now numbers c.loop-place.place
+    let within = input_within _ _ _ _ _
     c.requires c.drv-drv.ensures c.inputs-inputs.ensures.numbers c.loop-place-test.true in
-    input_step nodes c.args.d c.drv-drv.result.now c.drv-used.result.now numbers c.loop-place.place
-    _ c.args.seeds.now c.loop-place.left c.match-left.left
+    input_step _ _ _ _ _ _
+    _ _ _ _
     c.inputs-inputs.ensures.sound.distinct
     c.drv-drv.ensures c.inputs-inputs.ensures.numbers
-    (slice_get-get_or numbers c.loop-place.place _ c.loop-place-test.true) c.drv-used.ensures
+    (slice_get-get_or _ _ _ c.loop-place-test.true) c.drv-used.ensures
     within
     (elim c.match-left.branch [
       | in-Some w ↦
@@ -34,19 +32,19 @@ loop-place-preserved c =
 pub returns-in-Some-left : goal.returns-in-Some-left
 returns-in-Some-left c =
     let nodes = c.args.plan.now.nodes in
-    let behind = seeds_left nodes c.args.d c.inputs-inputs.result.now c.args.seeds.now
-    c.loop-place.place c.loop-place.left c.inputs-inputs.ensures.numbers c.loop-place-test.false
+    let behind = seeds_left _ _ _ _
+    _ _ c.inputs-inputs.ensures.numbers c.loop-place-test.false
     c.loop-place.invariant in
-    seeds_told nodes c.args.d c.args.seeds.now c.in-Some-left.rest c.is_empty.result
+    seeds_told nodes c.args.d c.args.seeds.now c.in-Some-left.rest _
     (subst (λ o. IfSome (slice_get nodes c.args.d)
     (λ (node : Node). IsBehind c.args.seeds.now (seeds_of nodes node.drv) o)) c.in-Some-left.is
     behind)
-    (nothing_told c.in-Some-left.rest.now c.is_empty.result c.is_empty.ensures)
+    (nothing_told _ _ c.is_empty.ensures)
 
 pub returns-in-None-left : goal.returns-in-None-left
 returns-in-None-left c =
     let nodes = c.args.plan.now.nodes in
-    let behind = seeds_left nodes c.args.d c.inputs-inputs.result.now c.args.seeds.now
+    let behind = seeds_left _ _ _ _
     c.loop-place.place c.loop-place.left c.inputs-inputs.ensures.numbers c.loop-place-test.false
     c.loop-place.invariant in
     seeds_untold nodes c.args.d c.args.seeds.now

@@ -1,4 +1,4 @@
-use Rattle.std.proofs.Common.{◌∙◌, subst, sym}
+use Rattle.std.proofs.Common.{◌∙◌, subst, sym, rules}
 use Rattle.std.proofs.lemmas.Bool.{false≢true}
 use Rattle.sched_core.specs.SameJobs.{MakesAt}
 use Rattle.sched_core.proofs.Comparing.{as_many_paths, job_by_parts, kind_of_job, makes_of, recipe_of}
@@ -9,20 +9,14 @@ returns-then-not-same_kind c = (
   λ told. absurd (false≢true told),
   λ is. absurd (false≢true (sym c.if-not-same_kind.true
       ∙ c.same_kind.ensures.1
-      (kind_of_job c.args.plan.now c.args.d c.args.job.now _ c.kind.ensures is))),
+      (kind_of_job _ _ _ _ c.kind.ensures is))),
 )
 
 pub returns-then-not-has_recipe : goal.returns-then-not-has_recipe
-returns-then-not-has_recipe c = (
-  λ told. absurd (false≢true told),
-  λ is. absurd (false≢true (sym c.if-not-has_recipe.true
-      ∙ c.has_recipe.ensures.1
-      (recipe_of c.args.plan.now c.args.d c.args.job.now _ c.drv-drv.ensures is))),
-)
+returns-then-not-has_recipe c = search (rules, recipe_of)
 
 pub makes-requires : goal.makes-requires
-makes-requires c = as_many_paths c.args.plan.now _ _ _ _ c.requires c.drv-drv.ensures
-    c.outputs.ensures c.output_paths.ensures.value
+makes-requires c = search (rules, as_many_paths)
 
 pub returns-then-not-makes : goal.returns-then-not-makes
 returns-then-not-makes c = (
@@ -33,13 +27,13 @@ returns-then-not-makes c = (
       (sym c.if-not-makes.true
       ∙ c.makes.ensures.1
       (rw c.deref.ensures.value
-      (makes_of c.args.plan.now c.args.d c.args.job.now _ _ _ c.drv-drv.ensures
+      (makes_of _ _ _ _ _ _ c.drv-drv.ensures
       c.outputs.ensures c.output_paths.ensures.value is)))),
 )
 
 pub returns : goal.returns
 returns c =
-    job_by_parts c.args.plan.now c.args.d c.args.job.now _ _ _ _ c.has_seeds.result c.requires
+    job_by_parts _ _ _ _ _ _ _ _ c.requires
     c.drv-drv.ensures c.if-job-d.false c.kind.ensures
     (c.same_kind.ensures.0 c.if-not-same_kind.false)
     (c.has_recipe.ensures.0 c.if-not-has_recipe.false) c.outputs.ensures

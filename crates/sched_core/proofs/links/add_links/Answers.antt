@@ -1,4 +1,4 @@
-use Rattle.std.proofs.Common.{subst, take}
+use Rattle.std.proofs.Common.{subst, rules}
 use Rattle.std.proofs.lemmas.List.{take_all}
 use Rattle.nix_names.proofs.Lists.{taken_more}
 use Rattle.sched_core.specs.Linking.{AddsLinks}
@@ -7,23 +7,21 @@ use Rattle.sched_core.proofs.links.add_links.Goals as goal
 use Rattle.sched_core.proofs.links.add_links.Goals.{in-Some+in_ok-push, in_default}
 
 pub loop-reference-init : goal.loop-reference-init
-loop-reference-init c = adds_none c.args.paths.now.keys c.args.own.now.items
+loop-reference-init c = search (rules, adds_none)
 
 pub loop-reference-preserved : goal.loop-reference-preserved
 loop-reference-preserved c =
-    let keys = c.args.paths.now.keys in
-    let references = take c.loop-reference.reference-index c.args.references.now in
-    rw (taken_more c.args.references.now c.loop-reference.reference-index c.reference-item.result
+    rw (taken_more _ _ _
     c.loop-reference-test.true c.reference-item.is)
     (elim c.match-place_of.branch [
       | in-Some+in_ok-push w ↦
           rw w.own-is
-          (adds_place keys references c.reference-item.result c.args.own.now.items
-          c.loop-reference.own.items _ w.in-Some.to c.requires c.loop-reference.invariant
+          (adds_place _ _ _ _
+          _ _ _ c.requires c.loop-reference.invariant
           w.in-Some.ensures w.in_ok-push.ensures.items)
       | in_default w ↦ rw w.own-is
-          (adds_no_place keys references c.reference-item.result c.args.own.now.items
-          c.loop-reference.own.items c.loop-reference.invariant w.in_default.ensures)
+          (adds_no_place _ _ _ _
+          _ c.loop-reference.invariant w.in_default.ensures)
     ])
 
 pub returns : goal.returns

@@ -7,6 +7,6 @@ loop-preserved c = record {
   count = ap length c.in_ok-push.ensures.items
       ∙ length-append c.loop.links.items (c.new.result ∷ [])
       ∙ ap (λ n. n + 1) c.loop.invariant.count;
-  none = no_links_more c.loop.links.items c.push.new.self.items c.new.result c.loop.invariant.none
+  none = no_links_more _ _ _ c.loop.invariant.none
       c.new.ensures.items c.in_ok-push.ensures.items;
 }

@@ -2,13 +2,11 @@ use Rattle.std.proofs.Common.{◌∙◌, ap, refl}
 use Rattle.std.specs.Global.{Vec}
 use Rattle.sched_core.specs.declared.listing.Keyed.{Keyed}
 use Rattle.sched_core.proofs.Listings.{keyed_new, listed_none, listed_skip}
-use Rattle.sched_core.specs.Listing.{listed_behind}
 use Rattle.sched_core.proofs.listing.keyed_of.Goals.{then-marks-number+in_ok-push, else-marks-number}
 use Rattle.sched_core.proofs.listing.keyed_of.Goals as goal
 
 pub loop-number-init : goal.loop-number-init
-loop-number-init c = rw c.new-keyed.ensures.items (listed_none c.args.plan.now.nodes
-    c.args.marks.now)
+loop-number-init c = rw c.new-keyed.ensures.items (listed_none _ _)
 
 pub loop-number-preserved : goal.loop-number-preserved
 loop-number-preserved c =
@@ -22,7 +20,7 @@ loop-number-preserved c =
           c.loop-number.invariant
       | else-marks-number w ↦
           rw w.keyed-is
-          (listed_skip c.args.plan.now.nodes c.args.marks.now c.loop-number.number
-          (listed_behind c.loop-number.keyed.items) w.if-marks-number.false
+          (listed_skip _ _ _
+          _ w.if-marks-number.false
           c.loop-number.invariant)
     ]

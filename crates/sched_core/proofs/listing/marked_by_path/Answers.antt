@@ -14,7 +14,7 @@ returns-clause-by_path c =
     (λ (a b : Listed). is_lt (slice_cmp nat_cmp a.path.now b.path.now))
     (ranks_by nat_list_cmp_total (λ (l : Listed). l.path.now))
     (answers_always _ _ _ (λ f a r g h. search rules)) in
-    keyed_by_path c.args.plan.now.nodes
+    keyed_by_path _
     (IsMarked c.args.marks.now (length c.args.plan.now.nodes)) _ _ _ _
     c.in_ok-keyed.ensures c.sort_unstable_by_key.ensures.permutation
     (c.in_ok-listed.ensures ∙ ap listed_behind c.deref.ensures.value)
@@ -26,8 +26,8 @@ returns-clause-within c =
     (λ (a b : Listed). is_lt (slice_cmp nat_cmp a.path.now b.path.now))
     (ranks_by nat_list_cmp_total (λ (l : Listed). l.path.now))
     (answers_always _ _ _ (λ f a r g h. search rules)) in
-    by_path_within c.args.plan.now.nodes c.args.marks.now (length c.args.plan.now.nodes) _
-    (keyed_by_path c.args.plan.now.nodes
+    by_path_within _ _ _ _
+    (keyed_by_path _
     (IsMarked c.args.marks.now (length c.args.plan.now.nodes)) _ _ _ _
     c.in_ok-keyed.ensures c.sort_unstable_by_key.ensures.permutation
     (c.in_ok-listed.ensures ∙ ap listed_behind c.deref.ensures.value)

@@ -1,9 +1,8 @@
 use Rattle.std.proofs.Common.{◌∙◌, length, subst}
-use Rattle.std.specs.List.{flat_map}
 use Rattle.drv_graph.specs.Plans.{Graph}
 use Rattle.sched_core.specs.Courses.{Course, course_state}
 use Rattle.sched_core.specs.Listing.{IsMarked, numbers_of}
-use Rattle.sched_core.specs.Reports.{AreByPath, line_at, outputs_at}
+use Rattle.sched_core.specs.Reports.{AreByPath, line_at}
 use Rattle.sched_core.proofs.Listings.{lines_made}
 use Rattle.sched_core.proofs.report.report_of.Goals as goal
 
@@ -19,8 +18,8 @@ returns-clause-ok c =
           (IsMarked marks (length c.plan.result.now.nodes)) (numbers_of listed))
           (c.deref.ensures.value ∙ c.in_ok-wanted.ensures.marks) c.in_ok-listed.ensures.by_path);
       is_text = lines_made (line_at course.graph.nodes (course_state course))
-          (flat_map (outputs_at course.graph.nodes (course_state course)) course.graph.roots)
-          listed c.new-text.result.items c.write_lines.new.out.items c.write_roots.new.out.items
+          _
+          _ _ _ _
           c.new-text.ensures.items (rw c.deref-2.ensures.value at c.in_ok-write_lines.ensures)
           c.in_ok-write_roots.ensures;
     }

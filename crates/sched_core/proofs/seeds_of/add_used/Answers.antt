@@ -1,4 +1,4 @@
-use Rattle.std.proofs.Common.{◌∙◌, [], ◌∷◌, ◌++◌, ap, arith, inl, inr, sym}
+use Rattle.std.proofs.Common.{◌∙◌, [], ◌∷◌, ◌++◌, ap, arith, inl, inr, sym, rules}
 use Rattle.nix_drv.specs.declared.derivation.Output.{Output}
 use Rattle.std.proofs.lemmas.Option.{get_or_from_slice_get}
 use Rattle.sched_core.proofs.SeedParts.{adds_all, adds_none, output_seen, paths_count_is, read_at}
@@ -6,13 +6,13 @@ use Rattle.sched_core.proofs.seeds_of.add_used.Goals as goal
 use Rattle.sched_core.proofs.seeds_of.add_used.Goals.{then-uses+in_ok-path+in_ok-push, else-uses}
 
 pub loop-n-init : goal.loop-n-init
-loop-n-init c = adds_none c.args.drv.now.inputs c.args.place c.args.used.now c.args.seeds.now.items
+loop-n-init c = search (rules, adds_none)
 
 pub loop-n-preserved : goal.loop-n-preserved
 loop-n-preserved c =
-    output_seen c.args.drv.now.inputs c.args.place c.args.used.now c.args.seeds.now.items
-    c.loop-n.seeds.items _ c.args.paths.now c.outputs-outputs.result.now c.loop-n.n
-    c.index-outputs-n.result c.deref.result.now c.uses.result c.outputs-outputs.ensures
+    output_seen c.args.drv.now.inputs c.args.place c.args.used.now _
+    _ _ _ _ _
+    _ _ _ c.outputs-outputs.ensures
     c.requires.paths c.loop-n-test.true c.index-outputs-n.is
     (c.deref.ensures.value ∙ ap (λ (o : Output). o.name.items) (sym c.index-outputs-n.is))
     c.uses.ensures
@@ -23,8 +23,8 @@ loop-n-preserved c =
             ap (λ v. v.items) w.seeds-is ∙ w.in_ok-push.ensures.items
                 ∙ ap (λ p. c.loop-n.seeds.items ++ p ∷ [])
                 (w.in_ok-path.ensures.same
-                ∙ sym (get_or_from_slice_get c.args.paths.now c.loop-n.n w.index-paths-n.result
-                [] (read_at c.args.paths.now c.loop-n.n w.index-paths-n.result
+                ∙ sym (get_or_from_slice_get c.args.paths.now c.loop-n.n _
+                [] (read_at _ _ _
                 c.loop-n-test.true w.index-paths-n.is))),
           )
       | else-uses w ↦ inr (w.if-uses.false, ap (λ v. v.items) w.seeds-is)
@@ -33,7 +33,7 @@ loop-n-preserved c =
 
 pub returns : goal.returns
 returns c =
-    adds_all c.args.drv.now.inputs c.args.place c.args.used.now c.args.seeds.now.items
+    adds_all c.args.drv.now.inputs c.args.place c.args.used.now _
     c.loop-n.seeds.items c.loop-n.n
     (omega (
       arith,

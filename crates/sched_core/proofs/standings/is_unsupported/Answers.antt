@@ -7,10 +7,10 @@ use Rattle.sched_core.proofs.standings.is_unsupported.Goals.{then-starts_with, e
 pub returns-then-has_left_out : goal.returns-then-has_left_out
 returns-then-has_left_out c = c.if-has_left_out.true ∙ elim c.if-starts_with.branch [
   | then-starts_with w ↦ sym
-      (builtin_asks c.args.drv.now c.builder.result.now c.starts_with.result c.builder.ensures
+      (builtin_asks c.args.drv.now _ _ c.builder.ensures
       c.starts_with.ensures.value w.if-starts_with.true)
   | else-starts_with w ↦ sym
-      (key_asks c.args.drv.now w.env.result.now w.has_left_out.result w.env.ensures
+      (key_asks c.args.drv.now _ _ w.env.ensures
       w.has_left_out.ensures (sym w.value-is ∙ c.if-has_left_out.true))
 ]
 

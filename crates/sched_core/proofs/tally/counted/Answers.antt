@@ -1,4 +1,4 @@
-use Rattle.std.proofs.Common.{◌≡◌, true, false, arith, ap, refl, subst, sym, ◌∙◌, ◌==◌, ◌<◌, ◌++◌, ℕ, Option, Some, None, if◌then◌else◌, is_some, length, map}
+use Rattle.std.proofs.Common.{◌≡◌, false, arith, ap, refl, subst, sym, ◌∙◌, ◌==◌, ◌<◌, ◌++◌, ℕ, Option, Some, None, if◌then◌else◌, is_some, length, map}
 use Rattle.std.specs.Prelude.{slice_get}
 use Rattle.std.proofs.lemmas.List.{length-map}
 use Rattle.sched_core.specs.Courses.{listed}
@@ -29,19 +29,19 @@ loop-place-preserved c =
       | then-serves w ↦
           rw (w.waits-is, w.first-is)
           (good_counted _ _ _ _ low l.invariant
-          (good_read tallies inputs l.place _ c.loop-place-test.true below c.serves.result true
+          (good_read tallies inputs l.place _ c.loop-place-test.true below _ _
           c.serves.ensures w.if-serves.true)).1
       | else-serves+then-place-first+then-fails w ↦
           rw (w.waits-is, w.first-is)
           (bad_counted _ _ _ _ low l.invariant
-          (good_read tallies inputs l.place _ c.loop-place-test.true below c.serves.result false
+          (good_read tallies inputs l.place _ c.loop-place-test.true below _ _
           c.serves.ensures w.if-serves.false)
-          (bad_read tallies inputs l.place _ c.loop-place-test.true below w.fails.result true
+          (bad_read tallies inputs l.place _ c.loop-place-test.true below _ _
           w.fails.ensures w.if-fails.true) w.if-place-first.true)
       | else-serves+else-place-first w ↦
           rw (w.waits-is, w.first-is)
           (other_counted _ _ _ _ low l.invariant
-          (good_read tallies inputs l.place _ c.loop-place-test.true below c.serves.result false
+          (good_read tallies inputs l.place _ c.loop-place-test.true below _ _
           c.serves.ensures w.if-serves.false)
           (λ sooner. elim w.else-place-first.branch [
             | else-place-first-via-then-place-first+else-fails u ↦
@@ -57,7 +57,7 @@ returns-clause-is c =
     let inputs = c.args.inputs.now in
     let first = c.loop-place.first in
     let failed : c.copied-failed.result ≡ slice_get inputs first =
-    c.copied-failed.ensures ∙ read_at inputs first c.get.result c.get.ensures.lookup in
+    c.copied-failed.ensures ∙ read_at _ _ _ c.get.ensures.lookup in
     subst (λ f. IsTally (record { inputs = inputs; twins = listed c.args.twin })
     (news_in (kept (states_in c.args.tallies.now)) inputs ++ map (λ t. Open) (listed c.args.twin))
     (record {
@@ -71,8 +71,8 @@ returns-clause-is c =
       failed = f;
       held = c.is_some-held.result;
     })) (sym failed)
-    (counted_tally c.args.standing c.args.wanted c.args.twin inputs
-    (kept (states_in c.args.tallies.now)) c.loop-place.place c.loop-place.waits first
+    (counted_tally _ _ _ _
+    (kept (states_in c.args.tallies.now)) _ c.loop-place.waits first
     c.opening_state-state.result c.is_some-held.result
     (omega (arith, c.loop-place-test.false)) (omega (arith, c.loop-place.auto.place-end))
     c.loop-place.invariant (c.is_some-held.ensures ∙ held_by c.args.twin)

@@ -1,6 +1,5 @@
-use Rattle.std.proofs.Common.{refl, sym, subst, ⊎_elim, false}
+use Rattle.std.proofs.Common.{refl, sym, subst, ⊎_elim}
 use Rattle.sched_core.specs.Tallies.{Turns, turns_named, turns_refused, turns_stays}
-use Rattle.sched_core.specs.States.{by_first}
 use Rattle.sched_core.specs.declared.reason.Refusal.TheVariants.{InputNotRealised}
 use Rattle.sched_core.specs.declared.reason.State.TheVariants.{Refused}
 use Rattle.sched_core.proofs.OneStates.{hindered_stays, not_refused}
@@ -20,7 +19,7 @@ returns-in-Blocked-clause-turns c = ⊎_elim
 pub returns-in_default-state : goal.returns-in_default-state
 returns-in_default-state c = record {
   is = λ twins first says is.
-      not_refused c.args.state c.args.standing twins first c.args.input c.in-Free.is
+      not_refused _ _ _ _ _ c.in-Free.is
       c.in_default-state.not-Blocked c.in_default-state.not-Refused is;
   phase = refl;
   turns = turns_stays c.args.state;
@@ -29,8 +28,8 @@ returns-in_default-state c = record {
 pub returns-in_default : goal.returns-in_default
 returns-in_default c = record {
   is = λ twins first says is.
-      hindered_stays c.args.state c.args.standing twins (by_first first false)
-      (Refused (InputNotRealised c.args.input)) c.in_default.not-Free is;
+      hindered_stays _ _ _ _
+      _ c.in_default.not-Free is;
   phase = refl;
   turns = turns_stays c.args.state;
 }

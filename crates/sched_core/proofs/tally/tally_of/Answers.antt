@@ -1,4 +1,4 @@
-use Rattle.std.proofs.Common.{◌≡◌, ◌∙◌, ◌++◌, List, Option, length, map, sym, ap, subst, ℕ}
+use Rattle.std.proofs.Common.{◌≡◌, ◌∙◌, ◌++◌, List, Option, map, sym, ap, ℕ, rules}
 use Rattle.sched_core.specs.Courses.{listed}
 use Rattle.sched_core.specs.Coursing.{kept}
 use Rattle.sched_core.specs.Nearest.{Open}
@@ -18,22 +18,18 @@ by_twin : (inputs : List ℕ) (state_of : ℕ → State) (tally heard : Tally) {
     → IsTally (record { inputs = inputs; twins = listed twin })
     (news_in state_of inputs ++ map (λ u. Open) (listed twin)) tally
     → Hears (record { inputs = inputs; twins = listed twin }) state_of (λ place. 0) heard
-by_twin inputs state_of tally heard same =
-    subst (λ (o : Option ℕ). IsTally (record { inputs = inputs; twins = listed o })
-    (news_in state_of inputs ++ map (λ u. Open) (listed o)) tally
-    → Hears (record { inputs = inputs; twins = listed o }) state_of (λ place. 0) heard) (sym same)
+by_twin inputs state_of tally heard same = search rules
 
 pub returns-else-is_open-clause-hears : goal.returns-else-is_open-clause-hears
 returns-else-is_open-clause-hears c =
     let tallies = c.args.tallies.now in
-    let inputs = c.args.inputs.now in
     let t = c.in-Some.t in
     let state_of = kept (states_in tallies) in
-    let there = tally_state tallies t _
-    (listed_low c.args.twin t (length tallies) c.in-Some.is c.requires.twin) in
-    by_twin inputs state_of c.counted-tally.result c.released.result c.in-Some.is
-    (λ is. hears_released inputs t state_of c.counted-tally.result is c.serves.result
-    c.released.result (c.serves.ensures ∙ ap is_good there)
+    let there = tally_state _ t _
+    (listed_low _ t _ c.in-Some.is c.requires.twin) in
+    by_twin _ state_of _ _ c.in-Some.is
+    (λ is. hears_released _ t state_of _ is _
+    _ (c.serves.ensures ∙ ap is_good there)
     (sym (ap is_open there) ∙ sym c.is_open.ensures ∙ c.if-is_open.false) c.released.ensures.is)
     c.counted-tally.ensures.is
 
@@ -43,16 +39,12 @@ returns-then-is_open-clause-hears c =
     let inputs = c.args.inputs.now in
     let t = c.in-Some.t in
     let state_of = kept (states_in tallies) in
-    let there = tally_state tallies t _
-    (listed_low c.args.twin t (length tallies) c.in-Some.is c.requires.twin) in
-    by_twin inputs state_of c.counted-tally.result c.counted-tally.result c.in-Some.is
+    let there = tally_state _ t _
+    (listed_low _ t _ c.in-Some.is c.requires.twin) in
+    by_twin _ state_of _ _ c.in-Some.is
     (λ is. hears_open inputs t state_of c.counted-tally.result is
     (sym (ap is_open there) ∙ sym c.is_open.ensures ∙ c.if-is_open.true))
     c.counted-tally.ensures.is
 
 pub returns-in_default-clause-hears : goal.returns-in_default-clause-hears
-returns-in_default-clause-hears c =
-    let state_of = kept (states_in c.args.tallies.now) in
-    by_twin c.args.inputs.now state_of c.counted-tally.result c.counted-tally.result
-    c.in_default.is (hears_inputs c.args.inputs.now state_of c.counted-tally.result)
-    c.counted-tally.ensures.is
+returns-in_default-clause-hears c = search (rules, by_twin, hears_inputs)

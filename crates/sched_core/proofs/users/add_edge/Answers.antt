@@ -1,5 +1,4 @@
-use Rattle.std.proofs.Common.{◌<◌, ℕ, List, [], ◌∷◌, arith, length, rules, subst, sym}
-use Rattle.std.proofs.lemmas.List.{length-set}
+use Rattle.std.proofs.Common.{◌<◌, ℕ, List, [], ◌∷◌, arith, length, rules, sym}
 use Rattle.std.proofs.Math.ListN.{set}
 use Rattle.sched_core.specs.UserSpans.{HaveRoom, often, parts, span_at}
 use Rattle.sched_core.specs.Users.{users_of}
@@ -12,35 +11,19 @@ use Rattle.sched_core.proofs.users.add_edge.Goals as goal
 -- there is a place for the edge
 has_place : (spans : List Span) (i places : ℕ) → i < length spans
     → HaveRoom spans places (λ n. often n (i ∷ [])) → (span_at spans i).end < places
-has_place spans i places within room = omega (arith, room.fit i within, often_one i)
+has_place spans i places within room = search (rules, often_one)
 
 pub bounds-edges-span : goal.bounds-edges-span
-bounds-edges-span c =
-    has_place c.args.spans.now c.args.one (length c.args.edges.now) c.requires.within
-    c.requires.room
+bounds-edges-span c = search (rules, has_place)
 
 pub offset_bounds-edges-span : goal.offset_bounds-edges-span
-offset_bounds-edges-span c =
-    let place : (span_at c.args.spans.now c.args.one).end < length c.args.edges.now =
-    has_place c.args.spans.now c.args.one (length c.args.edges.now) c.requires.within
-    c.requires.room in
-    search rules
+offset_bounds-edges-span c = search (rules, has_place)
 
 pub overflow_add-spans : goal.overflow_add-spans
-overflow_add-spans c =
-    let place : (span_at c.args.spans.now c.args.one).end < length c.args.edges.now =
-    has_place c.args.spans.now c.args.one (length c.args.edges.now) c.requires.within
-    c.requires.room in
-    search rules
+overflow_add-spans c = search (rules, has_place)
 
 pub returns-clause-room : goal.returns-clause-room
-returns-clause-room c = λ left before.
-    let spans = c.args.spans.now in
-    let edges = c.args.edges.now in
-    let i = c.args.one in
-    subst (λ places. HaveRoom (set spans i (longer (span_at spans i))) places left)
-    (sym (length-set edges (span_at spans i).end _))
-    (room_taken spans i (length edges) left c.requires.within before)
+returns-clause-room c = search (rules, room_taken)
 
 pub returns-clause-adds : goal.returns-clause-adds
 returns-clause-adds c = λ before old size prior.
@@ -50,12 +33,12 @@ returns-clause-adds c = λ before old size prior.
     let edge : Edge = record { user = c.args.user; place = c.args.place } in
     let room = c.requires.room in
     let some : 0 < often i (i ∷ []) = omega (arith, often_one i) in
-    adds_more c.args.user c.args.place before i (length spans) old
+    adds_more _ _ _ i _ old
     (users_of (parts spans edges))
     (users_of (parts (set spans i (longer (span_at spans i)))
     (set edges (span_at spans i).end edge)))
     (sym size)
-    (edge_added spans edges i edge (λ n. often n (i ∷ [])) c.requires.within room some)
-    (λ d less differ. others_stay spans edges i edge (λ n. often n (i ∷ [])) c.requires.within room
+    (edge_added _ _ i _ (λ n. often n (i ∷ [])) c.requires.within room some)
+    (λ d less differ. others_stay _ _ i _ (λ n. often n (i ∷ [])) c.requires.within room
     some d less differ)
     prior

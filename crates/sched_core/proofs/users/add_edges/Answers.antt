@@ -11,12 +11,12 @@ pub add_edge-requires-clause-room : goal.add_edge-requires-clause-room
 add_edge-requires-clause-room c =
     let inputs = c.args.inputs.now in
     let k = c.loop-place.place in
-    let before = room_less c.args.spans.now (length c.args.edges.now) (λ n. often n inputs)
+    let before = room_less _ _ (λ n. often n inputs)
     (λ n. often n inputs + 0) c.requires.room (λ n within. omega arith) in
-    room_less c.loop-place.spans (length c.loop-place.edges)
+    room_less _ _
     (λ n. often n (drop k inputs) + 0) (λ n. often n (get_or inputs k 0 ∷ []))
     (c.loop-place.invariant.room (λ n. 0) before)
-    (λ n within. omega (arith, often_left n inputs k 0 c.loop-place-test.true))
+    (λ n within. omega (arith, often_left n _ k 0 c.loop-place-test.true))
 
 pub loop-place-preserved : goal.loop-place-preserved
 loop-place-preserved c =
@@ -32,13 +32,13 @@ loop-place-preserved c =
       spans = c.add_edge.ensures.spans ∙ size;
       edges = c.add_edge.ensures.edges ∙ c.loop-place.invariant.edges;
       room = λ left before. c.add_edge.ensures.room (λ n. often n (drop (k + 1) inputs) + left n)
-          (room_less spans (length edges) (λ n. often n (drop k inputs) + left n)
+          (room_less _ _ (λ n. often n (drop k inputs) + left n)
           (λ n. often n (i ∷ []) + (often n (drop (k + 1) inputs) + left n))
           (c.loop-place.invariant.room left before)
-          (λ n within. omega (arith, often_left n inputs k 0 low)));
+          (λ n within. omega (arith, often_left n _ k 0 low)));
       adds = subst (λ seen. AddsUser c.args.user seen (length c.args.spans.now) old
           (users_of (parts c.add_edge.new.spans c.add_edge.new.edges)))
-          (sym (taken_more inputs k i low (get_or_default inputs k 0 i low)))
+          (sym (taken_more _ k i low (get_or_default inputs k 0 i low)))
           (subst (λ count. AddsUser c.args.user (take k inputs ++ i ∷ []) count old
           (users_of (parts c.add_edge.new.spans c.add_edge.new.edges))) size
           (c.add_edge.ensures.adds (take k inputs) old

@@ -1,5 +1,4 @@
-use Rattle.std.proofs.Common.{◌+◌, ◌++◌, ◌<◌, [], ◌∷◌, ap, arith, length, refl, subst}
-use Rattle.std.specs.Prelude.{All}
+use Rattle.std.proofs.Common.{◌+◌, ◌++◌, [], ◌∷◌, ap, arith, rules}
 use Rattle.std.proofs.lemmas.List.{get_or_push, length_push}
 use Rattle.sched_core.specs.Courses.{listed}
 use Rattle.sched_core.specs.UserSpans.{often}
@@ -8,35 +7,17 @@ use Rattle.sched_core.proofs.UserSpans.{room_less}
 use Rattle.sched_core.proofs.users.add_user.Goals as goal
 
 pub add_edges-requires-clause-room : goal.add_edges-requires-clause-room
-add_edges-requires-clause-room c =
-    let inputs = c.args.inputs.now in
-    let twins = listed c.args.twin in
-    room_less c.args.spans.now (length c.args.edges.now) (λ n. often n (inputs ++ twins))
-    (λ n. often n inputs) c.requires.room
-    (λ n within. omega (arith, often_both n inputs twins))
+add_edges-requires-clause-room c = search (rules, room_less, often_both)
 
 pub add_edge-requires-clause-within : goal.add_edge-requires-clause-within
-add_edge-requires-clause-within c =
-    let inputs = c.args.inputs.now in
-    let twin = c.in-Some.twin in
-    let within : All (λ one. one < length c.args.spans.now) (inputs ++ twin ∷ []) =
-    subst (λ o. All (λ one. one < length c.args.spans.now) (inputs ++ listed o)) c.in-Some.is
-    c.requires.within in
-    omega (
-      arith,
-      within (length inputs) 0 (omega (arith, length_push inputs twin)),
-      get_or_push inputs twin 0 (length inputs) refl,
-      c.add_edges.ensures.spans,
-    )
+add_edge-requires-clause-within c = search (rules, length_push, get_or_push)
 
 pub add_edge-requires-clause-room : goal.add_edge-requires-clause-room
 add_edge-requires-clause-room c =
     let inputs = c.args.inputs.now in
     let twins = listed c.args.twin in
     let twin = c.in-Some.twin in
-    let spans = c.args.spans.now in
-    let places = length c.args.edges.now in
-    let own = room_less spans places (λ n. often n (inputs ++ twins))
+    let own = room_less _ _ (λ n. often n (inputs ++ twins))
     (λ n. often n inputs + often n (twin ∷ [])) c.requires.room
     (λ n within. omega (
       arith,
@@ -54,7 +35,7 @@ returns-in-Some-clause-room c = λ left before.
     let twin = c.in-Some.twin in
     c.add_edge.ensures.room left
     (c.add_edges.ensures.room (λ n. often n (twin ∷ []) + left n)
-    (room_less c.args.spans.now (length c.args.edges.now)
+    (room_less _ _
     (λ n. often n (inputs ++ twins) + left n)
     (λ n. often n inputs + (often n (twin ∷ []) + left n)) before
     (λ n within. omega (
@@ -68,6 +49,6 @@ returns-in_default-clause-room c = λ left before.
     let inputs = c.args.inputs.now in
     let twins = listed c.args.twin in
     c.add_edges.ensures.room left
-    (room_less c.args.spans.now (length c.args.edges.now)
+    (room_less _ _
     (λ n. often n (inputs ++ twins) + left n) (λ n. often n inputs + left n) before
     (λ n within. omega (arith, often_both n inputs twins)))

@@ -99,7 +99,7 @@ loop-user-preserved c =
     let all : length counts ≡ length plan.nodes =
     size ∙ c.loop-user.counts.ok.0 ∙ c.loop-user.invariant.size in
     record {
-      size = written (λ l. length l ≡ length plan.nodes) counts _ c.loop-user.counts.len size all;
+      size = written (λ l. length l ≡ length plan.nodes) _ _ _ size all;
       total = written (λ l. sum l ≡ pairs awaited (user + 1)) counts _ c.loop-user.counts.len size
           (omega (
             arith,

@@ -16,20 +16,20 @@ loop-count-preserved c =
     let places = c.loop-count.places in
     let pushed = c.in_ok-push.ensures.items in
     record {
-      size = ap length pushed ∙ length_push spans _ ∙ ap (λ n. n + 1) c.loop-count.invariant.size;
+      size = ap length pushed ∙ length_push _ _ ∙ ap (λ n. n + 1) c.loop-count.invariant.size;
       places = omega (
         arith,
-        sum_by_more (λ x. x) counts k 0 c.loop-count-test.true,
+        sum_by_more (λ x. x) _ k 0 c.loop-count-test.true,
         c.loop-count.invariant.places,
       );
       empty = subst (All (λ (span : Span). span.start ≡ span.end)) (sym pushed)
-          (All-push (λ (span : Span). span.start ≡ span.end) spans _ c.loop-count.invariant.empty
+          (All-push (λ (span : Span). span.start ≡ span.end) _ _ c.loop-count.invariant.empty
           refl);
       room = subst (λ l. HaveRoom l (places + get_or counts k 0) (λ n. get_or counts n 0))
           (sym pushed)
           (subst (λ n. HaveRoom (spans ++ record { start = places; end = places } ∷ [])
           (places + get_or counts n 0) (λ n. get_or counts n 0)) c.loop-count.invariant.size
-          (room_pushed spans places (λ n. get_or counts n 0) c.loop-count.invariant.room));
+          (room_pushed _ _ (λ n. get_or counts n 0) c.loop-count.invariant.room));
     }
 
 pub returns-clause-room : goal.returns-clause-room

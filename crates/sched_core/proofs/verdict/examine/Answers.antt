@@ -17,5 +17,5 @@ returns-in_err-check_trees c =
 pub returns-then-branch : goal.returns-then-branch
 returns-then-branch c =
     let told = rw c.deref.ensures.value at c.in_ok-refer_in_cycle.ensures in
-    cycle_found c.args.job.now c.args.permitted.now c.args.answer c.in_ok-records.records.items
+    cycle_found _ _ _ _
     c.in_ok-check_trees.ensures.taken c.in_ok-records.ensures.records (told.0 c.if-branch.true)

@@ -11,7 +11,7 @@ unknown = record { mark = New; left = 0 }
 
 pub offset_bounds-nodes-to : goal.offset_bounds-nodes-to
 offset_bounds-nodes-to c =
-    let next = next_of _ _ c.args.top _ _ unknown c.requires.inner c.requires.after
+    let next = next_of _ _ _ _ _ _ c.requires.inner c.requires.after
     c.requires.within c.index-links-top.is c.if-left-eq0.false c.index-to.ensures in
     let below = next_within _ _ _ _ _ _ next in
     omega (arith, c.element_fits.fits)
@@ -19,12 +19,12 @@ offset_bounds-nodes-to c =
 pub bounds : goal.bounds
 bounds c =
     next_within _ _ _ _ _ _
-    (next_of _ _ c.args.top _ _ unknown c.requires.inner c.requires.after
+    (next_of _ _ _ _ _ _ c.requires.inner c.requires.after
     c.requires.within c.index-links-top.is c.if-left-eq0.false c.index-to.ensures)
 
 pub offset_bounds-nodes-to-in-New : goal.offset_bounds-nodes-to-in-New
 offset_bounds-nodes-to-in-New c =
-    let next = next_of _ _ c.args.top _ _ unknown c.requires.inner c.requires.after
+    let next = next_of _ _ _ _ _ _ c.requires.inner c.requires.after
     c.requires.within c.index-links-top.is c.if-left-eq0.false c.index-to.ensures in
     let below = next_within _ _ _ _ _ _ next in
     omega (arith, c.element_fits.fits)
@@ -32,12 +32,12 @@ offset_bounds-nodes-to-in-New c =
 pub bounds-nodes-to : goal.bounds-nodes-to
 bounds-nodes-to c =
     next_within _ _ _ _ _ _
-    (next_of _ _ c.args.top _ _ unknown c.requires.inner c.requires.after
+    (next_of _ _ _ _ _ _ c.requires.inner c.requires.after
     c.requires.within c.index-links-top.is c.if-left-eq0.false c.index-to.ensures)
 
 pub returns-in-New : goal.returns-in-New
 returns-in-New c =
-    let next = next_of _ _ c.args.top _ _ unknown c.requires.inner c.requires.after
+    let next = next_of _ _ _ _ _ _ c.requires.inner c.requires.after
     c.requires.within c.index-links-top.is c.if-left-eq0.false c.index-to.ensures in (
       get_or c.args.nodes.now c.args.top unknown,
       get_or c.args.nodes.now c.index-to.result.now unknown,
@@ -48,7 +48,7 @@ returns-in-New c =
 
 pub returns-in-Open : goal.returns-in-Open
 returns-in-Open c =
-    let next = next_of _ _ c.args.top _ _ unknown c.requires.inner c.requires.after
+    let next = next_of _ _ _ _ _ _ c.requires.inner c.requires.after
     c.requires.within c.index-links-top.is c.if-left-eq0.false c.index-to.ensures in (
       get_or c.args.nodes.now c.args.top unknown,
       c.index-to.result.now,
@@ -62,7 +62,7 @@ pub returns : goal.returns
 returns c =
     let node = get_or c.args.nodes.now c.args.top unknown in
     let some = c.if-left-eq0.false in
-    let next = next_of _ _ c.args.top _ _ unknown c.requires.inner c.requires.after
+    let next = next_of _ _ _ _ _ _ c.requires.inner c.requires.after
     c.requires.within c.index-links-top.is some c.index-to.ensures in (
       node,
       c.index-to.result.now,

@@ -20,8 +20,8 @@ loop-d-init c =
     (subst (λ l. Marks l c.mark.new.wanted c.roots.result.now) lent
     (record { count = c.mark.ensures.count; each = c.mark.ensures.each })) in
     subst (λ l. AreMarked c.args.plan.now c.args.standings.now l c.len-d.result)
-    (sym (written c.mark.new.wanted _ c.in_ok-wanted.wanted.len size))
-    (roots_marked c.args.plan.now c.args.standings.now before c.mark.new.wanted c.len-d.result
+    (sym (written _ _ _ size))
+    (roots_marked _ _ _ _ _
     c.len-d.ensures.value (none ∙ ap (λ n. replicate n false) (sym c.len-d.ensures.value))
     marks)
 
@@ -42,15 +42,15 @@ loop-d-preserved-then-is_free c =
       count = c.mark-then-is_free.ensures.count;
       each = c.mark-then-is_free.ensures.each;
     }) in
-    let marked : IsMarked before d = read_is before d c.index.result.now false
+    let marked : IsMarked before d = read_is _ d _ _
     (omega (arith, low, c.loop-d.invariant.count)) c.index.ensures ∙ c.if-index.true in
     let stands : slice_index_or c.args.standings.now d Free
     ≡ Free = any_default c.args.standings.now d Free _ (omega (arith, low, c.requires))
     ∙ c.is_free.ensures.0 c.if-is_free.true in
     subst (λ l. AreMarked c.args.plan.now c.args.standings.now l d)
-    (sym (written c.mark-then-is_free.new.wanted _ c.loop-d.wanted.len size))
-    (inputs_marked c.args.plan.now c.args.standings.now before c.mark-then-is_free.new.wanted
-    c.inputs.result.now c.loop-d.d d c.len-d.ensures.sound low next c.inputs.ensures.numbers
+    (sym (written _ _ _ size))
+    (inputs_marked _ _ _ _
+    _ _ d c.len-d.ensures.sound low next c.inputs.ensures.numbers
     marked stands marks c.loop-d.invariant)
 
 pub loop-d-preserved : goal.loop-d-preserved
@@ -62,7 +62,7 @@ loop-d-preserved c = elim c.else-index.branch [
       let low : c.loop-d.d - 1 < length c.args.standings.now =
       omega (arith, c.loop-d-test.true, c.loop-d.auto.d, c.len-d.ensures.value, c.requires) in
       false≢true (sym w.if-is_free.false ∙ w.is_free.ensures.1
-      (any_default c.args.standings.now (c.loop-d.d - 1) _ Free low ∙ stands)))
+      (any_default _ _ _ _ low ∙ stands)))
       c.loop-d.invariant
   | else-index-via-else-index w ↦
       passed_over c.args.plan.now c.args.standings.now c.loop-d.wanted.items c.loop-d.d
@@ -76,7 +76,7 @@ loop-d-preserved c = elim c.else-index.branch [
         c.len-d.ensures.value,
         c.loop-d.invariant.count,
       ) in
-      let told = read_is c.loop-d.wanted.items (c.loop-d.d - 1) c.index.result.now false low
+      let told = read_is _ _ _ _ low
       c.index.ensures in
       false≢true (sym (told ∙ w.if-index.false) ∙ marked))
       c.loop-d.invariant
@@ -84,6 +84,6 @@ loop-d-preserved c = elim c.else-index.branch [
 
 pub returns-clause-ok : goal.returns-clause-ok
 returns-clause-ok c =
-    wanted_are c.args.plan.now c.args.standings.now c.loop-d.wanted.items
+    wanted_are _ _ _
     (subst (AreMarked c.args.plan.now c.args.standings.now c.loop-d.wanted.items)
     (omega (arith, c.loop-d-test.false)) c.loop-d.invariant)

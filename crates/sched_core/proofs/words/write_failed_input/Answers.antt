@@ -8,7 +8,7 @@ use Rattle.sched_core.proofs.words.write_failed_input.Goals as goal
 
 pub returns-then-input-len : goal.returns-then-input-len
 returns-then-input-len c =
-    added_same c.write_with_value.result _ _ _ _
+    added_same _ _ _ _ _
     (ap (with_value (codes "InputNotRealised")) c.text.ensures.value
     ∙ with_found (codes "InputNotRealised") (paths_of c.args.plan.now.nodes) c.args.input _
     c.path.ensures.value)
@@ -17,7 +17,7 @@ returns-then-input-len c =
 pub returns-else-input-len : goal.returns-else-input-len
 returns-else-input-len c =
     let nodes = c.args.plan.now.nodes in
-    let none = slice_get_past (paths_of nodes) c.args.input
+    let none = slice_get_past _ c.args.input
     (omega (
       arith,
       c.if-input-len.false,

@@ -9,10 +9,10 @@ use Rattle.sched_core.proofs.words.write_valid_output.Goals as goal
 pub returns-in-Some : goal.returns-in-Some
 returns-in-Some c =
     let drv = c.args.drv.now in
-    let at = found_mapped output_of c.outputs.result.now drv.outputs c.args.output
-    c.in-Some.found.now c.in-Some.ensures.lookup.3.0 c.in-Some.ensures.lookup.1
+    let at = found_mapped output_of _ _ _
+    _ c.in-Some.ensures.lookup.3.0 c.in-Some.ensures.lookup.1
     c.outputs.ensures in
-    added_same c.write_with_value.result _ _ _ _
+    added_same _ _ _ _ _
     (ap (with_value (codes "PartlyValid")) c.deref.ensures.value
     ∙ with_found (codes "PartlyValid") (output_paths_of drv) c.args.output _
     (found_again (λ (o : Output). o.path) drv.outputs c.args.output _ at))
@@ -21,7 +21,7 @@ returns-in-Some c =
 pub returns-in-None : goal.returns-in-None
 returns-in-None c =
     let drv = c.args.drv.now in
-    let none = none_mapped output_of c.outputs.result.now drv.outputs c.args.output
+    let none = none_mapped output_of _ _ _
     c.in-None.ensures.lookup.3 c.outputs.ensures in
     added_same c.write_with_number.result _ _ _ _
     (with_none (codes "PartlyValid") (output_paths_of drv) c.args.output

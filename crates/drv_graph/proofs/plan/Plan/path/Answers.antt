@@ -1,10 +1,9 @@
+use Rattle.std.proofs.Common.{rules}
 use Rattle.drv_graph.proofs.Kept.{kept_named, kept_path}
 use Rattle.drv_graph.proofs.plan.Plan.path.Goals as goal
 
 pub returns-clause-value : goal.returns-clause-value
-returns-clause-value c = rw (← c.self.view_is)
-    (kept_path _ _ _
-    (rw (← c.self.view_is) at c.requires) c.index.ensures)
+returns-clause-value c = search (rules, kept_path)
 
 pub returns-clause-sound : goal.returns-clause-sound
 returns-clause-sound c =

@@ -4,7 +4,7 @@ use Rattle.sched_core.proofs.agenda.Agenda.freshen.Goals as goal
 
 pub loop-d-preserved : goal.loop-d-preserved
 loop-d-preserved c =
-    let falls = ring_falls_at c.args.tallies.now _ c.in-Some.field-0.now _
+    let falls = ring_falls_at _ _ _ _
     (sym c.in-Some.ensures) (sym c.is_ready.ensures ∙ c.if-is_ready.false)
     c.loop-d.invariant.is in
     record {

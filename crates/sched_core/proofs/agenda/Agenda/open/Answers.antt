@@ -11,7 +11,7 @@ overflow_add-unsettled c =
 pub loop-d-preserved : goal.loop-d-preserved
 loop-d-preserved c = elim c.if-tally.branch [
   | then-tally+then-is_open+then-is_ready w ↦
-      let fits = all_kept (c.loop-d.ring.items ++ c.loop-d.d ∷ []) c.loop-d.ring.capacity
+      let fits = all_kept _ _
       (room_for _ _ _ _ _ c.loop-d-test.true c.loop-d.invariant.room c.loop-d.invariant.is) in
       let pushed : c.if-tally.ring.items ≡ c.loop-d.ring.items ++ c.loop-d.d ∷ [] =
       ap (λ b. b.items) (w.ring-is ∙ w.push_back.ensures.items) ∙ fits in
@@ -55,7 +55,7 @@ loop-d-preserved c = elim c.if-tally.branch [
 pub returns-clause-is : goal.returns-clause-is
 returns-clause-is c =
     opening_done _ _ _ _
-    c.loop-d.ring.capacity c.in_ok-work.work.capacity c.in_ok-work.work.items
+    _ _ _
     (omega (arith, c.loop-d-test.false)) (omega (arith, c.loop-d.auto.d-end))
     c.loop-d.invariant.room c.loop-d.invariant.space c.loop-d.invariant.work c.loop-d.invariant.is
 

@@ -1,13 +1,12 @@
-use Rattle.std.proofs.Common.{◌↔◌, ℕ, IsTrue, MatchOption, Option, Some, None, refl}
+use Rattle.std.proofs.Common.{◌↔◌, ℕ, IsTrue, MatchOption, Option, Some, None, rules}
 use Rattle.std.specs.Option.{is_some}
 use Rattle.sched_core.proofs.book.Book.can_begin.Goals as goal
 
 -- what is found is there, and where nothing is found nothing is there
 found_is_there : {P : ℕ → Type 0} (found : Option ℕ) → MatchOption found ((d : ℕ) → P d → ⊥) P
     → IsTrue (is_some found) ↔ ((d : ℕ) × P d)
-found_is_there None none = (λ yes. absurd cc, λ can. absurd (none can.0 can.1))
-found_is_there (Some d) can = ((λ yes. (d, can)), (λ any. refl))
+found_is_there None none = search rules
+found_is_there (Some d) can = search rules
 
 pub returns : goal.returns
-returns g c = rw (← c.self.view_is, c.is_some.ensures)
-    (found_is_there c.next.result c.next.ensures.can)
+returns g c = rw (← c.self.view_is, c.is_some.ensures) (found_is_there _ c.next.ensures.can)

@@ -1,4 +1,4 @@
-use Rattle.std.proofs.Common.{◌≡◌, ◌∙◌, ℕ, List, ap, refl, subst, sym}
+use Rattle.std.proofs.Common.{◌≡◌, ◌∙◌, ℕ, List, ap, refl, subst, sym, rules}
 use Rattle.std.proofs.lemmas.Result.{err_from_is_err_and}
 use Rattle.valid_table.specs.PathInfos.{PathInfo}
 use Rattle.valid_table.specs.declared.entry.Entry.{Entry}
@@ -14,9 +14,7 @@ use Rattle.sched_core.proofs.book.Book.register.Goals as goal
 owned : {run : Run} {history : History} {read job : Job} {n number : ℕ}
     → IsBooksLease run history read n → read ≡ job → n ≡ number
     → IsBooksLease run history job number
-owned {run = run} {history = history} {job = job} {n = n} lease same_job same_number =
-    subst (IsBooksLease run history job) same_number
-    (subst (λ (j : Job). IsBooksLease run history j n) same_job lease)
+owned {run = run} {history = history} {job = job} {n = n} lease same_job same_number = search rules
 
 -- its entry is that of a Done
 done_here : {run : Run} {history : History} {shown pending : List Entry} {ledger : Ledger}
@@ -28,7 +26,7 @@ done_here : {run : Run} {history : History} {shown pending : List Entry} {ledger
     → read ≡ job → IsDoneEntry run.graph read.derivation history.entries infos entry
     → IsDone run history.entries job.derivation infos entry
 done_here {job = job} {number = number} infos entry view lease may same told =
-    done_under_lease _ _ _ _ infos entry lease
+    done_under_lease _ _ _ _ _ _ lease
     (subst (λ (l : Ledger). IsBooksLease l.run l.history job number
     → MayAllRefer l.history.entries job infos) (sym view) may lease)
     (rw (← same) told)
@@ -37,7 +35,7 @@ pub append-requires-clause-new : goal.append-requires-clause-new
 append-requires-clause-new g c =
     let lease = owned (c.has_given.ensures.0 c.if-not-has_given.false) c.job-job.ensures
     c.number.ensures in
-    let done = done_here c.args.checked.now c.in_ok-entry.field-0.entry c.self.view_is lease
+    let done = done_here _ _ c.self.view_is lease
     c.requires c.job-job.ensures c.in_ok-entry.ensures.entry in
     (may_append _ _ _ _ _ _ _ done c.self.invariant.0 c.in_ok-entry.ensures.shown).0
 
@@ -45,7 +43,7 @@ pub append-requires-clause-closed : goal.append-requires-clause-closed
 append-requires-clause-closed g c =
     let lease = owned (c.has_given.ensures.0 c.if-not-has_given.false) c.job-job.ensures
     c.number.ensures in
-    let done = done_here c.args.checked.now c.in_ok-entry.field-0.entry c.self.view_is lease
+    let done = done_here _ _ c.self.view_is lease
     c.requires c.job-job.ensures c.in_ok-entry.ensures.entry in
     (may_append _ _ _ _ _ _ _ done c.self.invariant.0 c.in_ok-entry.ensures.shown).1
 
@@ -53,7 +51,7 @@ pub finish-requires-clause-done : goal.finish-requires-clause-done
 finish-requires-clause-done g c =
     let lease = owned (c.has_given.ensures.0 c.if-not-has_given.false) c.job-job.ensures
     c.number.ensures in
-    let done = done_here c.args.checked.now c.in_ok-entry.field-0.entry c.self.view_is lease
+    let done = done_here _ _ c.self.view_is lease
     c.requires c.job-job.ensures c.in_ok-entry.ensures.entry in (
       c.args.checked.now,
       rw (c.in_ok-entry.ensures.run, c.in_ok-entry.ensures.history, c.job-job.ensures) done,
@@ -84,10 +82,10 @@ pub returns-clause-ok : goal.returns-clause-ok
 returns-clause-ok g c =
     let lease = owned (c.has_given.ensures.0 c.if-not-has_given.false) c.job-job.ensures
     c.number.ensures in
-    let done = done_here c.args.checked.now c.in_ok-entry.field-0.entry c.self.view_is lease
+    let done = done_here _ _ c.self.view_is lease
     c.requires c.job-job.ensures c.in_ok-entry.ensures.entry in
-    finishing _ _ _ _ _ _ _ _ _ _ _ _ _ _ c.args.checked.now c.in_ok-entry.field-0.entry
-    c.in_ok-entry.field-0.shown
+    finishing _ _ _ _ _ _ _ _ _ _ _ _ _ _ _ _
+    _
     c.self.view_is lease done (c.finish.ensures.run ∙ c.in_ok-entry.ensures.run)
     c.in_ok-entry.ensures.history (ap (λ (j : Job). j.derivation) c.job-job.ensures)
     c.number-2.ensures
@@ -98,7 +96,7 @@ pub invariant_of-self : goal.invariant_of-self
 invariant_of-self g c =
     let shown = g.O.Outlet.shown c.self.inside.outlet in (
       rw c.prepare.ensures.history c.self.invariant.0,
-      builds_still _ _ _ _ shown shown c.self.invariant.1 c.prepare.ensures.run
+      builds_still _ _ _ _ _ shown c.self.invariant.1 c.prepare.ensures.run
           c.prepare.ensures.history refl,
       rw c.prepare.ensures.history c.self.invariant.2,
     )
@@ -116,7 +114,7 @@ pub invariant_of-self-2 : goal.invariant_of-self-2
 invariant_of-self-2 g c =
     let lease = owned (c.has_given.ensures.0 c.if-not-has_given.false) c.job-job.ensures
     c.number.ensures in
-    let done = done_here c.args.checked.now c.in_ok-entry.field-0.entry c.self.view_is lease
+    let done = done_here _ _ c.self.view_is lease
     c.requires c.job-job.ensures c.in_ok-entry.ensures.entry in (
       holding _ _ _ _ _ _ _ _ c.self.invariant.0
           (rw (c.finish.ensures.history, c.in_ok-entry.ensures.history) refl)

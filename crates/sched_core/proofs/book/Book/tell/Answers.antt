@@ -1,5 +1,4 @@
-use Rattle.std.proofs.Common.{subst}
-use Rattle.valid_table.specs.Valid.{IsJournal}
+use Rattle.std.proofs.Common.{subst, rules}
 use Rattle.sched_core.specs.Books.{BuildsOver, Ledger}
 use Rattle.sched_core.proofs.book.Book.tell.Goals as goal
 
@@ -8,5 +7,4 @@ returns-clause-seeds g c = subst (λ (l : Ledger). BuildsOver l.run l.history l.
     c.self.view_is c.self.invariant.1
 
 pub returns-clause-is_journal : goal.returns-clause-is_journal
-returns-clause-is_journal g c = subst (λ (l : Ledger). IsJournal l.history.entries) c.self.view_is
-    c.self.invariant.2
+returns-clause-is_journal g c = search rules

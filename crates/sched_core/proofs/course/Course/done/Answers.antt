@@ -6,5 +6,5 @@ use Rattle.sched_core.proofs.course.Course.done.Goals as goal
 
 pub note-requires-clause-turns : goal.note-requires-clause-turns
 note-requires-clause-turns c = subst (λ s. Turns s Done)
-    (sym (is_building c.args.self.now c.args.d c.requires.1.0 c.requires.1.1))
+    (sym (is_building c.args.self.now _ _ c.requires.1.1))
     (turns_done c.requires.1.0)

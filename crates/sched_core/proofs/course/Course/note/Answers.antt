@@ -1,21 +1,13 @@
-use Rattle.std.proofs.Common.{◌≡◌, ◌∙◌, ◌+◌, ◌<◌, ◌++◌, ap, drop, length, refl, subst, sym, take}
+use Rattle.std.proofs.Common.{◌≡◌, ◌∙◌, ◌++◌, ap, drop, length, refl, subst, sym, take, rules}
 use Rattle.std.proofs.Math.Seq.{take-append_seam}
 use Rattle.sched_core.specs.Agendas.{IsSteady, standings_in, twins_in, wanted_in}
 use Rattle.sched_core.specs.ToldEdges.{open_edges, sizes}
-use Rattle.sched_core.specs.Courses.{Course, awaited_at, course_state}
-use Rattle.sched_core.specs.Coursing.{kept}
-use Rattle.sched_core.specs.Tallies.{Turns, states_in}
+use Rattle.sched_core.specs.Courses.{awaited_at}
 use Rattle.sched_core.proofs.Tallied.{noted_course, same_length, state_kept, told_more}
 use Rattle.sched_core.proofs.course.Course.note.Goals as goal
 
 pub turn-told-requires-clause-turns : goal.turn-told-requires-clause-turns
-turn-told-requires-clause-turns c = subst (λ s. Turns s c.args.state)
-    (sym (ap (λ l. kept (states_in l) c.args.d) c.deref_mut.ensures.value
-    ∙ state_kept c.self.inside.plan c.self.inside.tallies.items c.self.inside.users
-    c.self.inside.agenda c.self.invariant.0 c.args.d
-    (subst (λ (k : Course). c.args.d < length k.graph.nodes) (sym c.self.view_is)
-    c.requires.within)
-    ∙ ap (λ k. course_state k c.args.d) c.self.view_is)) c.requires.turns
+turn-told-requires-clause-turns c = search (rules, state_kept)
 
 pub invariant_of-self : goal.invariant_of-self
 invariant_of-self c =
@@ -33,13 +25,13 @@ invariant_of-self c =
     let steady = c.turn-told.ensures.steady awaited
     (subst (λ l. IsSteady awaited users l c.self.inside.agenda) (sym value)
     c.self.invariant.0.steady) in
-    let is = noted_course plan items now users c.self.inside.agenda c.turn-told.new.agenda
+    let is = noted_course _ _ _ _ _ _
     c.self.invariant.0 stand twin steady in
-    let told = told_more plan items now users c.self.inside.told c.turn-told.result
-    (c.self.inside.told + c.turn-told.result) c.self.invariant.1 stand want twin
+    let told = told_more _ _ _ _ _ _
+    _ c.self.invariant.1 stand want twin
     (c.turn-told.ensures.told ∙ ap (open_edges (sizes users)) value) refl in
     let size : c.self.inside.tallies.len ≡ length now =
-    sym (c.deref_mut.ensures.len) ∙ ap length value ∙ same_length items now stand in
+    sym (c.deref_mut.ensures.len) ∙ ap length value ∙ same_length _ _ stand in
     let whole = ap (λ n. take n (now ++ drop (length now) items)) size
     ∙ take-append_seam now (drop (length now) items) in
     rw whole (is, told)

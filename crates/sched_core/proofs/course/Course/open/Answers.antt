@@ -9,11 +9,10 @@ use Rattle.sched_core.proofs.course.Course.open.Goals as goal
 pub invariant_of-result : goal.invariant_of-result
 invariant_of-result c =
     let plan = c.args.plan in
-    let tallies = c.in_ok-tallies.tallies.items in
     let users = c.in_ok-users.users in
     let agenda = c.in_ok-agenda.agenda in
-    let is = opening_course plan c.deref-2.result.now c.deref-3.result.now c.deref-4.result.now
-    tallies users agenda
+    let is = opening_course _ _ _ _
+    _ _ _
     c.in_ok-tallies.ensures.ok
     (subst (λ l. AreUsers (λ d. all_of (awaited_at plan l d)) (length plan.nodes) users)
     (c.deref.ensures.value ∙ sym c.deref-4.ensures.value) c.in_ok-users.ensures.ok)
@@ -21,7 +20,7 @@ invariant_of-result c =
     (subst (λ l. IsFresh l agenda) c.deref-5.ensures.value c.in_ok-agenda.ensures.fresh)
     c.in_ok-agenda.ensures.none in (
       is,
-      told_none plan tallies users agenda is
+      told_none _ _ _ agenda is
           (λ d low. c.in_ok-users.ensures.sizes d low
           ∙ ap (λ l. uses (λ e. all_of (awaited_at plan l e)) (length plan.nodes) d)
           (c.deref.ensures.value ∙ sym c.deref-4.ensures.value

@@ -5,5 +5,5 @@ use Rattle.sched_core.proofs.course.Course.told.Goals as goal
 
 pub returns : goal.returns
 returns c = subst (λ k. c.self.inside.told ≡ course_told k) c.self.view_is
-    (edges_told c.self.inside.plan c.self.inside.tallies.items c.self.inside.users
-    c.self.inside.agenda c.self.invariant.0 c.self.inside.told c.self.invariant.1)
+    (edges_told _ _ _
+    _ c.self.invariant.0 _ c.self.invariant.1)

@@ -1,4 +1,4 @@
-use Rattle.std.proofs.Common.{◌≡◌, ◌∙◌, List, ap, length, map, subst}
+use Rattle.std.proofs.Common.{◌≡◌, ◌∙◌, ap, length, subst, rules}
 use Rattle.std.proofs.lemmas.List.{length-map}
 use Rattle.std.proofs.lemmas.Result.{IfOk-weaker}
 use Rattle.sched_core.specs.Courses.{Course}
@@ -6,11 +6,7 @@ use Rattle.sched_core.specs.declared.tally.Tally.{Tally}
 use Rattle.sched_core.proofs.course.Course.wanted.Goals as goal
 
 pub returns-clause-marks : goal.returns-clause-marks
-returns-clause-marks c =
-    IfOk-weaker c.wanted_in.result _ _
-    (λ marks is. subst (λ (k : Course). marks.items ≡ k.wanted) c.self.view_is
-    (is ∙ ap (λ (ts : List Tally). map (λ (t : Tally). t.wanted) ts) c.deref.ensures.value))
-    c.wanted_in.ensures
+returns-clause-marks c = search rules
 
 pub returns-clause-count : goal.returns-clause-count
 returns-clause-count c =

@@ -9,7 +9,7 @@ invariant_of-self c =
     let building =
     subst (λ (p : Progress). phase_of p.history.events c.args.d ≡ Begun c.args.number)
     (sym c.self.view_is) c.requires in (
-      fail_kept _ _ _ _ _ _ _ _ _ _ c.args.d c.args.number c.args.reason c.self.invariant.0 building
+      fail_kept _ _ _ _ _ _ _ _ _ _ _ _ _ c.self.invariant.0 building
           c.push_reserved.ensures.items c.fail.ensures c.push_reserved.ensures.capacity,
       c.self.invariant.1,
     )

@@ -1,4 +1,4 @@
-use Rattle.std.proofs.Common.{◌≡◌, ℕ, List, refl, subst, sym, arith}
+use Rattle.std.proofs.Common.{◌≡◌, ℕ, List, refl, arith, rules}
 use Rattle.std.proofs.lemmas.List.{length_push}
 use Rattle.valid_table.specs.PathInfos.{PathInfo}
 use Rattle.valid_table.specs.declared.entry.Entry.{Entry}
@@ -14,14 +14,12 @@ use Rattle.sched_core.proofs.progress.Progress.finish.Goals as goal
 done_here : {run : Run} {history : History} {room d : ℕ} {p : Progress} {infos : List PathInfo}
     {entry : Entry} → record { run = run; history = history; room = room } ≡ p
     → IsDone p.run p.history.entries d infos entry → IsDone run history.entries d infos entry
-done_here {d = d} {infos = infos} {entry = entry} view =
-    subst (λ (p : Progress). IsDone p.run p.history.entries d infos entry) (sym view)
+done_here {d = d} {infos = infos} {entry = entry} view = search rules
 
 building_here : {run : Run} {history : History} {room number : ℕ} {p : Progress} (d : ℕ)
     → record { run = run; history = history; room = room } ≡ p
     → phase_of p.history.events d ≡ Begun number → phase_of history.events d ≡ Begun number
-building_here {number = number} d view =
-    subst (λ (p : Progress). phase_of p.history.events d ≡ Begun number) (sym view)
+building_here {number = number} d view = search rules
 
 pub push_reserved-requires-clause-new : goal.push_reserved-requires-clause-new
 push_reserved-requires-clause-new c =
@@ -35,20 +33,19 @@ pub push_reserved-requires-2 : goal.push_reserved-requires-2
 push_reserved-requires-2 c =
     omega (
       arith,
-      room_to_end _ _ _ _ _ c.self.invariant.0 c.args.d c.args.number
-          (building_here c.args.d c.self.view_is c.requires.building),
+      room_to_end _ _ _ _ _ c.self.invariant.0 _ _
+          (building_here _ c.self.view_is c.requires.building),
     )
 
 pub done-requires : goal.done-requires
 done-requires c =
-    has_begun _ _ _ _ _ c.self.invariant.0 c.args.d c.args.number
-    (building_here c.args.d c.self.view_is c.requires.building)
+    has_begun _ _ _ _ _ c.self.invariant.0 _ _ (building_here _ c.self.view_is c.requires.building)
 
 pub invariant_of-self : goal.invariant_of-self
 invariant_of-self c = (
-  finish_kept _ _ _ _ _ _ _ _ _ _ _ c.args.d c.args.number c.requires.done.0 c.args.entry
+  finish_kept _ _ _ _ _ _ _ _ _ _ _ _ _ _ _
       c.self.invariant.0 c.self.invariant.1
-      (building_here c.args.d c.self.view_is c.requires.building)
+      (building_here _ c.self.view_is c.requires.building)
       (done_here c.self.view_is c.requires.done.1)
       c.push_reserved.ensures.entries c.push_reserved-2.ensures.items c.done.ensures
       c.push_reserved-2.ensures.capacity,

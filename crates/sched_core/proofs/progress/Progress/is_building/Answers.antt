@@ -6,7 +6,7 @@ use Rattle.sched_core.proofs.progress.Progress.is_building.Goals as goal
 pub returns-in-Building : goal.returns-in-Building
 returns-in-Building c =
     rw (← c.self.view_is)
-    (building_told _ _ _ _ _ c.self.invariant.0 c.args.d c.in-Building.lease c.args.number
+    (building_told _ _ _ _ _ c.self.invariant.0 _ _ _
     (sym c.state.ensures ∙ c.in-Building.is))
 
 pub returns-in_default : goal.returns-in_default
@@ -15,6 +15,6 @@ returns-in_default c =
       λ no. absurd (false≢true no),
       λ is.
           absurd
-          (not_building _ _ _ _ _ c.self.invariant.0 c.args.d c.args.number
+          (not_building _ _ _ _ _ c.self.invariant.0 _ _
           (λ lease building. c.in_default.not-Building lease (c.state.ensures ∙ building)) is),
     )

@@ -22,6 +22,6 @@ pub returns-clause-ok : goal.returns-clause-ok
 returns-clause-ok c =
     rw (← c.self.view_is)
     (IfOk-weaker c.permitted_beside.result _ _
-    (λ paths union. are_permitted _ _ _ _ paths.items
+    (λ paths union. are_permitted _ _ _ _ _
     (rw c.deref.ensures.value at c.in_ok-reached.ensures.ok) union)
     c.permitted_beside.ensures.ok)

@@ -1,4 +1,4 @@
-use Rattle.std.proofs.Common.{◌≡◌, ◌∙◌, ℕ, List, subst}
+use Rattle.std.proofs.Common.{◌≡◌, ◌∙◌, ℕ, List, rules}
 use Rattle.std.proofs.lemmas.Result.{err_from_is_err_and}
 use Rattle.drv_graph.specs.Plans.{Graph}
 use Rattle.valid_table.specs.PathInfos.{PathInfo}
@@ -15,9 +15,7 @@ use Rattle.sched_core.proofs.progress.Progress.prepare.Goals as goal
 seen : (P : Graph → List Entry → Type 0) {run : Run} {history : History} {room : ℕ}
     {plan : Graph} {p : Progress} → record { run = run; history = history; room = room } ≡ p
     → plan ≡ run.graph → P plan history.entries → P p.run.graph p.history.entries
-seen P {history = history} view same is =
-    subst (λ (p : Progress). P p.run.graph p.history.entries) view
-    (subst (λ (graph : Graph). P graph history.entries) same is)
+seen P {history = history} view same is = search rules
 
 -- memory is refused once there is an entry
 refused : (d : ℕ) (infos : List PathInfo) (entry : Entry) {run : Run} {history : History}
@@ -26,7 +24,7 @@ refused : (d : ℕ) (infos : List PathInfo) (entry : Entry) {run : Run} {history
     → IsDoneEntry plan d history.entries infos entry → fault ≡ NoMemory
     → IsDoneFault p.run.graph d p.history.entries infos fault
 refused d infos entry {p = p} {fault = fault} view same told =
-    entry_new p.run.graph d p.history.entries infos entry fault
+    entry_new p.run.graph d p.history.entries _ _ _
     (seen (λ graph entries. IsDoneEntry graph d entries infos entry) view same told)
 
 pub returns-clause-entry : goal.returns-clause-entry
@@ -47,7 +45,7 @@ returns-in_err-copy-clause-err c =
     let p = err_from_is_err_and c.from_residual-in_err-copy.result
     c.from_residual-in_err-copy.ensures.1 in
     rw p.1
-    (refused c.args.d c.args.checked.now c.in_ok-entry.entry c.self.view_is c.plan.ensures
+    (refused _ _ _ c.self.view_is c.plan.ensures
     c.in_ok-entry.ensures.ok (p.2 ∙ c.in_err-copy.ensures.err))
 
 pub returns-in_err-shown-clause-err : goal.returns-in_err-shown-clause-err

@@ -6,5 +6,5 @@ pub returns-clause-ok : goal.returns-clause-ok
 returns-clause-ok c =
     rw (← c.self.view_is)
     (IfOk-weaker c.report_of.result _ _
-    (λ text report. report_told _ _ _ _ _ c.self.invariant.0 text.items report)
+    (λ text report. report_told _ _ _ _ _ c.self.invariant.0 _ report)
     c.report_of.ensures.ok)
