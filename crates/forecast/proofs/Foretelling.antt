@@ -16,7 +16,7 @@ use Rattle.sched_core.proofs.NearestTwins.{none_from}
 use Rattle.sched_core.proofs.PlanInputs.{rows_in_order}
 use Rattle.sched_core.proofs.StateLaws.{reads_at, state_at}
 use Rattle.forecast.specs.Forecasts.{ForecastsAgree, ForecastsAreClosed, ForecastsAreOne, built_if_ready, built_table, forecast}
-use Rattle.forecast.proofs.Aside.{aside, aside_same, table_is}
+use Rattle.sched_core.proofs.Aside.{aside, aside_same, table_is}
 
 -- ---- the equation and its uniqueness
 

@@ -1,9 +1,7 @@
-pub mod Aside
 pub mod Drawn
 pub mod Foretelling
 pub mod Held
 pub mod Passing
 pub mod Spared
 pub mod Telling
-pub mod Unhindered
 pub mod Writing

@@ -23,9 +23,9 @@ use Rattle.sched_core.proofs.TwinLaws.{is_earlier_twin}
 use Rattle.sched_core.proofs.Wanting.{wanted_told}
 use Rattle.forecast.specs.Forecasts.{built_if_ready, built_table, foretold}
 use Rattle.forecast.specs.Truths.{HasEnded, HasFailed, IsSpared, NoneFailed, SparedComeTrue, StatesComeTrue, spared}
-use Rattle.forecast.proofs.Aside.{aside, aside_same, state_aside}
+use Rattle.sched_core.proofs.Aside.{aside, aside_same, state_aside}
 use Rattle.forecast.proofs.Foretelling.{built_is, foretold_by, read_is}
-use Rattle.forecast.proofs.Unhindered.{begun_unhindered, unhindered_ready}
+use Rattle.sched_core.proofs.Unhindered.{begun_unhindered, unhindered_ready}
 
 -- ---- a failure is an event
 

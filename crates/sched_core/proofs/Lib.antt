@@ -1,4 +1,5 @@
 pub mod Agendas
+pub mod Aside
 pub mod Building
 pub mod ClosedStates
 pub mod Comparing
@@ -44,6 +45,7 @@ pub mod Tests
 pub mod ToldStates
 pub mod Totals
 pub mod TwinLaws
+pub mod Unhindered
 pub mod UnitedPaths
 pub mod UserCounts
 pub mod UserSpans

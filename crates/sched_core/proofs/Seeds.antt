@@ -176,7 +176,7 @@ all_good (Some i) all is = absurd cc
 all_good None true is = refl
 all_good None false is = absurd cc
 
-not_good_by_first : (first : Option ℕ) (all : Bool) → is_good (by_first first all) ≡ true → ⊥
+pub not_good_by_first : (first : Option ℕ) (all : Bool) → is_good (by_first first all) ≡ true → ⊥
 not_good_by_first (Some i) all is = cc
 not_good_by_first None true is = cc
 not_good_by_first None false is = cc

@@ -27,7 +27,8 @@ use Rattle.store_run.proofs.OneOutcome.{job_outputs, job_seeds, permitted_job, p
 use Rattle.store_run.proofs.Schedules.{opening_journal, run_accounted, run_told, turns_accounted}
 use Rattle.store_run.proofs.Telling.{CameTo, phase_broken, phase_ended}
 use Rattle.store_run.proofs.Turns.{HaveTurned, turned_is}
-use Rattle.store_run.proofs.Unhindered.{IsUnhindered, ready_unhindered, unhindered_ready}
+use Rattle.sched_core.proofs.Unhindered.{ready_unhindered}
+use Rattle.store_run.proofs.Unhindered.{IsUnhindered, unhindered_ready}
 use Rattle.sched_core.proofs.OtherEvents.{phase_other, same_or_other}
 
 -- ---- what a derivation came to here it may come to there

@@ -32,7 +32,8 @@ use Rattle.sched_core.proofs.Registering.{entries_are_journal}
 use Rattle.sched_core.proofs.Seeds.{phase_push, seeds_are_valid}
 use Rattle.store_run.specs.Builders.{IsVerdictBehind}
 use Rattle.store_run.proofs.ToldRuns.{IsTold, told_begin, told_done, told_fail, told_opening}
-use Rattle.store_run.proofs.Unhindered.{IsGoodBy, IsUnhindered, good_ended, good_is, good_reused, good_twin, is_good_by, ready_unhindered, state_by}
+use Rattle.sched_core.proofs.Unhindered.{IsUnhindered as IsUnhinderedIn, ready_unhindered, behind_event, building_is_open}
+use Rattle.store_run.proofs.Unhindered.{IsGoodBy, IsUnhindered, good_ended, good_is, good_reused, good_twin, is_good_by, state_by}
 use Rattle.sched_core.proofs.OtherEvents.{number_of, same_or_other, phase_other, begun_not_idle}
 
 -- ---- where a derivation stands behind one event more
@@ -57,65 +58,19 @@ pub record WasBegun (run : Run) (history : History) (d : ℕ) : Type 0 where
   pub wanted : IsWanted run history.opening d
   pub unhindered : IsUnhindered run history d
 
-module _ (run : Run) (sound : IsSound run.graph) (history after : History) (x : Event)
-    (opening : after.opening ≡ history.opening) (events : after.events ≡ history.events ++ x ∷ [])
-    (still : is_open (state_in run history (number_of x)) ≡ true) where
-  -- a derivation that isn't open has no event
-  phase : (i : ℕ) → is_open (state_in run history i) ≡ false
-      → phase_of after.events i ≡ phase_of history.events i
-  phase i closed = search (rules, phase_other, closed)
-
-  -- an event of an open derivation leaves the good ones good
-  good_stays : (i : ℕ) → is_good (state_in run history i) ≡ true
-      → is_good (state_in run after i) ≡ true
-  good_stays i good = is_good_by run after sound i (by (good_is run history sound i good))
-    where
-      here : phase_of after.events i ≡ phase_of history.events i
-      here = phase i (good_is_closed (state_in run history i) good)
-
-      by : IsGoodBy run history i → IsGoodBy run after i
-      by (good_ended at) = good_ended (here ∙ at)
-      by (good_reused at stands) = search (rules, good_reused, here)
-      by (good_twin t at has ends) = good_twin t (here ∙ at)
-          (subst (λ (opens : List Entry). Contains (earlier_twins run opens i) t) (sym opening) has)
-          (phase t (ap is_open (state_by run history sound t Ended ends)) ∙ ends)
-
-  -- and the bad ones bad
-  bad_stays : (i : ℕ) → is_bad (state_in run history i) ≡ true
-      → is_bad (state_in run after i) ≡ true
-  bad_stays i bad =
-      subst (λ (opens : List Entry). is_bad (state (rows_of run opens after.events) i) ≡ true)
-      (sym opening)
-      ((states_stay (rows_of run history.opening history.events) (phase_of after.events) moves i
-      (bad_is_closed (state_in run history i) bad)).2 ∙ bad)
-    where
-      moves : (d : ℕ) → (phase_of after.events d ≡ phase_of history.events d)
-          ⊎ (is_open (state_in run history d) ≡ true)
-      moves d = by (is_open (state_in run history d)) refl
-        where
-          by : (b : Bool) → is_open (state_in run history d) ≡ b
-              → (phase_of after.events d ≡ phase_of history.events d)
-              ⊎ (is_open (state_in run history d) ≡ true)
-          by true is = inr is
-          by false is = inl (phase d is)
-
-  begun_stays : (d : ℕ) → WasBegun run history d → WasBegun run after d
-  begun_stays d was = record {
-    within = was.within;
-    wanted = subst (λ (opens : List Entry). IsWanted run opens d) (sym opening) was.wanted;
-    unhindered = record {
-      free = ap (λ (opens : List Entry). standing_at run.system opens
-          (slice_get run.graph.nodes d)) opening ∙ was.unhindered.free;
-      spent = λ t has. bad_stays t (was.unhindered.spent t
-          (subst (λ (opens : List Entry). Contains (earlier_twins run opens d) t) opening has));
-      good = λ i has. good_stays i (was.unhindered.good i has);
-    };
-  }
-
-building_is_open : (run : Run) → IsSound run.graph → (history : History) (d lease : ℕ)
-    → phase_of history.events d ≡ Begun lease → is_open (state_in run history d) ≡ true
-building_is_open run sound history d lease phase =
-    ap is_open (state_by run history sound d (Begun lease) phase)
+-- it stays so behind an event of a derivation that is open
+begun_stays : (run : Run) (history after : History) (x : Event) → after.opening ≡ history.opening
+    → after.events ≡ history.events ++ x ∷ []
+    → is_open (state_in run history (number_of x)) ≡ true
+    → (d : ℕ) → WasBegun run history d → WasBegun run after d
+begun_stays run history after x opening events still d was = record {
+  within = was.within;
+  wanted = subst (λ (opens : List Entry). IsWanted run opens d) (sym opening) was.wanted;
+  unhindered =
+      subst (λ (opens : List Entry). IsUnhinderedIn (rows_of run opens after.events) d) (sym opening)
+      (subst (λ (es : List Event). IsUnhinderedIn (rows_of run history.opening es) d) (sym events)
+      (behind_event run history.opening history.events x still d was.unhindered));
+}
 
 begun_not_ended : (p : Phase) (lease : ℕ) → p ≡ Begun lease → p ≡ Ended → ⊥
 begun_not_ended p lease is ends = search rules
@@ -133,7 +88,7 @@ module _ (excused : Reason → Type 0) (may : Job → Result Answer Reason → T
       → (phase_of history.events d ≡ Idle → ⊥) → WasBegun run history d
   begun_is _ (told_opening entries journal) d moved = absurd (moved refl)
   begun_is _ (told_begin history e told legal can) d moved =
-      begun_stays run sound history (begun history e) (Begin e (begins history.events)) refl refl
+      begun_stays run history (begun history e) (Begin e (begins history.events)) refl refl
       (ap is_open can.ready) d
       (⊎_elim
       (λ same. subst (WasBegun run history) same (record {
@@ -146,7 +101,7 @@ module _ (excused : Reason → Type 0) (may : Job → Result Answer Reason → T
       (same_or_other e d))
   begun_is _ (told_done history e lease node infos entry told legal phase is_node came is_entry) d
       moved =
-      begun_stays run sound history (ended history e lease entry) (Finish e lease) refl refl
+      begun_stays run history (ended history e lease entry) (Finish e lease) refl refl
       (building_is_open run sound history e lease phase) d
       (begun_is history told d (λ idle. ⊎_elim
       (λ same. begun_not_idle (phase_of history.events e) lease phase
@@ -154,7 +109,7 @@ module _ (excused : Reason → Type 0) (may : Job → Result Answer Reason → T
       (λ other. moved (phase_other history.events (Finish e lease) d other ∙ idle))
       (same_or_other e d)))
   begun_is _ (told_fail history e lease reason told legal phase why) d moved =
-      begun_stays run sound history (failed history e lease reason) (Fail e lease reason) refl refl
+      begun_stays run history (failed history e lease reason) (Fail e lease reason) refl refl
       (building_is_open run sound history e lease phase) d
       (begun_is history told d (λ idle. ⊎_elim
       (λ same. begun_not_idle (phase_of history.events e) lease phase

@@ -44,7 +44,8 @@ use Rattle.store_run.proofs.OneOutcome.{refers_behind}
 use Rattle.store_run.proofs.Standings.{output_of_free}
 use Rattle.store_run.proofs.Telling.{IsFrom, begun_is, from_built, from_is, from_opening, phase_begun, phase_broken, phase_ended}
 use Rattle.store_run.proofs.ToldRuns.{IsTold, told_begin, told_done, told_fail, told_opening}
-use Rattle.store_run.proofs.Unhindered.{aside_same, inputs_in, ready_unhindered, standing_in, state_by, twins_in}
+use Rattle.sched_core.proofs.Unhindered.{ready_unhindered}
+use Rattle.store_run.proofs.Unhindered.{aside_same, inputs_in, standing_in, state_by, twins_in}
 use Rattle.sched_core.proofs.OtherEvents.{phase_other, same_or_other}
 use Rattle.valid_table.proofs.Reaching.{valid_from_registers}
 

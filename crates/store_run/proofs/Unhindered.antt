@@ -4,19 +4,25 @@ use Rattle.std.specs.Prelude.{Contains, find, slice_get}
 use Rattle.std.specs.List.{list_all, list_any}
 use Rattle.drv_graph.specs.SoundGraphs.{IsSound}
 use Rattle.sched_core.specs.Runs.{History, Run, earlier_twins, inputs_at, rows_of, standing_at, state_in}
-use Rattle.sched_core.specs.States.{Phase, Idle, Begun, Ended, Broken, by_first, by_hindrance, by_inputs, by_phase, by_twins, by_validity, is_bad, is_done, is_good, is_open, phase_of, table}
+use Rattle.sched_core.specs.States.{Phase, Rows, Idle, Begun, Ended, Broken, by_first, by_hindrance, by_inputs, by_phase, by_twins, by_validity, is_bad, is_done, is_good, is_open, phase_of, table}
 use Rattle.sched_core.specs.declared.reason.State.{State}
 use Rattle.sched_core.specs.declared.reason.State.TheVariants.{Blocked, Ready, Reused}
 use Rattle.sched_core.specs.declared.standing.Standing.{Standing}
 use Rattle.sched_core.specs.declared.standing.Standing.TheVariants.{AllValid, Hindered, Free}
+use Rattle.sched_core.proofs.Aside.{aside, aside_same as rows_same, state_aside}
+use Rattle.sched_core.proofs.Unhindered.{IsUnhindered as IsUnhinderedIn, unhindered_ready as ready_aside}
 use Rattle.sched_core.proofs.ClosedStates.{bad_is_closed, bad_is_not_done, all_from, none_bad}
 use Rattle.sched_core.proofs.EarlierTwins.{run_twins}
 use Rattle.sched_core.proofs.NearestTwins.{ready_ended, none_from}
 use Rattle.sched_core.proofs.PlanInputs.{rows_in_order}
-use Rattle.sched_core.proofs.Seeds.{all_good, done_is_ended, ready_by}
+use Rattle.sched_core.proofs.Seeds.{done_is_ended, not_good_by_first}
 use Rattle.sched_core.proofs.Tests.{any_passes, list_all_has, one_passes}
 use Rattle.sched_core.proofs.StateLaws.{all_same, any_same, find_same, states_agree}
 use Rattle.valid_table.specs.declared.entry.Entry.{Entry}
+
+-- the rows of a history
+abbrev pub rows_in : Run → History → Rows
+rows_in run history = rows_of run history.opening history.events
 
 -- the numbers of a derivation's inputs
 abbrev pub inputs_in : Run → ℕ → List ℕ
@@ -31,37 +37,22 @@ standing_in run history d =
 abbrev pub twins_in : Run → History → ℕ → List ℕ
 twins_in run history d = earlier_twins run history.opening d
 
--- its state, its own events aside
-abbrev pub state_aside : Run → History → ℕ → State
-state_aside run history d = by_validity (standing_in run history d)
-    (by_twins (state_in run history) (twins_in run history d)
-    (by_hindrance (standing_in run history d)
-    (by_inputs (state_in run history) (inputs_in run d))))
-
+-- its state, by its last event
 pub state_by : (run : Run) (history : History) → IsSound run.graph → (d : ℕ) (p : Phase)
     → phase_of history.events d ≡ p
-    → state_in run history d ≡ by_phase p (state_aside run history d)
-unfolding table
-state_by run history sound d p is = search (rules, states_agree, rows_in_order, state_aside)
+    → state_in run history d ≡ by_phase p (aside (rows_in run history) (state_in run history) d)
+state_by run history sound d p is =
+    state_aside (rows_in run history) (rows_in_order run history.opening history.events sound) d p is
 
 -- Nothing but its own events is in the way of a derivation.
-pub record IsUnhindered (run : Run) (history : History) (d : ℕ) : Type 0 where
-  pub free : standing_in run history d ≡ Free
-  pub spent : (t : ℕ) → Contains (twins_in run history d) t
-      → is_bad (state_in run history t) ≡ true
-  pub good : (i : ℕ) → Contains (inputs_in run d) i → is_good (state_in run history i) ≡ true
+abbrev pub IsUnhindered : Run → History → ℕ → Type 0
+IsUnhindered run history d = IsUnhinderedIn (rows_in run history) d
 
--- such a derivation is ready, its own events aside
-pub aside_ready : (run : Run) (history : History) (d : ℕ) → IsUnhindered run history d
-    → state_aside run history d ≡ Ready
-aside_ready run history d un =
-    search (rules, twins_in, none_from, bad_is_not_done, bad_is_closed, none_bad, inputs_in, all_from)
-
--- and ready where it has no event
+-- such a derivation is ready where it has no event
 pub unhindered_ready : (run : Run) (history : History) → IsSound run.graph → (d : ℕ)
     → IsUnhindered run history d → phase_of history.events d ≡ Idle → state_in run history d ≡ Ready
 unhindered_ready run history sound d un idle =
-    state_by run history sound d Idle idle ∙ aside_ready run history d un
+    state_by run history sound d Idle idle ∙ ready_aside (rows_in run history) d un
 
 -- one that has no event is blocked where an earlier twin still has something before it, and none
 -- was built
@@ -80,26 +71,6 @@ blocked_by_twin run history sound d t idle free has still none =
       any_passes (λ u. is_open (f u)) twins t has still,
     ) refl
 
--- and back
-pub ready_unhindered : (run : Run) (history : History) → IsSound run.graph → (d : ℕ)
-    → state_in run history d ≡ Ready → IsUnhindered run history d
-ready_unhindered run history sound d ready =
-    let f = state_in run history in
-    let inputs = inputs_in run d in
-    let facts = ready_by (phase_of history.events d) (standing_in run history d)
-    (list_any (λ t. is_done (f t)) (twins_in run history d))
-    (list_any (λ t. is_open (f t)) (twins_in run history d))
-    (by_inputs f inputs)
-    (sym (state_by run history sound d (phase_of history.events d) refl) ∙ ready) in
-    let good = all_good (find (λ i. is_bad (f i)) inputs) (list_all (λ i. is_good (f i)) inputs)
-    facts.open_is in
-    record {
-      free = facts.free;
-      spent = λ t has. ready_ended (rows_of run history.opening history.events)
-          (run_twins run history.opening history.events) d t ready has;
-      good = λ i has. list_all_has (λ j. is_good (f j)) inputs i good has;
-    }
-
 -- who is good was built, or has no event and stands by valid outputs or by an earlier twin that was
 -- built
 pub data IsGoodBy (run : Run) (history : History) (d : ℕ) : Type 0 where
@@ -108,11 +79,6 @@ pub data IsGoodBy (run : Run) (history : History) (d : ℕ) : Type 0 where
       → IsGoodBy run history d
   good_twin : (t : ℕ) → phase_of history.events d ≡ Idle → Contains (twins_in run history d) t
       → phase_of history.events t ≡ Ended → IsGoodBy run history d
-
-good_first : (first : Option ℕ) (all : Bool) → is_good (by_first first all) ≡ true → ⊥
-good_first (Some i) all is = cc
-good_first None true is = cc
-good_first None false is = cc
 
 good_parts : (run : Run) (history : History) (d : ℕ) (p : Phase) (s : Standing)
     (built still : Bool) (first : Option ℕ) (all : Bool)
@@ -135,7 +101,7 @@ good_parts run history d Idle Free true still first all at stands by_twin is =
     let twin = by_twin refl in good_twin twin.0 at twin.1 twin.2
 good_parts run history d Idle Free false true first all at stands by_twin is = absurd cc
 good_parts run history d Idle Free false false first all at stands by_twin is =
-    absurd (good_first first all is)
+    absurd (not_good_by_first first all is)
 
 pub good_is : (run : Run) (history : History) → IsSound run.graph → (d : ℕ)
     → is_good (state_in run history d) ≡ true → IsGoodBy run history d
@@ -185,20 +151,9 @@ pub aside_same : (run : Run) (history other : History) (d : ℕ) → history.ope
     → ((i : ℕ) → Contains (inputs_in run d) i → state_in run history i ≡ state_in run other i)
     → ((t : ℕ) → Contains (twins_in run history d) t
     → state_in run history t ≡ state_in run other t)
-    → state_aside run history d ≡ state_aside run other d
+    → aside (rows_in run history) (state_in run history) d
+    ≡ aside (rows_in run other) (state_in run other) d
 aside_same run history other d opening same alike =
-    let inputs = inputs_in run d in
-    let f = state_in run history in
-    let g = state_in run other in
-    let twins = twins_in run history d in
-    rw (
-      find_same f g inputs same,
-      all_same f g inputs same,
-      any_same is_done f g twins alike,
-      any_same is_open f g twins alike,
-    )
-    (ap (λ (opens : List Entry). by_validity
-    (standing_at run.system opens (slice_get run.graph.nodes d))
-    (by_twins g (earlier_twins run opens d)
-    (by_hindrance (standing_at run.system opens (slice_get run.graph.nodes d))
-    (by_inputs g inputs)))) opening)
+    rows_same (rows_in run history) (state_in run history) (state_in run other) d (λ _. same) alike
+    ∙ ap (λ (opens : List Entry). aside (rows_of run opens other.events) (state_in run other) d)
+    opening

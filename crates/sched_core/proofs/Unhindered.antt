@@ -16,7 +16,7 @@ use Rattle.sched_core.proofs.NearestTwins.{none_from, ready_ended}
 use Rattle.sched_core.proofs.PlanInputs.{rows_in_order}
 use Rattle.sched_core.proofs.Seeds.{all_good, ready_by}
 use Rattle.sched_core.proofs.Tests.{list_all_has}
-use Rattle.forecast.proofs.Aside.{aside, state_aside}
+use Rattle.sched_core.proofs.Aside.{aside, state_aside}
 use Rattle.sched_core.proofs.OtherEvents.{number_of, same_or_other, phase_other, begun_not_idle}
 
 -- Nothing but its own events is in the way of a derivation.
@@ -32,7 +32,7 @@ unhindered_ready rows d un =
     search (rules, rows, none_from, bad_is_not_done, bad_is_closed, none_bad, all_from)
 
 -- and back
-ready_unhindered : (run : Run) (history : History) → IsSound run.graph → (d : ℕ)
+pub ready_unhindered : (run : Run) (history : History) → IsSound run.graph → (d : ℕ)
     → state_in run history d ≡ Ready
     → IsUnhindered (rows_of run history.opening history.events) d
 ready_unhindered run history sound d ready =
@@ -86,13 +86,13 @@ module _ (run : Run) (opening : _) (events : List Event) (x : Event)
       ⊎ (is_open (state rows d) ≡ true)
   moves d = search (rules, rows, phase_other, same_or_other, number_of)
 
-  behind_event : (d : ℕ) → IsUnhindered rows d
+  pub behind_event : (d : ℕ) → IsUnhindered rows d
       → IsUnhindered (rows_of run opening (events ++ x ∷ [])) d
   behind_event d un = unhindered_stays rows (phase_of (events ++ x ∷ [])) moves d un
 
 -- ---- in a legal history
 
-building_is_open : (run : Run) → IsSound run.graph → (history : History) (d lease : ℕ)
+pub building_is_open : (run : Run) → IsSound run.graph → (history : History) (d lease : ℕ)
     → phase_of history.events d ≡ Begun lease → is_open (state_in run history d) ≡ true
 building_is_open run sound history d lease phase =
     ap is_open (state_aside (rows_of run history.opening history.events)
