@@ -46,19 +46,19 @@ drv_back_value d = search (rules, all_back, output_back, input_back, entry_back)
 -- no bytes are the text of two derivations
 pub one_drv : (d e : Drv) (text : List ℕ) → IsLooseText d text → IsLooseText e text → d ≡ e
 one_drv d e text is also =
-    let same : drv_value d ≡ drv_value e = one_value_each derivation_form derivation_clear
+    let same : drv_value d ≡ drv_value e = one_value_each _ derivation_clear
     (drv_value d) (drv_value e) text is also in
     sym (drv_back_value d) ∙ ap drv_back same ∙ drv_back_value e
 
 pub reads_back : ReadsBack
 reads_back drv text (Ok d) is within reading =
-    inl (ap (λ (x : Drv). Ok x) (one_drv d drv text reading.1.is_text is.is_text))
+    inl (ap (λ (x : Drv). Ok x) (one_drv d _ _ reading.1.is_text is.is_text))
 reads_back drv text (Err NoMemory) is within reading = inr refl
 reads_back drv text (Err (Syntax place)) is within reading = search rules
 reads_back drv text (Err (Order place)) is within reading =
-    let same : reading.1.0 ≡ drv = one_drv reading.1.0 drv text reading.1.1 is.is_text in
+    let same : reading.1.0 ≡ drv = one_drv _ _ _ reading.1.1 is.is_text in
     absurd (is.in_order place
-    (subst (λ (d : Drv). IsViolation derivation_form 0 (drv_value d) place) same
+    (subst (λ (d : Drv). IsViolation _ 0 (drv_value d) _) same
     reading.1.2.is_violation))
 reads_back drv text (Err TooLong) is within reading = absurd (omega arith)
 reads_back drv text (Err NotSorted) is within reading = absurd reading
@@ -71,7 +71,7 @@ pub same_parts : (p q : Parts) → parts_value p ≡ parts_value q → drv_of p 
 same_parts p q e =
     let values : drv_value (drv_of p) ≡ drv_value (drv_of q) = sym (parts_value_is p) ∙ e
     ∙ parts_value_is q in
-    sym (drv_back_value (drv_of p)) ∙ ap drv_back values ∙ drv_back_value (drv_of q)
+    sym (drv_back_value _) ∙ ap drv_back values ∙ drv_back_value _
 
 -- a copy of parts is the same derivation
 pub copied_parts : {E : Type 0} (r : Result Parts E) (p : Parts)

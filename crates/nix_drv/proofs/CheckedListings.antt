@@ -142,7 +142,7 @@ one_by_path left rest entries more files file are split inserted wanted =
     ap (λ (es : List (Vec ℕ × Vec ℕ)). bytes_at (entries_of es) wanted) inserted
     ∙ lookup_inserted wanted entries file.path file.bytes in
     ap (or_else (bytes_at (pairs_of rest) wanted)) here
-    ∙ sym (lookup_push (same_bytes wanted) (pairs_of rest) file.path.items file.bytes.items
-    (bytes_at (entries_of entries) wanted))
+    ∙ sym (lookup_push (same_bytes wanted) _ _ _
+    _)
     ∙ ap (λ (fs : List (List ℕ × List ℕ)). or_else (bytes_at fs wanted)
     (bytes_at (entries_of entries) wanted)) (sym pairs) ∙ are wanted

@@ -16,7 +16,7 @@ references_from paths pushed sorted kept same moved ordered is_kept =
     subst (λ (all : List (List ℕ)). IsPermutation all sorted) same moved in
     let all_kept : IsReferencesOf paths (dedup (pointwise nat_eq) sorted) =
     record {
-      rising = rising_dedup sorted ordered;
-      same = members_of_dedup paths sorted moved_here;
+      rising = rising_dedup _ ordered;
+      same = members_of_dedup _ _ moved_here;
     } in
     subst (λ (refs : List (List ℕ)). IsReferencesOf paths refs) (sym is_kept) all_kept

@@ -41,8 +41,7 @@ pub stray_behind : (dir text : List ℕ) (before after : List (List ℕ)) (spell
     → All (IsPathOf dir) before → IsFirstStray dir (text ∷ []) spelled
     → IsFirstStray dir (before ++ text ∷ after) spelled
 stray_behind dir text before after spelled good stray =
-    first_within (IsPathOf dir) (λ t. IsPathOf dir t → ⊥) before (text ∷ []) after spelled good
-    stray
+    first_within (IsPathOf dir) (λ t. IsPathOf dir t → ⊥) _ _ _ _ good stray
 
 -- what is wrong with one text is what is wrong with all, where those before it are good
 pub fault_behind : (dir text : List ℕ) (before after : List (List ℕ)) (found : DrvFault)
@@ -91,18 +90,18 @@ pub fault_at : {A : Type 0} (view : A → List ℕ) (dir text : List ℕ) (items
     → IsStrayFault dir (map view items) found
 fault_at {A} view dir text items i d found below at same good stray =
     let whole : map view items ≡ map view (take i items) ++ text ∷ map view (drop (suc i) items) =
-    items_at view items i d below
+    items_at view _ i d below
     ∙ ap (λ (t : List ℕ). map view (take i items) ++ t ∷ map view (drop (suc i) items))
     (ap view (sym at) ∙ sym same) in
     subst (λ (all : List (List ℕ)). IsStrayFault dir all found) (sym whole)
-    (fault_behind dir text (map view (take i items)) (map view (drop (suc i) items)) found good
+    (fault_behind _ _ _ _ _ good
     stray)
 
 -- one more item
 items_more : {A : Type 0} (view : A → List ℕ) (items : List A) (i : ℕ) (d : A) → i < length items
     → d ≡ get_or items i d → map view (take (i + 1) items) ≡ map view (take i items) ++ view d ∷ []
 items_more {A} view items i d below at =
-    ap (map view) (take_more items i d below)
+    ap (map view) (take_more _ i d below)
     ∙ map-append view (take i items) (get_or items i d ∷ [])
     ∙ ap (λ (v : A). map view (take i items) ++ view v ∷ []) (sym at)
 
@@ -113,8 +112,8 @@ pub good_more : {A : Type 0} (view : A → List ℕ) (dir text : List ℕ) (item
     → All (IsPathOf dir) (map view (take (i + 1) items))
 good_more view dir text items i d below at same good here =
     subst (λ (all : List (List ℕ)). All (IsPathOf dir) all)
-    (sym (items_more view items i d below at))
-    (All-push (IsPathOf dir) (map view (take i items)) (view d) good
+    (sym (items_more view _ i d below at))
+    (All-push (IsPathOf dir) _ _ good
     (subst (λ (t : List ℕ). IsPathOf dir t) same here))
 
 -- the list with one more text
@@ -143,8 +142,8 @@ pub inputs_fault : (dir : List ℕ) (drv : Drv) (inputs : List Input) (found : D
     → map input_of inputs ≡ drv.inputs → IsStrayFault dir (map path_of inputs) found
     → IsStrayFault dir (referenced_paths drv) found
 inputs_fault dir drv inputs found same stray =
-    subst (λ (all : List (List ℕ)). IsStrayFault dir all found) (sym (inputs_first drv inputs same))
-    (fault_within dir [] (map path_of inputs) drv.sources found
+    subst (λ (all : List (List ℕ)). IsStrayFault dir all found) (sym (inputs_first _ _ same))
+    (fault_within _ [] (map path_of inputs) drv.sources found
     (λ k d below. absurd (omega (arith, below))) stray)
 
 -- what is wrong with the sources is what is wrong with the derivation's paths, where those of the
@@ -155,9 +154,9 @@ pub sources_fault : (dir : List ℕ) (drv : Drv) (inputs : List Input) (sources 
     → IsStrayFault dir (referenced_paths drv) found
 sources_fault dir drv inputs sources found same_inputs same_sources good stray =
     subst (λ (all : List (List ℕ)). IsStrayFault dir all found)
-    (sym (paths_are drv inputs sources same_inputs same_sources
+    (sym (paths_are _ _ _ same_inputs same_sources
     ∙ sym (append-nil (map path_of inputs ++ map bytes_of sources))))
-    (fault_within dir (map path_of inputs) (map bytes_of sources) [] found good stray)
+    (fault_within _ _ _ [] found good stray)
 
 -- all paths are good where those of the inputs and of the sources are
 pub all_good : (dir : List ℕ) (drv : Drv) (inputs : List Input) (sources : List (Vec ℕ))
@@ -166,5 +165,5 @@ pub all_good : (dir : List ℕ) (drv : Drv) (inputs : List Input) (sources : Lis
     → All (IsPathOf dir) (referenced_paths drv)
 all_good dir drv inputs sources same_inputs same_sources good_inputs good_sources =
     subst (λ (all : List (List ℕ)). All (IsPathOf dir) all)
-    (sym (paths_are drv inputs sources same_inputs same_sources))
-    (All-append (IsPathOf dir) (map path_of inputs) (map bytes_of sources) good_inputs good_sources)
+    (sym (paths_are _ _ _ same_inputs same_sources))
+    (All-append (IsPathOf dir) _ _ good_inputs good_sources)

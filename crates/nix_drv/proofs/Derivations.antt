@@ -22,9 +22,9 @@ map_twice f g (x ∷ xs) = search (rules, map_twice f g xs)
 
 pub parts_value_is : (p : Parts) → parts_value p ≡ drv_value (drv_of p)
 parts_value_is p = rw (
-  map_twice output_value output_of p.outputs.items,
-  map_twice input_value input_of p.inputs.items,
-  map_twice entry_value entry_of p.env.items,
+  map_twice output_value output_of _,
+  map_twice input_value input_of _,
+  map_twice entry_value entry_of _,
 ) refl
 
 -- parts with other input derivations as a value of the language
@@ -45,15 +45,14 @@ pub with_inputs_value : (p : Parts) (inputs : List InputStruct)
     )
 with_inputs_value p inputs =
     sym (rw (
-      map_twice output_value output_of p.outputs.items,
-      map_twice input_value input_of inputs,
-      map_twice entry_value entry_of p.env.items,
+      map_twice output_value output_of _,
+      map_twice input_value input_of _,
+      map_twice entry_value entry_of _,
     ) refl)
 
 pub ordered : (p : Parts) (end : ℕ) → pass derivation_form 0 (parts_value p) ≡ Ok end
     → InOrder derivation_form (drv_value (drv_of p))
-ordered p end e = pass_in_order derivation_form (drv_value (drv_of p)) end
-    (rw (parts_value_is p) at e)
+ordered p end e = pass_in_order _ _ _ (rw (parts_value_is p) at e)
 
 pub disordered : (p : Parts) (place : ℕ) → pass derivation_form 0 (parts_value p) ≡ Err place
     → pass derivation_form 0 (drv_value (drv_of p)) ≡ Err place
@@ -73,7 +72,7 @@ pub read_in_order : (drv : Drv) (p : Parts) (s rest : List ℕ) → read derivat
     → InOrder derivation_form (drv_value (drv_of p)) → IsDrvText drv s
 read_in_order drv p s rest e none is in_order =
     subst (λ (d : Drv). IsDrvText d s) (sym is)
-    (record { is_text = whole_text p s rest e none; in_order = in_order })
+    (record { is_text = whole_text p s _ e none; in_order = in_order })
 
 -- bytes that were read whole, and whose parts are not
 pub read_first : (p : Parts) (s rest : List ℕ) (place : ℕ) → read derivation_form s
@@ -81,7 +80,7 @@ pub read_first : (p : Parts) (s rest : List ℕ) (place : ℕ) → read derivati
     → pass derivation_form 0 (drv_value (drv_of p)) ≡ Err place
     → (drv : Drv) × IsLooseText drv s × IsFirstViolation derivation_form (drv_value drv) place
 read_first p s rest place e none within passes =
-    let is : IsLooseText (drv_of p) s = whole_text p s rest e none in
-    let small : length (text derivation_form (drv_value (drv_of p)))
+    let is : IsLooseText (drv_of p) s = whole_text p s _ e none in
+    let small : length (text _ (drv_value (drv_of p)))
     < 2 ^ 64 = omega (arith, ap length is) in
-    (drv_of p, is, pass_first derivation_form (drv_value (drv_of p)) place small passes)
+    (drv_of p, is, pass_first _ _ _ small passes)

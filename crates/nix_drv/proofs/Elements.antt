@@ -101,7 +101,7 @@ told_comma text_of IsFrontOf v s (Err left) told = record {
   front = text_of v ++ 44 ∷ told.front;
   rest = told.rest;
   parts = ap (λ (t : List ℕ). text_of v ++ 44 ∷ t) told.parts ∙ simp append_assoc;
-  is_front = comma_front text_of IsFrontOf v told.front told.is_front;
+  is_front = comma_front text_of IsFrontOf v _ told.is_front;
   is_left = told.is_left;
 }
 
@@ -139,7 +139,7 @@ pub elements_told : {A : Type 0} (text_of : A → List ℕ) (IsFrontOf : List �
 unfolding elements_at
 elements_told text_of IsFrontOf one told zero s lt = absurd (omega arith)
 elements_told text_of IsFrontOf one told (suc n) s lt =
-    some_told text_of IsFrontOf s (one s) (λ x. next_at (elements_at one n) x.0 x.1) (told s)
+    some_told text_of IsFrontOf s _ (λ x. next_at (elements_at one n) x.0 x.1) (told s)
     (λ x e. next_told text_of IsFrontOf (elements_at one n) x.0 x.1
     (λ t short. elements_told text_of IsFrontOf one told n t
     (omega (arith, ap length e, length-append (text_of x.0) x.1))))
@@ -153,7 +153,7 @@ pub elements-again : {A : Type 0} {text_of : A → List ℕ} {IsFrontOf : List �
 elements-again {A} {text_of} {IsFrontOf} {one} r v [] rest =
     rw (
       append_assoc,
-      elements_open one (reader_shrinks r) (text_of v ++ 93 ∷ rest),
+      elements_open one (reader_shrinks r) _,
       r.again v (93 ∷ rest),
     ) refl
 elements-again {A} {text_of} {IsFrontOf} {one} r v (w ∷ ws) rest =
@@ -162,34 +162,34 @@ elements-again {A} {text_of} {IsFrontOf} {one} r v (w ∷ ws) rest =
     rw (
       regrouped,
       elements_open one (reader_shrinks r)
-          (text_of v ++ 44 ∷ (elements_text text_of (w ∷ ws) ++ rest)),
+          _,
       r.again v (44 ∷ (elements_text text_of (w ∷ ws) ++ rest)),
     )
-    (ap (before (v ∷ [])) (elements-again r w ws rest))
+    (ap (before (v ∷ [])) (elements-again r w _ _))
 
 -- reading goes on behind an element
 open_again : {A : Type 0} {text_of : A → List ℕ} {IsFrontOf : List ℕ → Type 0}
     {one : List ℕ → Result (A × List ℕ) ℕ} → IsReader text_of IsFrontOf one → (v : A) (t : List ℕ)
     → elements_of one (text_of v ++ t) ≡ next_at (elements_of one) v t
 open_again {A} {text_of} {IsFrontOf} {one} r v t =
-    rw (elements_open one (reader_shrinks r) (text_of v ++ t), r.again v t) refl
+    rw (elements_open one (reader_shrinks r) _, r.again v t) refl
 
 pub elements_shrinks : {A : Type 0} {text_of : A → List ℕ} {IsFrontOf : List ℕ → Type 0}
     {one : List ℕ → Result (A × List ℕ) ℕ} → IsReader text_of IsFrontOf one → (s : List ℕ)
     → left_of (elements_of one s) ≤ length s
 elements_shrinks {A} {text_of} {IsFrontOf} {one} r s =
-    elements_at-shrinks one (reader_shrinks r) (suc (length s)) s
+    elements_at-shrinks one (reader_shrinks r) _ s
 
 pub part-longest : {A : Type 0} {text_of : A → List ℕ} {IsFrontOf : List ℕ → Type 0}
     {one : List ℕ → Result (A × List ℕ) ℕ} → IsReader text_of IsFrontOf one
     → (whole : List A) (last rest : List ℕ) → IsFrontOf last
     → left_of (elements_of one ((each_with_comma text_of whole ++ last) ++ rest)) ≤ length rest
 part-longest {A} {text_of} {IsFrontOf} {one} r [] last rest at =
-    rw (elements_open one (reader_shrinks r) (last ++ rest))
+    rw (elements_open one (reader_shrinks r) _)
     (omega (
       arith,
       bind_shrinks (one (last ++ rest)) (λ x. next_at (elements_of one) x.0 x.1)
-          (λ x. next_shrinks (elements_of one) x.0 x.1 (elements_shrinks r)),
+          (λ x. next_shrinks (elements_of one) _ _ (elements_shrinks r)),
       r.longest last rest at,
     ))
 part-longest {A} {text_of} {IsFrontOf} {one} r (v ∷ whole) last rest at =
@@ -197,8 +197,8 @@ part-longest {A} {text_of} {IsFrontOf} {one} r (v ∷ whole) last rest at =
     ∷ ((each_with_comma text_of whole ++ last) ++ rest) = simp append_assoc in
     rw (
       regrouped,
-      open_again r v (44 ∷ ((each_with_comma text_of whole ++ last) ++ rest)),
-      left-before (v ∷ []) (elements_of one ((each_with_comma text_of whole ++ last) ++ rest)),
+      open_again r v _,
+      left-before _ _,
     )
     (part-longest r whole last rest at)
 
@@ -207,7 +207,7 @@ pub end-longest : {A : Type 0} {text_of : A → List ℕ} {IsFrontOf : List ℕ 
     → (v : A) (whole : List A) (last rest : List ℕ) → Begins last (93 ∷ [])
     → left_of (elements_of one ((separated text_of (v ∷ whole) ++ last) ++ rest)) ≤ length rest
 end-longest {A} {text_of} {IsFrontOf} {one} r v [] last rest at =
-    rw (append_assoc, open_again r v (last ++ rest))
+    rw (append_assoc, open_again r v _)
     (elim (fronts_of_one 93 last at.0 at.1) [
       | inl e ↦ rw e (next_shrinks (elements_of one) v rest (elements_shrinks r))
       | inr e ↦ rw e
@@ -218,7 +218,7 @@ end-longest {A} {text_of} {IsFrontOf} {one} r v (w ∷ ws) last rest at =
     ∷ ((separated text_of (w ∷ ws) ++ last) ++ rest) = simp append_assoc in
     rw (
       regrouped,
-      open_again r v (44 ∷ ((separated text_of (w ∷ ws) ++ last) ++ rest)),
-      left-before (v ∷ []) (elements_of one ((separated text_of (w ∷ ws) ++ last) ++ rest)),
+      open_again r v _,
+      left-before _ (elements_of one ((separated text_of (w ∷ ws) ++ last) ++ rest)),
     )
     (end-longest r w ws last rest at)

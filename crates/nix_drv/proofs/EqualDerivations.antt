@@ -4,7 +4,7 @@ use Rattle.std.specs.Cmp.Lexicographic.{bytes_decides, pointwise, pointwise_deci
 use Rattle.std.specs.Cmp.Derive.Mapped.{pointwise-map}
 use Rattle.std.proofs.lemmas.Bool.{and_from, and_parts}
 use Rattle.nix_drv.specs.Derivation.{Drv, EnvEntry, Input, Output}
-use Rattle.nix_drv.specs.Equality.{EqualDerivationsAreSame, same_build, same_drv, same_entry, same_input, same_output, same_paths, same_program}
+use Rattle.nix_drv.specs.Equality.{EqualDerivationsAreSame, same_build, same_drv, same_entry, same_input, same_output, same_paths}
 
 -- two tests, each of one part
 both : {P Q : Type 0} (a b : Bool) → Decides a P → Decides b Q → Decides (a && b) (P × Q)
@@ -19,8 +19,8 @@ outputs_decide a b = search (rules, also, both, nat_eq)
 
 inputs_decide : (a b : Input) → Decides (same_input a b) (a ≡ b)
 inputs_decide a b =
-    also (same_input a b)
-    (both (pointwise nat_eq a.path b.path) (pointwise (pointwise nat_eq) a.names b.names)
+    also _
+    (both _ _
     (bytes_decides a.path b.path) (pointwise_decides bytes_decides a.names b.names))
     (λ p j. record { path = p.0 j; names = p.1 j })
     (λ e. (ap (λ (i : Input). i.path) e, ap (λ (i : Input). i.names) e))
@@ -31,9 +31,9 @@ entries_decide a b = search (rules, also, both, nat_eq)
 paths_decide : (a b : Drv) → Decides (same_paths a b)
     (((a.outputs ≡ b.outputs) × (a.inputs ≡ b.inputs)) × (a.sources ≡ b.sources))
 paths_decide a b =
-    both (pointwise same_output a.outputs b.outputs && pointwise same_input a.inputs b.inputs)
-    (pointwise (pointwise nat_eq) a.sources b.sources)
-    (both (pointwise same_output a.outputs b.outputs) (pointwise same_input a.inputs b.inputs)
+    both _
+    _
+    (both _ _
     (pointwise_decides outputs_decide a.outputs b.outputs)
     (pointwise_decides inputs_decide a.inputs b.inputs))
     (pointwise_decides bytes_decides a.sources b.sources)
@@ -41,10 +41,10 @@ paths_decide a b =
 build_decide : (a b : Drv) → Decides (same_build a b)
     ((((a.system ≡ b.system) × (a.builder ≡ b.builder)) × (a.args ≡ b.args)) × (a.env ≡ b.env))
 build_decide a b =
-    both (same_program a b && pointwise (pointwise nat_eq) a.args b.args)
-    (pointwise same_entry a.env b.env)
-    (both (same_program a b) (pointwise (pointwise nat_eq) a.args b.args)
-    (both (pointwise nat_eq a.system b.system) (pointwise nat_eq a.builder b.builder)
+    both _
+    _
+    (both _ _
+    (both _ _
     (bytes_decides a.system b.system) (bytes_decides a.builder b.builder))
     (pointwise_decides bytes_decides a.args b.args))
     (pointwise_decides entries_decide a.env b.env)

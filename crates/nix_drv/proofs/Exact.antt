@@ -1,5 +1,5 @@
 -- Reading by a grammar answers with the one value, or stops behind the longest front.
-use Rattle.std.proofs.Common.{◌≡◌, ◌≢◌, ℕ, ◌-◌, ◌≤◌, false, List, [], ◌∷◌, ◌++◌, length, Result, Ok, Err, refl, sym, ap, subst, ◌∙◌, rules}
+use Rattle.std.proofs.Common.{◌≡◌, ◌≢◌, ℕ, ◌-◌, ◌≤◌, List, [], ◌∷◌, ◌++◌, length, Result, Ok, Err, refl, sym, ap, subst, ◌∙◌, rules}
 use Rattle.std.proofs.lemmas.Bool.{ne_eqb}
 use Rattle.std.proofs.lemmas.List.{append-nil, length-append, nil_from_length}
 use Rattle.nix_drv.specs.Grammar.{Grammar, Fixed, Str, Then, Many, Value, text, IsText, IsFront, IsFrontOfBytes, IsFrontOfElements, IsLongestFront, first_byte, IsNoBracket, IsClear}
@@ -22,11 +22,11 @@ refuses_bracket (Many order g) clear s = refl
 -- reading is exact for every grammar that is clear
 pub reader : (g : Grammar) → IsClear g → IsReader (text g) (IsFront g) (read g)
 unfolding read text IsFront
-reader (Fixed bytes) clear = fixed_reader bytes
-reader Str clear = behind_reader 34 bytes_text IsFrontOfBytes (bytes_at false) bytes_reader
+reader (Fixed bytes) clear = fixed_reader _
+reader Str clear = behind_reader _ bytes_text IsFrontOfBytes (bytes_at _) bytes_reader
 reader (Then a b) clear = search (rules, both_reader, reader a clear.0, reader b clear.1)
 reader (Many order g) clear =
-    behind_reader 91 (elements_text (text g)) (IsFrontOfElements (text g) (IsFront g))
+    behind_reader _ (elements_text (text g)) (IsFrontOfElements (text g) (IsFront g))
     (list_at (read g))
     (list_reader (text g) (IsFront g) (read g) (reader g clear.0) (refuses_bracket g clear.1))
 

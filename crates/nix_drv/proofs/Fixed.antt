@@ -31,14 +31,14 @@ fixed-told (b ∷ bytes) (c ∷ s) =
 
 pub fixed-again : (bytes rest : List ℕ) → fixed_at bytes (bytes ++ rest) ≡ Ok (tt, rest)
 fixed-again [] rest = refl
-fixed-again (b ∷ bytes) rest = rw (eqb_same b) (fixed-again bytes rest)
+fixed-again (b ∷ bytes) rest = rw (eqb_same b) (fixed-again bytes _)
 
 pub fixed-shrinks : (bytes s : List ℕ) → left_of (fixed_at bytes s) ≤ length s
 fixed-shrinks bytes s = search (rules, told_shrinks, fixed-told)
 
 within : (front more rest : List ℕ) → left_of (fixed_at (front ++ more) (front ++ rest))
     ≤ length rest
-within [] more rest = fixed-shrinks more rest
+within [] more rest = fixed-shrinks _ _
 within (x ∷ front) more rest = rw (eqb_same x) (within front more rest)
 
 pub fixed-longest : (bytes : List ℕ) → Longest (Fronts bytes) (fixed_at bytes)

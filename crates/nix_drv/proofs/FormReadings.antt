@@ -31,14 +31,14 @@ after_second (Err left) v = refl
 
 after_first : {A B : Type 0} (r : Result (A × List ℕ) ℕ) (second : List ℕ → Result (B × List ℕ) ℕ)
     → ((r >>= λ y. second y.1 >>= with_one y.0) >>= with_fixed) ≡ then_of r second
-after_first (Ok y) second = after_second (second y.1) y.0
+after_first (Ok y) second = after_second _ _
 after_first (Err left) second = refl
 
 after_fixed : {A B : Type 0} (r : Result (Unit {0} × List ℕ) ℕ)
     (first : List ℕ → Result (A × List ℕ) ℕ) (second : List ℕ → Result (B × List ℕ) ℕ)
     → (r >>= λ x. (first x.1 >>= λ y. second y.1 >>= with_one y.0) >>= with_one x.0)
     ≡ then_of (r >>= λ x. first x.1) second
-after_fixed (Ok x) first second = after_first (first x.1) second
+after_fixed (Ok x) first second = after_first _ second
 after_fixed (Err left) first second = refl
 
 string_then : (bytes : List ℕ) (b : Grammar) (s : List ℕ) → read (Then (Fixed bytes) (Then Str b)) s
@@ -83,7 +83,7 @@ string_later stop bytes b s v rest e fails = search (rules, string_then, fails_o
 pub string_read : (bytes : List ℕ) (b : Grammar) (s v rest : List ℕ) (w : Value b) (end : List ℕ)
     → string_behind bytes s ≡ Ok (v, rest) → read b rest ≡ Ok (w, end)
     → read (Then (Fixed bytes) (Then Str b)) s ≡ Ok ((tt, (v, w)), end)
-string_read bytes b s v rest w end e more = rw (string_then bytes b s, e, more) refl
+string_read bytes b s v rest w end e more = rw (string_then _ b s, e, more) refl
 
 -- ---- a list and what follows it
 
@@ -153,7 +153,7 @@ pub strings_read : (bytes : List ℕ) (b : Grammar) (s v u rest : List ℕ) (w :
     → strings_behind bytes s ≡ Ok ((v, u), rest) → read b rest ≡ Ok (w, end)
     → read (Then (Fixed bytes) (Then Str (Then (Fixed (44 ∷ [])) (Then Str b)))) s
     ≡ Ok ((tt, (v, (tt, (u, w)))), end)
-strings_read bytes b s v u rest w end e more = rw (strings_then bytes b s, e, more) refl
+strings_read bytes b s v u rest w end e more = rw (strings_then _ b s, e, more) refl
 
 -- ---- the ends of the forms
 

@@ -38,10 +38,10 @@ begins_bytes : (v more rest : List ℕ) → flat_map spelling v ++ 34 ∷ [] ≡
     → IsFrontOfBytes more
 begins_bytes [] more rest e = ([], more, refl, inr (rest, e))
 begins_bytes (b ∷ v) more rest e =
-    elim (begins_parts more (spelling b) (flat_map spelling v ++ 34 ∷ []) rest
+    elim (begins_parts _ _ _ _
     (sym (append_assoc (spelling b) (flat_map spelling v) (34 ∷ [])) ∙ e)) [
       | inl at ↦ ([], more, refl, inl (b, at))
-      | inr at ↦ let later : IsFrontOfBytes at.0 = begins_bytes v at.0 at.2.0 at.2.1 in (
+      | inr at ↦ let later : IsFrontOfBytes at.0 = begins_bytes v _ _ at.2.1 in (
         b ∷ later.0,
         later.1,
         at.1 ∙ ap (λ (t : List ℕ). spelling b ++ t) later.2
@@ -86,15 +86,15 @@ begins_some : {A : Type 0} (text_of : A → List ℕ) (IsFrontOf : List ℕ → 
     → (v : A) (vs : List A) (more rest : List ℕ) → separated text_of (v ∷ vs) ++ 93 ∷ [] ≡ more
     ++ rest → FrontOfSome text_of IsFrontOf more
 begins_some text_of IsFrontOf one v [] more rest e =
-    elim (begins_parts more (text_of v) (93 ∷ []) rest e)
+    elim (begins_parts _ _ _ _ e)
     [ inl at ↦ inl ([], more, refl, one v more at) | inr at ↦ inr (v, [], at.0, at.1, at.2) ]
 begins_some {A} text_of IsFrontOf one v (w ∷ vs) more rest e =
-    elim (begins_parts more (text_of v) (44 ∷ separated text_of (w ∷ vs) ++ 93 ∷ []) rest
+    elim (begins_parts _ _ _ _
     (sym (append_assoc (text_of v) (44 ∷ separated text_of (w ∷ vs)) (93 ∷ [])) ∙ e)) [
       | inl at ↦ inl ([], more, refl, one v more at)
       | inr at ↦
           let some : FrontOfSome text_of IsFrontOf (text_of v ++ at.0) =
-          begins_behind text_of IsFrontOf v w vs at.0 at.2.0 at.2.1
+          begins_behind text_of IsFrontOf v w _ _ _ at.2.1
           (λ t later is. begins_some text_of IsFrontOf one w vs t later is) in
           rw at.1 some
     ]
@@ -105,7 +105,7 @@ begins_elements : {A : Type 0} (text_of : A → List ℕ) (IsFrontOf : List ℕ 
     → IsFrontOfElements text_of IsFrontOf more
 begins_elements text_of IsFrontOf one [] more rest e = inr ([], more, refl, (rest, e))
 begins_elements {A} text_of IsFrontOf one (v ∷ vs) more rest e =
-    elim (begins_some text_of IsFrontOf one v vs more rest e)
+    elim (begins_some text_of IsFrontOf one v _ more rest e)
     [ inl at ↦ inl at | inr at ↦ inr (at.0 ∷ at.1, at.2, at.3, at.4) ]
 
 -- a beginning of a byte and more is none, or the byte and a beginning of the rest
@@ -119,17 +119,16 @@ begins_front : (g : Grammar) (v : Value g) (front : List ℕ) → Begins front (
     → IsFront g front
 unfolding text IsFront
 begins_front (Fixed bytes) v front at = at
-begins_front Str v front at = begins_byte 34 (flat_map spelling v ++ 34 ∷ []) front at.0
-    IsFrontOfBytes (begins_bytes v) at.1
+begins_front Str v front at = begins_byte _ _ _ _ IsFrontOfBytes (begins_bytes v) at.1
 begins_front (Then a b) v front at =
-    elim (begins_parts front (text a v.0) (text b v.1) at.0 at.1) [
+    elim (begins_parts _ _ _ _ at.1) [
       | inl first ↦ inl (begins_front a v.0 front first)
-      | inr second ↦ inr (v.0, second.0, second.1, begins_front b v.1 second.0 second.2)
+      | inr second ↦ inr (v.0, second.0, second.1, begins_front b _ _ second.2)
     ]
 begins_front (Many order g) vs front at =
-    begins_byte 91 (separated (text g) vs ++ 93 ∷ []) front at.0
+    begins_byte _ _ _ _
     (IsFrontOfElements (text g) (IsFront g))
-    (begins_elements (text g) (IsFront g) (begins_front g) vs) at.1
+    (begins_elements (text g) (IsFront g) (begins_front g) _) at.1
 
 -- ---- a front is a beginning
 
@@ -151,7 +150,7 @@ bytes_begin more (at0, at1, at2, inl at) =
     let one : flat_map spelling (at.0 ∷ []) ≡ at1 ++ at.1.0 =
     append-nil (spelling at.0) ∙ at.1.1 in (
       at0 ++ at.0 ∷ [],
-      (at.1.0 ++ 34 ∷ [], rw (spellings-append at0 (at.0 ∷ []), one, at2) (simp append_assoc)),
+      (at.1.0 ++ 34 ∷ [], rw (spellings-append _ _, one, at2) (simp append_assoc)),
     )
 bytes_begin more (at0, at1, at2, inr at) = (
   at0,
@@ -180,7 +179,7 @@ elements_begin text_of IsFrontOf one more (inl at) =
       at.0 ++ last.0 ∷ [],
       (
         last.1.0 ++ 93 ∷ [],
-        rw (separated-last text_of at.0 last.0, last.1.1, at.2)
+        rw (separated-last text_of _ _, last.1.1, at.2)
             (simp append_assoc),
       ),
     )
@@ -190,9 +189,9 @@ front_begins : (g : Grammar) (front : List ℕ) → IsFront g front → (v : Val
     × Begins front (text g v)
 unfolding text IsFront
 front_begins (Fixed bytes) front at = (tt, at)
-front_begins Str front (inl at) = ([], begins_more front (34 ∷ []) (34 ∷ []) at)
+front_begins Str front (inl at) = ([], begins_more _ _ _ at)
 front_begins Str front (inr at) =
-    let whole = bytes_begin at.0 at.2 in (
+    let whole = bytes_begin _ at.2 in (
       whole.0,
       (
         whole.1.0,
@@ -201,10 +200,10 @@ front_begins Str front (inr at) =
       ),
     )
 front_begins (Then a b) front (inl at) =
-    let first = front_begins a front at in
-    ((first.0, some_value b), begins_more front (text a first.0) (text b (some_value b)) first.1)
+    let first = front_begins a _ at in
+    ((first.0, some_value b), begins_more _ _ _ first.1)
 front_begins (Then a b) front (inr at) =
-    let second = front_begins b at.1 at.3 in (
+    let second = front_begins b _ at.3 in (
       (at.0, second.0),
       (
         second.1.0,
@@ -213,9 +212,9 @@ front_begins (Then a b) front (inr at) =
             ∙ ap (λ (t : List ℕ). t ++ second.1.0) (sym at.2),
       ),
     )
-front_begins (Many order g) front (inl at) = ([], begins_more front (91 ∷ []) (93 ∷ []) at)
+front_begins (Many order g) front (inl at) = ([], begins_more _ _ _ at)
 front_begins (Many order g) front (inr at) =
-    let whole = elements_begin (text g) (IsFront g) (front_begins g) at.0 at.2 in (
+    let whole = elements_begin (text g) (IsFront g) (front_begins g) _ at.2 in (
       whole.0,
       (
         whole.1.0,
@@ -225,4 +224,4 @@ front_begins (Many order g) front (inr at) =
     )
 
 pub fronts_are_beginnings : (g : Grammar) → FrontsAreBeginnings g
-fronts_are_beginnings g front = (front_begins g front, λ (v, at). begins_front g v front at)
+fronts_are_beginnings g front = (front_begins g _, λ (v, at). begins_front g v _ at)

@@ -77,7 +77,7 @@ pub sign_fails : {A : Type 0} (one : List ℕ → Result (A × List ℕ) ℕ)
     → Fails stop total
 sign_fails one h NoMemory items s v after total so_far e fails = tt
 sign_fails {A} one h (Left left) items s v after total so_far e fails =
-    sym (after_element one h items s v after total so_far e)
+    sym (after_element one h _ s v _ _ so_far e)
     ∙ ap (λ (r : Result (Next × List ℕ) ℕ). before items (r >>= follow (elements_of one) v))
     fails
 
@@ -89,10 +89,10 @@ pub element_more : {A : Type 0} (one : List ℕ → Result (A × List ℕ) ℕ)
     → before items (elements_of one s) ≡ total → one s ≡ Ok (v, after) → sign_at after
     ≡ Ok (Comma, rest) → before (items ++ v ∷ []) (elements_of one rest) ≡ total
 element_more one h items s v after rest total so_far e sign =
-    sym (before-before items (v ∷ []) (elements_of one rest))
+    sym (before-before items (v ∷ []) _)
     ∙ sym (ap (λ (r : Result (Next × List ℕ) ℕ).
     before items (r >>= follow (elements_of one) v)) sign)
-    ∙ after_element one h items s v after total so_far e
+    ∙ after_element one h _ s v _ _ so_far e
 
 -- the last element, and the end of the list
 pub element_last : {A : Type 0} (one : List ℕ → Result (A × List ℕ) ℕ)
@@ -102,7 +102,7 @@ pub element_last : {A : Type 0} (one : List ℕ → Result (A × List ℕ) ℕ)
     → before items (elements_of one s) ≡ total → one s ≡ Ok (v, after) → sign_at after
     ≡ Ok (End, rest) → total ≡ Ok (items ++ v ∷ [], rest)
 element_last one h items s v after rest total so_far e sign =
-    sym (after_element one h items s v after total so_far e)
+    sym (after_element one h _ s v _ _ so_far e)
     ∙ ap (λ (r : Result (Next × List ℕ) ℕ). before items (r >>= follow (elements_of one) v))
     sign
 

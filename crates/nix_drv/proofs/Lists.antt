@@ -1,6 +1,6 @@
 -- A list behind its first bracket is read exactly, where its elements don't begin with the last
 -- bracket.
-use Rattle.std.proofs.Common.{◌≡◌, ℕ, suc, ◌≤◌, eqb, List, [], ◌∷◌, ◌++◌, length, Result, Ok, Err, refl, ap, arith, inl, inr, rules}
+use Rattle.std.proofs.Common.{◌≡◌, ℕ, suc, ◌≤◌, List, [], ◌∷◌, ◌++◌, length, Result, Ok, Err, refl, ap, arith, inl, inr, rules}
 use Rattle.std.proofs.lemmas.Bool.{eqb-true, cond_both}
 use Rattle.nix_drv.specs.Grammar.{IsFrontOfElements}
 use Rattle.nix_drv.specs.Reading.{elements_of, list_at, left_of}
@@ -35,7 +35,7 @@ list-told : {A : Type 0} {text_of : A → List ℕ} {IsFrontOf : List ℕ → Ty
     → Told (elements_text text_of) (IsFrontOfElements text_of IsFrontOf) s (list_at one s)
 list-told {A} {text_of} {IsFrontOf} {one} r [] = some_list_told r []
 list-told {A} {text_of} {IsFrontOf} {one} r (b ∷ s) =
-    cond_both (eqb b 93) (Ok ([], s)) (elements_of one (b ∷ s))
+    cond_both _ _ _
     (Told (elements_text text_of) (IsFrontOfElements text_of IsFrontOf) (b ∷ s))
     (λ e. ap (λ (x : ℕ). x ∷ s) (eqb-true b 93 e))
     (λ _. some_list_told r (b ∷ s))
@@ -44,7 +44,7 @@ refused_elements : {A : Type 0} {text_of : A → List ℕ} {IsFrontOf : List ℕ
     {one : List ℕ → Result (A × List ℕ) ℕ} → IsReader text_of IsFrontOf one → RefusesBracket one
     → (s : List ℕ) → elements_of one (93 ∷ s) ≡ Err (suc (length s))
 refused_elements {A} {text_of} {IsFrontOf} {one} r refuses s =
-    rw (elements_open one (reader_shrinks r) (93 ∷ s), refuses s) refl
+    rw (elements_open one (reader_shrinks r) _, refuses s) refl
 
 -- where elements are read the list isn't empty
 list_opens : {A : Type 0} {text_of : A → List ℕ} {IsFrontOf : List ℕ → Type 0}
@@ -52,7 +52,7 @@ list_opens : {A : Type 0} {text_of : A → List ℕ} {IsFrontOf : List ℕ → T
     → (s : List ℕ) (y : List A × List ℕ) → elements_of one s ≡ Ok y → list_at one s ≡ Ok y
 list_opens r refuses [] y e = e
 list_opens {A} {text_of} {IsFrontOf} {one} r refuses (b ∷ s) y e =
-    cond_both (eqb b 93) (Ok ([], s)) (elements_of one (b ∷ s)) (λ x. x ≡ Ok y)
+    cond_both _ _ _ (λ x. x ≡ Ok y)
     (λ t. let bracket : elements_of one (b ∷ s)
     ≡ Err (suc (length s)) = rw (eqb-true b 93 t) (refused_elements r refuses s) in absurd cc)
     (λ _. e)
@@ -62,7 +62,7 @@ list_left : {A : Type 0} {text_of : A → List ℕ} {IsFrontOf : List ℕ → Ty
     → (s : List ℕ) → left_of (list_at one s) ≤ left_of (elements_of one s)
 list_left r refuses [] = omega arith
 list_left {A} {text_of} {IsFrontOf} {one} r refuses (b ∷ s) =
-    cond_both (eqb b 93) (Ok ([], s)) (elements_of one (b ∷ s))
+    cond_both _ _ _
     (λ x. left_of x ≤ left_of (elements_of one (b ∷ s)))
     (λ t. rw (eqb-true b 93 t, refused_elements r refuses s) (omega arith))
     (λ _. omega arith)
@@ -76,10 +76,10 @@ list-longest {A} {text_of} {IsFrontOf} {one} r refuses front rest (inl at) =
       arith,
       list_left r refuses (front ++ rest),
       let part : left_of (elements_of one (front ++ rest))
-          ≤ length rest = rw at.2 (part-longest r at.0 at.1 rest at.3) in part,
+          ≤ length rest = rw at.2 (part-longest r _ _ _ at.3) in part,
     )
 list-longest {A} {text_of} {IsFrontOf} {one} r refuses front rest (inr ([], last, e, at)) =
-    rw e (elim (fronts_of_one 93 last at.0 at.1) [
+    rw e (elim (fronts_of_one _ last at.0 at.1) [
       | inl none ↦ rw none (omega (arith, list_left r refuses rest, elements_shrinks r rest))
       | inr one ↦ rw one (omega arith)
     ])
@@ -88,7 +88,7 @@ list-longest {A} {text_of} {IsFrontOf} {one} r refuses front rest (inr (v ∷ vs
       arith,
       list_left r refuses (front ++ rest),
       let ended : left_of (elements_of one (front ++ rest))
-          ≤ length rest = rw e (end-longest r v vs last rest at) in ended,
+          ≤ length rest = rw e (end-longest r v _ _ _ at) in ended,
     )
 
 list-again : {A : Type 0} {text_of : A → List ℕ} {IsFrontOf : List ℕ → Type 0}

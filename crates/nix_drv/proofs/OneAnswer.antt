@@ -169,7 +169,7 @@ follows_once : (dir path bytes : List ℕ) (read a b : Result Drv DrvFault)
 follows_once dir path bytes (Err fault) a b p q = says_same a b (p ∙ sym q)
 follows_once dir path bytes (Ok drv) a b (inl p) (inl q) =
     let texts : SaysSame (Err (BadReference p.0)) (Err (BadReference q.0)) =
-    first_stray_is dir (referenced_paths drv) p.0.items q.0.items p.2 q.2 in
+    first_stray_is _ _ _ _ p.2 q.2 in
     subst (λ (x : Result Drv DrvFault). SaysSame x b) (sym p.1)
     (subst (λ (x : Result Drv DrvFault). SaysSame (Err (BadReference p.0)) x) (sym q.1) texts)
 follows_once dir path bytes (Ok drv) a b (inl p) (inr q) = search (rules, no_stray)
@@ -178,17 +178,17 @@ follows_once dir path bytes (Ok drv) a b (inr p) (inr q) = search (rules, by_own
 
 pub one_check : HasOneCheck
 one_check dir path bytes answer other is also a b =
-    elim (settle dir path bytes answer is a) [
-      | inl p ↦ elim (settle dir path bytes other also b) [
+    elim (settle _ _ _ _ is a) [
+      | inl p ↦ elim (settle _ _ _ _ also b) [
         | inl q ↦ says_same answer other (p.0 ∙ sym q.0)
         | inr q ↦ absurd (p.1 q.named)
       ]
-      | inr p ↦ elim (settle dir path bytes other also b) [
+      | inr p ↦ elim (settle _ _ _ _ also b) [
         | inl q ↦ absurd (q.1 p.named)
         | inr q ↦
             let same : p.read ≡ q.read = one_reading bytes p.read q.read p.is_reading q.is_reading
             p.no_want q.no_want in
-            follows_once dir path bytes p.read answer other p.follows
+            follows_once _ path bytes _ _ _ p.follows
             (subst (λ (r : Result Drv DrvFault). Follows dir path bytes r other) (sym same)
             q.follows)
       ]

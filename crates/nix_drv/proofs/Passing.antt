@@ -3,7 +3,7 @@ use Rattle.std.proofs.Common.{◌≡◌, ℕ, ◌+◌, ◌-◌, ◌^◌, ◌<◌
 use Rattle.std.proofs.lemmas.List.{length-append}
 use Rattle.std.proofs.lemmas.Bool.{cond_both}
 use Rattle.nix_drv.specs.Grammar.{ListOrder, Grammar, Fixed, Str, Then, Many, Value, text, separated, each_with_comma}
-use Rattle.nix_drv.specs.Order.{key, breaks, IsViolationAmong, IsViolation, InOrder, IsFirstViolation}
+use Rattle.nix_drv.specs.Order.{key, IsViolationAmong, IsViolation, InOrder, IsFirstViolation}
 use Rattle.nix_drv.specs.Reading.{◌>>=◌}
 use Rattle.nix_drv.specs.Passing.{behind, pass_among, pass_list, pass}
 
@@ -42,7 +42,7 @@ among_above order key_of text_of Within above before p (v ∷ vs) r (inr (inr at
     omega (
       arith,
       among_above order key_of text_of Within above (Some (key_of v))
-          (p + length (text_of v) + 1) vs r at,
+          _ vs r at,
     )
 
 among_below : {A : Type 0} (order : ListOrder) (key_of text_of : A → List ℕ)
@@ -73,9 +73,8 @@ pub violation_above : (g : Grammar) (p : ℕ) (v : Value g) (r : ℕ) → IsViol
 unfolding IsViolation
 violation_above (Fixed bytes) p v r at = absurd at
 violation_above Str p v r at = absurd at
-violation_above (Then a b) p v r (inl at) = violation_above a p v.0 r at
-violation_above (Then a b) p v r (inr at) = omega
-    (arith, violation_above b (p + length (text a v.0)) v.1 r at)
+violation_above (Then a b) p v r (inl at) = violation_above a p _ r at
+violation_above (Then a b) p v r (inr at) = omega (arith, violation_above b _ _ r at)
 violation_above (Many order g) p vs r at = search (rules, among_above, violation_above g)
 
 list_below : {A : Type 0} (order : ListOrder) (key_of text_of : A → List ℕ)
@@ -97,9 +96,9 @@ unfolding IsViolation text
 violation_below (Fixed bytes) p v r at = absurd at
 violation_below Str p v r at = absurd at
 violation_below (Then a b) p v r (inl at) =
-    search (rules, length-append, violation_below a p v.0 r at)
+    search (rules, length-append, violation_below a p _ r at)
 violation_below (Then a b) p v r (inr at) =
-    search (rules, length-append, violation_below b (p + length (text a v.0)) v.1 r at)
+    search (rules, length-append, violation_below b _ _ r at)
 violation_below (Many order g) p vs r at = search (rules, list_below, violation_below g)
 
 -- ---- the least place
@@ -133,24 +132,24 @@ among_passes {A} order key_of text_of Within one each before p (v ∷ vs) =
     (pass_among order key_of one (Some (key_of v)) q vs)) (sym after)
     (among_passes order key_of text_of Within one each (Some (key_of v)) (mid + 1) vs)) in
     let inner : Passes (λ r. Within p v r ⊎ Later r) end (one (capped p) v >>= next) =
-    both_pass (Within p v) Later mid end (one (capped p) v) next (each.below p v)
+    both_pass (Within p v) Later _ _ _ next (each.below p v)
     (λ r at. omega (
       arith,
       among_above order key_of text_of Within each.above (Some (key_of v)) (mid + 1) vs r
           at,
     )) (each.passes p v) later in
-    cond_both (breaks order before (key_of v)) (Err (capped p)) (one (capped p) v >>= next)
+    cond_both _ _ _
     (Passes (IsViolationAmong order key_of text_of Within before p (v ∷ vs)) end)
     (λ e. (
       p,
       inl (e, refl),
       λ other at. among_above order key_of text_of Within each.above before p
-          (v ∷ vs) other at,
+          (v ∷ vs) _ at,
       refl,
     ))
     (λ e. same_passes (λ r. Within p v r ⊎ Later r)
-    (IsViolationAmong order key_of text_of Within before p (v ∷ vs)) end
-    (one (capped p) v >>= next)
+    (IsViolationAmong order key_of text_of Within before p (v ∷ vs)) _
+    _
     (λ r at. inr at)
     (λ r at. elim at [
       | inl own ↦ let t : true ≡ false = sym own.0 ∙ e
@@ -187,15 +186,15 @@ pass-exact (Then a b) p v =
     let mid = p + length (text a v.0) in
     let end : mid + length (text b v.1) ≡ p + length (text a v.0 ++ text b v.1) =
     omega (arith, length-append (text a v.0) (text b v.1)) in
-    both_pass (IsViolation a p v.0) (IsViolation b mid v.1) mid
-    (p + length (text a v.0 ++ text b v.1)) (pass a (capped p) v.0) (λ q. pass b q v.1)
-    (violation_below a p v.0) (violation_above b mid v.1) (pass-exact a p v.0)
+    both_pass (IsViolation a p v.0) (IsViolation b _ v.1) _
+    _ _ (λ q. pass b q v.1)
+    (violation_below a p _) (violation_above b _ _) (pass-exact a p _)
     (subst (λ (e : ℕ). Passes (IsViolation b mid v.1) e (pass b (capped mid) v.1)) end
     (pass-exact b mid v.1))
 pass-exact (Many order g) p vs =
-    list_passes order (key g) (text g) (IsViolation g) (pass g)
+    list_passes _ (key g) (text g) (IsViolation g) (pass g)
     (record { passes = pass-exact g; above = violation_above g; below = violation_below g }) p
-    vs
+    _
 
 -- ---- what the public calls cite
 
@@ -205,17 +204,17 @@ from_start g v x e = subst (Passes (IsViolation g 0 v) (0 + length (text g v))) 
 
 pub pass_in_order : (g : Grammar) (v : Value g) (q : ℕ) → pass g 0 v ≡ Ok q → InOrder g v
 pass_in_order g v q e = let h : Passes (IsViolation g 0 v) (0 + length (text g v)) (Ok q) =
-    from_start g v (Ok q) e in h.1
+    from_start g v _ e in h.1
 
 pub pass_out_of_order : (g : Grammar) (v : Value g) (q : ℕ) → pass g 0 v ≡ Err q → InOrder g v → ⊥
 pass_out_of_order g v q e none = let h : Passes (IsViolation g 0 v) (0 + length (text g v))
-    (Err q) = from_start g v (Err q) e in none h.0 h.1
+    (Err q) = from_start g v _ e in none h.0 h.1
 
 pub pass_first : (g : Grammar) (v : Value g) (place : ℕ) → length (text g v) < 2 ^ 64 → pass g 0 v
     ≡ Err place → IsFirstViolation g v place
 pass_first g v place small e =
     let h : Passes (IsViolation g 0 v) (0 + length (text g v)) (Err place) =
-    from_start g v (Err place) e in
-    let within : h.0 ≤ 0 + length (text g v) = violation_below g 0 v h.0 h.1 in
+    from_start g v _ e in
+    let within : h.0 ≤ 0 + length (text g v) = violation_below g 0 v _ h.1 in
     let is : h.0 ≡ place = omega (arith, h.3) in
     subst (IsFirstViolation g v) is (record { is_violation = h.1; least = h.2 })

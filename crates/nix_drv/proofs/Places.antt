@@ -50,11 +50,11 @@ pub place_found : {X : Type 0} (key_of : X → List ℕ) (xs : List X) (wanted :
     → HoldsAt (λ y. slice_cmp nat_cmp (key_of y) wanted ≡ Equal) xs i
     → IsPlaceOfKey (map key_of xs) wanted (Some i)
 place_found key_of xs wanted i below ties =
-    let d = element xs i below in
+    let d = element _ i below in
     let within : i < length (map key_of xs) = omega (arith, length-map xs key_of) in
-    slice_get-get_or (map key_of xs) i [] within
-    ∙ ap (λ (k : List ℕ). Some k) (get_or-map key_of xs i d [] below
-    ∙ tied (key_of (get_or xs i d)) wanted (ties d))
+    slice_get-get_or _ i [] within
+    ∙ ap (λ (k : List ℕ). Some k) (get_or-map key_of _ i d [] below
+    ∙ tied _ _ (ties d))
 
 -- keys that rise are in order
 sorted_keys : {X : Type 0} (key_of : X → List ℕ) (xs : List X) → IsRising (map key_of xs)
@@ -63,12 +63,12 @@ sorted_keys key_of xs rises k d low next =
     let within : k + 1 < length (map key_of xs) = omega (arith, length-map xs key_of) in
     let less : slice_cmp nat_cmp (get_or (map key_of xs) k []) (get_or (map key_of xs) (k + 1) [])
     ≡ Less =
-    Less-from_sorted (slice_cmp nat_cmp) (map key_of xs) k (k + 1) []
-    (sorted_from_rising (map key_of xs) rises) (omega arith) within in
+    Less-from_sorted (slice_cmp nat_cmp) _ k _ []
+    (sorted_from_rising _ rises) (omega arith) within in
     let here : get_or (map key_of xs) k [] ≡ key_of (get_or xs k d) =
-    get_or-map key_of xs k d [] (omega arith) in
+    get_or-map key_of _ k d [] (omega arith) in
     let there : get_or (map key_of xs) (k + 1) [] ≡ key_of (get_or xs (k + 1) d) =
-    get_or-map key_of xs (k + 1) d [] next in
+    get_or-map key_of _ _ d [] next in
     let less_here : slice_cmp nat_cmp (key_of (get_or xs k d)) (key_of (get_or xs (k + 1) d))
     ≡ Less = rw (here, there) at less in
     ap is_lt (nat_list_cmp_total.antisymm (key_of (get_or xs (k + 1) d)) (key_of (get_or xs k d))
@@ -83,11 +83,11 @@ pub place_none : {X : Type 0} (key_of : X → List ℕ) (xs : List X) (wanted : 
     → IsPlaceOfKey (map key_of xs) wanted None
 place_none key_of xs wanted i rises parts (j, below, is) =
     let within : j < length xs = omega (arith, length-map xs key_of) in
-    let d = element xs j within in
+    let d = element _ j within in
     let point = parts
-    (searchable_from_sorted nat_list_cmp_total key_of xs wanted (sorted_keys key_of xs rises))
+    (searchable_from_sorted nat_list_cmp_total key_of xs wanted (sorted_keys key_of _ rises))
     in
-    let same : key_of (get_or xs j d) ≡ wanted = sym (get_or-map key_of xs j d wanted within) ∙ is
+    let same : key_of (get_or xs j d) ≡ wanted = sym (get_or-map key_of _ j d _ within) ∙ is
     in
     let ties : slice_cmp nat_cmp (key_of (get_or xs j d)) wanted
     ≡ Equal = ap (λ (k : List ℕ). slice_cmp nat_cmp k wanted) same
@@ -107,7 +107,7 @@ unfolding KeysRise
 outputs_rise drv ordered =
     let same : map (key output_form) (map output_value drv.outputs)
     ≡ output_names drv = map-map (key output_form) output_value drv.outputs in
-    subst IsRising same ((order_means_rising derivation_form (drv_value drv)).0 ordered).1.0.0
+    subst IsRising same ((order_means_rising _ _).0 ordered).1.0.0
 
 pub env_rises : (drv : Drv) → InOrder derivation_form (drv_value drv) → IsRising (env_keys drv)
 unfolding KeysRise
@@ -115,7 +115,7 @@ env_rises drv ordered =
     let same : map (key entry_form) (map entry_value drv.env)
     ≡ env_keys drv = map-map (key entry_form) entry_value drv.env in
     subst IsRising same
-    ((order_means_rising derivation_form (drv_value drv)).0
+    ((order_means_rising _ _).0
     ordered).1.1.1.1.1.1.1.1.1.1.1.1.1.0.0
 
 -- the keys of the parts are those of the derivation
@@ -132,12 +132,12 @@ entry_keys parts drv entries view same = search (rules, map-map)
 pub outputs_rise_here : (parts : Parts) (drv : Drv) → drv_of parts ≡ drv
     → InOrder derivation_form (drv_value (drv_of parts)) → IsRising (output_names drv)
 outputs_rise_here parts drv view ordered = subst (λ (d : Drv). IsRising (output_names d)) view
-    (outputs_rise (drv_of parts) ordered)
+    (outputs_rise _ ordered)
 
 pub env_rises_here : (parts : Parts) (drv : Drv) → drv_of parts ≡ drv
     → InOrder derivation_form (drv_value (drv_of parts)) → IsRising (env_keys drv)
 env_rises_here parts drv view ordered = subst (λ (d : Drv). IsRising (env_keys d)) view
-    (env_rises (drv_of parts) ordered)
+    (env_rises _ ordered)
 
 -- what holds of each element holds of one
 each_at : {A : Type 0} (P : A → Type 0) (vs : List A) (k : ℕ) (v : A) → Each P vs → slice_get vs k
@@ -155,7 +155,7 @@ pub names_rise : (drv : Drv) (k : ℕ) (input : Input) → InOrder derivation_fo
     → slice_get drv.inputs k ≡ Some input → IsRising input.names
 unfolding KeysRise
 names_rise drv k input ordered at =
-    let each = ((order_means_rising derivation_form (drv_value drv)).0 ordered).1.1.1.0.1 in
+    let each = ((order_means_rising _ _).0 ordered).1.1.1.0.1 in
     let there : slice_get (map input_value drv.inputs) k ≡ Some (input_value input) =
     slice_get-map input_value drv.inputs k ∙ ap (option_map input_value) at in
     let rises = each_at (KeysRise input_form) (map input_value drv.inputs) k (input_value input)
@@ -172,8 +172,7 @@ pub names_rise_here : (parts : Parts) (drv : Drv) (k : ℕ) (input : Input) → 
     → InOrder derivation_form (drv_value (drv_of parts))
     → slice_get drv.inputs k ≡ Some input → IsRising input.names
 names_rise_here parts drv k input view ordered at =
-    names_rise drv k input (subst (λ (d : Drv). InOrder derivation_form (drv_value d)) view ordered)
-    at
+    names_rise _ k _ (subst (λ (d : Drv). InOrder derivation_form (drv_value d)) view ordered) at
 
 -- what a search among the names of an input tells
 pub used_found : (inputs : List Input) (k : ℕ) (input : Input) (name : List ℕ) (place : ℕ)
@@ -185,7 +184,7 @@ used_found inputs k input name place at found =
       λ _. (
         place,
         slice_get_within input.names place name found,
-        get_or_from_slice_get input.names place name name found,
+        get_or_from_slice_get input.names _ name _ found,
       ),
       λ _. refl,
     )

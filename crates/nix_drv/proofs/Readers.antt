@@ -76,15 +76,15 @@ pub behind_reader : {A : Type 0} (b : ℕ) (text_of : A → List ℕ) (IsFrontOf
     (reading : List ℕ → Result (A × List ℕ) ℕ) → IsReader text_of IsFrontOf reading
     → IsReader (λ v. b ∷ text_of v) (FrontBehind b IsFrontOf) (read_behind b reading)
 behind_reader b text_of IsFrontOf reading r = record {
-  told = λ s. behind_told b text_of IsFrontOf reading r.told s (fixed_at (b ∷ []) s)
+  told = λ s. behind_told b text_of IsFrontOf reading r.told s _
       (fixed-told (b ∷ []) s);
   again = λ v rest. rw (fixed-again (b ∷ []) (text_of v ++ rest)) (r.again v rest);
   longest = λ front rest at. elim at [
     | inl begins ↦ omega (
       arith,
       bind_shrinks (fixed_at (b ∷ []) (front ++ rest)) (λ x. reading x.1)
-          (λ x. reader_shrinks r x.1),
-      fixed-longest (b ∷ []) front rest begins,
+          (λ x. reader_shrinks r _),
+      fixed-longest _ front rest begins,
     )
     | inr more ↦ rw (more.1, fixed-again (b ∷ []) (more.0 ++ rest)) (r.longest more.0 rest more.2)
   ];
@@ -127,7 +127,7 @@ both_told : {A B : Type 0} (first_text : A → List ℕ) (second_text : B → Li
     (FrontOfBoth first_text IsFirst IsSecond) s
     (first >>= λ x. second x.1 >>= λ y. Ok ((x.0, y.0), y.1))
 both_told first_text second_text IsFirst IsSecond second h s (Ok x) told =
-    later_told first_text second_text IsFirst IsSecond s x.1 x.0 (second x.1) told (h x.1)
+    later_told first_text second_text IsFirst IsSecond s _ _ _ told (h x.1)
 both_told first_text second_text IsFirst IsSecond second h s (Err left) told = search rules
 
 pub both_reader : {A B : Type 0} (first_text : A → List ℕ) (second_text : B → List ℕ)

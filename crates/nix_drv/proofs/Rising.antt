@@ -5,7 +5,7 @@ use Rattle.std.specs.Ordering.{is_lt}
 use Rattle.std.proofs.lemmas.Bool.{cases_Bool}
 use Rattle.nix_names.proofs.RisingLists.{below_from_lt}
 use Rattle.nix_drv.specs.Grammar.{ListOrder, Rising, Free, Grammar, Fixed, Str, Then, Many, Value, text}
-use Rattle.nix_drv.specs.Order.{key, is_less, breaks, IsViolationAmong, IsViolation, InOrder, MayBeKeys, Each, KeysRise}
+use Rattle.nix_drv.specs.Order.{key, breaks, IsViolationAmong, IsViolation, InOrder, MayBeKeys, Each, KeysRise}
 
 -- the keys with the one before them, if there is one
 abbrev behind : Option (List ℕ) → List (List ℕ) → List (List ℕ)
@@ -26,7 +26,7 @@ breaks_none : (order : ListOrder) (before : Option (List ℕ)) (k : List ℕ) (k
     → MayBeKeys order (behind before (k ∷ ks)) → breaks order before k ≡ true → ⊥
 breaks_none Free before k ks h e = search rules
 breaks_none Rising None k ks h e = search rules
-breaks_none Rising (Some a) k ks h e = not_both (is_less a k) (ap is_lt h.0) e
+breaks_none Rising (Some a) k ks h e = not_both _ (ap is_lt h.0) e
 
 stands_last : (order : ListOrder) (before : Option (List ℕ)) → MayBeKeys order (behind before [])
 stands_last Free before = tt
@@ -45,7 +45,7 @@ among_rises : {A : Type 0} (order : ListOrder) (key_of text_of : A → List ℕ)
     → (before : Option (List ℕ)) (p : ℕ) (vs : List A)
     → ((r : ℕ) → IsViolationAmong order key_of text_of Within before p vs r → ⊥)
     → MayBeKeys order (behind before (map key_of vs)) × Each Rises vs
-among_rises order key_of text_of Within Rises one before p [] none = (stands_last order before, tt)
+among_rises order key_of text_of Within Rises one before p [] none = (stands_last _ _, tt)
 among_rises order key_of text_of Within Rises one before p (v ∷ vs) none =
     let later = among_rises order key_of text_of Within Rises one (Some (key_of v))
     (p + length (text_of v) + 1) vs (λ r at. none r (inr (inr at))) in (
@@ -74,21 +74,20 @@ unfolding IsViolation KeysRise
 order_rises (Fixed bytes) p v none = tt
 order_rises Str p v none = tt
 order_rises (Then a b) p v none = (
-  order_rises a p v.0 (λ r at. none r (inl at)),
-  order_rises b (p + length (text a v.0)) v.1 (λ r at. none r (inr at)),
+  order_rises a p _ (λ r at. none r (inl at)),
+  order_rises b _ _ (λ r at. none r (inr at)),
 )
-order_rises (Many order g) p vs none = among_rises order (key g) (text g) (IsViolation g)
-    (KeysRise g) (order_rises g) None (p + 1) vs none
+order_rises (Many order g) p vs none = among_rises _ (key g) (text g) (IsViolation g)
+    (KeysRise g) (order_rises g) _ _ _ none
 
 rises_order : (g : Grammar) (p : ℕ) (v : Value g) → KeysRise g v → (r : ℕ) → IsViolation g p v r → ⊥
 unfolding IsViolation KeysRise
 rises_order (Fixed bytes) p v rises r at = at
 rises_order Str p v rises r at = at
-rises_order (Then a b) p v rises r (inl at) = rises_order a p v.0 rises.0 r at
-rises_order (Then a b) p v rises r (inr at) =
-    rises_order b (p + length (text a v.0)) v.1 rises.1 r at
-rises_order (Many order g) p vs rises r at = rises_among order (key g) (text g) (IsViolation g)
-    (KeysRise g) (rises_order g) None (p + 1) vs rises.0 rises.1 r at
+rises_order (Then a b) p v rises r (inl at) = rises_order a p _ rises.0 r at
+rises_order (Then a b) p v rises r (inr at) = rises_order b _ _ rises.1 r at
+rises_order (Many order g) p vs rises r at = rises_among _ (key g) (text g) (IsViolation g)
+    (KeysRise g) (rises_order g) _ _ _ rises.0 rises.1 r at
 
 pub order_means_rising : (g : Grammar) (v : Value g) → InOrder g v ↔ KeysRise g v
 order_means_rising g v = (order_rises g 0 v, rises_order g 0 v)

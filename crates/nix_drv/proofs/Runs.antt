@@ -19,7 +19,7 @@ use Rattle.nix_drv.proofs.Strings.{IsPlain, by_byte, by_letter, bytes_at-plain, 
 pub fixed_ends : (wanted rest : List ℕ) (i : ℕ) → i < length wanted → length rest < 1
     → fixed_at (drop i wanted) rest ≡ Err 0
 fixed_ends wanted rest i lt short =
-    let none : rest ≡ [] = nil_from_length rest (omega arith) in
+    let none : rest ≡ [] = nil_from_length _ (omega arith) in
     rw (none, drop-cons wanted i 0) refl
 
 -- ---- runs of plain bytes
@@ -31,21 +31,20 @@ is_plain-true = search (rules, by_byte)
 pub bytes_at-run : (n : ℕ) (s : List ℕ) → n ≤ length s
     → ((k : ℕ) → k < n → is_plain (get_or s k 0) ≡ true) → bytes_at false s
     ≡ before (take n s) (bytes_at false (drop n s))
-bytes_at-run zero s fits plain = sym (before_none (bytes_at false s))
+bytes_at-run zero s fits plain = sym (before_none _)
 bytes_at-run (suc n) [] fits plain = absurd (omega arith)
 bytes_at-run (suc n) (b ∷ s) fits plain =
-    let later : bytes_at false s ≡ before (take n s) (bytes_at false (drop n s)) =
+    let later : bytes_at false s ≡ before (take n s) (bytes_at _ (drop n s)) =
     bytes_at-run n s (omega arith) (λ k lt. plain (suc k) (omega arith)) in
     bytes_at-plain b s (is_plain-true b (plain 0 (omega arith))) ∙ ap (before (b ∷ [])) later
-    ∙ before-before (b ∷ []) (take n s) (bytes_at false (drop n s))
+    ∙ before-before (b ∷ []) _ _
 
 pub run_read : (items rest : List ℕ) (n : ℕ) (total : Result (List ℕ × List ℕ) ℕ) → n ≤ length rest
     → ((k : ℕ) → k < n → is_plain (get_or rest k 0) ≡ true)
     → before items (bytes_at false rest) ≡ total
     → before (items ++ take n rest) (bytes_at false (drop n rest)) ≡ total
 run_read items rest n total fits plain so_far =
-    sym (before-before items (take n rest) (bytes_at false (drop n rest)))
-    ∙ ap (before items) (sym (bytes_at-run n rest fits plain)) ∙ so_far
+    sym (before-before _ _ _) ∙ ap (before items) (sym (bytes_at-run n _ fits plain)) ∙ so_far
 
 -- ---- one byte by its spelling
 

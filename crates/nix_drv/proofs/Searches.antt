@@ -15,7 +15,7 @@ pub key_found : {X : Type 0} (key_of : X → List ℕ) (xs : List X) (keys : Lis
     → IsPlaceOfKey keys wanted (Some i)
 key_found key_of xs keys wanted i same below ties =
     subst (λ (ks : List (List ℕ)). IsPlaceOfKey ks wanted (Some i)) same
-    (place_found key_of xs wanted i below ties)
+    (place_found key_of _ _ i below ties)
 
 pub key_none : {X : Type 0} (key_of : X → List ℕ) (xs : List X) (keys : List (List ℕ))
     (wanted : List ℕ) (i : ℕ) → map key_of xs ≡ keys → IsRising keys
@@ -25,4 +25,4 @@ pub key_none : {X : Type 0} (key_of : X → List ℕ) (xs : List X) (keys : List
     → IsPlaceOfKey keys wanted None
 key_none key_of xs keys wanted i same rises parts =
     subst (λ (ks : List (List ℕ)). IsPlaceOfKey ks wanted None) same
-    (place_none key_of xs wanted i (subst IsRising (sym same) rises) parts)
+    (place_none key_of _ _ i (subst IsRising (sym same) rises) parts)

@@ -42,7 +42,7 @@ length-spellings (b ∷ v) =
       arith,
       length-append (spelling b) (flat_map spelling v),
       length-spellings v,
-      ap length (by_letter_of b (letter b) refl),
+      ap length (by_letter_of b _ refl),
       one b (letter b),
       sum_by-cons (λ (x : ℕ). cond (is_some (letter x)) 1 0) b v,
     )
@@ -74,8 +74,8 @@ last_spelled : (part rest run special : List ℕ) (n : ℕ) (total : List ℕ) �
     → part ++ flat_map spelling rest ≡ total → run ≡ take n rest → special ≡ drop n rest
     → length special < 1 → part ++ run ≡ total
 last_spelled part rest run special n total fits plain so_far run_is special_is short =
-    let none : drop n rest ≡ [] = sym special_is ∙ nil_from_length special (omega arith) in
-    let whole : flat_map spelling rest ≡ take n rest = spelled_run n rest fits plain
+    let none : drop n rest ≡ [] = sym special_is ∙ nil_from_length _ (omega arith) in
+    let whole : flat_map spelling rest ≡ take n rest = spelled_run n _ fits plain
     ∙ ap (λ (t : List ℕ). take n rest ++ flat_map spelling t) none ∙ append-nil (take n rest) in
     ap (λ (t : List ℕ). part ++ t) (run_is ∙ sym whole) ∙ so_far
 
@@ -88,7 +88,7 @@ pub run_written : (old added new rest run special : List ℕ) (n byte : ℕ) (to
     → new ++ flat_map spelling (take (length special - 1) (drop 1 special)) ≡ total
 run_written old added new rest run special n byte total begun fits plain run_is special_is long
     byte_is added_is new_is = rw (new_is, added_is)
-    (run_spelled old rest run special n byte total fits plain begun run_is special_is long byte_is)
+    (run_spelled _ _ _ _ n _ _ fits plain begun run_is special_is long byte_is)
 
 -- the last run and the quote behind it are the string's
 pub last_written : (base old added rest bytes run special : List ℕ) (n : ℕ)
@@ -99,7 +99,7 @@ pub last_written : (base old added rest bytes run special : List ℕ) (n : ℕ)
 last_written base old added rest bytes run special n begun fits plain run_is special_is short
     added_is =
     let all : old ++ run ≡ base ++ (34 ∷ flat_map spelling bytes) =
-    last_spelled old rest run special n (base ++ (34 ∷ flat_map spelling bytes)) fits plain begun
+    last_spelled _ _ _ _ n _ fits plain begun
     run_is special_is short in
     ap (λ (t : List ℕ). t ++ 34 ∷ []) (added_is ∙ all)
     ∙ append_assoc base (34 ∷ flat_map spelling bytes) (34 ∷ [])

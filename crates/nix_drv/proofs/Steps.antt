@@ -27,7 +27,7 @@ le_by_front s front rest e = omega (arith, ap length e, length-append front rest
 
 pub told_shrinks : {A : Type 0} (text_of : A → List ℕ) (Front : List ℕ → Type 0) (s : List ℕ)
     (reading : Result (A × List ℕ) ℕ) → Told text_of Front s reading → left_of reading ≤ length s
-told_shrinks text_of Front s (Ok x) told = le_by_front s (text_of x.0) x.1 told
+told_shrinks text_of Front s (Ok x) told = le_by_front s _ _ told
 told_shrinks text_of Front s (Err left) told = search (rules, le_by_front)
 
 -- what follows leaves no more

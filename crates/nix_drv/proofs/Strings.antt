@@ -123,7 +123,7 @@ bytes-told false (b ∷ s) =
 
 pub bytes_at-spellings : (v s : List ℕ) → bytes_at false (flat_map spelling v ++ s)
     ≡ before v (bytes_at false s)
-bytes_at-spellings [] s = sym (before_none (bytes_at false s))
+bytes_at-spellings [] s = sym (before_none _)
 bytes_at-spellings (b ∷ v) s =
     search (rules, append_assoc, bytes_at-spelling, before-before, bytes_at-spellings v s)
 

@@ -21,7 +21,7 @@ use Rattle.valid_table.specs.declared.version.Version.{Version}
 use Rattle.valid_table.specs.declared.version.Version.TheVariants.{One}
 use Rattle.valid_table.proofs.Leading.{GoesOn, ahead_of, go_on, leads_end, leads_front, leads_joined, leads_some, leads_weaker, lines_of, one_more, text_and, text_push}
 use Rattle.valid_table.proofs.LineLists.{Ends, MayEnd, end_ahead, lines_end, lines_of_text, text_of_lines}
-use Rattle.valid_table.proofs.LineTexts.{IsLineOf, body, body_lacks, line_and, texts_are_lines}
+use Rattle.valid_table.proofs.LineTexts.{IsLineOf, body_lacks, line_and, texts_are_lines}
 use Rattle.valid_table.proofs.Separators.{Lacks, dir_lacks, newline, same_cut}
 use Rattle.valid_table.proofs.Versions.{one_version, text_begins}
 
@@ -37,7 +37,7 @@ line_newlines : (line rest : List ℕ) → Lacks 10 line → count_by (is_byte 1
     ≡ suc (count_by (is_byte 10) rest)
 line_newlines [] rest clear = sum_by-cons (λ b. cond (is_byte 10 b) 1 0) 10 rest ∙ omega arith
 line_newlines (b ∷ line) rest clear =
-    let other : is_byte 10 b ≡ false = ne_eqb b 10 (All-head (λ c. c ≢ 10) b line clear) in
+    let other : is_byte 10 b ≡ false = ne_eqb b 10 (All-head (λ c. c ≢ 10) b _ clear) in
     let later = line_newlines line rest (All-tail (λ c. c ≢ 10) b line clear) in
     sum_by-cons (λ c. cond (is_byte 10 c) 1 0) b (line ++ 10 ∷ rest)
     ∙ ap (λ (t : Bool). cond t 1 0 + count_by (is_byte 10) (line ++ 10 ∷ rest)) other
@@ -46,15 +46,14 @@ line_newlines (b ∷ line) rest clear =
 lines_newlines : (n : ℕ) (bytes : List ℕ) → AreLines n bytes → count_by (is_byte 10) bytes ≡ n
 lines_newlines zero bytes none = ap (count_by (is_byte 10)) none
 lines_newlines (suc n) bytes (line, rest, clear, parts, more) =
-    search (rules, line_newlines, (lines_newlines n rest more))
+    search (rules, line_newlines, (lines_newlines n _ more))
 
 -- the texts of lines that lead on are so many lines
 leads_are_lines : (version : Version) (dir : List ℕ) (Is : Place → Type 0) (lines : List Line)
     → IsStoreDir dir
     → LeadsTo version dir Is Start lines → AreLines (length lines) (lines_text version lines)
 leads_are_lines version dir Is lines is_dir leads =
-    texts_are_lines version dir (dir_lacks 10 newline dir is_dir)
-    lines (lines_of version dir Is Start lines leads)
+    texts_are_lines _ _ (dir_lacks _ newline _ is_dir) _ (lines_of _ _ Is _ _ leads)
 
 -- the number of newlines before the place where lines stop
 pub stops_count : (version : Version) (dir bytes : List ℕ) (left : ℕ) → IsStoreDir dir
@@ -97,7 +96,7 @@ ending version dir Opened rest ahead =
     let come : List Line = Output (sample dir) None ∷ [] in (
       come,
       (
-        ((sample_is_path dir, tt, tt), tt),
+        ((sample_is_path _, tt, tt), tt),
         inr
             ((drop 2 (lines_text version come), refl), ahead),
       ),
@@ -110,26 +109,26 @@ pub led_stands : (version : Version) (dir bytes rest : List ℕ) → IsStoreDir 
     → (led : Led version dir bytes rest)
     → Stands dir (length led.lines) bytes rest
 led_stands version dir bytes rest is_dir led =
-    let end = leads_some version dir (List Line) (EndsIn version dir rest) Start led.lines
-    (leads_weaker version dir (λ to. Ahead to rest)
+    let end = leads_some _ _ _ (EndsIn version dir rest) _ _
+    (leads_weaker _ _ (λ to. Ahead to rest)
     (λ to. (come : List Line) × EndsIn version dir rest come to)
-    (λ to ahead. ending version dir to rest ahead) Start led.lines led.leads) in
+    (λ to ahead. ending _ _ _ _ ahead) _ _ led.leads) in
     let whole : List Line = led.lines ++ end.0 in
-    let text = text_of_lines version dir whole
-    (leads_joined version dir MayEnd Start led.lines end.0
-    (leads_weaker version dir (EndsIn version dir rest end.0) (λ to. Ends version dir to end.0)
+    let text = text_of_lines _ _ _
+    (leads_joined _ _ MayEnd _ _ _
+    (leads_weaker _ _ (EndsIn version dir rest end.0) (λ to. Ends version dir to end.0)
     (λ to both. both.0)
-    Start led.lines end.1)) in
+    _ _ end.1)) in
     record {
       front = lines_text version led.lines;
       parts = led.parts;
-      counted = leads_are_lines version dir (λ to. Ahead to rest) led.lines is_dir led.leads;
+      counted = leads_are_lines _ _ (λ to. Ahead to rest) _ is_dir led.leads;
       entries = text.0;
       whole = lines_text version whole;
       is_text = text.1;
       after = lines_text version end.0;
       begins = flat_map-append (line_text version) led.lines end.0;
-      next = (leads_end version dir (EndsIn version dir rest end.0) Start led.lines end.1).1.1;
+      next = (leads_end _ _ (EndsIn version dir rest end.0) _ _ end.1).1.1;
     }
 
 -- ---- lines that stand lead on
@@ -151,20 +150,20 @@ cut_lines version dir clear (suc n) [] front after each (first, more, plain, is,
     ))
 cut_lines version dir clear (suc n) (line ∷ come) front after each (first, more, plain, is, lines)
     parts =
-    let split = same_cut 10 (body version line) first (lines_text version come) (more ++ after)
-    (body_lacks version dir line clear (All-head (IsLineOf version dir) line come each)) plain
-    (sym (line_and version line (lines_text version come)) ∙ parts ∙ ap
+    let split = same_cut _ _ _ _ _
+    (body_lacks _ _ _ clear (All-head (IsLineOf version dir) _ _ each)) plain
+    (sym (line_and _ _ _) ∙ parts ∙ ap
     (λ (bytes : List ℕ). bytes ++ after) is
     ∙ append_assoc first (10 ∷ more) after) in
-    let later = cut_lines version dir clear n come more after
-    (All-tail (IsLineOf version dir) line come each) lines
+    let later = cut_lines _ _ clear n _ _ _
+    (All-tail (IsLineOf version dir) _ _ each) lines
     split.1 in (
       line ∷ later.0,
       later.1,
       ap (λ (ls : List Line). line ∷ ls) later.2,
       ap suc later.3,
       is ∙ ap (λ (bytes : List ℕ). bytes ++ 10 ∷ more) (sym split.0) ∙ sym
-          (line_and version line more)
+          (line_and _ _ _)
           ∙ ap (λ (bytes : List ℕ). line_text version line ++ bytes) later.4,
       later.5,
     )
@@ -180,19 +179,19 @@ ahead_as place after rest ahead next = tt
 pub stands_led : (dir bytes rest : List ℕ) (n : ℕ) → IsStoreDir dir → Stands dir n bytes rest
     → (version : Version) × (led : Led version dir bytes rest) × (length led.lines ≡ n)
 stands_led dir bytes rest n is_dir stands =
-    let text = lines_of_text dir stands.whole stands.entries stands.is_text in
+    let text = lines_of_text _ _ _ stands.is_text in
     let version = text.0 in
     let come = text.1 in
-    let cut = cut_lines version dir (dir_lacks 10 newline dir is_dir) n come stands.front
-    stands.after (lines_of version dir MayEnd Start come text.2) stands.counted
+    let cut = cut_lines _ _ (dir_lacks _ newline _ is_dir) n _ _
+    _ (lines_of _ _ MayEnd _ _ text.2) stands.counted
     (sym text.3 ∙ stands.begins) in
     let after_is : lines_text version cut.1 ++ [] ≡ stands.after =
     append-nil (lines_text version cut.1) ∙ sym cut.5 in
-    let leads = leads_weaker version dir (λ to. Ends version dir to cut.1) (λ to. Ahead to rest)
-    (λ to ends. ahead_as to stands.after rest
-    (subst (Ahead to) after_is (ahead_of version dir MayEnd to cut.1 [] end_ahead ends))
-    stands.next) Start cut.0
-    (leads_front version dir MayEnd Start cut.0 cut.1
+    let leads = leads_weaker _ _ (λ to. Ends version dir to cut.1) (λ to. Ahead to rest)
+    (λ to ends. ahead_as _ _ _
+    (subst (Ahead to) after_is (ahead_of _ _ MayEnd _ _ [] end_ahead ends))
+    stands.next) _ _
+    (leads_front _ _ MayEnd _ _ _
     (subst (Ends version dir Start) cut.2 text.2)) in (
       version,
       record {
@@ -225,8 +224,8 @@ led_in : (version : Version) (dir bytes rest : List ℕ) (n : ℕ) → IsStoreDi
     → BeginsVersion version bytes → Stands dir n bytes rest
     → (led : Led version dir bytes rest) × (length led.lines ≡ n)
 led_in version dir bytes rest zero is_dir begins stands =
-    let some = stands_led dir bytes rest zero is_dir stands in
-    let none : some.1.lines ≡ [] = nil_from_length some.1.lines some.2 in (
+    let some = stands_led _ _ _ _ is_dir stands in
+    let none : some.1.lines ≡ [] = nil_from_length _ some.2 in (
       record {
         lines = [];
         leads = tt;
@@ -235,9 +234,9 @@ led_in version dir bytes rest zero is_dir begins stands =
       refl,
     )
 led_in version dir bytes rest (suc n) is_dir begins stands =
-    let some = stands_led dir bytes rest (suc n) is_dir stands in
-    let same = one_version some.0 version bytes
-    (led_begins some.0 dir bytes rest n some.1 some.2) begins in
+    let some = stands_led _ _ _ _ is_dir stands in
+    let same = one_version _ _ _
+    (led_begins _ dir _ rest n some.1 some.2) begins in
     subst (λ v. (led : Led v dir bytes rest) × (length led.lines ≡ suc n)) same
     (some.1, some.2)
 
@@ -252,7 +251,7 @@ bad_line version dir bytes left is_dir begins h = record {
   is_next = refl;
   rest = h.bad;
   some = h.some;
-  stands = led_stands version dir bytes h.bad is_dir
+  stands = led_stands version _ _ _ is_dir
       (record {
         lines = h.lines;
         leads = leads_weaker version dir (IsStuck version dir h.bad) (λ to. Ahead to h.bad)
@@ -260,7 +259,7 @@ bad_line version dir bytes left is_dir begins h = record {
         parts = h.parts;
       });
   falls = λ more stands.
-      let led = led_in version dir bytes more (suc (length h.lines)) is_dir begins stands in
+      let led = led_in _ _ _ _ _ is_dir begins stands in
       let next = one_more version dir (IsStuck version dir h.bad) (λ to. Ahead to more) Start
       h.lines led.0.lines h.bad more (λ to ahead. ahead) h.leads led.0.leads led.1
       (sym h.parts ∙ led.0.parts) in
@@ -276,7 +275,7 @@ bad_first dir bytes is_dir none some = record {
   is_next = refl;
   rest = bytes;
   some = some;
-  stands = led_stands One dir bytes bytes is_dir (record { lines = []; leads = tt; parts = refl });
+  stands = led_stands One _ _ _ is_dir (record { lines = []; leads = tt; parts = refl });
   falls = λ more stands.
       let led = stands_led dir bytes more 1 is_dir stands in
       none led.0 (led_begins led.0 dir bytes more zero led.1 led.2);
@@ -290,21 +289,21 @@ next_line : (version : Version) (dir bytes rest : List ℕ) (entries : List Entr
 unfolding text
 next_line version dir bytes rest entries Is some is leads parts =
     go_on version dir Is MayEnd Start some (lines entries) rest end_ahead leads
-    (lines_end version dir entries is.of_dir) (sym parts ∙ is.bytes_are)
+    (lines_end _ _ _ is.of_dir) (sym parts ∙ is.bytes_are)
 
 -- a text of a version has no bad line
 none_bad : (version : Version) (dir bytes : List ℕ) (entries : List Entry) (n : ℕ) → IsStoreDir dir
     → IsTextIn version dir entries bytes → IsBadLine dir bytes n → ⊥
 none_bad version dir bytes entries n is_dir is bad =
-    let led = led_in version dir bytes bad.rest bad.before is_dir
-    (text_begins version dir bytes entries is) bad.stands in
-    elim (next_line version dir bytes bad.rest entries (λ to. Ahead to bad.rest) led.0.lines is
+    let led = led_in _ _ _ _ _ is_dir
+    (text_begins _ _ _ _ is) bad.stands in
+    elim (next_line _ _ _ _ _ (λ to. Ahead to bad.rest) _ is
     led.0.leads led.0.parts) [
       | inl none ↦ bad.some none
       | inr next ↦
           let line = next.0 in
           let more = next.1 in
-          let goes = (leads_end version dir _ Start led.0.lines next.2).1.1 in
+          let goes = (leads_end _ _ _ _ led.0.lines next.2).1.1 in
           let longer : Led version dir bytes more = record {
             lines = led.0.lines ++ line ∷ [];
             leads = leads_joined version dir (λ to. Ahead to more) Start led.0.lines (line ∷ [])
@@ -325,7 +324,7 @@ none_bad version dir bytes entries n is_dir is bad =
 -- a text of a journal has no bad line
 pub texts_have_no_bad_line : TextsHaveNoBadLine
 texts_have_no_bad_line dir bytes entries n is_dir (inl (version, is)) bad =
-    none_bad version dir bytes entries n is_dir is bad
+    none_bad _ _ _ _ n is_dir is bad
 texts_have_no_bad_line dir bytes entries n is_dir (inr none) bad =
     nothing_left bad.stands.front bad.rest bad.some (sym none.1 ∙ bad.stands.parts)
   where
@@ -344,12 +343,12 @@ first_stand version dir bytes rest m is_dir led few =
     let whole : led.lines ≡ a ++ b = sym (take-append-drop m led.lines) in
     let first : Led version dir bytes more = record {
       lines = a;
-      leads = leads_weaker version dir (λ to. LeadsTo version dir (λ at. Ahead at rest) to b)
+      leads = leads_weaker _ _ (λ to. LeadsTo version dir (λ at. Ahead at rest) to b)
           (λ to. Ahead to more)
-          (λ to leads. ahead_of version dir (λ at. Ahead at rest) to b rest (λ at ahead. ahead)
-          leads) Start
+          (λ to leads. ahead_of _ _ (λ at. Ahead at rest) _ b _ (λ at ahead. ahead)
+          leads) _
           a
-          (leads_front version dir (λ at. Ahead at rest) Start a b
+          (leads_front _ dir (λ at. Ahead at rest) Start a b
           (subst (LeadsTo version dir (λ at. Ahead at rest) Start) whole led.leads));
       parts = led.parts ∙ ap (λ (ls : List Line). lines_text version ls ++ rest) whole
           ∙ sym (text_and version a b rest);
@@ -363,7 +362,7 @@ first_stand version dir bytes rest m is_dir led few =
 none_before : (dir bytes : List ℕ) (m n : ℕ) → IsStoreDir dir → IsBadLine dir bytes m
     → IsBadLine dir bytes n → m < n → ⊥
 none_before dir bytes m n is_dir one two less =
-    let led = stands_led dir bytes two.rest two.before is_dir two.stands in
+    let led = stands_led _ _ _ _ is_dir two.stands in
     let first = first_stand led.0 dir bytes two.rest m is_dir led.1
     (omega (arith, two.is_next, led.2)) in
     one.falls first.0 first.1
@@ -372,9 +371,9 @@ none_before dir bytes m n is_dir one two less =
 pub bad_line_is_one : BadLineIsOne
 bad_line_is_one dir bytes m n is_dir one two =
     elim (cases_lt m n) [
-      | inl less ↦ absurd (none_before dir bytes m n is_dir one two less)
+      | inl less ↦ absurd (none_before _ _ m n is_dir one two less)
       | inr more ↦ elim (cases_lt n m) [
-        | inl less ↦ absurd (none_before dir bytes n m is_dir two one less)
+        | inl less ↦ absurd (none_before _ _ n m is_dir two one less)
         | inr least ↦ omega
             arith
       ]

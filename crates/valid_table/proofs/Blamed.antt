@@ -25,10 +25,10 @@ pub unclosed_at :
     IsFirstUnknownAt (paths_registered (known ++ some)) references place →
     IsUnclosedAt known some (record { registration = i; reference = Some place })
 unclosed_at known some i r references place all lt is same first =
-    let here = unclosed_here (paths_registered (known ++ some)) some i r references place all lt is
+    let here = unclosed_here _ _ i r _ _ all lt is
     same
     first in
-    (r, place, here.0, slice_get-get_or some i r lt ∙ ap Some (sym is), refl, here.1, here.2)
+    (r, place, here.0, slice_get-get_or _ i r lt ∙ ap Some (sym is), refl, here.1, here.2)
 
 -- who has it is to blame, where all paths are new
 pub blamed_for_reference : (known some : List Registration) (blame : Blame) → AreNew known some
@@ -42,7 +42,7 @@ pub blamed_or_closed :
     MatchOption o (AreClosed known some) (IsUnclosedAt known some) →
     MatchOption o (AreNew known some × AreClosed known some) (IsBlamed known some)
 blamed_or_closed known some None new closed = (new, closed)
-blamed_or_closed known some (Some blame) new at = blamed_for_reference known some blame new at
+blamed_or_closed known some (Some blame) new at = blamed_for_reference _ _ _ new at
 
 -- and is who is read at the place
 pub blamed_read :

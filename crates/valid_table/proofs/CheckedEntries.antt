@@ -73,8 +73,8 @@ new_front known xs ys x new all lt =
     take-take k new (xs ++ x ∷ ys) (omega arith)
     ∙ ap (take k) (sym (append_assoc xs (x ∷ []) ys))
     ∙ take_at (xs ++ x ∷ []) ys k (length-append xs (x ∷ [])) in
-    let both = subst (All New) front (All-take New k (take new (xs ++ x ∷ ys)) all) in
-    (All-left New xs _ both, All-head New x [] (All-right New xs (x ∷ []) both))
+    let both = subst (All New) front (All-take New k _ all) in
+    (All-left New _ _ both, All-head New x [] (All-right New xs (x ∷ []) both))
 
 module _ (known all : List (List ℕ)) where
   -- a line is right
@@ -105,11 +105,11 @@ module _ (known all : List (List ℕ)) where
   lines_right entry (r ∷ rs) new closed =
       let New = IsNotKnown known in
       let own = r.info.references in
-      All-append Right (own_lines entry r) (lines_of entry rs)
-      (own_right entry r own (All-head New r.path (paths_registered rs) new)
+      All-append Right (own_lines entry r) _
+      (own_right entry r own (All-head New _ _ new)
       (All-left (Contains all) own (references_of rs) closed))
-      (lines_right entry rs (All-tail New r.path (paths_registered rs) new)
-      (All-right (Contains all) own (references_of rs) closed))
+      (lines_right entry rs (All-tail New r.path _ new)
+      (All-right (Contains all) _ _ closed))
 
   -- an entry's lines up to those of a registration are right
   pub up_to : (entry : Entry) (before : List Registration)
@@ -126,14 +126,14 @@ module _ (known all : List (List ℕ)) where
       IsEntryCheck known all (entry_lines entry) first result
   entry_checked entry new first (Ok behind) front (long, closed, number) =
       let rs = registered_by entry in
-      let lines = entry_lines_are entry in (
-        subst (All Right) (sym lines) (up_to entry rs (all_new known rs new front long) closed),
+      let lines = entry_lines_are _ in (
+        subst (All Right) (sym lines) (up_to _ _ (all_new _ _ _ front long) closed),
         omega (arith, up_to_count entry rs, ap length lines),
       )
   entry_checked entry new first (Err (Twice n)) front (lt, closed, number) =
       let rs = registered_by entry in
       let paths = paths_registered rs in
-      let (r, is) = element_at rs new lt in
+      let (r, is) = element_at _ _ lt in
       let before = take new rs in
       let after = drop (suc new) rs in
       let at : slice_get paths new ≡ Some r.path =
@@ -146,11 +146,11 @@ module _ (known all : List (List ℕ)) where
         record {
           before = header entry ++ lines_of entry before;
           after = map Reference r.info.references ++ lines_of entry after;
-          parts = split_lines entry before r after (split_get rs new r is);
-          is_place = sym (up_to_count entry before);
-          right = up_to entry before new_before closed;
+          parts = split_lines _ _ r _ (split_get _ _ r is);
+          is_place = sym (up_to_count _ _);
+          right = up_to _ _ new_before closed;
         },
-        start_known known entry r.path r.info.digest
+        start_known _ _ _ _
             (MatchOption-at_some (Unit {0}) (Contains known) r.path at front.next),
         omega arith,
       )

@@ -66,7 +66,7 @@ references_valid known all (path ∷ references) right =
       All-cons,
       All-head,
       All-tail,
-      (references_valid known all references
+      (references_valid _ _ references
           (All-tail (IsRight known all) (Reference path) (map Reference references) right)),
     )
 
@@ -78,12 +78,12 @@ references_valid_of :
 references_valid_of known all entry [] right = All-nil (Contains all)
 references_valid_of known all entry (r ∷ rs) right =
     let Right = IsRight known all in
-    let later = All-tail Right _ (map Reference r.info.references ++ lines_of entry rs) right in
+    let later = All-tail Right _ _ right in
     All-append (Contains all) _ _
-    (references_valid known all r.info.references
+    (references_valid _ all r.info.references
     (All-left Right (map Reference r.info.references) (lines_of entry rs) later))
     (references_valid_of known all entry rs
-    (All-right Right (map Reference r.info.references) (lines_of entry rs) later))
+    (All-right Right _ _ later))
 
 -- right entries are closed
 right_closed : (earlier : List Registration) (entries : List Entry) → AreRight earlier entries
@@ -93,10 +93,10 @@ right_closed earlier (entry ∷ entries) right =
     let Right = IsRightBehind earlier entry in
     let own = lines_of entry (registered_by entry) in (
       references_valid_of (paths_registered earlier)
-          (paths_registered (earlier ++ registered_by entry)) entry
+          _ entry
           (registered_by entry)
           (All-right Right (header entry) own
-          (subst (All Right) (entry_lines_are entry) right.0)),
+          (subst (All Right) (entry_lines_are _) right.0)),
       right_closed (earlier ++ registered_by entry) entries right.1,
     )
 
@@ -117,7 +117,7 @@ split_two (z ∷ a) x xs (w ∷ b) y ys same =
     (⊎_elim
     (λ h. inr (inl (ap (λ l. z ∷ l) h.0 ∙ ap (λ v. v ∷ b) first, h.1)))
     (λ h. inr (inr (h.0, ap (λ l. z ∷ l) h.1 ∙ ap (λ v. v ∷ (b ++ y ∷ h.0)) first))))
-    (split_two a x xs b y ys rest)
+    (split_two a x _ b y _ rest)
 
 -- entries with another behind them, and more, have at least its lines more
 lines_behind : (entries : List Entry) (entry : Entry) (more : List Entry) → length (lines entries)
@@ -143,8 +143,7 @@ wrong_line entries m (inr (before, entry, path, digest, inr stands, valid)) = se
 not_among : (known all : List (List ℕ)) (before : List Line) (line : Line) (after : List Line)
     → All (IsRight known all) (before ++ line ∷ after) → IsRight known all line
 not_among known all before line after right =
-    All-contains (IsRight known all) (before ++ line ∷ after) line right
-    (Contains-middle before after line)
+    All-contains (IsRight known all) _ _ right (Contains-middle _ _ _)
 
 -- so its entry isn't among right ones
 pub none_wrong : (entries : List Entry) (m : ℕ) (w : IsWrongAt entries m) (after : List Entry)
@@ -152,7 +151,7 @@ pub none_wrong : (entries : List Entry) (m : ℕ) (w : IsWrongAt entries m) (aft
 none_wrong entries m w after right =
     let s = w.stands in
     w.wrong
-    (not_among _ _ s.first w.line s.last
+    (not_among _ _ _ _ _
     (subst (All (IsRightBehind (registered w.before) w.entry)) s.is_line
     (right_at [] w.before w.entry after right)))
 
@@ -171,16 +170,16 @@ least_within entries pre e first line last m w same_before same_entry split righ
     ∙ ap entry_lines same_entry ∙ split in
     ⊎_elim
     (λ h.
-    let here = not_among (paths_registered (registered pre))
-    (paths_registered (registered pre ++ registered_by e))
-    s.first w.line h.0 (subst (All (IsRightBehind (registered pre) e)) h.1 right) in
+    let here = not_among _
+    _
+    _ _ _ (subst (All (IsRightBehind (registered pre) e)) h.1 right) in
     let mine = subst (λ x. IsRightBehind (registered pre) x w.line) (sym same_entry) here in
     absurd (w.wrong
     (subst (λ b. IsRightBehind (registered b) w.entry w.line) (sym same_before) mine)))
     (⊎_elim
     (λ h. omega (arith, ap length h.0))
     (λ h. omega (arith, ap length h.1, length-append first (line ∷ h.0))))
-    (split_two s.first w.line s.last first line last lines_are)
+    (split_two _ _ _ _ _ _ lines_are)
 
 -- behind right entries, and the right first lines of the next one, a wrong line stands no earlier
 least_wrong :
@@ -196,11 +195,11 @@ least_wrong entries pre e rest first line last m parts right split first_right w
     let s = w.stands in
     let number = s.number in
     ⊎_elim
-    (λ h. absurd (none_wrong entries m w h.0 (subst (AreRight []) h.1 right)))
+    (λ h. absurd (none_wrong _ m w _ (subst (AreRight []) h.1 right)))
     (⊎_elim
     (λ h. omega (
       arith,
-      least_within entries pre e first line last m w h.0 h.1 split first_right,
+      least_within _ _ e _ _ _ m w h.0 h.1 split first_right,
       ap (λ es. length (lines es)) h.0,
     ))
     (λ h.
@@ -222,8 +221,8 @@ pub least_fault :
 least_fault entries pre e rest line place n parts right up number m fault =
     omega (
       arith,
-      least_wrong entries pre e rest up.before line up.after m parts right up.parts
-          up.right (wrong_line entries m fault),
+      least_wrong _ _ e _ _ _ _ m parts right up.parts
+          up.right (wrong_line _ m fault),
       up.is_place,
     )
 
@@ -277,7 +276,7 @@ module _ (entries : List Entry) (i : ℕ) (entry : Entry) (lt : i < length entri
       → StandsAt entries (take i entries) entry line n
   stands_there line place n up number = record {
     after = drop (i + 1) entries;
-    parts = parts_at entries i entry lt is;
+    parts = parts_at _ i _ lt is;
     first = up.before;
     last = up.after;
     is_line = up.parts;
@@ -291,15 +290,15 @@ module _ (entries : List Entry) (i : ℕ) (entry : Entry) (lt : i < length entri
       → IsEntriesChecking entries (Err fault)
   first_fault first (Twice n) right number (line, place, up, known, counted) =
       let at : n ≡ length (lines (take i entries)) + place + 1 = omega arith in (
-        twice_at entries (take i entries) entry line n (stands_there line place n up at) known,
-        least_fault entries (take i entries) entry (drop (i + 1) entries) line place n
-            (parts_at entries i entry lt is) right up at,
+        twice_at _ _ _ _ n (stands_there _ _ n up at) known,
+        least_fault _ _ _ _ _ _ n
+            (parts_at _ i _ lt is) right up at,
       )
   first_fault first (NotClosed n) right number (line, place, up, other, counted) =
       let at : n ≡ length (lines (take i entries)) + place + 1 = omega arith in (
-        open_at entries (take i entries) entry line n (stands_there line place n up at) other,
-        least_fault entries (take i entries) entry (drop (i + 1) entries) line place n
-            (parts_at entries i entry lt is) right up at,
+        open_at _ _ _ _ n (stands_there _ _ n up at) other,
+        least_fault _ _ _ _ _ _ n
+            (parts_at _ i _ lt is) right up at,
       )
   first_fault first NoMemory right number check = search rules
   first_fault first other right number check = check
@@ -315,14 +314,14 @@ module _ (entries : List Entry) (i : ℕ) (entry : Entry) (lt : i < length entri
   pub right_more : AreRight [] (take i entries)
       → All (IsRightBehind (registered (take i entries)) entry) (entry_lines entry)
       → AreRight [] (take (i + 1) entries)
-  right_more right more = subst (AreRight []) (sym (taken_more entries i entry lt is))
+  right_more right more = subst (AreRight []) (sym (taken_more _ i _ lt is))
       (right_push [] (take i entries) entry right more)
 
   -- its lines are counted
   pub lines_more : length (lines (take (i + 1) entries)) ≡ length (lines (take i entries))
       + length (entry_lines entry)
   lines_more =
-      ap (λ es. length (lines es)) (taken_more entries i entry lt is)
+      ap (λ es. length (lines es)) (taken_more _ i _ lt is)
       ∙ ap (λ ls. length (First ∷ ls)) (sym (flat_map_more entry_lines [] (take i entries) entry))
       ∙ length-append (lines (take i entries)) (entry_lines entry)
 
@@ -333,7 +332,7 @@ module _ (entries : List Entry) (i : ℕ) (entry : Entry) (lt : i < length entri
       added
       ∙ ap (λ l. l ++ registered_by entry) same
       ∙ flat_map_more registered_by [] (take i entries) entry
-      ∙ sym (ap registered (taken_more entries i entry lt is))
+      ∙ sym (ap registered (taken_more _ i _ lt is))
 
 -- where all entries are right, they are closed
 pub closed_behind : (entries : List Entry) (i : ℕ) → length entries ≤ i

@@ -40,7 +40,7 @@ pub line_count_fits :
 line_count_fits rs i r lt is =
     omega (
       arith,
-      length-flat_map-take output_lines rs i r lt,
+      length-flat_map-take output_lines _ i r lt,
       length-map r.info.references Reference,
       ap (λ x. length (output_lines x)) is,
     )
@@ -82,7 +82,7 @@ open_here all rs new first i r references at number upto other lt is same closed
       r,
       drop (i + 1) rs,
       at,
-      parts_at rs i r lt is,
+      parts_at _ i r lt is,
       omega arith,
       closed,
       subst (λ paths. IsFirstUnknownAt all paths at) same unknown,
@@ -99,6 +99,6 @@ pub right_behind :
     IsLineCheck all rs new first (Ok behind)
 right_behind all rs new first i behind upto long closed counted = (
   omega arith,
-  closed_all all rs i long closed,
+  closed_all _ _ i long closed,
   counted ∙ ap (λ l. first + line_count l) (take_all i rs long),
 )

@@ -21,10 +21,10 @@ Contains-flat_map : {A B : Type 0} (f : A → List B) (xs : List A) (x : A) (y :
 Contains-flat_map f [] x y has one = absurd (omega (arith, has.1))
 Contains-flat_map f (z ∷ zs) x y has one =
     ⊎_elim
-    (λ same. Contains-append_left (f z) (flat_map f zs) y
+    (λ same. Contains-append_left _ _ y
     (subst (λ w. Contains (f w) y) (sym same) one))
     (λ later. Contains-append_right (f z) (flat_map f zs) y (Contains-flat_map f zs x y later one))
-    (Contains-cons_cases z zs x has)
+    (Contains-cons_cases z _ x has)
 
 -- a reference of what is registered is one of the references
 refers_in : (registrations : List Registration) (path next : List ℕ)
@@ -42,7 +42,7 @@ registers_from_valid registrations path valid =
     let below : valid.0 < length registrations = omega (arith, valid.1, path_count registrations) in
     let same : r.path
     ≡ path = sym
-    (get_or-map (λ (x : Registration). x.path) registrations valid.0 none path below) ∙ valid.2
+    (get_or-map (λ (x : Registration). x.path) _ valid.0 none path below) ∙ valid.2
     in
     let is : r ≡ own = λ i. record { path = same i; info = r.info } in
     (r.info, (valid.0, below, get_or_default registrations valid.0 own none below ∙ is))
@@ -50,7 +50,7 @@ registers_from_valid registrations path valid =
 -- what leads by first registrations does so by more of them
 pub leads_behind : (first more : List Registration) (from to : List ℕ) (steps : List (List ℕ))
     → LeadsByReferences first from to steps → LeadsByReferences (first ++ more) from to steps
-leads_behind first more from to [] leads = (still_valid first more from leads.0, leads.1)
+leads_behind first more from to [] leads = (still_valid _ _ _ leads.0, leads.1)
 leads_behind first more from to (next ∷ steps) leads =
     search (rules, Contains-append_left, leads_behind first more next to steps leads.1)
 
@@ -60,13 +60,13 @@ pub leads_before : (first more : List Registration) → AreReferencesValid first
     → LeadsByReferences (first ++ more) from to steps → LeadsByReferences first from to steps
 leads_before first more closed once from to [] valid leads = (valid, leads.1)
 leads_before first more closed once from to (next ∷ steps) valid leads =
-    let had = registers_from_valid first from valid in
-    let same : leads.0.0 ≡ had.0 = one_info (first ++ more) once from leads.0.0 had.0 leads.0.1
-    (Contains-append_left first more (record { path = from; info = had.0 }) had.1) in
+    let had = registers_from_valid _ _ valid in
+    let same : leads.0.0 ≡ had.0 = one_info _ once _ _ _ leads.0.1
+    (Contains-append_left _ _ _ had.1) in
     let refers : RefersTo first from next =
     (had.0, had.1, subst (λ (info : PathInfo). Contains info.references next) same leads.0.2) in
-    let next_valid : IsValid first next = All-contains (IsValid first) (references_of first) next
-    closed (refers_in first from next refers) in
+    let next_valid : IsValid first next = All-contains (IsValid first) _ _
+    closed (refers_in _ _ _ refers) in
     (refers, leads_before first more closed once next to steps next_valid leads.1)
 
 -- a closure stays the same where more is registered
@@ -77,14 +77,14 @@ closure_stays_behind first more roots all closed once valid is = record {
   rising = is.rising;
   each = λ path. (
     λ has. let h = (is.each path).0 has
-        in (h.0, h.1, (h.2.0, leads_behind first more h.0 path h.2.0 h.2.1)),
+        in (h.0, h.1, (h.2.0, leads_behind _ _ _ _ _ h.2.1)),
     λ h. (is.each path).1 (
       h.0,
       h.1,
       (
         h.2.0,
-        leads_before first more closed once h.0 path h.2.0
-            (All-contains (IsValid first) roots h.0 valid h.1) h.2.1,
+        leads_before _ _ closed once _ _ _
+            (All-contains (IsValid first) _ _ valid h.1) h.2.1,
       ),
     ),
   );
@@ -96,8 +96,8 @@ closure_stays entries more roots all closed closed_more once valid is =
     let whole : registered (entries ++ more) ≡ registered entries
     ++ registered more = flat_map-append registered_by entries more in
     subst (λ (registrations : List Registration). IsClosure registrations roots all) (sym whole)
-    (closure_stays_behind (registered entries) (registered more) roots all
-    (closed_references_valid entries closed) (subst IsOnce whole once) valid is)
+    (closure_stays_behind _ _ _ _
+    (closed_references_valid _ closed) (subst IsOnce whole once) valid is)
 
 -- some paths have one closure
 pub closure_is_one : ClosureIsOne

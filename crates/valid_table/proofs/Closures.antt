@@ -23,9 +23,9 @@ closure_found registrations roots start found all valid begins followed rising s
     λ (has : Contains all path).
         let reached : IsReachedFrom registrations (paths_at registrations start) path =
         All-contains (IsReachedFrom registrations (paths_at registrations start))
-        (paths_at registrations found) path followed.reached ((same path).0 has) in (
+        _ _ followed.reached ((same path).0 has) in (
           reached.0,
-          All-contains (Contains roots) (paths_at registrations start) reached.0 asked
+          All-contains (Contains roots) _ _ asked
               reached.1,
           reached.2,
         ),
@@ -33,14 +33,14 @@ closure_found registrations roots start found all valid begins followed rising s
         let root = reached.0 in
         let begun : Contains (paths_at registrations start) root =
         All-contains (λ p. IsValid registrations p → Contains (paths_at registrations start) p)
-        roots root begins.there reached.1
-        (All-contains (IsValid registrations) roots root valid reached.1) in
+        _ _ begins.there reached.1
+        (All-contains (IsValid registrations) _ _ valid reached.1) in
         let there : Contains (paths_at registrations found) root =
-        All-contains (Contains (paths_at registrations found)) (paths_at registrations start)
-        root followed.kept begun in
+        All-contains (Contains (paths_at registrations found)) _
+        _ followed.kept begun in
         (same path).1
-        (has_reached registrations (paths_at registrations found) each_followed root path
-        reached.2.0 there reached.2.1),
+        (has_reached _ _ each_followed _ _
+        _ there reached.2.1),
   );
 }
   where

@@ -45,7 +45,7 @@ pub new_more :
     AreUnknown known (take (i + 1) (paths_registered rs))
 new_more known rs i r new lt is unknown =
     All-more (IsNotKnown known) (paths_registered rs) i r.path (omega (arith, path_count rs)) new
-    (subst (IsNotKnown known) (sym (path_at rs i r r.path lt is)) unknown)
+    (subst (IsNotKnown known) (sym (path_at _ i r _ lt is)) unknown)
 
 -- the first of some paths that isn't known
 pub unknown_here :
@@ -60,7 +60,7 @@ unknown_here known some i path all lt is unknown = (
   record {
     before = take i some;
     after = drop (i + 1) some;
-    parts = parts_at some i path lt is;
+    parts = parts_at _ i _ lt is;
     others = all;
     is = unknown;
   },
@@ -76,7 +76,7 @@ pub known_more :
     Contains known path →
     All (Contains known) (take (i + 1) some)
 known_more known some i path all lt is there =
-    All-more (Contains known) some i path lt all (subst (Contains known) is there)
+    All-more (Contains known) _ i _ lt all (subst (Contains known) is there)
 
 -- the element behind the first ones
 middle : {X : Type 0} (xs before : List X) (x : X) (after : List X) (i : ℕ) → xs ≡ before ++ x
@@ -84,7 +84,7 @@ middle : {X : Type 0} (xs before : List X) (x : X) (after : List X) (i : ℕ) �
 middle xs before x after i parts at =
     let within : i
     < length xs = omega (arith, at, ap length parts, length-append before (x ∷ after)) in
-    slice_get-get_or xs i x within
+    slice_get-get_or _ i x within
     ∙ ap Some (ap (λ l. get_or l i x) parts ∙ get_or_at before x after x i (sym at))
 
 -- the first unknown reference of registrations whose first ones have none
@@ -102,12 +102,12 @@ unclosed_here known rs i r references place all lt is same (path, first, at) =
     let earlier = references_of (take i rs) in
     let rest = references_of (drop (i + 1) rs) in
     let own : r.info.references ≡ first.before ++ path ∷ first.after = sym same ∙ first.parts in
-    let within = first_within (Contains known) (IsNotKnown known) earlier references rest path all
+    let within = first_within (Contains known) (IsNotKnown known) _ _ _ _ all
     first in (
       path,
-      middle r.info.references first.before path first.after place own at,
+      middle _ _ _ _ _ own at,
       subst (λ paths. IsFirst (Contains known) (IsNotKnown known) paths path)
-          (ap (λ l. earlier ++ (l ++ rest)) same ∙ sym (references_of_at rs i r lt is)) within,
+          (ap (λ l. earlier ++ (l ++ rest)) same ∙ sym (references_of_at _ i r lt is)) within,
     )
 
 -- the references of one more registration are known
@@ -121,8 +121,8 @@ pub closed_more :
     All (Contains known) references →
     All (Contains known) (references_of (take (i + 1) rs))
 closed_more known rs i r references all lt is same more =
-    subst (All (Contains known)) (sym (references_of_more rs i r lt is))
-    (All-append (Contains known) (references_of (take i rs)) r.info.references all
+    subst (All (Contains known)) (sym (references_of_more _ i r lt is))
+    (All-append (Contains known) _ _ all
     (subst (All (Contains known)) same more))
 
 -- and so are all
@@ -140,10 +140,10 @@ pub known_behind :
     × IsFirst (IsNotKnown known) (Contains known) (paths_registered rs) r.path
 known_behind known rs count front lt =
     let (r, read) = element_at rs count lt in
-    let some = get_mapped (λ (x : Registration). x.path) rs count r read in (
+    let some = get_mapped (λ (x : Registration). x.path) rs _ r read in (
       r,
       read,
-      first_at (IsNotKnown known) (Contains known) (paths_registered rs) count r.path some front.new
+      first_at (IsNotKnown known) (Contains known) _ _ _ some front.new
           (MatchOption-at_some (Unit {0}) (Contains known) r.path some front.next),
     )
 

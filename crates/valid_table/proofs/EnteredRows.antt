@@ -1,5 +1,5 @@
 -- Registrations that are put among the rows of a table before their lines are checked.
-use Rattle.std.proofs.Common.{◌≡◌, ◌∙◌, ℕ, ◌+◌, ◌<◌, ◌≤◌, Bool, true, false, List, [], ◌∷◌, ◌++◌, length, take, drop, get_or, sym, ap, subst, arith, refl, inl, inr, nat_eq, rules}
+use Rattle.std.proofs.Common.{◌≡◌, ◌∙◌, ℕ, ◌+◌, ◌<◌, ◌≤◌, Bool, true, false, List, [], ◌∷◌, ◌++◌, length, take, get_or, sym, ap, subst, arith, refl, inl, inr, nat_eq, rules}
 use Rattle.std.specs.Prelude.{Contains, IfSome, OnOk, Some, Result, Ok, Err, is_some}
 use Rattle.std.specs.List.{IsDistinct, take-map}
 use Rattle.std.specs.Cmp.Lexicographic.{pointwise}
@@ -36,17 +36,17 @@ pub row_put : {S : Type 0} (rows : IndexMap (List ℕ) PathInfo S) (r : Registra
     → new ≡ insert_entry (pointwise nat_eq) rows.entries r.path r.info
     → IsPut (registrations_of rows.entries) (registrations_of new) r had
 row_put rows r new true is added =
-    let valid = (has_row_says rows r.path true is).0 refl in (
+    let valid = (has_row_says rows _ _ is).0 refl in (
       valid,
-      paths_are_keys new
+      paths_are_keys _
           ∙ ap keys_of added
-          ∙ keys-insert_entry-present (pointwise nat_eq) rows r.path r.info (sym is)
-          ∙ sym (paths_are_keys rows.entries),
+          ∙ keys-insert_entry-present (pointwise nat_eq) rows _ _ (sym is)
+          ∙ sym (paths_are_keys _),
     )
 row_put rows r new false is added =
     let fresh : IsNotValid (registrations_of rows.entries) r.path =
-    (λ valid. false≢true ((has_row_says rows r.path false is).1 valid)) in
-    (fresh, row_pushed rows r new fresh added)
+    (λ valid. false≢true ((has_row_says rows _ _ is).1 valid)) in
+    (fresh, row_pushed rows r _ fresh added)
 
 -- ---- the first of some registrations, behind known ones
 
@@ -55,7 +55,7 @@ front known rs i = known ++ take i rs
 
 front_paths : (known rs : List Registration) (i : ℕ) → paths_registered (front known rs i)
     ≡ paths_registered known ++ take i (paths_registered rs)
-front_paths known rs i = paths_of-append known (take i rs)
+front_paths known rs i = paths_of-append _ _
     ∙ ap (λ l. paths_registered known ++ l) (sym (take-map (λ (r : Registration). r.path) i rs))
 
 -- the next path is not among the first
@@ -63,11 +63,11 @@ next_apart : (rs : List Registration) (i : ℕ) (r : Registration) → IsRising 
     → i < length rs → r ≡ get_or rs i r → Contains (take i (paths_registered rs)) r.path → ⊥
 next_apart rs i r rising lt is has =
     let paths = paths_registered rs in
-    let at : r.path ≡ get_or paths i r.path = sym (path_at rs i r r.path lt is) in
-    once_apart (take i paths) (drop (i + 1) paths) r.path
+    let at : r.path ≡ get_or paths i r.path = sym (path_at _ i r _ lt is) in
+    once_apart _ _ _
     (subst (IsDistinct (pointwise nat_eq))
     (parts_at paths i r.path (omega (arith, lt, path_count rs)) at)
-    (distinct_from_rising paths rising)) has
+    (distinct_from_rising _ rising)) has
 
 -- so it is valid by both where it is by known ones
 pub known_next : (known rs : List Registration) (i : ℕ) (r : Registration)
@@ -75,17 +75,17 @@ pub known_next : (known rs : List Registration) (i : ℕ) (r : Registration)
     → IsValid (front known rs i) r.path
     → IsValid known r.path
 known_next known rs i r rising lt is valid =
-    elim (Contains-append_cases (paths_registered known) (take i (paths_registered rs)) r.path
-    (subst (λ ps. Contains ps r.path) (front_paths known rs i) valid)) [
+    elim (Contains-append_cases _ _ _
+    (subst (λ ps. Contains ps r.path) (front_paths _ _ i) valid)) [
       | inl there ↦ there
-      | inr among ↦ absurd (next_apart rs i r rising lt is among)
+      | inr among ↦ absurd (next_apart _ i r rising lt is among)
     ]
 
 unknown_next : (known rs : List Registration) (i : ℕ) (r : Registration)
     → IsNotValid (front known rs i) r.path → IsNotKnown (paths_registered known) r.path
 unknown_next known rs i r not valid =
-    not (subst (λ ps. Contains ps r.path) (sym (front_paths known rs i))
-    (Contains-append_left (paths_registered known) (take i (paths_registered rs)) r.path valid))
+    not (subst (λ ps. Contains ps r.path) (sym (front_paths _ _ i))
+    (Contains-append_left _ _ _ valid))
 
 -- one more was put behind them
 pub put_more : (known rs now new : List Registration) (i : ℕ) (r : Registration)
@@ -98,9 +98,9 @@ put_more known rs now new i r is_front unknown lt is put = (
   put.1
       ∙ ap (λ l. l ++ r ∷ []) is_front
       ∙ append_assoc known (take i rs) (r ∷ [])
-      ∙ ap (λ l. known ++ l) (sym (taken_more rs i r lt is)),
-  new_more (paths_registered known) rs i r unknown lt is
-      (unknown_next known rs i r (subst (λ l. IsNotValid l r.path) is_front put.0)),
+      ∙ ap (λ l. known ++ l) (sym (taken_more _ i r lt is)),
+  new_more _ _ i r unknown lt is
+      (unknown_next _ _ i r (subst (λ l. IsNotValid l r.path) is_front put.0)),
 )
 
 -- the next one had its path there
@@ -117,10 +117,10 @@ put_twice known rs now new i r rising is_front unknown lt is put = (
     new = unknown;
     next = subst (λ o. IfSome o (Contains (paths_registered known)))
         (sym (slice_get-get_or (paths_registered rs) i r.path (omega (arith, lt, path_count rs))
-        ∙ ap Some (path_at rs i r r.path lt is)))
-        (known_next known rs i r rising lt is (subst (λ l. IsValid l r.path) is_front put.0));
+        ∙ ap Some (path_at _ i r _ lt is)))
+        (known_next _ _ i r rising lt is (subst (λ l. IsValid l r.path) is_front put.0));
   },
-  put.1 ∙ ap paths_registered is_front ∙ front_paths known rs i,
+  put.1 ∙ ap paths_registered is_front ∙ front_paths _ _ i,
 )
 
 -- all were put behind them
@@ -137,24 +137,23 @@ put_paths known rs new n long is = search (rules, put_all, paths_of-append, take
 Contains-take : (paths : List (List ℕ)) (i : ℕ) (path : List ℕ) → Contains (take i paths) path
     → Contains paths path
 Contains-take paths i path has =
-    subst (λ ps. Contains ps path) (take-append-drop i paths)
-    (Contains-append_left (take i paths) (drop i paths) path has)
+    subst (λ ps. Contains ps path) (take-append-drop i paths) (Contains-append_left _ _ _ has)
 
 -- behind the first of some paths, and behind all of them, the same are known
 pub same_known : (known paths : List (List ℕ)) (i : ℕ)
     → HaveSame ((known ++ take i paths) ++ paths) (known ++ paths)
 same_known known paths i = λ path. (
-  λ has. elim (Contains-append_cases (known ++ take i paths) paths path has) [
-    | inl front ↦ elim (Contains-append_cases known (take i paths) path front) [
+  λ has. elim (Contains-append_cases _ _ _ has) [
+    | inl front ↦ elim (Contains-append_cases _ _ _ front) [
       | inl there ↦ Contains-append_left known paths path there
-      | inr taken ↦ Contains-append_right known paths path (Contains-take paths i path taken)
+      | inr taken ↦ Contains-append_right known paths path (Contains-take _ i _ taken)
     ]
     | inr own ↦ Contains-append_right known paths path own
   ],
-  λ has. elim (Contains-append_cases known paths path has) [
+  λ has. elim (Contains-append_cases _ _ _ has) [
     | inl there ↦
         Contains-append_left (known ++ take i paths) paths path
-        (Contains-append_left known (take i paths) path there)
+        (Contains-append_left _ _ _ there)
     | inr own ↦ Contains-append_right (known ++ take i paths) paths path own
   ],
 )
@@ -197,10 +196,10 @@ pub check_before : (known now rs : List Registration) (new first : ℕ) (result 
     → IsLineCheck (paths_registered (now ++ rs)) rs new first result
     → IsLineCheck (paths_registered (known ++ rs)) rs new first result
 check_before known now rs new first result is check =
-    same_check (paths_registered (now ++ rs)) (paths_registered (known ++ rs)) rs new first result
-    (subst (HaveSame (paths_registered (now ++ rs))) (sym (paths_of-append known rs))
+    same_check _ _ _ _ _ _
+    (subst (HaveSame (paths_registered (now ++ rs))) (sym (paths_of-append _ _))
     (subst (λ ps. HaveSame ps (paths_registered known ++ paths_registered rs))
-    (sym (paths_of-append now rs ∙ ap (λ ps. ps ++ paths_registered rs) is))
+    (sym (paths_of-append _ _ ∙ ap (λ ps. ps ++ paths_registered rs) is))
     (same_known (paths_registered known) (paths_registered rs) new))) check
 
 -- what holds where all paths were new holds where no line was wrong

@@ -7,7 +7,7 @@ use Rattle.std.proofs.lemmas.List.Elements.{All-nil, All-push}
 use Rattle.valid_table.specs.LineTexts.{lines_text}
 use Rattle.valid_table.specs.Readers.{HasEntry, HasToBegin, SoFarEntries, StopsInText}
 use Rattle.valid_table.specs.Reading.{BeginsVersion}
-use Rattle.valid_table.specs.Steps.{Place, Start, Begun, Stops}
+use Rattle.valid_table.specs.Steps.{Place, Begun, Stops}
 use Rattle.valid_table.specs.Texts.{IsEntryIn, IsJournalText, First, entry_lines, lines, text, version_line}
 use Rattle.valid_table.specs.declared.entry.Entry.{Entry}
 use Rattle.valid_table.specs.declared.version.Version.{Version}
@@ -22,7 +22,7 @@ pub version_read : (version : Version) (dir bytes : List ℕ) (entries : List En
 version_read version dir bytes entries rest begins none = rw none (record {
   parts = begins ∙ ap (λ (t : List ℕ). t ++ rest) (sym (append-nil (version_line version)));
   of_dir = All-nil (IsEntryIn version dir);
-  leads = λ left goes_on. stop_behind version dir Start bytes First rest left begins tt
+  leads = λ left goes_on. stop_behind _ _ _ _ First _ _ begins tt
       (goes_on Begun tt);
 })
 
@@ -36,8 +36,8 @@ text_more : (version : Version) (entries : List Entry) (entry : Entry) (rest : L
     → lines_text version (lines entries) ++ (lines_text version (entry_lines entry) ++ rest)
     ≡ lines_text version (lines (entries ++ entry ∷ [])) ++ rest
 text_more version entries entry rest =
-    text_and version (lines entries) (entry_lines entry) rest
-    ∙ ap (λ some. lines_text version some ++ rest) (lines_more entries entry)
+    text_and version (lines entries) _ _
+    ∙ ap (λ some. lines_text version some ++ rest) (lines_more _ _)
 
 -- one more entry
 pub entries_more : (version : Version) (dir bytes : List ℕ) (entries more : List Entry)
@@ -48,11 +48,11 @@ pub entries_more : (version : Version) (dir bytes : List ℕ) (entries more : Li
 entries_more version dir bytes entries more rest behind entry so_far h pushed =
     rw pushed (record {
       parts = so_far.parts ∙ ap (λ t. lines_text version (lines entries) ++ t) h.parts
-          ∙ text_more version entries entry behind;
-      of_dir = All-push (IsEntryIn version dir) entries entry so_far.of_dir h.of_dir;
+          ∙ text_more _ _ _ behind;
+      of_dir = All-push (IsEntryIn version dir) _ _ so_far.of_dir h.of_dir;
       leads = λ left goes_on.
           so_far.leads left
-          (λ from begins. lead version dir rest entry behind from left h begins goes_on);
+          (λ from begins. lead _ _ _ _ _ _ _ h begins goes_on);
     })
 
 -- where nothing is left, the bytes are the entries' text
@@ -74,4 +74,4 @@ pub text_stops : (version : Version) (dir bytes : List ℕ) (entries : List Entr
     → ((from : Place) → HasToBegin from rest → Stops version dir from rest left)
     → StopsInText dir bytes left
 text_stops version dir bytes entries rest left so_far stops =
-    inl (version, version_begins version dir bytes entries rest so_far, so_far.leads left stops)
+    inl (version, version_begins _ _ _ _ _ so_far, so_far.leads left stops)

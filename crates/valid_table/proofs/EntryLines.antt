@@ -19,8 +19,7 @@ has_to_enter : (version : Version) (dir : List ℕ) (from : Place) (bytes : List
     → HasToBegin from bytes
     → (line : Line) → MayBegin version dir line → MayBeLine version dir from line
 has_to_enter version dir Begun bytes begins line may = may
-has_to_enter version dir (Within output last) bytes begins line may =
-    within_enters version dir output last line may
+has_to_enter version dir (Within output last) bytes begins line may = within_enters _ _ _ _ _ may
 has_to_enter version dir from bytes begins line may = absurd begins
 
 -- and no output has to come
@@ -42,11 +41,11 @@ pub lead : (version : Version) (dir bytes : List ℕ) (entry : Entry) (rest : Li
     → ((to : Place) → HasToBegin to rest → Stops version dir to rest left)
     → Stops version dir from bytes left
 lead version dir bytes entry rest from left h begins goes_on =
-    stops_in version dir from (entry_lines entry) bytes rest left h.parts
-    (entry_back version dir (StopsIn version dir rest left) (stops_back version dir rest left) from
-    entry []
-    (has_to_enter version dir from bytes begins) h.of_dir
-    (λ to is. goes_on to (end_begins entry to rest is h.ends)))
+    stops_in _ _ _ (entry_lines entry) _ rest _ h.parts
+    (entry_back _ _ (StopsIn version dir rest left) (stops_back _ _ _ _) _
+    _ []
+    (has_to_enter _ _ _ _ begins) h.of_dir
+    (λ to is. goes_on to (end_begins _ _ _ is h.ends)))
 
 -- ---- where an entry stops
 
@@ -64,7 +63,7 @@ pub added_stops : (version : Version) (dir : List ℕ) (from : Place) (bytes : L
 added_stops version dir from bytes left (inl h) begins =
     search (rules, stop_here, nothing_ahead, bad_added)
 added_stops version dir from bytes left (inr h) begins =
-    stop_behind version dir from bytes (Added h.path h.digest) h.rest left
+    stop_behind _ _ _ _ _ _ left
     (h.begins ∙ ap (λ (f : List ℕ). 65 ∷ 32 ∷ f) h.line.parts)
     (has_to_enter version dir from bytes begins (Added h.path h.digest)
     (h.line.of_dir, h.line.is_digest))
@@ -97,7 +96,7 @@ pub done_stops : (version : Version) (dir : List ℕ) (from : Place)
     ≡ 68 ∷ 32 ∷ fields → IsDeriverLine dir fields path rest → Stops version dir Opened rest left
     → HasToBegin from bytes → Stops version dir from bytes left
 done_stops version dir from bytes fields path rest left begun line h begins =
-    stop_behind version dir from bytes (Deriver path) rest left
+    stop_behind _ _ _ _ _ _ _
     (deriver_text version dir bytes fields path rest begun line)
     (has_to_enter version dir from bytes begins (Deriver path) (line.line.of_dir, line.named)) h
 

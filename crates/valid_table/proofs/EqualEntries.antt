@@ -1,7 +1,7 @@
 -- Entries and their parts that are equal by `==` are the same.
-use Rattle.std.proofs.Common.{◌≡◌, Decides, refl, sym, ap, nat_eq, true≢false, rules}
+use Rattle.std.proofs.Common.{◌≡◌, Decides, refl, sym, ap, true≢false, rules}
 use Rattle.std.specs.Prelude.{None, Option, Some}
-use Rattle.std.specs.Cmp.Lexicographic.{bytes_decides, pointwise, pointwise_decides}
+use Rattle.std.specs.Cmp.Lexicographic.{bytes_decides, pointwise_decides}
 use Rattle.std.specs.Option.{option_eq}
 use Rattle.nix_names.specs.declared.digest.Digest.{Digest}
 use Rattle.nix_names.specs.declared.digest.Digest.TheVariants.{Md5 as OfMd5, Sha1 as OfSha1, Sha256 as OfSha256, Sha512 as OfSha512}
@@ -30,9 +30,9 @@ digests_decide (Some x) (Some y) = search (rules, digest_decides)
 -- so are records
 records_decide : (a b : PathInfo) → Decides (same_record a b) (a ≡ b)
 records_decide a b =
-    both_parts (pointwise (pointwise nat_eq) a.references b.references)
-    (option_eq same_digest a.digest b.digest)
-    (pointwise_decides bytes_decides a.references b.references) (digests_decide a.digest b.digest)
+    both_parts _
+    _
+    (pointwise_decides bytes_decides a.references b.references) (digests_decide _ _)
     (λ p q j. record { references = p j; digest = q j })
     (λ e. ap (λ (r : PathInfo). r.references) e)
     (λ e. ap (λ (r : PathInfo). r.digest) e)
@@ -47,7 +47,7 @@ entries_decide (Add a) (Add b) = search (rules, registrations_decide)
 entries_decide (Add a) (Done deriver outputs) = (λ h. absurd (true≢false (sym h)), λ e. cc)
 entries_decide (Done deriver outputs) (Add b) = (λ h. absurd (true≢false (sym h)), λ e. cc)
 entries_decide (Done deriver outputs) (Done other others) =
-    both_parts (pointwise nat_eq deriver other) (pointwise same_registration outputs others)
+    both_parts _ _
     (bytes_decides deriver other) (pointwise_decides registrations_decide outputs others)
     (λ p q j. Done (p j) (q j))
     (λ e. cc)

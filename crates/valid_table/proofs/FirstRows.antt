@@ -34,9 +34,7 @@ and_none false = refl
 apart_from_none : (x : ℕ) (xs : List ℕ) → list_any (nat_eq x) xs ≡ false
     → AllByRecursion (λ y. nat_eq x y ≡ false) xs
 apart_from_none x [] none = tt
-apart_from_none x (y ∷ ys) none =
-    let is = or_none (nat_eq x y) (list_any (nat_eq x) ys) none in
-    (is.0, apart_from_none x ys is.1)
+apart_from_none x (y ∷ ys) none = let is = or_none _ _ none in (is.0, apart_from_none x ys is.1)
 
 none_from_apart : (x : ℕ) (xs : List ℕ) → AllByRecursion (λ y. nat_eq x y ≡ false) xs
     → list_any (nat_eq x) xs ≡ false
@@ -67,8 +65,8 @@ distinct_both : (xs ys : List ℕ) → IsDistinct nat_eq xs → IsDistinct nat_e
 unfolding IsDistinct
 distinct_both [] ys first second apart = second
 distinct_both (x ∷ xs) ys first second apart = (
-  apart_from_none x (xs ++ ys)
-      (list_any-append (nat_eq x) xs ys
+  apart_from_none x _
+      (list_any-append (nat_eq x) _ ys
       ∙ rw (none_from_apart x xs first.0) (apart x (here x xs))),
   distinct_both xs ys first.1 second (λ y has. apart y (later x xs y has)),
 )
@@ -93,8 +91,8 @@ none_first count = search (rules, le-ltb)
 -- they are rows of the table
 pub first_below : (count : ℕ) (rows : List ℕ) → AreFirst count rows → All (λ r. r < count) rows
 first_below count rows are =
-    All-from_contains (λ r. r < count) rows
-    (λ r has. within r (sym (are.there r) ∙ list_any-from_Contains nat_eq_equiv r rows has))
+    All-from_contains (λ r. r < count) _
+    (λ r has. within r (sym (are.there r) ∙ list_any-from_Contains nat_eq_equiv r _ has))
   where
     within : (r : ℕ) → nat_lt r (length rows) ≡ true → r < count
     within r is = search (rules, ltb-true)
@@ -112,10 +110,10 @@ first_moved count keyed moved is are =
     let same = length_permutation (rows_behind keyed) (rows_behind moved) rows in
     record {
       few = omega (arith, are.few, same);
-      distinct = IsDistinct-IsPermutation nat_eq nat_eq_equiv.symm (rows_behind keyed)
-          (rows_behind moved) rows are.distinct;
-      there = λ row. sym (list_any-IsPermutation (nat_eq row) (rows_behind keyed)
-          (rows_behind moved) rows)
+      distinct = IsDistinct-IsPermutation nat_eq nat_eq_equiv.symm _
+          _ rows are.distinct;
+      there = λ row. sym (list_any-IsPermutation (nat_eq row) _
+          _ rows)
           ∙ are.there row
           ∙ ap (nat_lt row) (sym same);
     }
@@ -125,9 +123,9 @@ pub first_more : (count : ℕ) (rows : List ℕ) → AreFirst count rows → len
     → AreFirst count (rows ++ length rows ∷ [])
 first_more count rows are below = record {
   few = omega (arith, below, length-append rows (length rows ∷ []));
-  distinct = IsDistinct-push nat_eq_equiv rows (length rows) are.distinct
+  distinct = IsDistinct-push nat_eq_equiv _ _ are.distinct
       (are.there (length rows) ∙ le-ltb (length rows) (length rows) (omega arith));
-  there = λ row. list_any-append (nat_eq row) rows (length rows ∷ [])
+  there = λ row. list_any-append (nat_eq row) _ _
       ∙ ap (λ b. b || list_any (nat_eq row) (length rows ∷ [])) (are.there row)
       ∙ (elim (cases_lt row (length rows)) [
         | inl before ↦
@@ -168,11 +166,11 @@ regrouped first found = filter (λ row. list_any (nat_eq row) found) first
 pub regrouped_same : (count : ℕ) (first found : List ℕ) → AreFirst count first → (row : ℕ)
     → list_any (nat_eq row) (regrouped first found) ≡ list_any (nat_eq row) found
 regrouped_same count first found are row =
-    list_any-append (nat_eq row) (filter (λ r. list_any (nat_eq r) found) first)
+    list_any-append (nat_eq row) _
     (filter (λ r. not (nat_lt r (length first))) found)
     ∙ rw (
-      kept_same (λ r. list_any (nat_eq r) found) row first,
-      kept_same (λ r. not (nat_lt r (length first))) row found,
+      kept_same (λ r. list_any (nat_eq r) found) _ _,
+      kept_same (λ r. not (nat_lt r (length first))) _ _,
       are.there row,
     )
     (both (list_any (nat_eq row) found) (nat_lt row (length first)))
@@ -187,17 +185,17 @@ pub regrouped_rows : (registrations : List Registration) (first found : List ℕ
     → AreFirst (length registrations) first → AreRows registrations found
     → AreRows registrations (regrouped first found)
 regrouped_rows registrations first found are rows = record {
-  distinct = distinct_both (filter (λ r. list_any (nat_eq r) found) first)
-      (filter (λ r. not (nat_lt r (length first))) found)
-      (distinct_kept (λ r. list_any (nat_eq r) found) first are.distinct)
-      (distinct_kept (λ r. not (nat_lt r (length first))) found rows.distinct)
-      (λ row has. kept_same (λ r. not (nat_lt r (length first))) row found
-      ∙ other row (sym (kept_same (λ r. list_any (nat_eq r) found) row first) ∙ has));
+  distinct = distinct_both _
+      _
+      (distinct_kept (λ r. list_any (nat_eq r) found) _ are.distinct)
+      (distinct_kept (λ r. not (nat_lt r (length first))) _ rows.distinct)
+      (λ row has. kept_same (λ r. not (nat_lt r (length first))) _ _
+      ∙ other row (sym (kept_same (λ r. list_any (nat_eq r) found) _ _) ∙ has));
   below = All-append (λ r. r < length registrations)
-      (filter (λ r. list_any (nat_eq r) found) first)
-      (filter (λ r. not (nat_lt r (length first))) found)
-      (All-filter (λ r. list_any (nat_eq r) found) (λ r. r < length registrations) first all_first)
-      (All-filter (λ r. not (nat_lt r (length first))) (λ r. r < length registrations) found
+      _
+      _
+      (All-filter (λ r. list_any (nat_eq r) found) (λ r. r < length registrations) _ all_first)
+      (All-filter (λ r. not (nat_lt r (length first))) (λ r. r < length registrations) _
       rows.below);
 }
   where
@@ -213,13 +211,13 @@ regrouped_rows registrations first found are rows = record {
         split false b c same both = absurd (false≢true both)
 
     all_first : All (λ r. r < length registrations) first
-    all_first = first_below (length registrations) first are
+    all_first = first_below _ _ are
 
 -- so also of rows that stand behind keys
 pub first_none : (count : ℕ) (keyed : List (ℕ × ℕ)) → keyed ≡ []
     → AreFirst count (rows_behind keyed)
 first_none count keyed none = subst (λ ks. AreFirst count (rows_behind ks)) (sym none)
-    (none_first count)
+    (none_first _)
 
 -- and of a table with more rows
 pub first_of_more : (rows : List (List ℕ × PathInfo)) (added : List Registration)
@@ -245,7 +243,7 @@ keyed_more count key row keyed more are next below is =
     subst (AreFirst count)
     (ap (λ r. rows_behind keyed ++ r ∷ []) long
     ∙ sym (ap rows_behind is ∙ map-append (λ (k : ℕ × ℕ). k.1) keyed ((key, row) ∷ [])))
-    (first_more count (rows_behind keyed) are (omega (arith, long, below)))
+    (first_more _ _ are (omega (arith, long, below)))
 
 -- ---- one more row is looked at
 
@@ -285,7 +283,7 @@ pub keys_swept : (P : ℕ × ℕ → Type 0) (p : ℕ × ℕ → Bool) (all orde
     : List (ℕ × ℕ)) → (ordered ≡ []) ⊎ (ordered ≡ all) → start ≡ []
     → pushed ≡ start ++ filter p ordered → All P all → All P pushed
 keys_swept P p all ordered start pushed swept none is of =
-    rw (is, none) (All-filter p P ordered (of_ordered swept))
+    rw (is, none) (All-filter p P _ (of_ordered swept))
   where
     of_ordered : (ordered ≡ []) ⊎ (ordered ≡ all) → All P ordered
     of_ordered (inl empty) = search rules
@@ -308,18 +306,18 @@ same_paths registrations chosen found paths same are =
         → (path : List ℕ) → Contains (paths_at registrations xs) path
         → Contains (paths_at registrations ys) path
     among xs ys alike path has =
-        let source = Contains-from_map (path_at registrations) xs path has in
+        let source = Contains-from_map (path_at registrations) _ _ has in
         let there : list_any (nat_eq source.0) ys ≡ true =
-        sym (alike source.0) ∙ list_any-from_Contains nat_eq_equiv source.0 xs source.1 in
+        sym (alike source.0) ∙ list_any-from_Contains nat_eq_equiv _ _ source.1 in
         subst (Contains (paths_at registrations ys)) source.2
-        (Contains-map (path_at registrations) ys source.0
-        (Contains-from_any eqb-true source.0 ys there))
+        (Contains-map (path_at registrations) _ _
+        (Contains-from_any eqb-true _ _ there))
 
 -- ---- the rows that a closure sorts
 
 pub swept_first : (count : ℕ) (all ordered : List (ℕ × ℕ)) → (ordered ≡ []) ⊎ (ordered ≡ all)
     → AreFirst count (rows_behind all) → AreFirst count (rows_behind ordered)
-swept_first count all ordered (inl none) are = first_none count ordered none
+swept_first count all ordered (inl none) are = first_none _ _ none
 swept_first count all ordered (inr same) are = search rules
 
 pub regrouped_is : (found : List ℕ) (ordered start middle new : List (ℕ × ℕ)) → start ≡ []
@@ -336,11 +334,11 @@ pub chosen_rows : (rows : List (List ℕ × PathInfo)) (first found chosen : Lis
     → chosen ≡ regrouped first found → AreRows (registrations_of rows) chosen
 chosen_rows rows first found chosen are of is =
     subst (AreRows (registrations_of rows)) (sym is)
-    (regrouped_rows (registrations_of rows) first found
-    (subst (λ n. AreFirst n first) (sym (row_count rows)) are) of)
+    (regrouped_rows _ _ _
+    (subst (λ n. AreFirst n first) (sym (row_count _)) are) of)
 
 pub chosen_same : (count : ℕ) (first found chosen : List ℕ) → AreFirst count first
     → chosen ≡ regrouped first found → (row : ℕ)
     → list_any (nat_eq row) chosen ≡ list_any (nat_eq row) found
 chosen_same count first found chosen are is row =
-    ap (list_any (nat_eq row)) is ∙ regrouped_same count first found are row
+    ap (list_any (nat_eq row)) is ∙ regrouped_same _ _ _ are _

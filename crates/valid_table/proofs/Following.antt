@@ -25,9 +25,9 @@ use Rattle.nix_names.proofs.Lists.{Contains-map, taken_more}
 pub few_rows : (registrations : List Registration) (rows : List ℕ) → AreRows registrations rows
     → length rows ≤ length registrations
 few_rows registrations rows are =
-    length-le_from_distinct_below rows (length registrations) are.distinct
-    (λ row has. All-contains (λ r. r < length registrations) rows row are.below
-    (Contains-from_any (λ x y. (Decides-eqb x y).0) row rows has))
+    length-le_from_distinct_below _ _ are.distinct
+    (λ row has. All-contains (λ r. r < length registrations) _ _ are.below
+    (Contains-from_any (λ x y. (Decides-eqb x y).0) _ _ has))
 
 -- a row among some is one of those registered
 pub row_below : (registrations : List Registration) (rows : List ℕ) (i : ℕ)
@@ -42,12 +42,12 @@ one_info registrations once path a b has has' =
     let first : Registration = record { path = path; info = a } in
     let second : Registration = record { path = path; info = b } in
     let at : get_or (paths_registered registrations) has.0 []
-    ≡ path = get_or-map (λ (r : Registration). r.path) registrations has.0 first [] has.1
+    ≡ path = get_or-map (λ (r : Registration). r.path) _ _ _ [] has.1
     ∙ ap (λ (r : Registration). r.path) has.2 in
     let at' : get_or (paths_registered registrations) has'.0 []
-    ≡ path = get_or-map (λ (r : Registration). r.path) registrations has'.0 second [] has'.1
+    ≡ path = get_or-map (λ (r : Registration). r.path) _ _ _ [] has'.1
     ∙ ap (λ (r : Registration). r.path) has'.2 in
-    let place : has.0 ≡ has'.0 = same_place (paths_registered registrations) once has.0 has'.0
+    let place : has.0 ≡ has'.0 = same_place _ once _ _
     (omega (arith, has.1, path_count registrations))
     (omega (arith, has'.1, path_count registrations)) (at ∙ sym at') in
     let same : first ≡ second = sym has.2 ∙ get_or_default registrations has.0 first second has.1
@@ -66,8 +66,8 @@ row_registers rows row info below at =
       path = (get_or rows row ([], info)).0;
       info = (get_or rows row ([], info)).1;
     } =
-    get_or-map (λ (e : List ℕ × PathInfo). record { path = e.0; info = e.1 }) rows row
-    ([], info) own below in
+    get_or-map (λ (e : List ℕ × PathInfo). record { path = e.0; info = e.1 }) _ _
+    _ own below in
     let same_info : (get_or rows row ([], info)).1
     ≡ info = sym (get_or-map (λ (e : List ℕ × PathInfo). e.1) rows row ([], info) info below)
     ∙ get_or_from_slice_get (values_of rows) row info info at in
@@ -85,8 +85,7 @@ row_registers rows row info below at =
 -- the path of a row is valid
 row_is_valid : (registrations : List Registration) (row : ℕ) → row < length registrations
     → IsValid registrations (path_at registrations row)
-row_is_valid registrations row below = valid_from_row registrations (path_at registrations row) row
-    (below, refl)
+row_is_valid registrations row below = valid_from_row _ _ _ (below, refl)
 
 rows_are_valid : (registrations : List Registration) (rows : List ℕ)
     → All (λ r. r < length registrations) rows
@@ -109,21 +108,21 @@ pub followed_more : (registrations : List Registration) → IsOnce registrations
 followed_more registrations once start found new count row info before below at registers adds =
     let roots = paths_at registrations start in
     let path = path_at registrations row in
-    let keeps = paths_kept registrations found adds.added new adds.parts in
+    let keeps = paths_kept _ _ _ _ adds.parts in
     let has_row : Contains found row = (count, below, sym at) in
     let row_reached : IsReachedFrom registrations roots path =
-    All-contains (IsReachedFrom registrations roots) (paths_at registrations found) path
-    before.reached (Contains-map (path_at registrations) found row has_row) in
+    All-contains (IsReachedFrom registrations roots) _ _
+    before.reached (Contains-map (path_at registrations) _ _ has_row) in
     record {
       rows = adds.rows;
       kept = All-weaker (Contains (paths_at registrations found))
-          (Contains (paths_at registrations new)) keeps roots before.kept;
+          (Contains (paths_at registrations new)) keeps _ before.kept;
       reached = subst (All (IsReachedFrom registrations roots))
           (sym (ap (map (path_at registrations)) adds.parts
           ∙ map-append (path_at registrations) found adds.added))
-          (All-append (IsReachedFrom registrations roots) (paths_at registrations found)
-          (paths_at registrations adds.added) before.reached
-          (λ k d within. reached_more registrations roots path
+          (All-append (IsReachedFrom registrations roots) _
+          _ before.reached
+          (λ k d within. reached_more _ _ _
           (get_or (paths_at registrations adds.added) k d) row_reached
           (info, registers, adds.asked k d within) (added_valid k d within)));
       followed = subst (All (HasReferences registrations (paths_at registrations new)))

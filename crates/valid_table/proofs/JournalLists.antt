@@ -29,8 +29,8 @@ registered-append a b = flat_map-append registered_by a b
 pub still_valid : (some more : List Registration) (path : List ℕ) → IsValid some path
     → IsValid (some ++ more) path
 still_valid some more path valid =
-    subst (λ paths. Contains paths path) (sym (paths_of-append some more))
-    (Contains-append_left (paths_registered some) (paths_registered more) path valid)
+    subst (λ paths. Contains paths path) (sym (paths_of-append _ _))
+    (Contains-append_left _ _ _ valid)
 
 -- each reference of registrations is valid, and so behind more of them
 pub valid_more : (some more : List Registration) (paths : List (List ℕ)) → All (IsValid some) paths
@@ -45,8 +45,8 @@ closed_valid earlier (entry ∷ entries) valid closed =
     let now = earlier ++ registered_by entry in
     let all : AreReferencesValid now =
     subst (All (IsValid now)) (sym (references_of-append earlier (registered_by entry)))
-    (All-append (IsValid now) (references_of earlier) (references_of (registered_by entry))
-    (valid_more earlier (registered_by entry) (references_of earlier) valid) closed.0) in
+    (All-append (IsValid now) _ _
+    (valid_more _ _ _ valid) closed.0) in
     subst AreReferencesValid (append_assoc earlier (registered_by entry) (registered entries))
     (closed_valid now entries all closed.1)
 
@@ -63,7 +63,7 @@ pub registered_at :
     registered entries ≡ (registered (take i entries) ++ registered_by entry)
     ++ registered (drop (i + 1) entries)
 registered_at entries i entry lt is =
-    ap registered (parts_at entries i entry lt is)
+    ap registered (parts_at _ i _ lt is)
     ∙ registered-append (take i entries) (entry ∷ drop (i + 1) entries)
     ∙ sym (append_assoc (registered (take i entries)) (registered_by entry)
     (registered (drop (i + 1) entries)))
@@ -77,9 +77,9 @@ pub once_so_far :
     IsOnce (registered (take i entries) ++ registered_by entry)
 once_so_far entries i entry once lt is =
     let front = registered (take i entries) ++ registered_by entry in
-    let parts = ap paths_registered (registered_at entries i entry lt is)
-    ∙ paths_of-append front (registered (drop (i + 1) entries)) in
-    once_front (paths_registered front) (paths_registered (registered (drop (i + 1) entries)))
+    let parts = ap paths_registered (registered_at _ i _ lt is)
+    ∙ paths_of-append _ _ in
+    once_front _ _
     (rw parts at once)
 
 -- the references of registrations are those of the first ones, of the next one and of the rest
@@ -89,7 +89,7 @@ pub references_of_at :
     r ≡ get_or rs i r →
     references_of rs ≡ references_of (take i rs)
     ++ (r.info.references ++ references_of (drop (i + 1) rs))
-references_of_at rs i r lt is = ap references_of (parts_at rs i r lt is)
+references_of_at rs i r lt is = ap references_of (parts_at _ i r lt is)
     ∙ references_of-append (take i rs) (r ∷ drop (i + 1) rs)
 
 -- those of one more registration
@@ -99,6 +99,6 @@ pub references_of_more :
     r ≡ get_or rs i r →
     references_of (take (i + 1) rs) ≡ references_of (take i rs) ++ r.info.references
 references_of_more rs i r lt is =
-    ap references_of (take_more rs i r lt ∙ ap (λ x. take i rs ++ x ∷ []) (sym is))
+    ap references_of (take_more _ i r lt ∙ ap (λ x. take i rs ++ x ∷ []) (sym is))
     ∙ references_of-append (take i rs) (r ∷ [])
     ∙ ap (λ l. references_of (take i rs) ++ l) (append-nil r.info.references)

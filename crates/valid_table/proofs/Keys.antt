@@ -45,9 +45,9 @@ rising_by : (registrations : List Registration) (folder : List ℕ) (bound : ℕ
 rising_by registrations folder bound [] keys rise = tt
 rising_by registrations folder bound (k ∷ []) keys rise = tt
 rising_by registrations folder bound (k ∷ l ∷ keyed) keys rise = (
-  lesser_key folder (path_at registrations k.1) (path_at registrations l.1) k.0 l.0
-      (is_key folder (path_at registrations k.1) k.0 bound keys.0 rise.0)
-      (is_key folder (path_at registrations l.1) l.0 k.0 keys.1.0 rise.1.0) rise.1.0,
+  lesser_key _ _ _ _ _
+      (is_key _ _ _ _ keys.0 rise.0)
+      (is_key _ _ _ _ keys.1.0 rise.1.0) rise.1.0,
   rising_by registrations folder k.0 (l ∷ keyed) keys.1 rise.1,
 )
 
@@ -55,10 +55,10 @@ pub paths_rise : (registrations : List Registration) (keyed : List (ℕ × ℕ))
     → AreKeyed registrations keyed → KeysRiseAbove 0 keyed
     → IsRising (paths_at registrations (rows_behind keyed))
 paths_rise registrations keyed keys rise =
-    rising_by registrations (folder_of registrations) 0 keyed
+    rising_by _ _ 0 _
     (recursion_from_All
     (λ (k : ℕ × ℕ). (k.0 ≡ 0) ⊎ (IsKey (folder_of registrations) (path_at registrations k.1) k.0))
-    keyed keys)
+    _ keys)
     rise
 
 -- ---- the rows of a table behind their keys
@@ -77,7 +77,7 @@ pub one_more_keyed : (registrations : List Registration) (key row : ℕ) (path f
     → path ≡ path_at registrations row → (key ≡ 0) ⊎ (IsKey folder path key)
     → more ≡ keyed ++ (key, row) ∷ [] → AreKeyed registrations more
 one_more_keyed registrations key row path folder keyed more keys of_folder of_path is pushed =
-    rw pushed (All-append P keyed ((key, row) ∷ []) keys one)
+    rw pushed (All-append P _ _ keys one)
   where
     P : ℕ × ℕ → Type 0
     P k = (k.0 ≡ 0) ⊎ (IsKey (folder_of registrations) (path_at registrations k.1) k.0)
@@ -107,16 +107,16 @@ keyed_with_more registrations added keyed first keys i d below = rw (folder, pat
     within : row < length registrations
     within =
         let at : get_or (rows_behind keyed) i 0 ≡ row =
-        get_or-map (λ (k : ℕ × ℕ). k.1) keyed i d 0 below in
+        get_or-map (λ (k : ℕ × ℕ). k.1) _ i d 0 below in
         subst (λ r. r < length registrations) at
-        (first_below (length registrations) (rows_behind keyed) first i 0
+        (first_below _ _ first i 0
         (omega (arith, below, length-map keyed (λ (k : ℕ × ℕ). k.1))))
 
     path : path_at (registrations ++ added) row ≡ path_at registrations row
-    path = path_stays registrations added row within
+    path = path_stays _ _ _ within
 
     folder : folder_of (registrations ++ added) ≡ folder_of registrations
-    folder = folder_stays registrations added row within
+    folder = folder_stays _ _ _ within
 
 pub keyed_of_more : (rows : List (List ℕ × PathInfo)) (added : List Registration)
     (keyed : List (ℕ × ℕ)) → AreFirst (length rows) (rows_behind keyed)

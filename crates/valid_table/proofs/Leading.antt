@@ -27,7 +27,7 @@ pub leads_joined : (version : Version) (dir : List ℕ) (Is : Place → Type 0) 
     → LeadsTo version dir Is from (a ++ b)
 leads_joined version dir Is from [] b leads = leads
 leads_joined version dir Is from (line ∷ a) b leads =
-    (leads.0, leads_joined version dir Is (behind from line) a b leads.1)
+    (leads.0, leads_joined _ dir Is (behind from line) a b leads.1)
 
 -- what holds of the place to which lines lead
 pub leads_weaker : (version : Version) (dir : List ℕ) (Is Also : Place → Type 0)
@@ -36,7 +36,7 @@ pub leads_weaker : (version : Version) (dir : List ℕ) (Is Also : Place → Typ
     → LeadsTo version dir Also from a
 leads_weaker version dir Is Also weaker from [] leads = weaker from leads
 leads_weaker version dir Is Also weaker from (line ∷ a) leads =
-    (leads.0, leads_weaker version dir Is Also weaker (behind from line) a leads.1)
+    (leads.0, leads_weaker _ dir Is Also weaker (behind from line) a leads.1)
 
 pub leads_both : (version : Version) (dir : List ℕ) (Is Also : Place → Type 0) (from : Place)
     (a : List Line)
@@ -44,7 +44,7 @@ pub leads_both : (version : Version) (dir : List ℕ) (Is Also : Place → Type 
     → LeadsTo version dir (λ to. Is to × Also to) from a
 leads_both version dir Is Also from [] one two = (one, two)
 leads_both version dir Is Also from (line ∷ a) one two =
-    (one.0, leads_both version dir Is Also (behind from line) a one.1 two.1)
+    (one.0, leads_both _ dir Is Also (behind from line) a one.1 two.1)
 
 pub leads_some : (version : Version) (dir : List ℕ) (X : Type 0) (Is : X → Place → Type 0)
     (from : Place)
@@ -52,14 +52,13 @@ pub leads_some : (version : Version) (dir : List ℕ) (X : Type 0) (Is : X → P
     × LeadsTo version dir (Is x) from a
 leads_some version dir X Is from [] leads = leads
 leads_some version dir X Is from (line ∷ a) leads =
-    search (rules, leads_some version dir X Is (behind from line) a leads.1)
+    search (rules, leads_some _ dir X Is (behind from line) a leads.1)
 
 pub leads_end : (version : Version) (dir : List ℕ) (Is : Place → Type 0) (from : Place)
     (a : List Line)
     → LeadsTo version dir Is from a → (to : Place) × Is to
 leads_end version dir Is from [] leads = (from, leads)
-leads_end version dir Is from (line ∷ a) leads =
-    leads_end version dir Is (behind from line) a leads.1
+leads_end version dir Is from (line ∷ a) leads = leads_end _ dir Is (behind from line) a leads.1
 
 -- behind a deriver the lines go on with an output
 pub ahead_of : (version : Version) (dir : List ℕ) (Is : Place → Type 0) (place : Place)
@@ -93,7 +92,7 @@ pub lines_of : (version : Version) (dir : List ℕ) (Is : Place → Type 0) (fro
     → LeadsTo version dir Is from lines → All (IsLineOf version dir) lines
 lines_of version dir Is from [] leads = All-nil (IsLineOf version dir)
 lines_of version dir Is from (line ∷ more) leads =
-    search (rules, All-cons, line_of, lines_of version dir Is (behind from line) more leads.1)
+    search (rules, All-cons, line_of, lines_of _ _ Is (behind from line) more leads.1)
 
 -- ---- bytes tell lines
 
@@ -121,11 +120,11 @@ pub aligned : (version : Version) (dir : List ℕ) (a b : List Line) (x y : List
 aligned version dir [] b x y one two e = inl (b, refl, e)
 aligned version dir (l ∷ a) [] x y one two e = inr (l ∷ a, refl, sym e)
 aligned version dir (l ∷ a) (m ∷ b) x y one two e =
-    let same = same_lines version dir l m (lines_text version a ++ x) (lines_text version b ++ y)
+    let same = same_lines _ _ l m _ _
     (All-head (IsLineOf version dir) l a one) (All-head (IsLineOf version dir) m b two)
     (sym (append_assoc (line_text version l) (lines_text version a) x) ∙ e
     ∙ append_assoc (line_text version m) (lines_text version b) y) in
-    elim (aligned version dir a b x y (All-tail (IsLineOf version dir) l a one)
+    elim (aligned _ _ a b x y (All-tail (IsLineOf version dir) l a one)
     (All-tail (IsLineOf version dir) m b two)
     same.1) [
       | inl d ↦ inl (
@@ -145,15 +144,15 @@ goes_behind : (version : Version) (dir : List ℕ) (Is Also : Place → Type 0) 
     → LeadsTo version dir (λ to. Is to × GoesOnWith version dir to x line
     (lines_text version c ++ y)) from a
 goes_behind version dir Is Also from a b line c x y weaker one two is rest =
-    leads_both version dir Is (λ to. GoesOnWith version dir to x line (lines_text version c ++ y))
-    from a one
-    (leads_weaker version dir (λ to. LeadsTo version dir Also to (line ∷ c))
+    leads_both _ _ Is (λ to. GoesOnWith version dir to x line (lines_text version c ++ y))
+    _ a one
+    (leads_weaker _ _ (λ to. LeadsTo version dir Also to (line ∷ c))
     (λ to. GoesOnWith version dir to x line (lines_text version c ++ y))
     (λ to leads. record {
       parts = rest ∙ append_assoc (line_text version line) (lines_text version c) y;
       may = leads.0;
-      ahead = ahead_of version dir Also (behind to line) c y weaker leads.1;
-    }) from a (leads_front version dir Also from a (line ∷ c)
+      ahead = ahead_of _ _ Also _ c y weaker leads.1;
+    }) _ a (leads_front _ _ Also _ a _
     (subst (LeadsTo version dir Also from) is two)))
 
 -- Some lines lead into bytes, in which a line goes on from there.
@@ -173,11 +172,11 @@ pub go_on : (version : Version) (dir : List ℕ) (Is Also : Place → Type 0) (f
     → lines_text version a ++ x ≡ lines_text version b
     → (x ≡ []) ⊎ GoesOn version dir Is from a x
 go_on version dir Is Also from a b x weaker one two e =
-    elim (aligned version dir a b x [] (lines_of version dir Is from a one)
-    (lines_of version dir Also from b two)
+    elim (aligned _ _ a b x [] (lines_of _ _ Is _ a one)
+    (lines_of _ _ Also _ b two)
     (e ∙ sym (append-nil (lines_text version b)))) [
       | inl d ↦ on d.0 d.1 d.2
-      | inr d ↦ inl (nothing_behind (lines_text version d.0) x d.2)
+      | inr d ↦ inl (nothing_behind _ x d.2)
     ]
   where
     on : (c : List Line) → b ≡ a ++ c → x ≡ lines_text version c ++ [] → (x ≡ [])
@@ -186,7 +185,7 @@ go_on version dir Is Also from a b x weaker one two e =
     on (line ∷ c) is rest = inr (
       line,
       lines_text version c ++ [],
-      goes_behind version dir Is Also from a b line c x [] weaker one two is rest,
+      goes_behind _ _ Is Also _ a b _ c x [] weaker one two is rest,
     )
 
 -- where one line more leads on in the same bytes, it goes on
@@ -196,8 +195,8 @@ pub one_more : (version : Version) (dir : List ℕ) (Is Also : Place → Type 0)
     → LeadsTo version dir Also from b → length b ≡ suc (length a)
     → lines_text version a ++ x ≡ lines_text version b ++ y → GoesOn version dir Is from a x
 one_more version dir Is Also from a b x y weaker one two long e =
-    elim (aligned version dir a b x y (lines_of version dir Is from a one)
-    (lines_of version dir Also from b two) e) [
+    elim (aligned _ _ a b x y (lines_of _ _ Is _ a one)
+    (lines_of _ _ Also _ b two) e) [
       | inl d ↦ on d.0 d.1 d.2
       | inr d ↦ absurd (omega (arith, ap length d.1, length-append b d.0))
     ]
@@ -208,5 +207,5 @@ one_more version dir Is Also from a b x y weaker one two long e =
     on (line ∷ c) is rest = (
       line,
       lines_text version c ++ y,
-      goes_behind version dir Is Also from a b line c x y weaker one two is rest,
+      goes_behind _ _ Is Also _ a b _ c x y weaker one two is rest,
     )

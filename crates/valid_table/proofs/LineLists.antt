@@ -38,7 +38,7 @@ references_back version dir Of back output before (path ∷ paths) more of_dir a
       All-head,
       All-tail,
       (references_back version dir Of back output (Some path) paths more
-          (All-tail (IsPathOf dir) path paths of_dir) above.1 of),
+          (All-tail (IsPathOf dir) _ _ of_dir) above.1 of),
     )
 
 -- the place where an output may stand: behind a deriver, or within the lines of an output before it
@@ -62,17 +62,17 @@ pub outputs_back : (version : Version) (dir : List ℕ) (Of : Place → List Lin
     more) → Of (place_at before last) (flat_map output_lines outputs ++ more)
 outputs_back version dir Of back [] before last more of_dir above of = of last
 outputs_back version dir Of back (o ∷ outputs) before last more of_dir above of =
-    let is : IsOf version dir o = All-head (IsOf version dir) o outputs of_dir in
+    let is : IsOf version dir o = All-head (IsOf version dir) o _ of_dir in
     let later = flat_map output_lines outputs ++ more in
     subst (λ (ls : List Line). Of (place_at before last) (Output o.path o.info.digest ∷ ls))
     (sym (append_assoc (map Reference o.info.references) (flat_map output_lines outputs) more))
     (back (place_at before last) (Output o.path o.info.digest)
     (map Reference o.info.references ++ later)
-    (may_stand version dir before last o.path o.info.digest (is.path, is.digest, above.0))
-    (references_back version dir Of back (Some o.path) None o.info.references later is.references
-    (above_of_rising o.info.references is.rising)
+    (may_stand _ _ _ _ _ _ (is.path, is.digest, above.0))
+    (references_back _ _ Of back _ _ _ _ is.references
+    (above_of_rising _ is.rising)
     (outputs_back version dir Of back outputs (Some o.path) (last_or None o.info.references) more
-    (All-tail (IsOf version dir) o outputs of_dir) above.1 of)))
+    (All-tail (IsOf version dir) o _ of_dir) above.1 of)))
 
 -- an entry may begin at a place
 abbrev pub MayEnter : Version → List ℕ → Place → Type 0
@@ -103,14 +103,14 @@ pub entry_back : (version : Version) (dir : List ℕ) (Of : Place → List Line 
 entry_back version dir Of back from (Add r) more may is of =
     back from (Added r.path r.info.digest) (map Reference r.info.references ++ more)
     (may (Added r.path r.info.digest) (is.path, is.digest))
-    (references_back version dir Of back None None r.info.references more is.references
-    (above_of_rising r.info.references is.rising)
+    (references_back _ _ Of back _ _ _ _ is.references
+    (above_of_rising _ is.rising)
     (of (Within None (last_or None r.info.references)) tt))
 entry_back version dir Of back from (Done deriver []) more may is of = absurd (is.2 refl)
 entry_back version dir Of back from (Done deriver (o ∷ outputs)) more may is of =
     back from (Deriver deriver) (flat_map output_lines (o ∷ outputs) ++ more)
     (may (Deriver deriver) (is.0, is.1))
-    (outputs_back version dir Of back (o ∷ outputs) None None more is.4
+    (outputs_back _ _ Of back (o ∷ outputs) None None _ is.4
     (above_of_rising (paths_registered (o ∷ outputs)) is.3)
     (λ reference. of (place_at (last_or None (paths_registered (o ∷ outputs))) reference)
     (behind_outputs deriver o.path (paths_registered outputs) (o ∷ outputs) reference)))
@@ -143,8 +143,7 @@ within_enters version dir output last line may = absurd may
 behind_enters : (version : Version) (dir : List ℕ) (entry : Entry) (to : Place) → IsBehind entry to
     → MayEnter version dir to
     × MayEnd to
-behind_enters version dir entry (Within output last) is =
-    (within_enters version dir output last, tt)
+behind_enters version dir entry (Within output last) is = (within_enters _ _ _ _, tt)
 behind_enters version dir (Add r) to is = absurd is
 behind_enters version dir (Done deriver outputs) to is = absurd is
 
@@ -155,10 +154,10 @@ pub entries_end : (version : Version) (dir : List ℕ) (place : Place) (entries 
     → Ends version dir place (flat_map entry_lines entries)
 entries_end version dir place [] begins each = begins.1
 entries_end version dir place (entry ∷ entries) begins each =
-    entry_back version dir (Ends version dir) (λ from line more may ends. (may, ends)) place entry
-    (flat_map entry_lines entries) begins.0 (All-head (IsEntryIn version dir) entry entries each)
+    entry_back _ _ (Ends version dir) (λ from line more may ends. (may, ends)) _ _
+    _ begins.0 (All-head (IsEntryIn version dir) _ _ each)
     (λ to is. entries_end version dir to entries (behind_enters version dir entry to is)
-    (All-tail (IsEntryIn version dir) entry entries each))
+    (All-tail (IsEntryIn version dir) _ _ each))
 
 -- ---- what is still to come
 
@@ -234,9 +233,9 @@ one_done : (version : Version) (dir : List ℕ) (place : Place) (deriver : List 
     → MayCome place [] [] → MayBegin version dir (Deriver deriver) → Comes version dir Opened come
     → Comes version dir place (Deriver deriver ∷ come)
 one_done version dir place deriver come may is c =
-    entries_come version dir place (Deriver deriver ∷ come) (Done deriver c.outputs ∷ c.entries) may
+    entries_come _ _ _ _ (Done deriver c.outputs ∷ c.entries) may
     (All-cons (IsEntryIn version dir) (Done deriver c.outputs) c.entries
-    (is.0, is.1, c.may.1, rising_of_above (paths_registered c.outputs) c.may.2, c.outputs_of_dir)
+    (is.0, is.1, c.may.1, rising_of_above _ c.may.2, c.outputs_of_dir)
     c.entries_of_dir)
     (ap (λ (tail : List Line). Deriver deriver ∷ tail)
     (c.are ∙ ap (λ (rs : List (List ℕ)). map Reference rs
@@ -263,7 +262,7 @@ one_reference version dir output last path come may c = record {
   outputs = c.outputs;
   entries = c.entries;
   are = ap (λ (tail : List Line). Reference path ∷ tail) c.are;
-  paths_of_dir = All-cons (IsPathOf dir) path c.references may.0 c.paths_of_dir;
+  paths_of_dir = All-cons (IsPathOf dir) _ _ may.0 c.paths_of_dir;
   outputs_of_dir = c.outputs_of_dir;
   entries_of_dir = c.entries_of_dir;
   may = ((may.1, c.may.0), c.may.1);
@@ -282,17 +281,15 @@ comes_back version dir Start line come may c = tt
 comes_back version dir Begun (Added path digest) come may c = search (rules, one_added, may)
 comes_back version dir Begun (Deriver path) come may c = search (rules, one_done, may)
 comes_back version dir Opened (Output path digest) come may c =
-    one_output version dir Opened path digest come may.0 may.1 c
-    (refl, λ none. cc none, (tt, c.may.1))
+    one_output _ _ _ _ _ _ may.0 may.1 c (refl, λ none. cc none, (tt, c.may.1))
 comes_back version dir (Within output last) (Added path digest) come may c =
     search (rules, one_added, none_behind)
 comes_back version dir (Within output last) (Deriver path) come may c =
     search (rules, one_done, none_behind, may)
 comes_back version dir (Within (Some before) last) (Output path digest) come may c =
-    one_output version dir (Within (Some before) last) path digest come may.0 may.1 c
-    (tt, (may.2, c.may.1))
+    one_output _ _ _ _ _ _ may.0 may.1 c (tt, (may.2, c.may.1))
 comes_back version dir (Within output last) (Reference path) come may c =
-    one_reference version dir output last path come may c
+    one_reference _ _ _ _ _ _ may c
 comes_back version dir place line come may c = absurd may
 
 -- lines that end a journal are to come
@@ -303,8 +300,7 @@ ends_come version dir Start [] ends = tt
 ends_come version dir Begun [] ends = search (rules, entries_come, All-nil)
 ends_come version dir Opened [] ends = absurd ends
 ends_come version dir (Within output last) [] ends =
-    entries_come version dir (Within output last) [] []
-    (tt, none_behind output) (All-nil (IsEntryIn version dir)) refl
+    entries_come _ _ _ [] [] (tt, none_behind _) (All-nil (IsEntryIn version dir)) refl
 ends_come version dir place (line ∷ come) ends =
     search (rules, comes_back, ends_come version dir (behind place line) come ends.1)
 
@@ -317,7 +313,7 @@ pub text_of_lines : (version : Version) (dir : List ℕ) (come : List Line)
 unfolding text
 text_of_lines version dir [] ends = ([], inr (refl, refl))
 text_of_lines version dir (First ∷ come) ends =
-    let c : Comes version dir Begun come = ends_come version dir Begun come ends.1 in
+    let c : Comes version dir Begun come = ends_come _ _ _ _ ends.1 in
     let are : come ≡ flat_map entry_lines c.entries = c.are
     ∙ ap (λ (rs : List (List ℕ)). map Reference rs
     ++ (flat_map output_lines c.outputs ++ flat_map entry_lines c.entries)) c.may.0

@@ -18,7 +18,7 @@ use Rattle.valid_table.proofs.Separators.{Lacks, digest_lacks, dir_lacks, lacks_
 pub no_path : (dir text : List ℕ) (fault : NameFault) → (path_fault dir text ≡ Some fault)
     ⊎ ((path_fault dir text ≡ None) × (fault ≡ NoMemory)) → (fault ≡ NoMemory → ⊥)
     → IsPathOf dir text → ⊥
-no_path dir text fault (inl wrong) other is = let none = no_fault_of_path dir text is in cc
+no_path dir text fault (inl wrong) other is = let none = no_fault_of_path _ _ is in cc
 no_path dir text fault (inr memory) other is = other memory.1
 
 -- without a newline there is no line with a path
@@ -30,8 +30,8 @@ no_path_line dir bytes path rest none is = search (rules, lacks_not)
 pub other_path_line : (dir bytes line behind path rest : List ℕ) → IsStoreDir dir → Lacks 10 line
     → bytes ≡ line ++ 10 ∷ behind → (IsPathOf dir line → ⊥) → IsPathLine dir bytes path rest → ⊥
 other_path_line dir bytes line behind path rest of_dir none parts other is =
-    let same = same_cut 10 path line rest behind
-    (path_lacks 10 newline dir path (dir_lacks 10 newline dir of_dir) is.of_dir) none
+    let same = same_cut _ _ _ _ _
+    (path_lacks _ newline _ _ (dir_lacks _ newline _ of_dir) is.of_dir) none
     (sym is.parts ∙ parts) in
     other (subst (IsPathOf dir) same.0 is.of_dir)
 
@@ -49,22 +49,21 @@ module _ (version : Version) (dir bytes text fields : List ℕ) (of_dir : IsStor
   -- the path of the fields is what stands before the space
   behind_space : (path ≡ text) × (digest_text version digest ++ (10 ∷ rest) ≡ fields)
   behind_space =
-      same_cut 32 path text (digest_text version digest ++ (10 ∷ rest)) fields
-      (path_lacks 32 space dir path (dir_lacks 32 space dir of_dir) is.of_dir) none
-      (sym (fields_apart version path digest rest) ∙ sym is.parts ∙ parts)
+      same_cut _ _ _ _ _
+      (path_lacks _ space _ _ (dir_lacks _ space _ of_dir) is.of_dir) none
+      (sym (fields_apart _ _ _ _) ∙ sym is.parts ∙ parts)
 
   -- a newline stands behind the space
   pub no_newline : Lacks 10 fields → ⊥
-  no_newline lacks = lacks_not 10 (digest_text version digest) rest
-      (subst (Lacks 10) (sym behind_space.1) lacks)
+  no_newline lacks = lacks_not _ _ _ (subst (Lacks 10) (sym behind_space.1) lacks)
 
   -- a digest's text stands up to that newline
   pub other_digest : (line behind : List ℕ) → Lacks 10 line → fields ≡ line ++ 10 ∷ behind
       → ((d : Option Digest) → IsDigestOf version d → line ≢ digest_text version d) → ⊥
   other_digest line behind lacks ends other =
       other digest is.is_digest
-      (sym (same_cut 10 (digest_text version digest) line rest behind
-      (digest_lacks version digest is.is_digest)
+      (sym (same_cut _ _ _ _ _
+      (digest_lacks _ _ is.is_digest)
       lacks (behind_space.1 ∙ ends)).0)
 
   -- and a path before the space
@@ -75,14 +74,14 @@ module _ (version : Version) (dir bytes text fields : List ℕ) (of_dir : IsStor
 pub not_drv : (dir bytes path behind name other rest : List ℕ) → IsPathLine dir bytes path behind
     → name ≡ name_of path → is_drv_name name ≡ false → IsDeriverLine dir bytes other rest → ⊥
 not_drv dir bytes path behind name other rest line named fails is =
-    let same = two_path_lines dir bytes other rest path behind is.line line in
+    let same = two_path_lines _ _ _ _ _ _ is.line line in
     false≢true (sym fails ∙ ap is_drv_name (named ∙ ap name_of (sym same.0)) ∙ is.named)
 
 -- nor is one that no output follows
 pub not_ahead : (dir bytes path behind other rest : List ℕ) → IsPathLine dir bytes path behind
     → IsNoLine 79 behind → IsDeriverLine dir bytes other rest → ⊥
 not_ahead dir bytes path behind other rest line none is =
-    let same = two_path_lines dir bytes other rest path behind is.line line in
+    let same = two_path_lines _ _ _ _ _ _ is.line line in
     none is.ahead.0 (sym same.1 ∙ is.ahead.1)
 
 -- a path that isn't above the one before it is not the one of a line that is wanted
@@ -92,6 +91,6 @@ pub low_fields : (version : Version) (dir : List ℕ) (before : Option (List ℕ
     → IsFieldsLine version dir fields path digest rest → (IsAbove before path → ⊥)
     → HasNoFields version dir before fields
 low_fields version dir before fields path digest rest line low = λ other sum more above is.
-    low (subst (IsAbove before) (two_fields version dir fields other sum more path digest rest is
+    low (subst (IsAbove before) (two_fields _ _ _ _ _ _ _ _ _ is
     line).0
     above)

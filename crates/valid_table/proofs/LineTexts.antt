@@ -51,8 +51,8 @@ no_dash Two digest is e = search (rules, length-append, length-encode_with, some
 same_digest : (version : Version) (a b : Option Digest) → IsDigestOf version a
     → IsDigestOf version b → digest_text version a ≡ digest_text version b → a ≡ b
 same_digest version None None one two e = refl
-same_digest version None (Some b) one two e = absurd (no_dash version b two e)
-same_digest version (Some a) None one two e = absurd (no_dash version a one (sym e))
+same_digest version None (Some b) one two e = absurd (no_dash _ b two e)
+same_digest version (Some a) None one two e = absurd (no_dash _ a one (sym e))
 same_digest One (Some a) (Some b) one two e =
     ap Some (one_digest a b one.1 two.1 (one.0 ∙ sym two.0) e)
 same_digest Two (Some a) (Some b) one two e = ap Some (one_text a b one two e)
@@ -61,7 +61,7 @@ same_digest Two (Some a) (Some b) one two e = ap Some (one_text a b one two e)
 pub two_path_lines : (dir bytes path rest other more : List ℕ) → IsPathLine dir bytes path rest
     → IsPathLine dir bytes other more → (path ≡ other) × (rest ≡ more)
 two_path_lines dir bytes path rest other more one two =
-    same_path 10 newline dir path other rest more one.of_dir two.of_dir (sym one.parts ∙ two.parts)
+    same_path _ newline _ _ _ _ _ one.of_dir two.of_dir (sym one.parts ∙ two.parts)
 
 -- bytes have one path with a digest behind it
 pub two_fields : (version : Version) (dir bytes path : List ℕ) (digest : Option Digest)
@@ -70,13 +70,13 @@ pub two_fields : (version : Version) (dir bytes path : List ℕ) (digest : Optio
     → IsFieldsLine version dir bytes other sum more
     → (path ≡ other) × (digest ≡ sum) × (rest ≡ more)
 two_fields version dir bytes path digest rest other sum more one two =
-    let paths = same_path 32 space dir path other _ _ one.of_dir two.of_dir
-    (sym (one.parts ∙ fields_apart version path digest rest) ∙ two.parts ∙ fields_apart version
-    other sum more)
+    let paths = same_path _ space _ _ _ _ _ one.of_dir two.of_dir
+    (sym (one.parts ∙ fields_apart _ _ _ _) ∙ two.parts ∙ fields_apart _
+    _ _ _)
     in
-    let digests = same_cut 10 (digest_text version digest) (digest_text version sum) rest more
-    (digest_lacks version digest one.is_digest) (digest_lacks version sum two.is_digest) paths.1 in
-    (paths.0, same_digest version digest sum one.is_digest two.is_digest digests.0, digests.1)
+    let digests = same_cut _ _ _ _ _
+    (digest_lacks _ _ one.is_digest) (digest_lacks _ _ two.is_digest) paths.1 in
+    (paths.0, same_digest _ _ _ one.is_digest two.is_digest digests.0, digests.1)
 
 -- ---- lines
 
@@ -95,14 +95,14 @@ same_fields : (version : Version) (dir p q : List ℕ) (a b : Option Digest) (x 
     → fields_text version p a ++ x ≡ fields_text version q b ++ y
     → (p ≡ q) × (a ≡ b) × (x ≡ y)
 same_fields version dir p q a b x y one two e =
-    two_fields version dir (fields_text version p a ++ x) p a x q b y
+    two_fields _ _ _ p a x q b y
     (record { of_dir = one.0; is_digest = one.1; parts = refl })
     (record { of_dir = two.0; is_digest = two.1; parts = e })
 
 same_lone_path : (dir p q x y : List ℕ) → IsPathOf dir p → IsPathOf dir q → (p ++ (10 ∷ [])) ++ x
     ≡ (q ++ (10 ∷ [])) ++ y → (p ≡ q) × (x ≡ y)
 same_lone_path dir p q x y one two e =
-    same_path 10 newline dir p q x y one two (sym (append_assoc p (10 ∷ []) x) ∙ e
+    same_path _ newline _ p q x y one two (sym (append_assoc p (10 ∷ []) x) ∙ e
     ∙ append_assoc q (10 ∷ []) y)
 
 -- the first byte
@@ -120,16 +120,16 @@ pub same_lines : (version : Version) (dir : List ℕ) (a b : Line) (x y : List �
     → line_text version a ++ x ≡ line_text version b ++ y → (a ≡ b) × (x ≡ y)
 same_lines version dir First First x y one two e = search (rules, append_cancel_left)
 same_lines version dir (Added p a) (Added q b) x y one two e =
-    let same = same_fields version dir p q a b x y one two (ap (drop 2) e) in
+    let same = same_fields _ _ p q a b x y one two (ap (drop 2) e) in
     (ap (λ path. Added path a) same.0 ∙ ap (Added q) same.1, same.2)
 same_lines version dir (Deriver p) (Deriver q) x y one two e =
-    let same = same_lone_path dir p q x y one.0 two.0 (ap (drop 2) e) in
+    let same = same_lone_path _ p q x y one.0 two.0 (ap (drop 2) e) in
     (ap Deriver same.0, same.1)
 same_lines version dir (Output p a) (Output q b) x y one two e =
-    let same = same_fields version dir p q a b x y one two (ap (drop 2) e) in
+    let same = same_fields _ _ p q a b x y one two (ap (drop 2) e) in
     (ap (λ path. Output path a) same.0 ∙ ap (Output q) same.1, same.2)
 same_lines version dir (Reference p) (Reference q) x y one two e =
-    let same = same_lone_path dir p q x y one two (ap (drop 2) e) in
+    let same = same_lone_path _ p q x y one two (ap (drop 2) e) in
     (ap Reference same.0, same.1)
 same_lines version dir a b x y one two e = search (rules, first, version_letter)
 
@@ -174,25 +174,25 @@ record_lacks : (version : Version) (dir path : List ℕ) (digest : Option Digest
     → IsPathOf dir path
     × IsDigestOf version digest → Lacks 10 (path ++ (32 ∷ digest_text version digest))
 record_lacks version dir path digest clear is =
-    All-append (λ b. b ≢ 10) path (32 ∷ digest_text version digest)
-    (path_lacks 10 newline dir path clear is.0)
-    (All-cons (λ b. b ≢ 10) 32 (digest_text version digest) (λ e. absurd (omega arith))
-    (digest_lacks version digest is.1))
+    All-append (λ b. b ≢ 10) _ _
+    (path_lacks _ newline _ _ clear is.0)
+    (All-cons (λ b. b ≢ 10) _ _ (λ e. absurd (omega arith))
+    (digest_lacks _ _ is.1))
 
 -- a line has no newline before its last byte
 pub body_lacks : (version : Version) (dir : List ℕ) (line : Line) → Lacks 10 dir
     → IsLineOf version dir line
     → Lacks 10 (body version line)
-body_lacks One dir First clear is = passing (λ b. not (b == 10)) 10 (version_body One) refl refl
-body_lacks Two dir First clear is = passing (λ b. not (b == 10)) 10 (version_body Two) refl refl
+body_lacks One dir First clear is = passing (λ b. not (b == 10)) _ (version_body One) refl refl
+body_lacks Two dir First clear is = passing (λ b. not (b == 10)) _ (version_body Two) refl refl
 body_lacks version dir (Added path digest) clear is =
-    lettered 65 _ (λ e. absurd (omega arith)) (record_lacks version dir path digest clear is)
-body_lacks version dir (Deriver path) clear is = lettered 68 path (λ e. absurd (omega arith))
-    (path_lacks 10 newline dir path clear is.0)
+    lettered _ _ (λ e. absurd (omega arith)) (record_lacks _ _ _ _ clear is)
+body_lacks version dir (Deriver path) clear is = lettered _ _ (λ e. absurd (omega arith))
+    (path_lacks _ newline _ _ clear is.0)
 body_lacks version dir (Output path digest) clear is =
-    lettered 79 _ (λ e. absurd (omega arith)) (record_lacks version dir path digest clear is)
-body_lacks version dir (Reference path) clear is = lettered 82 path (λ e. absurd (omega arith))
-    (path_lacks 10 newline dir path clear is)
+    lettered _ _ (λ e. absurd (omega arith)) (record_lacks _ _ _ _ clear is)
+body_lacks version dir (Reference path) clear is = lettered _ _ (λ e. absurd (omega arith))
+    (path_lacks _ newline _ _ clear is)
 
 -- the texts of so many lines are so many lines
 pub texts_are_lines : (version : Version) (dir : List ℕ) → Lacks 10 dir → (lines : List Line)
@@ -202,7 +202,7 @@ texts_are_lines version dir clear [] each = refl
 texts_are_lines version dir clear (line ∷ lines) each = (
   body version line,
   lines_text version lines,
-  body_lacks version dir line clear (All-head (IsLineOf version dir) line lines each),
-  line_and version line (lines_text version lines),
+  body_lacks _ _ _ clear (All-head (IsLineOf version dir) _ _ each),
+  line_and _ _ _,
   texts_are_lines version dir clear lines (All-tail (IsLineOf version dir) line lines each),
 )

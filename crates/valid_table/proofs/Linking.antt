@@ -50,11 +50,11 @@ paths_stay : (registrations added : List Registration) (rows : List ℕ)
 paths_stay registrations added [] below = refl
 paths_stay registrations added (row ∷ rows) below =
     ap (λ (p : List ℕ). p ∷ paths_at (registrations ++ added) rows)
-    (path_stays registrations added row
-    (All-head (λ r. r < length registrations) row rows below))
+    (path_stays _ _ _
+    (All-head (λ r. r < length registrations) _ _ below))
     ∙ ap (λ (ps : List (List ℕ)). path_at registrations row ∷ ps)
     (paths_stay registrations added rows
-    (All-tail (λ r. r < length registrations) row rows below))
+    (All-tail (λ r. r < length registrations) _ _ below))
 
 rows_stay : (registrations added : List Registration) (paths : List (List ℕ)) (numbers : List ℕ)
     → AreRowsOf registrations paths numbers → AreRowsOf (registrations ++ added) paths numbers
@@ -77,10 +77,10 @@ links_stay registrations added ends numbers are = record {
         within = linked.within;
         info = linked.info;
         registers = subst (λ (path : List ℕ). Registers (registrations ++ added) path linked.info)
-            (sym (path_stays registrations added row within))
-            (Contains-append_left registrations added _ linked.registers);
-        links = rows_stay registrations added linked.info.references
-            (numbers_of ends numbers row) linked.links;
+            (sym (path_stays _ _ _ within))
+            (Contains-append_left _ _ _ linked.registers);
+        links = rows_stay _ _ _
+            _ linked.links;
       };
 }
 
@@ -118,7 +118,7 @@ linked_more registrations ends numbers more end info are below is registers link
             omega (arith, past, within, length-append ends (end ∷ []))
             in
             subst (IsLinkedRow registrations (ends ++ end ∷ []) (numbers ++ more)) last
-            (row_added registrations ends numbers more end info are.whole is registers links)
+            (row_added _ _ _ _ _ _ are.whole is registers links)
       ];
 }
 
@@ -139,7 +139,7 @@ part_read registrations ends numbers read row start end none (Some x) are below 
     is.2
     ∙ ap (λ (ns : List ℕ). slice_range ns start end) same
     ∙ ap (λ k. slice_range numbers k end) first
-    ∙ ap (λ k. slice_range numbers (start_of ends row) k) (last ∙ sym (end_is ends row)) in (
+    ∙ ap (λ k. slice_range numbers (start_of ends row) k) (last ∙ sym (end_is _ row)) in (
       linked.info,
       linked.registers,
       subst (AreRowsOf registrations linked.info.references) (sym own) linked.links,

@@ -27,7 +27,7 @@ pub bit_is_set : (word k : ℕ) → k < 64 → bit_and word (1 * 2 ^ k % 2 ^ 64)
     → nat_eq (bit_at word k) 1 ≡ true
 bit_is_set word k low set =
     let e : bit_and word (1 * 2 ^ k % 2 ^ 64) ≡ bit_at word k * 2 ^ k =
-    ap (bit_and word) (one_shl k 64 low) ∙ and_pow word k in
+    ap (bit_and word) (one_shl k 64 low) ∙ and_pow _ k in
     elim (cases_eq (bit_at word k) 1) [
       | inl one ↦ eq-eqb (bit_at word k) 1 one
       | inr other ↦
@@ -39,7 +39,7 @@ pub bit_is_clear : (word k : ℕ) → k < 64 → bit_and word (1 * 2 ^ k % 2 ^ 6
     → nat_eq (bit_at word k) 1 ≡ false
 bit_is_clear word k low clear =
     let e : bit_and word (1 * 2 ^ k % 2 ^ 64) ≡ bit_at word k * 2 ^ k =
-    ap (bit_and word) (one_shl k 64 low) ∙ and_pow word k in
+    ap (bit_and word) (one_shl k 64 low) ∙ and_pow _ k in
     elim (cases_eq (bit_at word k) 1) [
       | inl one ↦
           let big : 0 < bit_and word (1 * 2 ^ k % 2 ^ 64) = rw (e, one)
@@ -68,7 +68,7 @@ marked_more marks rows row word are within read clear =
     let place : row / 64 < length marks = omega arith in
     let low : row % 64 < 64 = omega arith in
     record {
-      distinct = IsDistinct-push nat_eq_equiv rows row are.distinct (sym (are.marked row) ∙ clear);
+      distinct = IsDistinct-push nat_eq_equiv _ _ are.distinct (sym (are.marked row) ∙ clear);
       marked = λ r. (
           elim (cases_eq r row) as (λ _. nat_eq (mark_of (set marks (row / 64) new) r) 1
           ≡ list_any (nat_eq r) (rows ++ row ∷ [])) [
@@ -76,7 +76,7 @@ marked_more marks rows row word are within read clear =
                 rw same
                 (ap (λ w. nat_eq (bit_at w (row % 64)) 1)
                 (get_or-set_same marks (row / 64) new 0 place)
-                ∙ ap (λ bit. nat_eq bit 1) (bit_at_set_same w64 word (row % 64) low)
+                ∙ ap (λ bit. nat_eq bit 1) (bit_at_set_same w64 _ _ low)
                 ∙ sym (here row))
             | inr other ↦
                 kept r other

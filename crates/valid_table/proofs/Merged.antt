@@ -38,8 +38,7 @@ module _ (left right : List (List ℕ)) (path other : List ℕ) (more others : L
     (first : left ≡ path ∷ more) (second : right ≡ other ∷ others) where
   -- the left head is less
   pub least_less : slice_cmp nat_cmp path other ≡ Less → IsLeastHead left right path more right
-  least_less less = rw (first, second)
-      (least_left path more (other ∷ others) (λ rises. (less, rises)))
+  least_less less = rw (first, second) (least_left _ _ _ (λ rises. (less, rises)))
 
   -- the right head is less
   pub least_greater : slice_cmp nat_cmp path other ≡ Greater
@@ -47,12 +46,12 @@ module _ (left right : List (List ℕ)) (path other : List ℕ) (more others : L
   least_greater greater =
       let less : slice_cmp nat_cmp other path ≡ Less = nat_list_cmp_total.antisymm other path
       ∙ ap ordering_reverse greater in
-      rw (first, second) (least_right other (path ∷ more) others (λ rises. (less, rises)))
+      rw (first, second) (least_right _ _ _ (λ rises. (less, rises)))
 
   -- the heads are the same
   pub least_equal : slice_cmp nat_cmp path other ≡ Equal → IsLeastHead left right path more others
   least_equal equal =
-      let same : path ≡ other = equal_from_eq path other (texts_ties path other ∙ ap is_eq equal)
+      let same : path ≡ other = equal_from_eq _ _ (texts_ties path other ∙ ap is_eq equal)
       in
       rw (first, second, same) (search rules)
 
@@ -87,13 +86,13 @@ behind_either : (done xs ys us vs : List (List ℕ)) (p : List ℕ)
     → IsInEither (done ++ us) (done ++ vs) p
 behind_either done xs ys us vs p moves there =
     let both : IsInEither xs ys p → IsInEither (done ++ us) (done ++ vs) p =
-    λ h. ⊎_elim (λ u. inl (Contains-append_right done us p u))
-    (λ v. inr (Contains-append_right done vs p v)) (moves h) in
+    λ h. ⊎_elim (λ u. inl (Contains-append_right _ _ p u))
+    (λ v. inr (Contains-append_right _ _ p v)) (moves h) in
     let first : Contains done p → IsInEither (done ++ us) (done ++ vs) p = λ h.
-    inl (Contains-append_left done us p h) in
+    inl (Contains-append_left _ _ p h) in
     ⊎_elim
-    (λ h. ⊎_elim first (λ x. both (inl x)) (Contains-append_cases done xs p h))
-    (λ h. ⊎_elim first (λ y. both (inr y)) (Contains-append_cases done ys p h))
+    (λ h. ⊎_elim first (λ x. both (inl x)) (Contains-append_cases _ _ p h))
+    (λ h. ⊎_elim first (λ y. both (inr y)) (Contains-append_cases _ _ p h))
     there
 
 -- one more path is merged
@@ -109,9 +108,9 @@ merged_more left right done more others path behind beside pushed merged least i
     let Path : List (List ℕ) → List (List ℕ) = λ xs. done ++ path ∷ xs in
     let from : (xs : List (List ℕ)) → IsRising (path ∷ xs) → IsRising (Path xs) =
     λ xs rises. ⊎_elim
-    (λ e. rising_join done path behind xs (subst (λ l. IsRising (done ++ l)) e merged.left_rises)
+    (λ e. rising_join _ _ _ _ (subst (λ l. IsRising (done ++ l)) e merged.left_rises)
     rises)
-    (λ e. rising_join done path beside xs (subst (λ l. IsRising (done ++ l)) e merged.right_rises)
+    (λ e. rising_join _ _ _ _ (subst (λ l. IsRising (done ++ l)) e merged.right_rises)
     rises)
     least.head in
     let joined : (xs : List (List ℕ)) → (done ++ path ∷ []) ++ xs
@@ -121,15 +120,15 @@ merged_more left right done more others path behind beside pushed merged least i
     subst Is (sym is)
     (record {
       left_rises = subst IsRising (sym (joined behind))
-          (from behind (least.left_rises (rising_back done more merged.left_rises)));
+          (from behind (least.left_rises (rising_back _ _ merged.left_rises)));
       right_rises = subst IsRising (sym (joined beside))
-          (from beside (least.right_rises (rising_back done others merged.right_rises)));
+          (from beside (least.right_rises (rising_back _ _ merged.right_rises)));
       each = λ p. subst (λ us. Either us ((done ++ path ∷ []) ++ beside) p) (sym (joined behind))
           (subst (λ vs. Either (Path behind) vs p) (sym (joined beside)) (
-            λ there. behind_either done more others (path ∷ behind) (path ∷ beside) p
+            λ there. behind_either _ _ _ _ _ p
                 (least.each p).0 ((merged.each p).0 there),
             λ there. (merged.each p).1
-                (behind_either done (path ∷ behind) (path ∷ beside) more others p (least.each p).1
+                (behind_either _ _ _ _ _ p (least.each p).1
                 there),
           ));
     })

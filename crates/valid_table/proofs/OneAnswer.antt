@@ -8,7 +8,7 @@ use Rattle.valid_table.specs.BadLines.{IsBadLine, IsOtherVersion}
 use Rattle.valid_table.specs.LineFaults.{IsLeastFault, IsNotClosedAt, IsTwiceAt, StandsAt}
 use Rattle.valid_table.specs.Reading.{IsEntriesChecking, IsReadAs, IsJournalReading, IsTooLong}
 use Rattle.valid_table.specs.ReadingLaws.{AnswerIsOne, JournalTextsAreRead}
-use Rattle.valid_table.specs.Texts.{Line, First, Added, Output, Reference, entry_lines, lines}
+use Rattle.valid_table.specs.Texts.{Line, First, entry_lines, lines}
 use Rattle.valid_table.specs.declared.entry.Entry.{Entry}
 use Rattle.valid_table.specs.declared.fault.TableFault.{TableFault}
 use Rattle.valid_table.specs.declared.fault.TableFault.TheVariants.{NoMemory, BadLine, NotClosed, Twice, WrongVersion, TooLong}
@@ -40,8 +40,8 @@ in_lines entries before entry line n s =
 one_line : (entries before other : List Entry) (entry another : Entry) (a b : Line) (n : ℕ)
     → StandsAt entries before entry a n → StandsAt entries other another b n → a ≡ b
 one_line entries before other entry another a b n one two =
-    let here = in_lines entries before entry a n one in
-    let there = in_lines entries other another b n two in
+    let here = in_lines _ _ _ a n one in
+    let there = in_lines _ _ _ b n two in
     let place : length here.0 ≡ length there.0 = omega (arith, here.3, there.3) in
     sym (get_or_at here.0 a here.1 First (length here.0) refl)
     ∙ ap (λ (ls : List Line). get_or ls (length here.0) First) (sym here.2 ∙ there.2)
@@ -51,12 +51,10 @@ one_line entries before other entry another a b n one two =
 one_fault : (entries : List Entry) (n : ℕ) → IsNotClosedAt entries n → IsTwiceAt entries n → ⊥
 one_fault entries n (before, entry, path, stands, open_there)
     (other, another, again, digest, inl added, valid) =
-    let same = one_line entries before other entry another (Reference path) (Added again digest) n
-    stands added in cc
+    let same = one_line _ _ _ _ _ _ _ n stands added in cc
 one_fault entries n (before, entry, path, stands, open_there)
     (other, another, again, digest, inr output, valid) =
-    let same = one_line entries before other entry another (Reference path) (Output again digest) n
-    stands output in cc
+    let same = one_line _ _ _ _ _ _ _ n stands output in cc
 
 -- two least lines with a fault are the same
 one_least : (entries : List Entry) (m n : ℕ) → IsNotClosedAt entries m ⊎ IsTwiceAt entries m
@@ -77,21 +75,20 @@ one_check : (entries : List Entry) (a b : Result (List Entry) TableFault)
 one_check entries (Err NoMemory) b one two = inr (inl refl)
 one_check entries a (Err NoMemory) one two = inr (inr refl)
 one_check entries (Ok a) (Ok b) one two = inl (ap Ok (one.0 ∙ sym two.0))
-one_check entries (Ok a) (Err (NotClosed n)) one two = absurd (no_fault entries n one.1 (inl two.0))
-one_check entries (Ok a) (Err (Twice n)) one two = absurd (no_fault entries n one.1 (inr two.0))
-one_check entries (Err (NotClosed m)) (Ok b) one two = absurd (no_fault entries m two.1 (inl one.0))
-one_check entries (Err (Twice m)) (Ok b) one two = absurd (no_fault entries m two.1 (inr one.0))
+one_check entries (Ok a) (Err (NotClosed n)) one two = absurd (no_fault _ n one.1 (inl two.0))
+one_check entries (Ok a) (Err (Twice n)) one two = absurd (no_fault _ n one.1 (inr two.0))
+one_check entries (Err (NotClosed m)) (Ok b) one two = absurd (no_fault _ m two.1 (inl one.0))
+one_check entries (Err (Twice m)) (Ok b) one two = absurd (no_fault _ m two.1 (inr one.0))
 one_check entries (Err (NotClosed m)) (Err (NotClosed n)) one two =
-    inl (ap (λ (k : ℕ). Err (NotClosed k))
-    (one_least entries m n (inl one.0) one.1 (inl two.0) two.1))
+    inl (ap (λ (k : ℕ). Err (NotClosed k)) (one_least _ m n (inl one.0) one.1 (inl two.0) two.1))
 one_check entries (Err (Twice m)) (Err (Twice n)) one two =
-    inl (ap (λ (k : ℕ). Err (Twice k)) (one_least entries m n (inr one.0) one.1 (inr two.0) two.1))
+    inl (ap (λ (k : ℕ). Err (Twice k)) (one_least _ m n (inr one.0) one.1 (inr two.0) two.1))
 one_check entries (Err (NotClosed m)) (Err (Twice n)) one two =
-    let same = one_least entries m n (inl one.0) one.1 (inr two.0) two.1 in
-    absurd (one_fault entries n (subst (IsNotClosedAt entries) same one.0) two.0)
+    let same = one_least _ m n (inl one.0) one.1 (inr two.0) two.1 in
+    absurd (one_fault _ n (subst (IsNotClosedAt entries) same one.0) two.0)
 one_check entries (Err (Twice m)) (Err (NotClosed n)) one two =
-    let same = one_least entries m n (inr one.0) one.1 (inl two.0) two.1 in
-    absurd (one_fault entries n two.0 (subst (IsTwiceAt entries) same one.0))
+    let same = one_least _ m n (inr one.0) one.1 (inl two.0) two.1 in
+    absurd (one_fault _ n two.0 (subst (IsTwiceAt entries) same one.0))
 one_check entries (Ok a) (Err b) one two = absurd two
 one_check entries (Err (NotClosed m)) (Err b) one two = absurd two
 one_check entries (Err (Twice m)) (Err b) one two = absurd two
@@ -113,8 +110,7 @@ wrong_version dir bytes (Err TooLong) within other h = absurd (within h)
 wrong_version dir bytes (Err WrongVersion) within other h = refl
 wrong_version dir bytes (Err (BadLine n)) within other h = absurd (h.1 other)
 wrong_version dir bytes (Err NoMemory) within other h = absurd (h.1 other)
-wrong_version dir bytes b within other h = absurd
-    (not_other_version dir bytes h.entries h.is_text other)
+wrong_version dir bytes b within other h = absurd (not_other_version _ _ _ h.is_text other)
 
 -- bytes with a bad line
 wrong_line : (dir bytes : List ℕ) (n : ℕ) (b : Result (List Entry) TableFault) → IsStoreDir dir
@@ -131,24 +127,23 @@ wrong_line dir bytes n b is_dir within one bad h = search (rules, texts_have_no_
 read_as : (dir bytes : List ℕ) (a b : Result (List Entry) TableFault) → IsStoreDir dir
     → IsReadAs dir bytes a → IsJournalReading dir bytes b → AreOne a b
 read_as dir bytes a (Err TooLong) is_dir is h = absurd (is.within h)
-read_as dir bytes a (Err WrongVersion) is_dir is h =
-    absurd (not_other_version dir bytes is.entries is.is_text h.1)
+read_as dir bytes a (Err WrongVersion) is_dir is h = absurd (not_other_version _ _ _ is.is_text h.1)
 read_as dir bytes a (Err (BadLine n)) is_dir is h = search (rules, texts_have_no_bad_line)
 read_as dir bytes a (Err NoMemory) is_dir is h = inr (inr refl)
 read_as dir bytes a b is_dir is h =
     let same = text_has_one_list dir bytes is.entries h.entries is.is_text h.is_text in
-    one_check h.entries a b (subst (λ (es : List Entry). IsEntriesChecking es a) same is.checked)
+    one_check _ a b (subst (λ (es : List Entry). IsEntriesChecking es a) same is.checked)
     h.checked
 
 -- two answers for the same bytes are the same, or one is want of memory
 pub answer_is_one : AnswerIsOne
-answer_is_one dir bytes (Err TooLong) b is_dir one two = inl (too_long dir bytes b one two)
+answer_is_one dir bytes (Err TooLong) b is_dir one two = inl (too_long _ _ b one two)
 answer_is_one dir bytes (Err WrongVersion) b is_dir one two =
-    inl (wrong_version dir bytes b one.0 one.1 two)
+    inl (wrong_version _ _ b one.0 one.1 two)
 answer_is_one dir bytes (Err (BadLine n)) b is_dir one two =
-    wrong_line dir bytes n b is_dir one.0 one.1 one.2 two
+    wrong_line _ _ n b is_dir one.0 one.1 one.2 two
 answer_is_one dir bytes (Err NoMemory) b is_dir one two = inr (inl refl)
-answer_is_one dir bytes a b is_dir one two = read_as dir bytes a b is_dir one two
+answer_is_one dir bytes a b is_dir one two = read_as _ _ a b is_dir one two
 
 -- the text of a journal is read as just that journal, want of memory apart
 pub journal_texts_are_read : JournalTextsAreRead

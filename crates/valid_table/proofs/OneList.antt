@@ -25,8 +25,8 @@ lines_told : (version : Version) (dir : List ℕ) (from : Place) (a b : List Lin
     → Ends version dir from a → Ends version dir from b
     → lines_text version a ≡ lines_text version b → a ≡ b
 lines_told version dir from a b one two e =
-    elim (aligned version dir a b [] [] (lines_of version dir MayEnd from a one)
-    (lines_of version dir MayEnd from b two)
+    elim (aligned _ _ a b [] [] (lines_of _ _ MayEnd _ a one)
+    (lines_of _ _ MayEnd _ b two)
     (ap (λ (t : List ℕ). t ++ []) e)) [
       | inl d ↦ sym
           (d.1 ∙ ap (λ (c : List Line). a ++ c) (none d.0
@@ -100,7 +100,7 @@ references_told :
     }
 references_told [] come outputs entries e = e
 references_told (path ∷ references) come outputs entries e =
-    ap (with_line (Reference path)) (references_told references come outputs entries e)
+    ap (with_line (Reference path)) (references_told _ _ _ _ e)
 
 -- those of outputs tell these
 outputs_told :
@@ -115,20 +115,17 @@ outputs_told (r ∷ outputs) come entries e =
     ap (λ (some : List Line). with_line start (told some))
     (append_assoc (map Reference r.info.references) (flat_map output_lines outputs) come)
     ∙ ap (with_line start)
-    (references_told r.info.references later outputs entries
-    (outputs_told outputs come entries e))
+    (references_told _ _ _ _
+    (outputs_told _ _ _ e))
 
 -- those of entries tell these
 entries_told : (entries : List Entry) → told (flat_map entry_lines entries)
     ≡ record { references = []; outputs = []; entries = entries }
 entries_told [] = refl
 entries_told (Add r ∷ entries) =
-    ap (with_line (Added r.path r.info.digest))
-    (references_told r.info.references (flat_map entry_lines entries) [] entries
-    (entries_told entries))
+    ap (with_line (Added r.path r.info.digest)) (references_told _ _ [] entries (entries_told _))
 entries_told (Done deriver outputs ∷ entries) =
-    ap (with_line (Deriver deriver))
-    (outputs_told outputs (flat_map entry_lines entries) entries (entries_told entries))
+    ap (with_line (Deriver deriver)) (outputs_told _ _ _ (entries_told _))
 
 -- entries with the same lines are the same
 same_entries : (a b : List Entry) → lines a ≡ lines b → a ≡ b
@@ -145,8 +142,8 @@ one_in : (version : Version) (dir bytes : List ℕ) (a b : List Entry)
 unfolding text
 one_in version dir bytes a b one two =
     same_entries a b
-    (lines_told version dir Start (lines a) (lines b) (lines_end version dir a one.of_dir)
-    (lines_end version dir b two.of_dir) (sym one.bytes_are ∙ two.bytes_are))
+    (lines_told _ _ Start _ _ (lines_end _ _ a one.of_dir)
+    (lines_end _ _ b two.of_dir) (sym one.bytes_are ∙ two.bytes_are))
 
 -- a text with a version's line isn't empty
 not_empty : (version : Version) (bytes : List ℕ) → BeginsVersion version bytes → bytes ≢ []
@@ -156,9 +153,9 @@ not_empty Two bytes (rest, begins) none = search (rules, none)
 -- one text is that of one list of entries
 pub text_has_one_list : TextHasOneList
 text_has_one_list dir bytes a b (inl (version, one)) (inl (other, two)) =
-    let same = one_version other version bytes (text_begins other dir bytes b two)
-    (text_begins version dir bytes a one) in
-    one_in version dir bytes a b one (subst (λ v. IsTextIn v dir b bytes) same two)
+    let same = one_version _ _ _ (text_begins _ _ _ b two)
+    (text_begins _ _ _ a one) in
+    one_in _ _ _ a b one (subst (λ v. IsTextIn v dir b bytes) same two)
 text_has_one_list dir bytes a b (inl (version, one)) (inr none) =
     search (rules, not_empty, text_begins)
 text_has_one_list dir bytes a b (inr none) (inl (version, two)) =

@@ -31,7 +31,7 @@ text_more : (version : Version) (outputs : List Registration) (o : Registration)
     ≡ lines_text version (flat_map output_lines (outputs ++ o ∷ [])) ++ behind
 text_more version outputs o behind =
     text_and version (flat_map output_lines outputs) (output_lines o) behind
-    ∙ ap (λ some. lines_text version some ++ behind) (lines_more outputs o)
+    ∙ ap (λ some. lines_text version some ++ behind) (lines_more _ o)
 
 -- ---- where an output stops
 
@@ -63,9 +63,9 @@ output_stops : (version : Version) (dir : List ℕ) (before last : Option (List 
 output_stops version dir before last bytes left (inl h) =
     search (rules, place_at, stop_here, letter_ahead, stuck)
 output_stops version dir before last bytes left (inr h) =
-    stop_behind version dir (place_at before last) bytes (Output h.path h.digest) h.rest left
+    stop_behind _ _ _ _ _ _ _
     (h.begins ∙ ap (λ (f : List ℕ). 79 ∷ 32 ∷ f) h.line.parts)
-    (may_stand version dir before last h.path h.digest (h.line.of_dir, h.line.is_digest, h.above))
+    (may_stand _ _ _ _ _ _ (h.line.of_dir, h.line.is_digest, h.above))
     (h.stops version (Some h.path))
 
 pub outputs_stop : (version : Version) (dir bytes : List ℕ) (outputs : List Registration)
@@ -74,11 +74,11 @@ pub outputs_stop : (version : Version) (dir bytes : List ℕ) (outputs : List Re
     ≡ last_or None (paths_registered outputs)
     → StopsInRegistration version dir 79 before rest left → Stops version dir Opened bytes left
 outputs_stop version dir bytes outputs rest before left so_far is h =
-    stops_in version dir Opened (flat_map output_lines outputs) bytes rest left so_far.parts
-    (outputs_back version dir (StopsIn version dir rest left) (stops_back version dir rest left)
-    outputs None None []
-    so_far.of_dir (above_of_rising (paths_registered outputs) so_far.rising)
-    (λ reference. output_stops version dir _ reference rest left
+    stops_in _ _ _ (flat_map output_lines outputs) _ rest _ so_far.parts
+    (outputs_back _ _ (StopsIn version dir rest left) (stops_back _ _ _ _)
+    _ _ None []
+    so_far.of_dir (above_of_rising _ so_far.rising)
+    (λ reference. output_stops _ _ _ _ _ _
     (subst (λ o. StopsInRegistration version dir 79 o rest left) is h)))
 
 -- ---- outputs that were read
@@ -95,10 +95,10 @@ outputs_more version dir bytes outputs more rest behind before o so_far is h pus
     rw pushed (record {
       parts = so_far.parts ∙ ap (λ t. lines_text version (flat_map output_lines outputs) ++ t)
           h.parts
-          ∙ text_more version outputs o behind;
-      of_dir = All-push (IsOf version dir) outputs o so_far.of_dir h.of_dir;
+          ∙ text_more _ _ o behind;
+      of_dir = All-push (IsOf version dir) _ o so_far.of_dir h.of_dir;
       rising = subst IsRising (sym (map-append (λ (r : Registration). r.path) outputs (o ∷ [])))
-          (rising_more (paths_registered outputs) o.path so_far.rising
+          (rising_more _ _ so_far.rising
           (subst (λ b. IsAbove b o.path) is h.above));
       ended = inr h.ends;
     })

@@ -12,8 +12,7 @@ use Rattle.valid_table.specs.Entering.{AreUnknown, IsNotKnown}
 
 -- the end of a list whose elements have a property
 pub All-right : {X : Type 0} (P : X → Type 0) (xs ys : List X) → All P (xs ++ ys) → All P ys
-All-right P xs ys all = subst (All P) (drop_at xs ys (length xs) refl)
-    (All-drop P (length xs) (xs ++ ys) all)
+All-right P xs ys all = subst (All P) (drop_at xs ys (length xs) refl) (All-drop P _ _ all)
 
 -- a path of a list without repetition is not among those before it
 pub once_apart :
@@ -26,7 +25,7 @@ once_apart before after path once (k, lt, is) =
     let at_k : get_or all k path ≡ path = get_or_append_left before (path ∷ after) path k lt ∙ is in
     let at_n : get_or all (length before) path
     ≡ path = get_or_at before path after path (length before) refl in
-    let apart = apart_from_distinct (pointwise nat_eq) all k (length before) path once lt
+    let apart = apart_from_distinct (pointwise nat_eq) _ k (length before) path once lt
     (omega (arith, length-append before (path ∷ after))) in
     let same = nat_list_eq_equiv.refl path in
     false≢true (sym apart ∙ rw (at_k, at_n) same)
@@ -35,12 +34,12 @@ once_apart before after path once (k, lt, is) =
 pub once_front : (before after : List (List ℕ)) → IsDistinct (pointwise nat_eq) (before ++ after)
     → IsDistinct (pointwise nat_eq) before
 once_front before after once =
-    IsDistinct-from_apart (pointwise nat_eq) before
+    IsDistinct-from_apart (pointwise nat_eq) _
     (λ i j d lt below.
     let at_i = get_or_append_left before after d i (omega arith) in
     let at_j = get_or_append_left before after d j below in
     rw (← at_i, ← at_j)
-    (apart_from_distinct (pointwise nat_eq) (before ++ after) i j d once lt
+    (apart_from_distinct (pointwise nat_eq) _ i j d once lt
     (omega (arith, length-append before after))))
 
 -- a known path differs from each unknown one
@@ -48,7 +47,7 @@ apart_from_unknown : (x : List ℕ) (xs ys : List (List ℕ)) → AreUnknown (x 
     → AllByRecursion (λ y. pointwise nat_eq x y ≡ false) ys
 apart_from_unknown x xs [] new = tt
 apart_from_unknown x xs (y ∷ ys) new =
-    search (rules, false_from_ne_true, All-head, equal_from_eq, All-tail, apart_from_unknown x xs ys (All-tail (IsNotKnown (x ∷ xs)) y ys new))
+    search (rules, false_from_ne_true, All-head, equal_from_eq, All-tail, apart_from_unknown x xs ys (All-tail (IsNotKnown (x ∷ xs)) y _ new))
 
 -- a path that differs from each of two lists does from both, one behind the other
 apart_from_both : (x : List ℕ) (xs ys : List (List ℕ))
@@ -56,7 +55,7 @@ apart_from_both : (x : List ℕ) (xs ys : List (List ℕ))
     → AllByRecursion (λ y. pointwise nat_eq x y ≡ false) ys
     → AllByRecursion (λ y. pointwise nat_eq x y ≡ false) (xs ++ ys)
 apart_from_both x [] ys first second = second
-apart_from_both x (z ∷ zs) ys first second = (first.0, apart_from_both x zs ys first.1 second)
+apart_from_both x (z ∷ zs) ys first second = (first.0, apart_from_both x zs _ first.1 second)
 
 -- known paths that differ, and unknown ones that do, differ together
 pub distinct_append :
@@ -68,9 +67,9 @@ pub distinct_append :
 distinct_append [] paths first second new = second
 distinct_append (x ∷ xs) paths first second new =
     let Eq = pointwise nat_eq in
-    IsDistinct-cons Eq x (xs ++ paths)
-    (apart_from_both x xs paths (IsDistinct-head Eq x xs first)
-    (apart_from_unknown x xs paths new))
-    (distinct_append xs paths (IsDistinct-tail Eq x xs first) second
+    IsDistinct-cons Eq x _
+    (apart_from_both x _ _ (IsDistinct-head Eq x _ first)
+    (apart_from_unknown x _ _ new))
+    (distinct_append _ _ (IsDistinct-tail Eq x _ first) second
     (All-weaker (IsNotKnown (x ∷ xs)) (IsNotKnown xs)
-    (λ y unknown there. unknown (Contains-append_right (x ∷ []) xs y there)) paths new))
+    (λ y unknown there. unknown (Contains-append_right (x ∷ []) _ y there)) _ new))

@@ -16,8 +16,7 @@ use Rattle.nix_names.proofs.Lists.{Contains-map}
 pub valid_from_registers : (registrations : List Registration) (path : List ℕ) (info : PathInfo)
     → Registers registrations path info → IsValid registrations path
 valid_from_registers registrations path info has =
-    Contains-map (λ (r : Registration). r.path) registrations (record { path = path; info = info })
-    has
+    Contains-map (λ (r : Registration). r.path) _ _ has
 
 -- what leads on from a path begins at a valid path
 pub valid_from_leads : (registrations : List Registration) (from to : List ℕ)
@@ -42,7 +41,7 @@ reached_more registrations roots path next reached refers valid = (
   reached.1,
   (
     reached.2.0 ++ next ∷ [],
-    leads_more registrations reached.0 path next reached.2.0
+    leads_more _ _ _ _ _
         reached.2.1 refers valid,
   ),
 )
@@ -75,6 +74,6 @@ same_place texts distinct i j in_i in_j same =
   where
     apart : (a b : ℕ) → a < b → b < length texts → get_or texts a [] ≡ get_or texts b [] → ⊥
     apart a b below within e =
-        false≢true (sym (apart_from_distinct (pointwise nat_eq) texts a b [] distinct below within)
+        false≢true (sym (apart_from_distinct (pointwise nat_eq) _ a b [] distinct below within)
         ∙ ap (λ t. pointwise nat_eq t (get_or texts b [])) e
         ∙ nat_list_eq_equiv.refl (get_or texts b []))

@@ -48,8 +48,8 @@ pub bad_line_number : (dir bytes : List ℕ) (left n : ℕ) → IsStoreDir dir
     (places (is_byte 10) (take (length bytes - left) bytes)) → IsBadLine dir bytes n
 bad_line_number dir bytes left n of_dir (inl (version, begins, h)) number =
     let same : suc (length h.lines) ≡ n =
-    omega (arith, number, stops_count version dir bytes left of_dir h) in
-    subst (IsBadLine dir bytes) same (bad_line version dir bytes left of_dir begins h)
+    omega (arith, number, stops_count _ _ _ _ of_dir h) in
+    subst (IsBadLine dir bytes) same (bad_line _ _ _ _ of_dir begins h)
 bad_line_number dir bytes left n of_dir (inr (none, some, all)) number =
     let nothing : length bytes - left ≡ 0 = omega (arith, all) in
     let one : 1 ≡ n = omega (
@@ -58,7 +58,7 @@ bad_line_number dir bytes left n of_dir (inr (none, some, all)) number =
       ap (λ k. length (places (is_byte 10) (take k bytes))) nothing,
       length-places-le (is_byte 10) [],
     ) in
-    subst (IsBadLine dir bytes) one (bad_first dir bytes of_dir none some)
+    subst (IsBadLine dir bytes) one (bad_first _ _ of_dir none some)
 
 -- the text of some entries begins with the line of its version
 some_begin : (dir bytes : List ℕ) (entries : List Entry) → IsJournalText dir entries bytes
@@ -74,5 +74,5 @@ read_as dir bytes entries (Ok journal) within other is checked = search rules
 read_as dir bytes entries (Err (NotClosed n)) within other is checked = search rules
 read_as dir bytes entries (Err (Twice n)) within other is checked = search rules
 read_as dir bytes entries (Err NoMemory) within other is checked =
-    (within, other, some_begin dir bytes entries is checked)
+    (within, other, some_begin _ _ _ is checked)
 read_as dir bytes entries (Err fault) within other is checked = absurd checked

@@ -24,11 +24,11 @@ pub references_lead : (version : Version) (dir : List ℕ) (output : Option (Lis
     → Stops version dir (Within output (last_or None references)) rest left
     → Stops version dir (Within output None) bytes left
 references_lead version dir output bytes references rest left so_far h =
-    stops_in version dir (Within output None) (map Reference references) bytes rest left
-    (so_far.parts ∙ ap (λ (t : List ℕ). t ++ rest) (sym (references_are version references)))
-    (references_back version dir (StopsIn version dir rest left) (stops_back version dir rest left)
-    output None references
-    [] so_far.of_dir (above_of_rising references so_far.rising) h)
+    stops_in _ _ _ (map Reference references) _ rest _
+    (so_far.parts ∙ ap (λ (t : List ℕ). t ++ rest) (sym (references_are version _)))
+    (references_back _ _ (StopsIn version dir rest left) (stops_back _ _ _ _)
+    _ _ _
+    [] so_far.of_dir (above_of_rising _ so_far.rising) h)
 
 -- from within an entry no line but a reference's goes on with a reference's letter
 stuck : (version : Version) (dir : List ℕ) (output before : Option (List ℕ))
@@ -55,9 +55,9 @@ pub low_reference : (version : Version) (dir : List ℕ) (output before : Option
     → IsPathLine dir fields path rest → (IsAbove before path → ⊥)
     → Stops version dir (Within output before) bytes (length bytes)
 low_reference version dir output before bytes fields path rest begins line low =
-    stop_here version dir (Within output before) bytes 82 (32 ∷ fields) begins tt
-    (stuck version dir output before bytes fields begins (λ other more above is.
-    let same = two_path_lines dir fields other more path rest is line in
+    stop_here _ _ _ _ _ _ begins tt
+    (stuck _ _ _ _ _ _ begins (λ other more above is.
+    let same = two_path_lines _ _ _ _ _ _ is line in
     low (rw same.0 at above)))
 
 -- the text of references, and one more line
@@ -74,9 +74,9 @@ pub references_more : (dir bytes : List ℕ) (references more : List (List ℕ))
 references_more dir bytes references more rest fields path behind so_far begins line above pushed =
     rw pushed (record {
       parts = so_far.parts ∙ ap (λ r. references_text references ++ r)
-          (begins ∙ ap (λ (f : List ℕ). 82 ∷ 32 ∷ f) line.parts) ∙ text_more references path behind;
-      of_dir = All-push (IsPathOf dir) references path so_far.of_dir line.of_dir;
-      rising = rising_more references path so_far.rising above;
+          (begins ∙ ap (λ (f : List ℕ). 82 ∷ 32 ∷ f) line.parts) ∙ text_more _ _ behind;
+      of_dir = All-push (IsPathOf dir) _ _ so_far.of_dir line.of_dir;
+      rising = rising_more _ _ so_far.rising above;
     })
 
 -- a path above the last element, as it was looked up
@@ -105,7 +105,7 @@ registration_found version dir letter before bytes fields path digest behind inf
     ∙ ap (λ d. fields_text version path d ++ behind) (sym same)
     ∙ ap (λ (t : List ℕ). front ++ t)
     (has.so_far.parts
-    ∙ ap (λ (t : List ℕ). t ++ rest) (sym (references_are version info.references)))
+    ∙ ap (λ (t : List ℕ). t ++ rest) (sym (references_are _ _)))
     ∙ sym (append_assoc front lines rest) in
     record {
       parts = begins ∙ ap (λ (f : List ℕ). letter ∷ 32 ∷ f) is;

@@ -19,7 +19,7 @@ behind_first path (next ∷ paths) h = (h.0, behind_first next paths h.1)
 
 pub above_of_rising : (paths : List (List ℕ)) → IsRising paths → AreAbove None paths
 above_of_rising [] h = tt
-above_of_rising (path ∷ paths) h = (tt, behind_first path paths h)
+above_of_rising (path ∷ paths) h = (tt, behind_first _ _ h)
 
 rising_first : (path : List ℕ) (paths : List (List ℕ)) → AreAbove (Some path) paths
     → IsRising (path ∷ paths)
@@ -28,7 +28,7 @@ rising_first path (next ∷ paths) h = (h.0, rising_first next paths h.1)
 
 pub rising_of_above : (paths : List (List ℕ)) → AreAbove None paths → IsRising paths
 rising_of_above [] h = tt
-rising_of_above (path ∷ paths) h = rising_first path paths h.1
+rising_of_above (path ∷ paths) h = rising_first _ _ h.1
 
 -- one more path above the last
 pub rising_more : (paths : List (List ℕ)) (path : List ℕ) → IsRising paths
@@ -47,7 +47,7 @@ last_is (x ∷ y ∷ xs) = search (rules, last_is (y ∷ xs))
 pub last_map : {A B : Type 0} (f : A → B) (o : Option A) (xs : List A)
     → last_or (option_map f o) (map f xs) ≡ option_map f (last_or o xs)
 last_map f o [] = refl
-last_map f o (x ∷ xs) = last_map f (Some x) xs
+last_map f o (x ∷ xs) = last_map f _ xs
 
 -- the path of the last registration, as it was looked up
 pub last_path_is : (registrations : List Registration) (last : Registration) → Some last

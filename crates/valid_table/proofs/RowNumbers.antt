@@ -44,8 +44,8 @@ pub row_found : {S : Type 0} (m : IndexMap (List ℕ) PathInfo S) (path : List �
 row_found m path None is found =
     λ valid.
     let has : Contains (keys m) path = subst (λ (ks : List (List ℕ)). Contains ks path)
-    (paths_are_keys m.entries) valid in
-    false≢true (found ∙ (hash_map_contains_key_iff nat_list_eq_equiv equal_from_eq m path).1 has)
+    (paths_are_keys _) valid in
+    false≢true (found ∙ (hash_map_contains_key_iff nat_list_eq_equiv equal_from_eq m _).1 has)
 row_found m path (Some row) is found =
     search (rules, position-Some, equal_from_eq, path_count, paths_are_keys)
 

@@ -26,7 +26,7 @@ pub rising_sorted_at : (rs : List Registration) (k : ℕ) (d : Registration)
     → k + 1 < length rs → is_lt (slice_cmp nat_cmp (get_or rs (k + 1) d).path (get_or rs k d).path)
     ≡ false
 rising_sorted_at rs k d rises lt =
-    let less = neighbours_rise rs rises k d lt in
+    let less = neighbours_rise _ rises k d lt in
     ap is_lt
     (nat_list_cmp_total.antisymm (get_or rs (k + 1) d).path (get_or rs k d).path
     ∙ ap ordering_reverse less)
@@ -43,10 +43,10 @@ search_tells rs path (Ok i) rises within here = (
       let none : Registration =
       record { path = path; info = record { references = []; digest = None } } in
       let same : (get_or rs i none).path ≡ path =
-      equal_from_eq _ path (texts_ties (get_or rs i none).path path ∙ ap is_eq (here none)) in (
+      equal_from_eq _ _ (texts_ties (get_or rs i none).path path ∙ ap is_eq (here none)) in (
         i,
         omega (arith, path_count rs),
-        path_read rs i none path within ∙ same,
+        path_read _ i _ _ within ∙ same,
       ),
   λ _. refl,
 )
@@ -60,9 +60,9 @@ search_tells rs path (Err i) rises within apart = (
       in
       let parts = apart
       (searchable_from_sorted nat_list_cmp_total (λ (r : Registration). r.path) rs path
-      (λ j d low below. rising_sorted_at rs j d rises below)) in
+      (λ j d low below. rising_sorted_at _ j d rises below)) in
       let same : compared path (get_or rs k none) ≡ Equal =
-      ap (λ p. slice_cmp nat_cmp p path) (sym (path_read rs k none path lt) ∙ valid.2)
+      ap (λ p. slice_cmp nat_cmp p path) (sym (path_read _ k _ _ lt) ∙ valid.2)
       ∙ tied_itself nat_list_cmp_total path in
       ⊎_elim
       (λ before. let less : compared path (get_or rs k none)

@@ -9,7 +9,7 @@ use Rattle.std.proofs.lemmas.List.Sums.{AllPass-from_list_all}
 use Rattle.hex.specs.Hex.{is_hex_digit}
 use Rattle.hex.proofs.HexLemmas.{decode_of-encode_lower, decode_of-ok}
 use Rattle.nix_names.specs.Base32.{is_digit}
-use Rattle.nix_names.specs.Digests.{IsDigest, bytes_of, digits_of, name_of}
+use Rattle.nix_names.specs.Digests.{IsDigest, digits_of, name_of}
 use Rattle.nix_names.specs.Names.{IsStoreDir, is_component, is_name, is_name_char}
 use Rattle.nix_names.specs.StorePaths.{IsPathOf, is_hash_part}
 use Rattle.nix_names.specs.declared.digest.Algorithm.{Algorithm}
@@ -40,9 +40,8 @@ same_cut b (a ∷ xs) (c ∷ ys) x y none other e =
 
 -- a text has such a byte
 pub lacks_not : (b : ℕ) (xs rest : List ℕ) → Lacks b (xs ++ (b ∷ rest)) → ⊥
-lacks_not b [] rest none = All-head (λ z. z ≢ b) b rest none refl
-lacks_not b (x ∷ xs) rest none = lacks_not b xs rest
-    (All-tail (λ z. z ≢ b) x (xs ++ (b ∷ rest)) none)
+lacks_not b [] rest none = All-head (λ z. z ≢ b) b _ none refl
+lacks_not b (x ∷ xs) rest none = lacks_not b xs _ (All-tail (λ z. z ≢ b) x _ none)
 
 -- a byte that fails a test is none of those that pass
 pub apart : (test : ℕ → Bool) (b : ℕ) (xs : List ℕ) → test b ≡ false → AllPass test xs → Lacks b xs
@@ -50,7 +49,7 @@ apart test b xs fails pass = search (rules, All-weaker, false≢true)
 
 pub passing : (test : ℕ → Bool) (b : ℕ) (xs : List ℕ) → test b ≡ false → list_all test xs ≡ true
     → Lacks b xs
-passing test b xs fails pass = apart test b xs fails (AllPass-from_list_all test xs pass)
+passing test b xs fails pass = apart test b _ fails (AllPass-from_list_all test _ pass)
 
 -- ---- paths
 
@@ -103,19 +102,19 @@ behind_dir b is dir path h = (
 pub path_lacks : (b : ℕ) → IsSeparator b → (dir path : List ℕ) → Lacks b dir → IsPathOf dir path
     → Lacks b path
 path_lacks b is dir path clear h =
-    let parts = behind_dir b is dir path h in
-    subst (Lacks b) (sym parts.1) (All-append (λ z. z ≢ b) dir parts.0 clear parts.2)
+    let parts = behind_dir b is _ _ h in
+    subst (Lacks b) (sym parts.1) (All-append (λ z. z ≢ b) _ _ clear parts.2)
 
 -- two paths of a folder up to a separator are the same, where the wholes are
 pub same_path : (b : ℕ) → IsSeparator b → (dir p q x y : List ℕ) → IsPathOf dir p → IsPathOf dir q
     → p ++ (b ∷ x) ≡ q ++ (b ∷ y) → (p ≡ q) × (x ≡ y)
 same_path b is dir p q x y one two e =
-    let a = behind_dir b is dir p one in
-    let c = behind_dir b is dir q two in
+    let a = behind_dir b is _ p one in
+    let c = behind_dir b is _ q two in
     let whole : dir ++ (a.0 ++ (b ∷ x)) ≡ dir ++ (c.0 ++ (b ∷ y)) =
     sym (ap (λ (t : List ℕ). t ++ (b ∷ x)) a.1 ∙ append_assoc dir a.0 (b ∷ x)) ∙ e
     ∙ ap (λ (t : List ℕ). t ++ (b ∷ y)) c.1 ∙ append_assoc dir c.0 (b ∷ y) in
-    let same = same_cut b a.0 c.0 x y a.2 c.2 (append_cancel_left dir _ _ whole) in
+    let same = same_cut b _ _ x y a.2 c.2 (append_cancel_left dir _ _ whole) in
     (a.1 ∙ ap (λ (t : List ℕ). dir ++ t) same.0 ∙ sym c.1, same.1)
 
 -- ---- digests
@@ -123,9 +122,9 @@ same_path b is dir p q x y one two e =
 -- a digest's digits have no newline
 digits_lack : (digest : Digest) → IsDigest digest → Lacks 10 (digits_of digest)
 digits_lack digest is =
-    apart is_hex_digit 10 (digits_of digest) refl
-    (decode_of-ok (digits_of digest) (bytes_of digest)
-    (decode_of-encode_lower (bytes_of digest) (bytes_everywhere (bytes_of digest) is.1))).1
+    apart is_hex_digit _ _ refl
+    (decode_of-ok _ _
+    (decode_of-encode_lower _ (bytes_everywhere _ is.1))).1
 
 -- nor has an algorithm's name
 name_lacks : (algorithm : Algorithm) → Lacks 10 (name_of algorithm)
@@ -138,5 +137,5 @@ name_lacks Sha512 = search (rules, All-cons, All-nil)
 pub digest_lacks : (version : Version) (digest : Option Digest) → IsDigestOf version digest
     → Lacks 10 (digest_text version digest)
 digest_lacks version None is = search (rules, All-cons, All-nil)
-digest_lacks One (Some digest) is = digits_lack digest is.1
+digest_lacks One (Some digest) is = digits_lack _ is.1
 digest_lacks Two (Some digest) is = search (rules, All-append, name_lacks, All-cons, digits_lack)

@@ -26,8 +26,8 @@ RiseBelow rs n = (k : ℕ) (d : Registration) → k + 1 < n
 pub rising_from_neighbours : (rs : List Registration) → RiseBelow rs (length rs)
     → IsRising (paths_registered rs)
 rising_from_neighbours rs rise =
-    rising_from_sorted (paths_registered rs)
-    (sorted_from_all_adjacent nat_list_cmp_total (paths_registered rs) []
+    rising_from_sorted _
+    (sorted_from_all_adjacent nat_list_cmp_total _ []
     (λ k below.
     let lt : k + 1 < length rs = omega (arith, path_count rs) in
     let (r, is) = element_at rs k (omega arith) in
@@ -38,7 +38,7 @@ pub neighbours_rise : (rs : List Registration) → IsRising (paths_registered rs
     → RiseBelow rs (length rs)
 neighbours_rise rs rises k d lt =
     rw (← path_read rs k d [] (omega arith), ← path_read rs (k + 1) d [] lt)
-    (Less-from_sorted (slice_cmp nat_cmp) (paths_registered rs) k (k + 1) []
+    (Less-from_sorted (slice_cmp nat_cmp) _ k (k + 1) []
     (sorted_from_rising (paths_registered rs) rises) (omega arith) (omega (arith, path_count rs)))
 
 -- neighbours of a rising list compare as less
@@ -51,7 +51,7 @@ pub rising_at :
 rising_at rs i d e rises some lt =
     let behind : i - 1 + 1 ≡ i = omega arith in
     rw (get_or_default rs i e d lt)
-    (ap is_lt (rw behind at (neighbours_rise rs rises (i - 1) d (omega arith))))
+    (ap is_lt (rw behind at (neighbours_rise _ rises (i - 1) d (omega arith))))
 
 -- the paths of sorted registrations are sorted
 paths_sorted : (rs : List Registration) → IsSortedBy
@@ -70,7 +70,7 @@ pub sorted_rises :
     IsOnce some →
     IsRising (paths_registered sorted)
 sorted_rises some sorted moved ordered once =
-    rising_sorted (paths_registered sorted) (paths_sorted sorted ordered)
-    (IsDistinct-IsPermutation (pointwise nat_eq) nat_list_eq_equiv.symm (paths_registered some)
-    (paths_registered sorted) (IsPermutation-map (λ (r : Registration). r.path) some sorted moved)
+    rising_sorted _ (paths_sorted _ ordered)
+    (IsDistinct-IsPermutation (pointwise nat_eq) nat_list_eq_equiv.symm _
+    _ (IsPermutation-map (λ (r : Registration). r.path) some sorted moved)
     once)

@@ -28,7 +28,7 @@ use Rattle.valid_table.proofs.RowNumbers.{path_count}
 paths_distinct : (registrations : List Registration) → IsOnce registrations → (rows : List ℕ)
     → AreRows registrations rows → IsDistinct (pointwise nat_eq) (paths_at registrations rows)
 paths_distinct registrations once rows are = IsDistinct-from_apart (pointwise nat_eq)
-    (paths_at registrations rows) apart
+    _ apart
   where
     paths : List (List ℕ)
     paths = paths_at registrations rows
@@ -48,9 +48,9 @@ paths_distinct registrations once rows are = IsDistinct-from_apart (pointwise na
         let in_i : i < length rows = omega arith in
         false_from_ne_true _ (λ same.
         let one : get_or rows i 0 ≡ get_or rows j 0 =
-        same_place (paths_registered registrations) once _ _ (within i in_i) (within j in_j)
+        same_place _ once _ _ (within i in_i) (within j in_j)
         (sym (row_at i d in_i) ∙ equal_from_eq _ _ same ∙ row_at j d in_j) in
-        false≢true (sym (apart_from_distinct nat_eq rows i j 0 are.distinct before in_j)
+        false≢true (sym (apart_from_distinct nat_eq _ i j 0 are.distinct before in_j)
         ∙ ap (λ r. nat_eq r (get_or rows j 0)) one ∙ nat_eq_equiv.refl (get_or rows j 0)))
 
 -- the sorted paths of rows rise
@@ -59,10 +59,10 @@ pub sorted_rising : (registrations : List Registration) → IsOnce registrations
     ≡ paths_at registrations rows → IsPermutation paths sorted → IsSorted (slice_cmp nat_cmp) sorted
     → IsRising sorted
 sorted_rising registrations once rows are paths sorted is moved ordered =
-    rising_sorted sorted ordered
-    (IsDistinct-IsPermutation (pointwise nat_eq) nat_list_eq_equiv.symm paths sorted moved
+    rising_sorted _ ordered
+    (IsDistinct-IsPermutation (pointwise nat_eq) nat_list_eq_equiv.symm _ _ moved
     (subst (IsDistinct (pointwise nat_eq)) (sym is)
-    (paths_distinct registrations once rows are)))
+    (paths_distinct _ once _ are)))
 
 -- and are the same
 pub sorted_same : (paths sorted wanted : List (List ℕ)) → paths ≡ wanted
@@ -70,8 +70,8 @@ pub sorted_same : (paths sorted wanted : List (List ℕ)) → paths ≡ wanted
 sorted_same paths sorted wanted is moved =
     subst (HaveSame sorted) is
     (λ path. (
-      Contains-permutation sorted paths path (IsPermutation-sym paths sorted moved),
-      Contains-permutation paths sorted path moved,
+      Contains-permutation _ _ _ (IsPermutation-sym paths sorted moved),
+      Contains-permutation _ _ _ moved,
     ))
 
 -- one more row's path
@@ -110,9 +110,9 @@ pub keyed_below : (bound : ℕ) (rows : List ℕ) (keyed sorted : List (ℕ × �
     → All (λ r. r < bound) rows → All (λ (k : ℕ × ℕ). k.1 < bound) sorted
 keyed_below bound rows keyed sorted is moved below i d within =
     let all : All (λ r. r < bound) (map (λ (k : ℕ × ℕ). k.1) sorted) =
-    All-map-IsPermutation (λ (k : ℕ × ℕ). k.1) (λ r. r < bound) keyed sorted moved
+    All-map-IsPermutation (λ (k : ℕ × ℕ). k.1) (λ r. r < bound) _ _ moved
     (subst (All (λ r. r < bound)) (sym is) below) in
     let same : get_or (map (λ (k : ℕ × ℕ). k.1) sorted) i 0 ≡ (get_or sorted i d).1 =
-    get_or-map (λ (k : ℕ × ℕ). k.1) sorted i d 0 within in
+    get_or-map (λ (k : ℕ × ℕ). k.1) _ i d 0 within in
     subst (λ r. r < bound) same
     (all i 0 (omega (arith, within, length-map sorted (λ (k : ℕ × ℕ). k.1))))

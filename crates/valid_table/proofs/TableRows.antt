@@ -35,11 +35,11 @@ pub found_row :
     MatchOption found (IsValid (registrations_of rows) path → ⊥)
     (λ info. Registers (registrations_of rows) path info.now)
 found_row rows path None is = λ valid.
-    let there = IsSome-lookup_from_Contains nat_list_eq_equiv path rows
-    (subst (λ keys. Contains keys path) (paths_are_keys rows) valid) in
+    let there = IsSome-lookup_from_Contains nat_list_eq_equiv _ _
+    (subst (λ keys. Contains keys path) (paths_are_keys _) valid) in
     true≢false (sym there ∙ ap is_some (sym is))
-found_row rows path (Some info) is = registers_row rows path info.now
-    (Contains-from_lookup equal_from_eq path info.now rows (sym is))
+found_row rows path (Some info) is = registers_row _ _ _
+    (Contains-from_lookup equal_from_eq _ _ _ (sym is))
 
 -- a path that isn't among the keys is not found
 not_found : (rows : List (List ℕ × PathInfo)) (path : List ℕ) → (Contains (keys_of rows) path → ⊥)
@@ -50,7 +50,7 @@ not_found rows path apart = go (lookup (pointwise nat_eq path) rows) refl
         → lookup (pointwise nat_eq path) rows ≡ None
     go None is = is
     go (Some info) is =
-        absurd (apart (Contains-keys_from_lookup equal_from_eq path rows (ap is_some is)))
+        absurd (apart (Contains-keys_from_lookup equal_from_eq _ _ (ap is_some is)))
 
 -- whether a path is among the keys tells whether it is valid
 pub has_row_says :
@@ -59,7 +59,7 @@ pub has_row_says :
     IsTrue found ↔ IsValid (registrations_of rows.entries) path
 has_row_says rows path found is =
     let keys = paths_are_keys rows.entries in
-    let says = hash_map_contains_key_iff nat_list_eq_equiv equal_from_eq rows path in (
+    let says = hash_map_contains_key_iff nat_list_eq_equiv equal_from_eq rows _ in (
       λ yes. subst (λ ks. Contains ks path) (sym keys) (says.0 (sym is ∙ yes)),
       λ valid. is ∙ says.1 (subst (λ ks. Contains ks path) keys valid),
     )
@@ -92,12 +92,12 @@ pub row_added :
 row_added rows before rs i r new once is_so lt is added =
     let front = before ++ take i rs in
     let later = drop (i + 1) rs in
-    let whole : before ++ rs ≡ front ++ r ∷ later = ap (λ l. before ++ l) (parts_at rs i r lt is)
+    let whole : before ++ rs ≡ front ++ r ∷ later = ap (λ l. before ++ l) (parts_at _ i r lt is)
     ∙ sym (append_assoc before (take i rs) (r ∷ later)) in
     row_pushed rows r new (rw is_so (next_new front later r (subst IsOnce whole once))) added
     ∙ ap (λ l. l ++ r ∷ []) is_so
     ∙ append_assoc before (take i rs) (r ∷ [])
-    ∙ ap (λ l. before ++ l) (sym (taken_more rs i r lt is))
+    ∙ ap (λ l. before ++ l) (sym (taken_more _ i r lt is))
 
 -- what holds where there is a value holds where there is one
 pub on_ok : {T E P : Type 0} (result : Result T E) → IsOk result → OnOk result P → P

@@ -6,7 +6,7 @@ use Rattle.nix_names.specs.Rising.{IsRising}
 use Rattle.nix_names.proofs.RisingLists.{distinct_from_rising}
 use Rattle.valid_table.specs.Adding.{AreClosed, AreNew}
 use Rattle.valid_table.specs.Entries.{paths_registered}
-use Rattle.valid_table.specs.Valid.{AreReferencesValid, IsOnce, IsValid, references_of}
+use Rattle.valid_table.specs.Valid.{AreReferencesValid, IsOnce, IsValid}
 use Rattle.valid_table.specs.declared.entry.Registration.{Registration}
 use Rattle.valid_table.proofs.JournalLists.{paths_of-append, references_of-append, valid_more}
 use Rattle.valid_table.proofs.PathLists.{distinct_append}
@@ -23,15 +23,14 @@ pub valid_with_more : (known some : List Registration) → AreReferencesValid kn
 valid_with_more known some valid closed =
     let all = known ++ some in
     subst (All (IsValid all)) (sym (references_of-append known some))
-    (All-append (IsValid all) (references_of known) (references_of some)
-    (valid_more known some (references_of known) valid) closed)
+    (All-append (IsValid all) _ _
+    (valid_more _ _ _ valid) closed)
 
 -- a path that is valid by two lists of registrations is so by one of them
 pub valid_cases : (known some : List Registration) (path : List ℕ) → IsValid (known ++ some) path
     → IsValid known path ⊎ IsValid some path
 valid_cases known some path valid =
-    Contains-append_cases (paths_registered known) (paths_registered some) path
-    (subst (λ paths. Contains paths path) (paths_of-append known some) valid)
+    Contains-append_cases _ _ _ (subst (λ paths. Contains paths path) (paths_of-append _ _) valid)
 
 -- and one that is by the second
 pub valid_by_some : (known some : List Registration) (path : List ℕ) → IsValid some path

@@ -7,7 +7,7 @@ use Rattle.std.proofs.lemmas.List.{append_assoc, get_or_default}
 use Rattle.std.proofs.lemmas.List.Elements.{Contains-append_left}
 use Rattle.valid_table.specs.BadLines.{IsOtherVersion}
 use Rattle.valid_table.specs.Entering.{AreUnknown}
-use Rattle.valid_table.specs.Entries.{paths_registered, registered, registered_by}
+use Rattle.valid_table.specs.Entries.{registered, registered_by}
 use Rattle.valid_table.specs.LineFaults.{IsNotClosedAt, IsTwiceAt}
 use Rattle.valid_table.specs.Texts.{IsJournalText}
 use Rattle.valid_table.specs.Valid.{IsClosedBehind, IsJournal, IsOnce}
@@ -37,12 +37,12 @@ later_new : (known paths : List (List ℕ)) → IsDistinct (pointwise nat_eq) (k
     → AreUnknown known paths
 later_new known paths once k d lt there =
     let path = get_or paths k d in
-    let parts = parts_at paths k path lt (get_or_default paths k d path lt) in
+    let parts = parts_at _ k _ lt (get_or_default paths k d path lt) in
     let before = known ++ take k paths in
     let all = ap (λ l. known ++ l) parts ∙ sym
     (append_assoc known (take k paths) (path ∷ drop (k + 1) paths)) in
-    once_apart before (drop (k + 1) paths) path (subst (IsDistinct (pointwise nat_eq)) all once)
-    (Contains-append_left known (take k paths) path there)
+    once_apart _ _ _ (subst (IsDistinct (pointwise nat_eq)) all once)
+    (Contains-append_left _ _ _ there)
 
 -- closed entries that register no path twice are right
 journal_right : (earlier : List Registration) (entries : List Entry)
@@ -54,12 +54,12 @@ journal_right earlier (entry ∷ entries) closed once =
     let now = earlier ++ rs in
     let later = registered entries in
     let all : IsOnce (now ++ later) = subst IsOnce (sym (append_assoc earlier rs later)) once in
-    let front = once_front (paths_registered now) (paths_registered later)
-    (subst (IsDistinct (pointwise nat_eq)) (paths_of-append now later) all) in
-    let new = later_new (paths_registered earlier) (paths_registered rs)
-    (subst (IsDistinct (pointwise nat_eq)) (paths_of-append earlier rs) front) in (
-      subst (All (IsRightBehind earlier entry)) (sym (entry_lines_are entry))
-          (up_to (paths_registered earlier) (paths_registered now) entry rs new closed.0),
+    let front = once_front _ _
+    (subst (IsDistinct (pointwise nat_eq)) (paths_of-append _ _) all) in
+    let new = later_new _ _
+    (subst (IsDistinct (pointwise nat_eq)) (paths_of-append _ _) front) in (
+      subst (All (IsRightBehind earlier entry)) (sym (entry_lines_are _))
+          (up_to _ _ _ _ new closed.0),
       journal_right now entries closed.1 all,
     )
 
@@ -67,6 +67,6 @@ journal_right earlier (entry ∷ entries) closed once =
 pub no_fault : (entries : List Entry) (m : ℕ) → IsJournal entries → IsNotClosedAt entries m
     ⊎ IsTwiceAt entries m → ⊥
 no_fault entries m is fault =
-    let w = wrong_line entries m fault in
-    none_wrong entries m w w.stands.after
+    let w = wrong_line _ m fault in
+    none_wrong _ m w _
     (subst (AreRight []) w.stands.parts (journal_right [] entries is.closed is.once))

@@ -32,19 +32,19 @@ digest_in_two (Some digest) is = is.1
 registration_in_two : (dir : List ℕ) (r : Registration) → IsOf One dir r → IsOf Two dir r
 registration_in_two dir r is = record {
   path = is.path;
-  digest = digest_in_two r.info.digest is.digest;
+  digest = digest_in_two _ is.digest;
   references = is.references;
   rising = is.rising;
 }
 
 entry_in_two : (dir : List ℕ) (entry : Entry) → IsEntryIn One dir entry → IsEntryIn Two dir entry
-entry_in_two dir (Add r) is = registration_in_two dir r is
+entry_in_two dir (Add r) is = registration_in_two _ r is
 entry_in_two dir (Done deriver outputs) is = (
   is.0,
   is.1,
   is.2,
   is.3,
-  All-weaker (IsOf One dir) (IsOf Two dir) (registration_in_two dir) outputs is.4,
+  All-weaker (IsOf One dir) (IsOf Two dir) (registration_in_two _) _ is.4,
 )
 
 -- ---- lengths
@@ -72,7 +72,7 @@ fields_double path digest is = omega (
   length-append path (32 ∷ (digest_text One digest ++ (10 ∷ []))),
   length-append (digest_text Two digest) (10 ∷ []),
   length-append (digest_text One digest) (10 ∷ []),
-  digest_doubles digest is,
+  digest_doubles _ is,
 )
 
 -- so is a line
@@ -103,13 +103,13 @@ pub versions_have_the_same_entries : VersionsHaveTheSameEntries
 unfolding text
 versions_have_the_same_entries dir bytes entries is = (
   record {
-    of_dir = All-weaker (IsEntryIn One dir) (IsEntryIn Two dir) (entry_in_two dir) entries
+    of_dir = All-weaker (IsEntryIn One dir) (IsEntryIn Two dir) (entry_in_two _) _
         is.of_dir;
     bytes_are = refl;
   },
   subst (λ (t : List ℕ). length (lines_text Two (lines entries)) ≤ 2 * length t) (sym is.bytes_are)
       (lines_double dir (lines entries)
-      (lines_of One dir MayEnd Start (lines entries) (lines_end One dir entries is.of_dir))),
+      (lines_of One dir MayEnd Start (lines entries) (lines_end _ _ _ is.of_dir))),
 )
 
 -- the second isn't too long where the first isn't
@@ -128,6 +128,6 @@ within_two dir bytes entries is within long =
 pub written_journals_are_read_again : WrittenJournalsAreReadAgain
 written_journals_are_read_again dir bytes entries answer is_dir is read again =
     journal_texts_are_read dir (text Two entries) entries answer is_dir
-    (within_two dir bytes entries is read.within)
+    (within_two _ _ _ is read.within)
     (inl (Two, (versions_have_the_same_entries dir bytes entries is).0))
     (subst IsJournal (sym read.checked.0) read.checked.1) again

@@ -41,7 +41,7 @@ by_number bytes version number rest begins line one = (
   λ is.
       let behind : version ≡ is.digits ++ (10 ∷ is.rest) =
       append_cancel_left (codes "realiser-journal ") _ _ (sym begins ∙ is.parts) in
-      let same = (same_cut 10 is.digits number is.rest rest (digits_lack is.digits is.decimal) one
+      let same = (same_cut _ _ _ _ _ (digits_lack _ is.decimal) one
       (sym behind ∙ line)).0 in (
         λ none. is.some (same ∙ none),
         subst (All (λ b. IsTrue (is_ascii_digit b))) same is.decimal,
@@ -65,11 +65,9 @@ digit_lacks digit other = search (rules, All-cons, All-nil)
 pub not_other : (version : Version) (bytes : List ℕ) → BeginsVersion version bytes
     → IsOtherVersion bytes → ⊥
 not_other One bytes (rest, whole) other =
-    ((by_number bytes (codes "1" ++ 10 ∷ rest) (codes "1") rest whole refl
-    (digit_lacks 49 (λ e. absurd (omega (arith, e))))).1 other).2 refl
+    ((by_number _ _ _ _ whole refl (digit_lacks _ (λ e. absurd (omega (arith, e))))).1 other).2 refl
 not_other Two bytes (rest, whole) other =
-    ((by_number bytes (codes "2" ++ 10 ∷ rest) (codes "2") rest whole refl
-    (digit_lacks 50 (λ e. absurd (omega (arith, e))))).1 other).3 refl
+    ((by_number _ _ _ _ whole refl (digit_lacks _ (λ e. absurd (omega (arith, e))))).1 other).3 refl
 
 -- the byte that tells a version
 abbrev digit_in : List ℕ → ℕ

@@ -1,4 +1,4 @@
-use Rattle.std.proofs.Common.{◌∙◌, ◌++◌, ◌∷◌, [], List, ℕ, ap}
+use Rattle.std.proofs.Common.{◌∙◌, ◌++◌, ◌∷◌, [], List, ℕ, ap, rules}
 use Rattle.std.proofs.lemmas.Result.{err_from_is_err_and}
 use Rattle.nix_drv.specs.Order.{key}
 use Rattle.nix_drv.proofs.CheckedPaths.{added_more, fault_at, good_more}
@@ -17,9 +17,4 @@ loop-item-preserved g c = record {
 }
 
 pub returns-in_err-parse_reference-clause-err : goal.returns-in_err-parse_reference-clause-err
-returns-in_err-parse_reference-clause-err g c =
-    let p = err_from_is_err_and c.from_residual.result c.from_residual.ensures.1 in
-    rw (p.1, p.2)
-    (fault_at (λ item. key g.T.Element.form (g.T.Element.value item)) _ c.key.result.now _
-    c.loop-item.item-index c.item-item.result _ c.loop-item-test.true c.item-item.is
-    c.key.ensures c.loop-item.invariant.good c.in_err-parse_reference.ensures.err)
+returns-in_err-parse_reference-clause-err g c = search (rules, err_from_is_err_and, fault_at)

@@ -4,12 +4,7 @@ use Rattle.nix_drv.proofs.CheckedTexts.{found_at, found_here}
 use Rattle.nix_drv.proofs.check.check_text.Goals as goal
 
 pub returns-then-ne : goal.returns-then-ne
-returns-then-ne c = (
-  c.in_ok-drv.drv,
-  found_at _ _ _ _ _ _ c.name-name.ensures.value (search rules)
-      c.in_ok-drv.ensures.0 c.in_ok-drv.ensures.1 c.in_ok-own.ensures.ok.0 c.in_ok-own.ensures.ok.1,
-  unequal_from_eq _ _ (search rules),
-)
+returns-then-ne c = search (rules, found_at, unequal_from_eq)
 
 pub returns : goal.returns
 returns c =

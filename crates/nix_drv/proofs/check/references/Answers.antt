@@ -1,4 +1,4 @@
-use Rattle.std.proofs.Common.{◌≡◌, sym}
+use Rattle.std.proofs.Common.{◌≡◌, sym, rules}
 use Rattle.std.proofs.lemmas.List.Filters.{dedup_is}
 use Rattle.std.proofs.lemmas.Result.{err_from_is_err_and}
 use Rattle.nix_drv.specs.OwnPath.{referenced_paths}
@@ -7,17 +7,10 @@ use Rattle.nix_drv.proofs.CheckedPaths.{all_good, inputs_fault, paths_are, sourc
 use Rattle.nix_drv.proofs.check.references.Goals as goal
 
 pub returns-in_err-add_paths-clause-err : goal.returns-in_err-add_paths-clause-err
-returns-in_err-add_paths-clause-err c =
-    let p = err_from_is_err_and c.from_residual.result c.from_residual.ensures.1 in
-    rw (p.1, p.2) (inputs_fault _ _ _ _ c.inputs.ensures c.in_err-add_paths.ensures.err)
+returns-in_err-add_paths-clause-err c = search (rules, err_from_is_err_and, inputs_fault)
 
 pub returns-in_err-add_paths-2-clause-err : goal.returns-in_err-add_paths-2-clause-err
-returns-in_err-add_paths-2-clause-err c =
-    let p = err_from_is_err_and c.from_residual-in_err-add_paths-2.result
-    c.from_residual-in_err-add_paths-2.ensures.1 in
-    rw (p.1, p.2)
-    (sources_fault _ _ _ _ _ c.inputs.ensures c.sources.ensures c.in_ok-add_paths.ensures.good
-    c.in_err-add_paths-2.ensures.err)
+returns-in_err-add_paths-2-clause-err c = search (rules, err_from_is_err_and, sources_fault)
 
 pub returns-clause-ok : goal.returns-clause-ok
 returns-clause-ok c =
@@ -29,7 +22,7 @@ returns-clause-ok c =
     ) (sym (paths_are _ _ _ c.inputs.ensures c.sources.ensures)) in (
       all_good _ _ _ _ c.inputs.ensures c.sources.ensures c.in_ok-add_paths.ensures.good
           c.in_ok-add_paths-2.ensures.good,
-      references_from (referenced_paths _) _ _ _ pushed
+      references_from _ _ _ _ pushed
           c.sort_unstable.ensures.permutation
           c.sort_unstable.ensures.sorted (dedup_is _ _ _ c.dedup.ensures.filtered),
     )

@@ -1,11 +1,10 @@
-use Rattle.std.proofs.Common.{is_some, ap, not}
+use Rattle.std.proofs.Common.{is_some, ap, not, rules}
 use Rattle.nix_drv.specs.Strings.{letter}
 use Rattle.nix_drv.proofs.Runs.{first_within, none_before, passes_there}
 use Rattle.nix_drv.proofs.escapes.plain_len.Goals as goal
 
 pub returns-clause-within : goal.returns-clause-within
-returns-clause-within c = first_within (λ b. is_some (letter b)) _ _
-    _ c.escape_place.ensures c.unwrap_or.ensures
+returns-clause-within c = search (rules, first_within)
 
 pub returns-clause-plain : goal.returns-clause-plain
 returns-clause-plain c k lt =
@@ -13,6 +12,4 @@ returns-clause-plain c k lt =
     _ c.escape_place.ensures c.unwrap_or.ensures k lt)
 
 pub returns-clause-ends : goal.returns-clause-ends
-returns-clause-ends c lt =
-    ap not (passes_there (λ b. is_some (letter b)) _ _
-    _ c.escape_place.ensures c.unwrap_or.ensures lt)
+returns-clause-ends c lt = search (rules, passes_there)

@@ -1,4 +1,4 @@
-use Rattle.nix_drv.specs.Derivation.{derivation_form, drv_value}
+use Rattle.std.proofs.Common.{rules}
 use Rattle.nix_drv.proofs.Back.{one_drv}
 use Rattle.nix_drv.proofs.Derivations.{derivation_clear}
 use Rattle.nix_drv.proofs.Texts.{no_text_within}
@@ -8,5 +8,4 @@ pub returns-clause-one_derivation : goal.returns-clause-one_derivation
 returns-clause-one_derivation c = one_drv
 
 pub returns-clause-none_within : goal.returns-clause-none_within
-returns-clause-none_within c = λ drv other. no_text_within derivation_form derivation_clear
-    (drv_value drv) (drv_value other)
+returns-clause-none_within c = search (rules, no_text_within, derivation_clear)

@@ -1,37 +1,20 @@
-use Rattle.std.proofs.Common.{◌≤◌, length, sym, arith}
-use Rattle.std.proofs.lemmas.Bool.{eqb-true, eqb-false}
-use Rattle.nix_drv.specs.Derivation.{derivation_form, drv_value}
-use Rattle.nix_drv.specs.Parts.{parts_value}
+use Rattle.std.proofs.Common.{◌≤◌, length, sym, arith, rules}
+use Rattle.std.proofs.lemmas.Bool.{eqb-true}
 use Rattle.nix_drv.proofs.Exact.{surplus_no_text, surplus_fits, surplus_front, stop_no_text, stop_fits, stop_front}
 use Rattle.nix_drv.proofs.Derivations.{derivation_clear, read_in_order, read_first}
 use Rattle.nix_drv.proofs.reading.read.Goals as goal
 
 pub overflow_sub-result : goal.overflow_sub-result
-overflow_sub-result c = surplus_fits derivation_form derivation_clear _
-    (parts_value c.in-Ok.parts) _ c.in-Ok.ensures
+overflow_sub-result c = search (rules, surplus_fits, derivation_clear)
 
 pub overflow_sub-result-in-Err-Left : goal.overflow_sub-result-in-Err-Left
-overflow_sub-result-in-Err-Left c = stop_fits derivation_form derivation_clear _
-    _ (rw c.in-Err-Left.field-0-is at c.in-Err-Left.ensures)
+overflow_sub-result-in-Err-Left c = search (rules, stop_fits, derivation_clear)
 
 pub returns-else-is_empty : goal.returns-else-is_empty
-returns-else-is_empty c = (
-  omega arith,
-  λ drv. surplus_no_text derivation_form derivation_clear c.args.input.now
-      (parts_value c.in-Ok.parts) _ c.in-Ok.ensures
-      (eqb-false _ _ (sym c.if-is_empty.ensures)) (drv_value drv),
-  surplus_front derivation_form derivation_clear _ (parts_value c.in-Ok.parts)
-      _ c.in-Ok.ensures,
-)
+returns-else-is_empty c = search (rules, surplus_no_text, derivation_clear, surplus_front)
 
 pub returns-in-Err-Left : goal.returns-in-Err-Left
-returns-in-Err-Left c = (
-  omega arith,
-  λ drv. stop_no_text derivation_form derivation_clear c.args.input.now c.in-Err-Left.left
-      (rw c.in-Err-Left.field-0-is at c.in-Err-Left.ensures) (drv_value drv),
-  stop_front derivation_form derivation_clear _ _
-      (rw c.in-Err-Left.field-0-is at c.in-Err-Left.ensures),
-)
+returns-in-Err-Left c = search (rules, stop_no_text, derivation_clear, stop_front)
 
 pub returns-in-Ok-in_order : goal.returns-in-Ok-in_order
 returns-in-Ok-in_order c = (

@@ -1,4 +1,4 @@
-use Rattle.std.proofs.Common.{◌≡◌, ℕ, ◌<◌, ◌≤◌, true, false, List, ◌++◌, length, get_or, take, drop, Option, Result, Ok, ap, ◌∙◌}
+use Rattle.std.proofs.Common.{◌≡◌, ℕ, ◌<◌, ◌≤◌, true, false, List, ◌++◌, length, get_or, take, drop, Option, Result, Ok, ap, ◌∙◌, rules}
 use Rattle.nix_drv.specs.Reading.{before, bytes_at}
 use Rattle.nix_drv.specs.Strings.{is_plain}
 use Rattle.nix_drv.proofs.Runs.{run_read, byte_fails, byte_more, byte_none}
@@ -11,7 +11,7 @@ behind_run : (items more rest run special : List ℕ) (n : ℕ) (total : Result 
     → before items (bytes_at false rest) ≡ total → more ≡ items ++ run → run ≡ take n rest
     → special ≡ drop n rest → before more (bytes_at false special) ≡ total
 behind_run items more rest run special n total fits plain so_far is front back =
-    rw (is, front, back) (run_read items rest n total fits plain so_far)
+    search (rules, run_read)
 
 pub returns-in_err-byte : goal.returns-in_err-byte
 returns-in_err-byte c = gives_stop _ _ _ _ c.from_residual-in_err-byte.ensures.1

@@ -43,8 +43,8 @@ of_rows-requires-clause-closed c =
     let all : registrations_of c.loop-entry.rows.entries ≡ registered entries =
     c.loop-entry.invariant.rows ∙ ap registered
     (take_all c.loop-entry.entry-index entries c.loop-entry-test.false) in
-    rw all (closed_references_valid entries
-    (closed_behind entries c.loop-entry.entry-index c.loop-entry-test.false
+    rw all (closed_references_valid _
+    (closed_behind _ _ c.loop-entry-test.false
     c.loop-entry.invariant.right))
 
 pub returns-clause-closed : goal.returns-clause-closed

@@ -11,11 +11,11 @@ overflow_add-result c = search (rules, line_count_fits)
 
 pub overflow_add-result-in-Some : goal.overflow_add-result-in-Some
 overflow_add-result-in-Some c =
-    let fits = line_count_fits c.args.registrations.now c.loop-place.place
-    c.index-registrations-place.result c.loop-place-test.true c.index-registrations-place.is in
+    let fits = line_count_fits _ _
+    _ c.loop-place-test.true c.index-registrations-place.is in
     let within = unknown_within
     _
-    c.references-references.result.now c.in-Some.at c.in-Some.ensures in
+    _ _ c.in-Some.ensures in
     omega (
       arith,
       c.requires.few,
@@ -26,9 +26,9 @@ overflow_add-result-in-Some c =
 pub returns-in-Some : goal.returns-in-Some
 returns-in-Some c =
     open_here _
-    c.args.registrations.now c.args.new c.args.line c.loop-place.place
-    c.index-registrations-place.result c.references-references.result.now c.in-Some.at
-    c.loop-place.line c.loop-place.invariant.new c.if-place-new.false c.loop-place-test.true
+    _ _ _ _
+    _ _ _
+    _ c.loop-place.invariant.new c.if-place-new.false c.loop-place-test.true
     c.index-registrations-place.is c.references-references.ensures.value
     c.loop-place.invariant.closed c.in-Some.ensures c.loop-place.invariant.number
 
@@ -38,14 +38,14 @@ overflow_add-line-in-loop-place c = search (rules, line_count_fits)
 pub loop-place-preserved : goal.loop-place-preserved
 loop-place-preserved c =
     let rs = c.args.registrations.now in
-    let more = line_count_more rs c.loop-place.place c.index-registrations-place.result
+    let more = line_count_more _ _ _
     c.loop-place-test.true c.index-registrations-place.is in
     record {
       new = let upto = c.loop-place.invariant.new in let other = c.if-place-new.false
           in omega arith;
       closed = closed_more
-          _ rs
-          c.loop-place.place c.index-registrations-place.result c.references-references.result.now
+          _ _
+          _ _ _
           c.loop-place.invariant.closed c.loop-place-test.true c.index-registrations-place.is
           c.references-references.ensures.value c.in_default.ensures;
       number = omega (

@@ -1,4 +1,4 @@
-use Rattle.std.proofs.Common.{◌∙◌, subst}
+use Rattle.std.proofs.Common.{subst, rules}
 use Rattle.std.proofs.lemmas.List.{take_all}
 use Rattle.valid_table.specs.Closing.{AddsRows, paths_at}
 use Rattle.valid_table.specs.Tables.{registrations_of}
@@ -6,14 +6,7 @@ use Rattle.valid_table.proofs.AddedRows.{adds_this_row}
 use Rattle.valid_table.proofs.closing.add_numbers.Goals as goal
 
 pub loop-number-preserved : goal.loop-number-preserved
-loop-number-preserved c = record {
-  adds = adds_this_row (registrations_of c.args.rows.now.entries) c.args.found.now.rows
-      c.args.numbers.now c.loop-number.number-index c.loop-number.found.rows c.insert.new.self.rows
-      c.loop-number.invariant.adds c.loop-number-test.true
-      (c.requires.below c.loop-number.number-index 0 c.loop-number-test.true)
-      c.in_ok-insert.ensures.rows c.insert.ensures.distinct;
-  room = c.insert.ensures.room ∙ c.loop-number.invariant.room;
-}
+loop-number-preserved c = search (rules, adds_this_row)
 
 pub returns-clause-adds : goal.returns-clause-adds
 returns-clause-adds c =

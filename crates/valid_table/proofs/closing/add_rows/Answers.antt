@@ -10,21 +10,21 @@ loop-path-preserved c =
     let registrations = registrations_of c.args.rows.now.entries in
     let paths = take c.loop-path.path-index c.args.paths.now in
     let before = c.loop-path.invariant in
-    rw (taken_more c.args.paths.now c.loop-path.path-index c.path-item.result c.loop-path-test.true
+    rw (taken_more _ _ _ c.loop-path-test.true
     c.path-item.is)
     (elim c.match-row_of.branch [
       | in-Some+in_ok-insert w ↦
           rw w.found-is
           (record {
-            adds = adds_a_row registrations c.args.found.now.rows paths c.path-item.result
-                c.loop-path.found.rows _ w.in-Some.row before.adds w.in-Some.ensures
+            adds = adds_a_row _ _ _ _
+                _ _ _ before.adds w.in-Some.ensures
                 w.in_ok-insert.ensures.rows w.insert.ensures.distinct;
             room = w.insert.ensures.room ∙ before.room;
           })
       | in_default w ↦ rw w.found-is
           (record {
-            adds = adds_no_row registrations c.args.found.now.rows paths c.path-item.result
-                c.loop-path.found.rows before.adds w.in_default.ensures;
+            adds = adds_no_row _ _ _ _
+                _ before.adds w.in_default.ensures;
             room = before.room;
           })
     ])

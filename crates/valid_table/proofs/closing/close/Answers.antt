@@ -1,10 +1,9 @@
-use Rattle.valid_table.specs.Tables.{registrations_of}
 use Rattle.valid_table.proofs.Closures.{closing_answered}
 use Rattle.valid_table.proofs.closing.close.Goals as goal
 
 pub returns : goal.returns
 returns c =
-    closing_answered (registrations_of c.args.rows.now.entries) c.args.roots.now
-    c.in_ok-found.found.rows c.follow_all.new.found.rows c.sorted_paths.result
+    closing_answered _ _
+    _ _ _
     c.in_ok-found.ensures.valid c.in_ok-found.ensures.added c.in_ok-follow_all.ensures
     c.sorted_paths.ensures.rising c.sorted_paths.ensures.same c.sorted_paths.ensures.err

@@ -1,7 +1,6 @@
-use Rattle.std.proofs.Common.{◌≡◌, Err, List, Ok, OnOk, Result, subst, ℕ}
+use Rattle.std.proofs.Common.{◌≡◌, Err, List, Ok, OnOk, Result, ℕ, rules}
 use Rattle.valid_table.specs.Closing.{AddsReferences, AddsRows, path_at}
 use Rattle.valid_table.specs.PathInfos.{PathInfo}
-use Rattle.valid_table.specs.Tables.{registrations_of}
 use Rattle.valid_table.specs.Valid.{Registers}
 use Rattle.valid_table.specs.declared.entry.Registration.{Registration}
 use Rattle.valid_table.proofs.Following.{row_registers}
@@ -12,20 +11,11 @@ references_added : {T E : Type 0} (registrations : List Registration) (old : Lis
     → Registers registrations (path_at registrations row) info → paths ≡ info.references
     → OnOk result (AddsRows registrations old paths new)
     → OnOk result (AddsReferences registrations old row new)
-references_added registrations old row new info paths (Ok x) registers same adds = record {
-  info = info;
-  registers = registers;
-  adds = subst (λ (ps : List (List ℕ)). AddsRows registrations old ps new) same adds;
-}
+references_added registrations old row new info paths (Ok x) registers same adds = search rules
 references_added registrations old row new info paths (Err e) registers same adds = tt
 
 pub add_numbers-requires-clause-below : goal.add_numbers-requires-clause-below
-add_numbers-requires-clause-below c = c.in-Some.ensures.2.below
+add_numbers-requires-clause-below c = search rules
 
 pub returns-in-None-clause-adds : goal.returns-in-None-clause-adds
-returns-in-None-clause-adds c =
-    let rows = c.args.rows.now.entries in
-    references_added (registrations_of rows) c.args.found.now.rows c.args.row
-    c.add_rows.new.found.rows c.index.result.now c.references.result.now c.add_rows.result
-    (row_registers rows c.args.row c.index.result.now c.requires.within c.index.ensures)
-    c.references.ensures.value c.add_rows.ensures.adds
+returns-in-None-clause-adds c = search (rules, references_added, row_registers)

@@ -1,6 +1,5 @@
-use Rattle.std.proofs.Common.{◌≡◌, ◌<◌, ◌∙◌, ap, arith, get_or, length, List, ℕ, rules, subst, sym}
+use Rattle.std.proofs.Common.{◌≡◌, ◌<◌, ◌∙◌, ap, arith, get_or, length, List, ℕ, rules}
 use Rattle.std.proofs.lemmas.List.{get_or_default}
-use Rattle.valid_table.specs.Tables.{registrations_of}
 use Rattle.valid_table.proofs.Following.{few_rows, followed_all, followed_more, followed_none, row_below}
 use Rattle.valid_table.proofs.RowNumbers.{row_count}
 use Rattle.valid_table.proofs.closing.follow_all.Goals as goal
@@ -12,22 +11,7 @@ pub loop-next-smaller : goal.loop-next-smaller
 loop-next-smaller c = search (rules, few_rows)
 
 pub follow-requires-clause-within : goal.follow-requires-clause-within
-follow-requires-clause-within c =
-    let rows = c.args.rows.now.entries in
-    let found = c.loop-next.found.rows in
-    let next = c.loop-next.next in
-    let within : next < length found = omega (
-      arith,
-      c.loop-next-test.true,
-      ap length c.rows.ensures,
-    ) in
-    subst (λ (numbers : List ℕ). get_or numbers next 0 < length rows)
-    (sym c.rows-in-loop-next.ensures)
-    (omega (
-      arith,
-      row_below (registrations_of rows) found next c.loop-next.invariant.followed.rows within,
-      row_count rows,
-    ))
+follow-requires-clause-within c = search (rules, row_below, row_count)
 
 pub loop-next-preserved : goal.loop-next-preserved
 loop-next-preserved c =
@@ -44,13 +28,13 @@ loop-next-preserved c =
     ∙ get_or_default found next 0 row within in
     let adds = c.in_ok-follow.ensures.adds in
     record {
-      followed = followed_more (registrations_of c.args.rows.now.entries) c.requires.once
-          c.args.found.now.rows found c.follow.new.found.rows next row adds.info
+      followed = followed_more _ c.requires.once
+          _ _ _ _ _ _
           c.loop-next.invariant.followed within at adds.registers adds.adds;
       room = omega (arith, c.loop-next.invariant.room, c.follow.ensures.room);
     }
 
 pub returns : goal.returns
-returns c = followed_all (registrations_of c.args.rows.now.entries) c.args.found.now.rows
-    c.loop-next.found.rows c.loop-next.next c.loop-next.invariant.followed
+returns c = followed_all _ _
+    _ _ c.loop-next.invariant.followed
     (omega (arith, c.loop-next-test.false, ap length c.rows.ensures))

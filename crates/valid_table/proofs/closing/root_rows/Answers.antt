@@ -17,12 +17,12 @@ loop-root-preserved c =
     let registrations = registrations_of c.args.rows.now.entries in
     let roots = take c.loop-root.root-index c.args.roots.now in
     let root = c.root-item.result in
-    rw (taken_more c.args.roots.now c.loop-root.root-index root c.loop-root-test.true
+    rw (taken_more _ _ _ c.loop-root-test.true
     c.root-item.is)
     (record {
-      valid = All-push (IsValid registrations) roots root c.loop-root.invariant.valid
-          (valid_from_row registrations root c.in-Some.row c.in-Some.ensures);
-      added = adds_a_row registrations [] roots root c.loop-root.found.rows _ c.in-Some.row
+      valid = All-push (IsValid registrations) _ _ c.loop-root.invariant.valid
+          (valid_from_row _ _ _ c.in-Some.ensures);
+      added = adds_a_row _ [] roots root c.loop-root.found.rows _ c.in-Some.row
           c.loop-root.invariant.added c.in-Some.ensures c.in_ok-insert.ensures.rows
           c.insert.ensures.distinct;
       room = omega (arith, c.loop-root.invariant.room, c.insert.ensures.room);

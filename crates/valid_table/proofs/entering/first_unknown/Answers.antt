@@ -10,14 +10,14 @@ use Rattle.valid_table.proofs.entering.first_unknown.Goals as goal
 pub returns-then-not-is_known : goal.returns-then-not-is_known
 returns-then-not-is_known c =
     unknown_here _
-    c.args.paths.now c.loop-place.place c.index-paths-place.result c.loop-place.invariant
+    _ _ _ c.loop-place.invariant
     c.loop-place-test.true c.index-paths-place.is
     (λ there. false≢true (sym c.if-not-is_known.true ∙ c.is_known.ensures.1 there))
 
 pub loop-place-preserved : goal.loop-place-preserved
 loop-place-preserved c =
     known_more _
-    c.args.paths.now c.loop-place.place c.index-paths-place.result c.loop-place.invariant
+    _ _ _ c.loop-place.invariant
     c.loop-place-test.true c.index-paths-place.is
     (c.is_known.ensures.0 c.if-not-is_known.false)
 

@@ -9,9 +9,9 @@ returns-else-has_row c =
     let known = registrations_of c.args.rows.now.entries in
     let some = c.args.registrations.now in
     let path = c.args.path.now in (
-      λ yes. valid_by_some known some path (c.is_registered.ensures.0 yes),
+      λ yes. valid_by_some _ _ _ (c.is_registered.ensures.0 yes),
       λ valid. ⊎_elim
           (λ has. absurd (false≢true (sym c.if-has_row.false ∙ c.has_row.ensures.1 has)))
           (λ own. c.is_registered.ensures.1 own)
-          (valid_cases known some path valid),
+          (valid_cases _ _ _ valid),
     )

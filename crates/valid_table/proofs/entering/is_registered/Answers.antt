@@ -7,7 +7,7 @@ pub returns : goal.returns
 returns c =
     let path = c.args.path.now in
     rw c.is_ok.ensures.value
-    (search_tells c.args.registrations.now path c.binary_search_by-found.result c.requires
+    (search_tells _ _ _ c.requires
     c.binary_search_by-found.ensures.bound
     (c.binary_search_by-found.ensures.position (compared path)
     (always_returns_same _ _ _ (λ a r f k. (search rules, search rules)))))

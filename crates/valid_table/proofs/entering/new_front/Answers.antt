@@ -5,8 +5,8 @@ use Rattle.valid_table.proofs.entering.new_front.Goals as goal
 
 pub loop-count-preserved : goal.loop-count-preserved
 loop-count-preserved c =
-    new_more _ c.args.registrations.now
-    c.loop-count.count c.index-registrations-count.result c.loop-count.invariant
+    new_more _ _
+    _ _ c.loop-count.invariant
     c.loop-count-test.true c.index-registrations-count.is
     (λ there. false≢true (sym c.if-has_row.false ∙ c.has_row.ensures.1 there))
 

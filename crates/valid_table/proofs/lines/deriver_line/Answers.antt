@@ -5,11 +5,11 @@ use Rattle.valid_table.proofs.lines.deriver_line.Goals as goal
 
 pub returns-then-not-is_drv_name : goal.returns-then-not-is_drv_name
 returns-then-not-is_drv_name c = λ path rest.
-    not_drv _ _ c.in-Some.path c.in-Some.rest.now c.name.result.now path rest
+    not_drv _ _ _ _ _ _ _
     (MatchOption-at_some _ _ _ c.in-Some.is c.in_ok-path.ensures) c.name.ensures.value
     (sym c.if-not-is_drv_name.ensures)
 
 pub returns : goal.returns
 returns c = λ path rest.
-    not_ahead _ _ c.in-Some.path c.in-Some.rest.now path rest
+    not_ahead _ _ _ _ _ _
     (MatchOption-at_some _ _ _ c.in-Some.is c.in_ok-path.ensures) c.in-None.ensures

@@ -3,23 +3,23 @@ use Rattle.valid_table.proofs.LinePaths.{no_newline, no_space, other_digest, oth
 use Rattle.valid_table.proofs.lines.fields_line.Goals as goal
 
 pub returns-in_default : goal.returns-in_default
-returns-in_default c = λ path digest rest. no_space _ _ _ path digest rest c.in_default.ensures
+returns-in_default c = λ path digest rest. no_space _ _ _ _ _ _ c.in_default.ensures
 
 pub returns-in_default-2 : goal.returns-in_default-2
 returns-in_default-2 c = λ path digest rest is.
-    other_path _ _ _ c.in-Some.text.now c.in-Some.fields.now
+    other_path _ _ _ _ c.in-Some.fields.now
     c.in_ok-path.ensures.is_dir c.in-Some.ensures.0 c.in-Some.ensures.1 path
     digest rest is (MatchOption-at_none _ _ c.in_default-2.is c.in_ok-path.ensures.path)
 
 pub returns-in_default-cut : goal.returns-in_default-cut
 returns-in_default-cut c = λ path digest rest is.
-    no_newline _ _ _ c.in-Some.text.now c.in-Some.fields.now
+    no_newline _ _ _ _ _
     c.in_ok-path.ensures.is_dir c.in-Some.ensures.0 c.in-Some.ensures.1 path
     digest rest is c.in_default-cut.ensures
 
 pub returns-in-None : goal.returns-in-None
 returns-in-None c = λ path digest rest is.
-    other_digest _ _ _ c.in-Some.text.now c.in-Some.fields.now
+    other_digest _ _ _ _ _
     c.in_ok-path.ensures.is_dir c.in-Some.ensures.0 c.in-Some.ensures.1 path
     digest rest is c.in-Some-cut.digest.now c.in-Some-cut.rest.now
     c.in-Some-cut.ensures.0 c.in-Some-cut.ensures.1 c.in-None.ensures

@@ -14,6 +14,6 @@ pub returns : goal.returns
 returns c =
     let begins = strip_prefix_is Decides-eqb c.args.bytes.now (codes "realiser-journal ")
     (Some c.in-Some.version) c.in-Some.ensures.cases in
-    let both = by_number _ _ c.in-Some-cut.number.now c.in-Some-cut.field-0-1.now begins
+    let both = by_number _ _ _ _ begins
     c.in-Some-cut.ensures.1 c.in-Some-cut.ensures.0 in
     (λ is. both.0 (c.is_other_number.ensures.0 is), λ is. c.is_other_number.ensures.1 (both.1 is))

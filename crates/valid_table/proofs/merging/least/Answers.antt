@@ -4,7 +4,7 @@ use Rattle.valid_table.proofs.merging.least.Goals as goal
 
 pub returns-in-Less : goal.returns-in-Less
 returns-in-Less c =
-    least_less c.args.left.now c.args.right.now c.path-item-2.result c.other-item.result _ _
+    least_less _ _ _ _ _ _
     (first_and_rest c.args.left.now c.path-item-2.result (first_of (grind arith, search rules))
     c.path-item-2.is)
     (first_and_rest c.args.right.now c.other-item.result (first_of (grind arith, search rules))
@@ -13,7 +13,7 @@ returns-in-Less c =
 
 pub returns-in-Equal : goal.returns-in-Equal
 returns-in-Equal c =
-    least_equal c.args.left.now c.args.right.now c.path-item-2.result c.other-item.result _ _
+    least_equal _ _ _ _ _ _
     (first_and_rest c.args.left.now c.path-item-2.result (first_of (grind arith, search rules))
     c.path-item-2.is)
     (first_and_rest c.args.right.now c.other-item.result (first_of (grind arith, search rules))
@@ -22,7 +22,7 @@ returns-in-Equal c =
 
 pub returns-in-Greater : goal.returns-in-Greater
 returns-in-Greater c =
-    least_greater c.args.left.now c.args.right.now c.path-item-2.result c.other-item.result _ _
+    least_greater _ _ _ c.other-item.result _ _
     (first_and_rest c.args.left.now c.path-item-2.result (first_of (grind arith, search rules))
     c.path-item-2.is)
     (first_and_rest c.args.right.now c.other-item.result (first_of (grind arith, search rules))

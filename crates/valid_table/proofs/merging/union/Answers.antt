@@ -7,13 +7,13 @@ paths-init c = search (rules, IsMerged, merged_none)
 
 pub paths-preserved : goal.paths-preserved
 paths-preserved c =
-    merged_more c.args.left.now c.args.right.now c.paths.paths.items c.paths.more.now
-    c.paths.others.now c.in-Some.path.now c.in-Some.behind.now c.in-Some.beside.now
-    c.push.new.self.items c.paths.invariant c.in-Some.ensures
+    merged_more _ _ _ _
+    _ _ _ _
+    _ c.paths.invariant c.in-Some.ensures
     (rw c.in_ok-copy.ensures.same at c.in_ok-push.ensures.items)
 
 pub returns : goal.returns
 returns c = record {
-  ok = merged_all c.args.left.now c.args.right.now c.paths.paths.items c.paths.more.now
-      c.paths.others.now c.paths.invariant c.in_default.ensures.0 c.in_default.ensures.1;
+  ok = merged_all _ _ _ _
+      _ c.paths.invariant c.in_default.ensures.0 c.in_default.ensures.1;
 }

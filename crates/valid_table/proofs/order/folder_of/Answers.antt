@@ -3,7 +3,4 @@ use Rattle.valid_table.proofs.Keys.{first_row_folder}
 use Rattle.valid_table.proofs.order.folder_of.Goals as goal
 
 pub returns-in-Some : goal.returns-in-Some
-returns-in-Some c =
-    c.folder_part.ensures
-    ∙ first_row_folder c.args.rows.now.entries c.in-Some.path.now c.in-Some.field-0-1.now
-    c.in-Some.ensures.entry
+returns-in-Some c = c.folder_part.ensures ∙ first_row_folder _ _ _ c.in-Some.ensures.entry

@@ -6,7 +6,7 @@ use Rattle.valid_table.proofs.reading.done_of.Goals as goal
 
 pub returns-in_default-2-clause-left : goal.returns-in_default-2-clause-left
 returns-in_default-2-clause-left c = λ from begins.
-    deriver_stops _ _ from _ c.in-Some.fields.now c.in-Some.ensures
+    deriver_stops _ _ _ _ _ c.in-Some.ensures
     (MatchOption-at_none _ _ c.in_default-2.is c.in_ok-deriver.ensures) begins
 
 pub returns-in_err-outputs-clause-left : goal.returns-in_err-outputs-clause-left
@@ -21,7 +21,7 @@ returns-in_err-outputs-clause-left c =
 
 pub returns-clause-ok : goal.returns-clause-ok
 returns-clause-ok c =
-    done_found _ _ _ c.in-Some.fields.now c.in-Some-2.deriver c.in-Some-2.rest.now _
-    c.in_ok-outputs.outputs.items c.new.result
+    done_found _ _ _ _ _ _ _
+    _ _
     c.in-Some.ensures (MatchOption-at_some _ _ _ c.in-Some-2.is c.in_ok-deriver.ensures)
     c.in_ok-outputs.ensures.ok c.new.ensures

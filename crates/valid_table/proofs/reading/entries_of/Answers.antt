@@ -1,4 +1,4 @@
-use Rattle.std.proofs.Common.{sym}
+use Rattle.std.proofs.Common.{sym, rules}
 use Rattle.std.proofs.lemmas.Option.{MatchOption-at_some}
 use Rattle.std.proofs.lemmas.Result.{err_from_is_err_and}
 use Rattle.valid_table.proofs.EntriesRead.{entries_more, text_read, text_stops, version_begins, version_read}
@@ -11,8 +11,8 @@ entries-init c =
     (MatchOption-at_some _ _ _ c.in-Some.is c.version_of.ensures) c.new-entries.ensures.items
 
 pub entries-preserved : goal.entries-preserved
-entries-preserved c = entries_more _ _ _ _ c.push.new.self.items _ c.in_ok-entry.behind.now
-    c.in_ok-entry.entry c.entries.invariant c.in_ok-entry.ensures.ok c.in_ok-push.ensures.items
+entries-preserved c = entries_more _ _ _ _ _ _ _
+    _ c.entries.invariant c.in_ok-entry.ensures.ok c.in_ok-push.ensures.items
 
 pub returns-in_err-entry-clause-left : goal.returns-in_err-entry-clause-left
 returns-in_err-entry-clause-left c =
@@ -22,12 +22,10 @@ returns-in_err-entry-clause-left c =
     c.in_err-entry.ensures.left)
 
 pub returns-in_err-entry-clause-memory : goal.returns-in_err-entry-clause-memory
-returns-in_err-entry-clause-memory c = λ memory.
-    (_, version_begins _ _ _ _ _ c.entries.invariant)
+returns-in_err-entry-clause-memory c = search (rules, version_begins)
 
 pub returns-in_err-push-clause-memory : goal.returns-in_err-push-clause-memory
-returns-in_err-push-clause-memory c = λ memory.
-    (_, version_begins _ _ _ _ _ c.entries.invariant)
+returns-in_err-push-clause-memory c = search (rules, version_begins)
 
 pub returns-clause-ok : goal.returns-clause-ok
 returns-clause-ok c = text_read _ _ _ _ _ c.entries.invariant (sym c.entries-test.ensures)

@@ -7,7 +7,7 @@ use Rattle.valid_table.proofs.reading.fields_above.Goals as goal
 pub returns : goal.returns
 returns c =
     let unlike = c.if-is_above.false in
-    low_fields _ c.args.dir.now _ c.args.bytes.now c.in-Some.path c.in-Some.digest
-    c.in-Some.rest.now
+    low_fields _ _ _ _ _ _
+    _
     (MatchOption-at_some _ _ _ c.in-Some.is c.in_ok-path.ensures)
     (λ above. false≢true (sym unlike ∙ c.is_above.ensures.1 above))

@@ -12,7 +12,7 @@ returns-in_err-output-clause-left c = search (rules, err_from_is_err_and, stops_
 
 pub outputs-preserved : goal.outputs-preserved
 outputs-preserved c =
-    outputs_more _ _ _ _ c.push.new.self.items _ c.in-Some.behind.now _ c.in-Some.output
+    outputs_more _ _ _ _ _ _ _ _ _
     c.outputs.invariant
     (c.last_path-before.ensures ∙ ap (λ os. last_or None (paths_registered os))
     c.deref.ensures.value)

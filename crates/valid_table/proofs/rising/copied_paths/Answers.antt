@@ -18,12 +18,12 @@ loop-row-preserved c =
     c.index.result.now =
     rw (
       get_or-map (λ (k : ℕ × ℕ). k.1) keyed i (0, 0) 0 c.loop-row-test.true,
-      paths_are_keys rows,
+      paths_are_keys _,
       ← c.keys-texts.ensures.rest,
     )
     c.index.ensures in
-    paths_more registrations numbers i c.index.result.now c.loop-row.paths.items
-    c.push.new.self.items
+    paths_more _ _ i _ _
+    _
     (omega (arith, c.loop-row-test.true, length-map keyed (λ (k : ℕ × ℕ). k.1)))
     c.loop-row.invariant at
     (rw c.in_ok-copy.ensures.same at c.in_ok-push.ensures.items)

@@ -1,7 +1,6 @@
 use Rattle.std.proofs.Common.{◌≡◌, ◌⊎◌, ℕ, nat_eq}
 use Rattle.std.specs.List.{list_any}
 use Rattle.valid_table.specs.Closing.{path_at}
-use Rattle.valid_table.specs.FirstRows.{rows_behind}
 use Rattle.valid_table.specs.Keys.{IsKey, folder_of}
 use Rattle.valid_table.specs.Tables.{registrations_of}
 use Rattle.valid_table.proofs.FirstRows.{behind_added, chosen_rows, chosen_same, keys_swept, regrouped_is, swept_first}
@@ -13,32 +12,32 @@ push_late-requires-clause-keys c =
     keys_swept
     (λ (k : ℕ × ℕ). (k.0 ≡ 0) ⊎ (IsKey (folder_of registrations) (path_at registrations k.1) k.0))
     (λ (k : ℕ × ℕ). list_any (nat_eq k.1) c.args.found.now.rows)
-    c.args.order.now.keyed.items c.swept-ordered.result.now c.in_ok-keyed.keyed.items
-    c.push_found.new.keyed.items c.swept-ordered.ensures c.in_ok-keyed.ensures.items
+    _ _ _
+    _ c.swept-ordered.ensures c.in_ok-keyed.ensures.items
     c.in_ok-push_found.ensures c.requires.keys
 
 pub returns-clause-rows : goal.returns-clause-rows
 returns-clause-rows c =
     let found = c.args.found.now.rows in
     let ordered = c.swept-ordered.result.now in
-    chosen_rows c.args.rows.now.entries (rows_behind ordered) found
-    (rows_behind c.push_late.new.keyed.items)
-    (swept_first _ c.args.order.now.keyed.items ordered c.swept-ordered.ensures c.requires.first)
+    chosen_rows _ _ _
+    _
+    (swept_first _ _ _ c.swept-ordered.ensures c.requires.first)
     c.requires.rows
-    (regrouped_is found ordered c.in_ok-keyed.keyed.items c.push_found.new.keyed.items
-    c.push_late.new.keyed.items c.in_ok-keyed.ensures.items
-    (behind_added (λ row. list_any (nat_eq row) found) ordered c.in_ok-keyed.keyed.items
-    c.push_found.new.keyed.items c.in_ok-push_found.ensures)
+    (regrouped_is found ordered _ _
+    _ c.in_ok-keyed.ensures.items
+    (behind_added (λ row. list_any (nat_eq row) found) _ _
+    _ c.in_ok-push_found.ensures)
     c.in_ok-push_late.ensures.rows)
 
 pub returns-clause-same : goal.returns-clause-same
 returns-clause-same c =
     let found = c.args.found.now.rows in
     let ordered = c.swept-ordered.result.now in
-    chosen_same _ (rows_behind ordered) found (rows_behind c.push_late.new.keyed.items)
-    (swept_first _ c.args.order.now.keyed.items ordered c.swept-ordered.ensures c.requires.first)
-    (regrouped_is found ordered c.in_ok-keyed.keyed.items c.push_found.new.keyed.items
-    c.push_late.new.keyed.items c.in_ok-keyed.ensures.items
-    (behind_added (λ row. list_any (nat_eq row) found) ordered c.in_ok-keyed.keyed.items
-    c.push_found.new.keyed.items c.in_ok-push_found.ensures)
+    chosen_same _ _ _ _
+    (swept_first _ _ _ c.swept-ordered.ensures c.requires.first)
+    (regrouped_is found ordered _ _
+    _ c.in_ok-keyed.ensures.items
+    (behind_added (λ row. list_any (nat_eq row) found) _ _
+    _ c.in_ok-push_found.ensures)
     c.in_ok-push_late.ensures.rows)

@@ -13,7 +13,7 @@ loop-item-preserved c =
     let p = λ (k : ℕ × ℕ). list_any (nat_eq k.1) c.args.found.now.rows in
     let start = c.args.keyed.now.items in
     let before = c.loop-item.keyed.items in
-    let one = take_more ordered i (0, 0) c.loop-item-test.true in
+    let one = take_more _ i _ c.loop-item-test.true in
     elim c.if-has.branch [
       | then-has+in_ok-push w ↦
           kept p (take i ordered) (take (i + 1) ordered) start before c.if-has.keyed.items item one
@@ -21,6 +21,6 @@ loop-item-preserved c =
           (ap (λ v. v.items) w.keyed-is ∙ w.in_ok-push.ensures.items)
       | else-has w ↦
           ap (λ v. v.items) w.keyed-is
-          ∙ left_out p (take i ordered) (take (i + 1) ordered) start before item one
+          ∙ left_out p _ _ _ _ _ one
           c.loop-item.invariant (sym c.has.ensures ∙ w.if-has.false)
     ]

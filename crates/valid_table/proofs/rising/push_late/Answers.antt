@@ -21,26 +21,26 @@ loop-row-preserved c =
     let before = c.loop-row.keyed.items in
     let one : take (i + 1) found ≡ take i found ++ row ∷ [] =
     subst (λ (l : List ℕ). take (i + 1) l ≡ take i l ++ row ∷ []) c.rows-row-items.ensures
-    (take_more c.rows-row-items.result.now i 0 c.loop-row-test.true) in
+    (take_more _ i 0 c.loop-row-test.true) in
     elim c.if-row-first.branch [
       | then-row-first+in_ok-push w ↦
           let pushed = ap (λ v. v.items) w.keyed-is ∙ w.in_ok-push.ensures.items in
           record {
-            rows = kept p (take i found) (take (i + 1) found) start (rows_behind before)
-                (rows_behind c.if-row-first.keyed.items) row one c.loop-row.invariant.rows
+            rows = kept p _ _ _ _
+                _ _ one c.loop-row.invariant.rows
                 (ap not (le-ltb row first w.if-row-first.true))
-                (behind_pushed before c.if-row-first.keyed.items (w.key_of.result, row) pushed);
-            keys = one_more_keyed registrations w.key_of.result row w.index.result.now
-                c.folder_of-folder.result.now before c.if-row-first.keyed.items
+                (behind_pushed _ _ _ pushed);
+            keys = one_more_keyed _ _ _ _
+                _ _ _
                 c.loop-row.invariant.keys c.folder_of-folder.ensures
-                (path_looked_up c.args.rows.now.entries _ row w.index.result.now
+                (path_looked_up _ _ _ _
                 c.keys-paths.ensures.rest w.index.ensures)
                 w.key_of.ensures pushed;
           }
       | else-row-first w ↦
           record {
             rows = ap (λ v. rows_behind v.items) w.keyed-is
-                ∙ left_out p (take i found) (take (i + 1) found) start (rows_behind before) row one
+                ∙ left_out p _ _ _ _ _ one
                 c.loop-row.invariant.rows (ap not (lt-ltb row first w.if-row-first.false));
             keys = subst (λ v. AreKeyed registrations v.items) (sym w.keyed-is)
                 c.loop-row.invariant.keys;

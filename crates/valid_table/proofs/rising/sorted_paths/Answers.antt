@@ -1,6 +1,5 @@
 use Rattle.std.proofs.Common.{refl}
 use Rattle.std.proofs.lemmas.List.Sorted.{IsPermutation-trans}
-use Rattle.valid_table.specs.Closing.{paths_at}
 use Rattle.valid_table.specs.FirstRows.{rows_behind}
 use Rattle.valid_table.specs.Tables.{registrations_of}
 use Rattle.valid_table.proofs.FirstRows.{same_paths}
@@ -12,8 +11,8 @@ use Rattle.valid_table.proofs.rising.sorted_paths.Goals as goal
 pub copied_paths-requires : goal.copied_paths-requires
 copied_paths-requires c =
     rw c.deref.ensures.value
-    (keyed_below _ (rows_behind c.in_ok-keyed.keyed.items) c.in_ok-keyed.keyed.items
-    c.sort.new.self.items
+    (keyed_below _ _ _
+    _
     refl c.sort.ensures.permutation
     c.in_ok-keyed.ensures.rows.below)
 
@@ -22,30 +21,30 @@ returns c =
     let registrations = registrations_of c.args.rows.now.entries in
     let chosen = rows_behind c.in_ok-keyed.keyed.items in
     let copied = rw c.deref.ensures.value at c.in_ok-paths.ensures.paths in
-    let moved = paths_moved registrations chosen c.in_ok-keyed.keyed.items
-    c.sort.new.self.items c.in_ok-paths.paths.items
+    let moved = paths_moved _ _ _
+    _ _
     refl c.sort.ensures.permutation copied in
     elim c.if-not-keys_rise.branch [
       | then-not-keys_rise w ↦
           let sorted = IsPermutation-trans _ _ _ moved w.put_in_order.ensures.moved in
           rw w.paths-is (record {
-            rising = sorted_rising registrations c.requires.once chosen c.in_ok-keyed.ensures.rows
-                (paths_at registrations chosen) _ refl sorted w.put_in_order.ensures.sorted;
-            same = same_paths registrations chosen c.args.found.now.rows _
+            rising = sorted_rising _ c.requires.once _ c.in_ok-keyed.ensures.rows
+                _ _ refl sorted w.put_in_order.ensures.sorted;
+            same = same_paths _ _ _ _
                 c.in_ok-keyed.ensures.same
-                (sorted_same (paths_at registrations chosen) _ _ refl sorted);
+                (sorted_same _ _ _ refl sorted);
             err = tt;
           })
       | else-not-keys_rise w ↦
           rw w.paths-is (record {
             rising = rw copied
-                (paths_rise registrations c.sort.new.self.items
-                (keyed_moved registrations c.in_ok-keyed.keyed.items c.sort.new.self.items
+                (paths_rise _ _
+                (keyed_moved _ _ _
                 c.sort.ensures.permutation c.in_ok-keyed.ensures.keys)
                 (rw c.deref-2.ensures.value at c.keys_rise.ensures w.if-not-keys_rise.false));
-            same = same_paths registrations chosen c.args.found.now.rows _
+            same = same_paths _ _ _ _
                 c.in_ok-keyed.ensures.same
-                (sorted_same (paths_at registrations chosen) _ _ refl moved);
+                (sorted_same _ _ _ refl moved);
             err = tt;
           })
     ]

@@ -1,4 +1,4 @@
-use Rattle.std.proofs.Common.{arith, false, true}
+use Rattle.std.proofs.Common.{arith, false, true, rules}
 use Rattle.valid_table.specs.Entering.{IsPut}
 use Rattle.valid_table.specs.Tables.{registrations_of}
 use Rattle.valid_table.proofs.EnteredPaths.{front_all}
@@ -10,9 +10,9 @@ loop-count-preserved c =
     let put : IsPut (registrations_of c.loop-count.rows.entries)
     (registrations_of c.put_row.new.rows.entries) c.index-registrations-count.result false =
     rw (c.if-branch.false, c.in_ok-copy.ensures.ok) at c.in_ok-put_row.ensures.put in
-    let more = put_more (registrations_of c.args.rows.now.entries) c.args.registrations.now
-    (registrations_of c.loop-count.rows.entries) (registrations_of c.put_row.new.rows.entries)
-    c.loop-count.count c.index-registrations-count.result c.loop-count.invariant.rows
+    let more = put_more _ _
+    _ _
+    _ _ c.loop-count.invariant.rows
     c.loop-count.invariant.new c.loop-count-test.true c.index-registrations-count.is put in
     record { rows = more.0; new = more.1 }
 
@@ -21,9 +21,9 @@ returns-then-branch c =
     let put : IsPut (registrations_of c.loop-count.rows.entries)
     (registrations_of c.put_row.new.rows.entries) c.index-registrations-count.result true =
     rw (c.if-branch.true, c.in_ok-copy.ensures.ok) at c.in_ok-put_row.ensures.put in
-    let twice = put_twice (registrations_of c.args.rows.now.entries) c.args.registrations.now
-    (registrations_of c.loop-count.rows.entries) (registrations_of c.put_row.new.rows.entries)
-    c.loop-count.count c.index-registrations-count.result c.requires.rising
+    let twice = put_twice _ _
+    _ _
+    _ _ c.requires.rising
     c.loop-count.invariant.rows c.loop-count.invariant.new c.loop-count-test.true
     c.index-registrations-count.is put in
     record {
@@ -34,15 +34,10 @@ returns-then-branch c =
     }
 
 pub returns-clause-front : goal.returns-clause-front
-returns-clause-front c = front_all _ c.args.registrations.now c.loop-count.count
-    c.loop-count-test.false c.loop-count.invariant.new
+returns-clause-front c = search (rules, front_all)
 
 pub returns-clause-paths : goal.returns-clause-paths
-returns-clause-paths c = put_paths (registrations_of c.args.rows.now.entries)
-    c.args.registrations.now _ c.loop-count.count c.loop-count-test.false
-    c.loop-count.invariant.rows
+returns-clause-paths c = search (rules, put_paths)
 
 pub returns-clause-whole : goal.returns-clause-whole
-returns-clause-whole c = λ _. put_all (registrations_of c.args.rows.now.entries)
-    c.args.registrations.now _ c.loop-count.count c.loop-count-test.false
-    c.loop-count.invariant.rows
+returns-clause-whole c = search (rules, put_all)

@@ -1,4 +1,4 @@
-use Rattle.std.proofs.Common.{◌∙◌, sym, subst}
+use Rattle.std.proofs.Common.{sym, subst, rules}
 use Rattle.nix_drv.specs.Order.{InOrder}
 use Rattle.nix_drv.specs.Derivation.{Drv, derivation_form, drv_value}
 use Rattle.nix_drv.proofs.Back.{same_parts}
@@ -11,5 +11,4 @@ invariant_of-result c =
     c.self.invariant
 
 pub returns : goal.returns
-returns c = same_parts c.in_ok-parts.parts c.self.inside.parts c.in_ok-parts.ensures
-    ∙ c.self.view_is
+returns c = search (rules, same_parts)

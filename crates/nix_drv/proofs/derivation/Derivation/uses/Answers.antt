@@ -11,8 +11,8 @@ returns-in-Ok c =
     let input = c.index.result.now in
     let at = input_at c.self.inside.parts c.args.self.now c.args.input input (cc) c.requires
     c.index.ensures in
-    used_found c.args.self.now.inputs c.args.input (input_of input) _ c.in-Ok.field-0 at
-    (key_found bytes_of _ _ c.args.name.now _ (ap (map bytes_of) c.deref.ensures.value)
+    used_found c.args.self.now.inputs c.args.input _ _ _ at
+    (key_found bytes_of _ _ _ _ (ap (map bytes_of) c.deref.ensures.value)
     c.in-Ok.ensures.bound
     (c.in-Ok.ensures.position (λ used. slice_cmp nat_cmp used.items c.args.name.now)
     (always_answers _ _ _ (λ a r q k. search rules))))

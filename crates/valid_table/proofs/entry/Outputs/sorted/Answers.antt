@@ -18,5 +18,5 @@ returns-then-not-is_rising c =
     (always_returns_same _ _ _ (λ a r f k. (search rules, search rules))) in
     false≢true (sym c.if-not-is_rising.true ∙ c.is_rising.ensures.1
     (rw c.as_slice.ensures.value
-    (sorted_rises c.args.registrations.items _ c.sort_unstable_by.ensures.permutation sorted
+    (sorted_rises _ _ c.sort_unstable_by.ensures.permutation sorted
     outputs.1)))

@@ -14,8 +14,8 @@ returns-then-word-mark-ne0-clause-rows c =
     get_or_read marks (row / 64) _ (omega arith) c.index-word.ensures 0 in
     let set : nat_eq (mark_of marks row) 1 ≡ true =
     subst (λ w. nat_eq (bit_at w (row % 64)) 1 ≡ true) read
-    (bit_is_set c.index-word.result.now (row % 64) (omega arith) c.if-word-mark-ne0.true) in
-    rw (← c.self.view_is) (insert_marked marks c.self.inside.rows.items row c.self.invariant set)
+    (bit_is_set _ _ (omega arith) c.if-word-mark-ne0.true) in
+    rw (← c.self.view_is) (insert_marked _ _ _ c.self.invariant set)
 
 pub invariant_of-self-2 : goal.invariant_of-self-2
 invariant_of-self-2 c =
@@ -26,9 +26,9 @@ invariant_of-self-2 c =
     get_or_read marks (row / 64) _ (omega arith) c.index-word.ensures 0 in
     let clear : nat_eq (mark_of marks row) 1 ≡ false =
     subst (λ w. nat_eq (bit_at w (row % 64)) 1 ≡ false) read
-    (bit_is_clear c.index-word.result.now (row % 64) (omega arith) c.if-word-mark-ne0.false) in
+    (bit_is_clear _ _ (omega arith) c.if-word-mark-ne0.false) in
     rw c.in_ok-push.ensures.items
-    (marked_more marks c.self.inside.rows.items row c.index-word.result.now c.self.invariant
+    (marked_more _ _ _ _ c.self.invariant
     (omega arith) read clear)
 
 pub returns-clause-rows : goal.returns-clause-rows
@@ -40,9 +40,9 @@ returns-clause-rows c =
     get_or_read marks (row / 64) _ (omega arith) c.index-word.ensures 0 in
     let clear : nat_eq (mark_of marks row) 1 ≡ false =
     subst (λ w. nat_eq (bit_at w (row % 64)) 1 ≡ false) read
-    (bit_is_clear c.index-word.result.now (row % 64) (omega arith) c.if-word-mark-ne0.false) in
+    (bit_is_clear _ _ (omega arith) c.if-word-mark-ne0.false) in
     rw (c.in_ok-push.ensures.items, ← c.self.view_is)
-    (insert_unmarked marks c.self.inside.rows.items row c.self.invariant clear)
+    (insert_unmarked _ _ _ c.self.invariant clear)
 
 pub returns-clause-distinct : goal.returns-clause-distinct
 returns-clause-distinct c = (invariant_of-self-2 c).distinct

@@ -12,17 +12,17 @@ returns-in-Some-clause-adding c =
     let r = c.into_registration-registration.result in
     let blamed : IsBlamed (registered old) (registered_by entry) c.in-Some.blame =
     rw (← c.self.view_is, ← c.self.invariant.1) c.in-Some.ensures in
-    taking_refused (registered old) (registered_by entry) (old ≡ old ++ entry ∷ []) (old ≡ old) r
-    c.in-Some.blame.reference c.fault_of.result
-    (blamed_read (registered old) (registered_by entry) c.in-Some.blame r blamed
+    taking_refused _ _ (old ≡ old ++ entry ∷ []) _ r
+    _ _
+    (blamed_read _ _ _ r blamed
     c.into_registration-registration.ensures) c.fault_of.ensures refl
 
 pub returns-in_err-copy-clause-adding : goal.returns-in_err-copy-clause-adding
 returns-in_err-copy-clause-adding c =
     let old = c.args.self.now.entries in
-    let p = err_from_is_err_and c.from_residual.result c.from_residual.ensures.1 in
-    taking_no_memory (registered old) (registered_by c.args.entry) (old ≡ old ++ c.args.entry ∷ [])
-    (old ≡ old) c.from_residual.result
+    let p = err_from_is_err_and _ c.from_residual.ensures.1 in
+    taking_no_memory _ _ _
+    _ _
     (rw (← c.self.view_is, ← c.self.invariant.1) c.in_default.ensures.0)
     (rw (← c.self.view_is, ← c.self.invariant.1) c.in_default.ensures.1)
     (p.1 ∙ ap Err p.2)
@@ -32,10 +32,10 @@ pub returns-in_err-reserve-clause-adding : goal.returns-in_err-reserve-clause-ad
 returns-in_err-reserve-clause-adding c =
     let old = c.args.self.now.entries in
     let new = c.reserve.new.self.entries in
-    let p = err_from_is_err_and c.from_residual-in_err-reserve.result
+    let p = err_from_is_err_and _
     c.from_residual-in_err-reserve.ensures.1 in
-    taking_no_memory (registered old) (registered_by c.args.entry) (new ≡ old ++ c.args.entry ∷ [])
-    (new ≡ old) c.from_residual-in_err-reserve.result
+    taking_no_memory _ _ _
+    _ _
     (rw (← c.self.view_is, ← c.self.invariant.1) c.in_default.ensures.0)
     (rw (← c.self.view_is, ← c.self.invariant.1) c.in_default.ensures.1)
     (p.1 ∙ ap Err p.2)

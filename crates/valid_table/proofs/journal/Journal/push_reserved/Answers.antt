@@ -25,7 +25,7 @@ invariant_of-self c =
     let same : entries ≡ c.args.self.now.entries =
     ap (λ (j : JournalValue). j.entries) c.self.view_is in
     let own = c.registrations.ensures.value in
-    let some = some_elements (registered_by entry)
+    let some = some_elements _
     (λ none. c.registrations.ensures.some (own ∙ none)) in
     let room = ap (λ (j : JournalValue). j.room) c.self.view_is in
     let pushed : c.push.new.self.items ≡ entries ++ entry ∷ [] =
@@ -34,10 +34,10 @@ invariant_of-self c =
     let new : AreNew (registered entries) (registered_by entry) = rw same c.requires.new in
     let closed : AreClosed (registered entries) (registered_by entry) = rw same c.requires.closed in
     let rising = subst (λ rs. IsRising (paths_registered rs)) own c.registrations.ensures.rising in
-    let once = once_more (registered entries) (registered_by entry) c.self.invariant.0.once rising
+    let once = once_more _ _ c.self.invariant.0.once rising
     new in
     rw pushed (
-      journal_push entries entry c.self.invariant.0 c.requires.derived closed once,
+      journal_push _ _ c.self.invariant.0 c.requires.derived closed once,
       rw (c.register_reserved.ensures.registrations, c.self.invariant.1, c.requires.same)
           (sym (registered_push entries entry)),
     )

@@ -12,7 +12,7 @@ checked-requires-clause-few c =
 
 pub returns-in-Ok : goal.returns-in-Ok
 returns-in-Ok c =
-    read_as _ _ c.in-Ok.entries.items _
+    read_as _ _ _ _
     (λ long. false≢true (sym c.if-is_too_long.false ∙ c.is_too_long.ensures.1 long))
     (λ other. false≢true (sym c.if-is_other_version.false ∙ c.is_other_version.ensures.1 other))
     c.in-Ok.ensures.ok c.checked.ensures

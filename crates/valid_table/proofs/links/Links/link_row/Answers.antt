@@ -17,7 +17,7 @@ returns-clause-linked c =
     let ends = c.args.self.now.ends.items in
     let numbers = c.args.self.now.numbers.items in
     let more = c.in_ok-numbers.numbers.items in
-    let room = on_ok c.reserve.result (sym c.in_ok-ok.ensures.variant) c.reserve.ensures.ok in
+    let room = on_ok _ (sym c.in_ok-ok.ensures.variant) c.reserve.ensures.ok in
     let done : is_ok c.push.result ≡ true = c.push.ensures.succeeds (omega (arith, room)) in
     let pushed : c.push.new.self.items ≡ ends ++ c.in_ok-end.end ∷ [] =
     (rw done at c.push.ensures.items)
@@ -26,9 +26,9 @@ returns-clause-linked c =
     (rw (← c.in_ok-ok-2.ensures.variant) at c.extend_from_slice.ensures.items)
     ∙ ap (λ (ns : List ℕ). numbers ++ ns) c.deref.ensures.value in
     let taken : c.in_ok-end.end ≡ c.len.result + c.len-2.result =
-    number_taken _ _ _ c.try_from.result c.try_from.ensures c.in_ok-end.ensures.value in
+    number_taken _ _ _ _ c.try_from.ensures c.in_ok-end.ensures.value in
     rw (pushed, added)
-    (linked_more registrations ends numbers more c.in_ok-end.end c.index.result.now
+    (linked_more _ _ _ _ _ _
     c.requires.linked (omega (arith, c.requires.within, c.requires.next, row_count rows))
     (omega (
       arith,
@@ -40,6 +40,6 @@ returns-clause-linked c =
     ))
     (subst (λ row. Registers registrations (path_at registrations row) c.index.result.now)
     c.requires.next
-    (row_registers rows c.args.row c.index.result.now c.requires.within c.index.ensures))
+    (row_registers _ _ _ c.requires.within c.index.ensures))
     (subst (λ (paths : List (List ℕ)). AreRowsOf registrations paths more)
     c.references.ensures.value c.in_ok-numbers.ensures))

@@ -1,6 +1,5 @@
 use Rattle.std.proofs.Common.{◌∙◌, ◌∷◌, [], ap, arith, length, not}
 use Rattle.std.proofs.lemmas.List.{length-append}
-use Rattle.valid_table.specs.Tables.{registrations_of}
 use Rattle.valid_table.proofs.FirstRows.{keyed_more}
 use Rattle.valid_table.proofs.Keys.{one_more_keyed, path_looked_up}
 use Rattle.valid_table.proofs.order.Order.take_in.Goals as goal
@@ -13,12 +12,12 @@ loop-row-preserved c =
     let pushed = rw (c.is_err.ensures.negation ∙ ap not c.if-is_err.false) at c.push.ensures.items
     in
     record {
-      first = keyed_more _ key row before _ c.loop-row.invariant.first c.loop-row.invariant.next
+      first = keyed_more _ _ _ _ _ c.loop-row.invariant.first c.loop-row.invariant.next
           (omega (arith, c.loop-row-test.true, c.len-row-end.ensures.len)) pushed;
-      keys = one_more_keyed (registrations_of c.args.rows.now.entries) key row c.index.result.now
-          c.folder_of-folder.result.now before _ c.loop-row.invariant.keys
+      keys = one_more_keyed _ _ _ _
+          _ _ _ c.loop-row.invariant.keys
           c.folder_of-folder.ensures
-          (path_looked_up c.args.rows.now.entries _ row c.index.result.now
+          (path_looked_up _ _ _ _
           c.keys-paths.ensures.rest c.index.ensures)
           c.key_of-key.ensures pushed;
       next = omega (

@@ -8,6 +8,6 @@ invariant_of-result c = (
   search (rules),
   search (rules),
   search (rules),
-  first_none _ c.new-3.result.keyed.items c.new-3.ensures,
-  none_keyed _ c.new-3.result.keyed.items c.new-3.ensures,
+  first_none _ _ c.new-3.ensures,
+  none_keyed _ _ c.new-3.ensures,
 )

@@ -13,4 +13,4 @@ of_rows-requires-clause-closed c =
     let all : registrations_of c.loop-entry.rows.entries ≡ registered c.args.entries.now =
     c.loop-entry.invariant
     ∙ ap registered (take_all c.loop-entry.entry-index c.args.entries.now (omega arith)) in
-    rw all (closed_references_valid c.args.entries.now c.requires.closed)
+    rw all (closed_references_valid _ c.requires.closed)

@@ -3,7 +3,6 @@ use Rattle.nix_names.specs.Rising.{IsRising}
 use Rattle.valid_table.specs.Adding.{AreClosed, AreNew}
 use Rattle.valid_table.specs.Entries.{paths_registered, registered_by}
 use Rattle.valid_table.specs.Tables.{TableValue, registrations_of}
-use Rattle.valid_table.specs.FirstRows.{rows_behind}
 use Rattle.valid_table.proofs.FirstRows.{first_of_more}
 use Rattle.valid_table.proofs.Keys.{keyed_of_more}
 use Rattle.valid_table.proofs.Linking.{links_stay}
@@ -16,7 +15,7 @@ push_entry-requires-clause-once c =
     let same : known ≡ c.args.self.now.registrations =
     ap (λ (t : TableValue). t.registrations) c.self.view_is in
     let new : AreNew known (registered_by c.args.entry) = rw same c.requires.new in
-    once_more known (registered_by c.args.entry) c.self.invariant.0
+    once_more _ _ c.self.invariant.0
     (subst (λ rs. IsRising (paths_registered rs)) c.registrations.ensures.value
     c.registrations.ensures.rising) new
 
@@ -30,13 +29,13 @@ invariant_of-self c =
     let rising = subst (λ rs. IsRising (paths_registered rs)) c.registrations.ensures.value
     c.registrations.ensures.rising in
     rw c.push_entry.ensures.rows (
-      once_more known (registered_by c.args.entry) c.self.invariant.0 rising new,
-      valid_with_more known (registered_by c.args.entry) c.self.invariant.1 closed,
-      links_stay known (registered_by c.args.entry) c.self.inside.links.ends.items
-          c.self.inside.links.numbers.items c.self.invariant.2,
-      first_of_more c.self.inside.rows.entries (registered_by c.args.entry)
-          c.push_entry.new.rows.entries (rows_behind c.self.inside.order.keyed.items)
+      once_more _ _ c.self.invariant.0 rising new,
+      valid_with_more _ _ c.self.invariant.1 closed,
+      links_stay _ _ _
+          _ c.self.invariant.2,
+      first_of_more _ _
+          _ _
           c.push_entry.ensures.rows c.self.invariant.3,
-      keyed_of_more c.self.inside.rows.entries (registered_by c.args.entry)
-          c.self.inside.order.keyed.items c.self.invariant.3 c.self.invariant.4,
+      keyed_of_more _ _
+          _ c.self.invariant.3 c.self.invariant.4,
     )
