@@ -18,7 +18,7 @@ ghost use Rattle.drv_graph.specs.UsedInputs.{drvs_of_uses, hashes_of, paths_of_u
 use crate::fault::{GraphFault, NodeFault, OutputFault};
 use crate::found::used_inputs;
 use crate::outputs::{UsedInput, expected_outputs};
-use crate::paths::input_paths;
+use crate::paths::known_paths;
 use crate::placing::place;
 use crate::plan::Plan;
 use nix_drv::{Derivation, DrvFault, DrvSource, MAX_LEN, named_text_path, references, write};
@@ -126,7 +126,7 @@ fn load_inputs<S: DrvSource>(
     ensures loading { IsLoading dir.now (S.gives source.old) (inputs_of draft.now) result }
     ensures numbers { IfOk result (λ plan. AreNumbers plan.nodes plan.roots (inputs_of draft.now)) }
 {
-    let inputs = input_paths(alloc, dir, &draft.parts().inputs)?;
+    let inputs = known_paths(alloc, dir, &draft.parts().inputs)?;
     Plan::load(alloc, source, dir, &inputs)
 }
 

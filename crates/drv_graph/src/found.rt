@@ -14,7 +14,7 @@ use crate::kinds::Kind;
 use crate::node::PlanNode;
 use crate::outputs::{UsedInput, check_outputs, modulo_hash};
 use crate::owning::own;
-use crate::paths::{output_paths, source_paths};
+use crate::paths::known_paths;
 use indexmap::IndexMap;
 use nix_drv::Derivation;
 use nix_names::{StoreDir, StorePath};
@@ -64,8 +64,8 @@ pub(crate) fn leave(
 {
     let (kind, hash) = check_visit(alloc, dir, &found.nodes, &visit)?;
     let parts = visit.drv.parts();
-    let outputs = output_paths(alloc, dir, &parts.outputs)?;
-    let sources = source_paths(alloc, dir, &parts.sources)?;
+    let outputs = known_paths(alloc, dir, &parts.outputs)?;
+    let sources = known_paths(alloc, dir, &parts.sources)?;
     let first = own(
         alloc,
         &found.nodes,

@@ -1,5 +1,6 @@
 //! Store paths: parsed where they were checked before, and copied.
 ghost use Rattle.std.specs.Prelude.{◌≡◌, All, IfErr, IfOk, map, take};
+ghost use Rattle.nix_names.specs.Bytes.{Path};
 ghost use Rattle.nix_names.specs.StorePaths.{IsPathOf};
 ghost use Rattle.nix_drv.specs.Parts.{bytes_of, path_of};
 ghost use Rattle.drv_graph.specs.PlanNodes.{text_path_of};
@@ -23,53 +24,53 @@ fn known_path(alloc: Global, dir: &StoreDir, text: &[u8]) -> Result<StorePath, G
     }
 }
 
-// The paths of input derivations.
-pub(crate) fn input_paths(
-    alloc: Global,
-    dir: &StoreDir,
-    inputs: &[Input],
-) -> Result<Vec<StorePath>, GraphFault>
-    requires { All (IsPathOf dir.now) (map path_of inputs.now) }
-    ensures ok { IfOk result (λ paths. paths.items ≡ map path_of inputs.now) }
-    ensures err { IfErr result (λ fault. fault ≡ GraphFault.NoMemory) }
-{
-    let mut paths = Vec::with_capacity(alloc, inputs.len())?;
-    for input in inputs {
-        paths.push(known_path(alloc, dir, &input.path)?)?;
-    }
-    Ok(paths)
+// A value in which a text names a store path.
+pub(crate) trait NamesPath {
+    // That text.
+    ghost spelled: { Self → Path };
+
+    // That text.
+    fn spelled(&self) -> &[u8]
+        ensures { result.now ≡ spelled self.now };
 }
 
-// The paths of outputs.
-pub(crate) fn output_paths(
-    alloc: Global,
-    dir: &StoreDir,
-    outputs: &[Output],
-) -> Result<Vec<StorePath>, GraphFault>
-    requires { All (IsPathOf dir.now) (map text_path_of outputs.now) }
-    ensures ok { IfOk result (λ paths. paths.items ≡ map text_path_of outputs.now) }
-    ensures err { IfErr result (λ fault. fault ≡ GraphFault.NoMemory) }
-{
-    let mut paths = Vec::with_capacity(alloc, outputs.len())?;
-    for output in outputs {
-        paths.push(known_path(alloc, dir, &output.path)?)?;
+impl NamesPath for Input {
+    ghost spelled = { path_of };
+
+    fn spelled(&self) -> &[u8] {
+        &self.path
     }
-    Ok(paths)
 }
 
-// The paths of sources.
-pub(crate) fn source_paths(
+impl NamesPath for Output {
+    ghost spelled = { text_path_of };
+
+    fn spelled(&self) -> &[u8] {
+        &self.path
+    }
+}
+
+impl NamesPath for Vec<u8> {
+    ghost spelled = { bytes_of };
+
+    fn spelled(&self) -> &[u8] {
+        self
+    }
+}
+
+// The paths of the folder that some values name.
+pub(crate) fn known_paths<T: NamesPath>(
     alloc: Global,
     dir: &StoreDir,
-    sources: &[Vec<u8>],
+    named: &[T],
 ) -> Result<Vec<StorePath>, GraphFault>
-    requires { All (IsPathOf dir.now) (map bytes_of sources.now) }
-    ensures ok { IfOk result (λ paths. paths.items ≡ map bytes_of sources.now) }
+    requires { All (IsPathOf dir.now) (map T.spelled named.now) }
+    ensures ok { IfOk result (λ paths. paths.items ≡ map T.spelled named.now) }
     ensures err { IfErr result (λ fault. fault ≡ GraphFault.NoMemory) }
 {
-    let mut paths = Vec::with_capacity(alloc, sources.len())?;
-    for source in sources {
-        paths.push(known_path(alloc, dir, source)?)?;
+    let mut paths = Vec::with_capacity(alloc, named.len())?;
+    for one in named {
+        paths.push(known_path(alloc, dir, one.spelled())?)?;
     }
     Ok(paths)
 }

@@ -11,7 +11,7 @@ ghost use Rattle.drv_graph.specs.Walks.{IsFetching, IsWalkSoFar, IsGoingOn, IsMe
 
 use crate::fault::{GraphFault, NodeFault};
 use crate::found::{Found, Visit, leave};
-use crate::paths::input_paths;
+use crate::paths::known_paths;
 use indexmap::IndexMap;
 use nix_drv::{Derivation, DrvFault, DrvSource, SourceFault, check_text};
 use nix_names::{StoreDir, StorePath};
@@ -182,7 +182,7 @@ fn begin(
     ensures numbers { IfOk result (λ visit. visit.numbers.items ≡ []) }
     ensures err { IfErr result (λ fault. fault ≡ GraphFault.NoMemory) }
 {
-    let inputs = input_paths(alloc, dir, drv.inputs())?;
+    let inputs = known_paths(alloc, dir, drv.inputs())?;
     Ok(Visit {
         path: path.copy(alloc)?,
         drv,

@@ -7,8 +7,8 @@ use Rattle.drv_graph.proofs.EmptyPlaces.{inputs_rise}
 use Rattle.drv_graph.proofs.FillAnswers.{numbers_loaded, same_inputs}
 use Rattle.drv_graph.proofs.fill.load_inputs.Goals as goal
 
-pub input_paths-requires : goal.input_paths-requires
-input_paths-requires g c =
+pub known_paths-requires : goal.known_paths-requires
+known_paths-requires g c =
     let paths = map path_of _ in
     subst (All (IsPathOf _))
     (sym (same_inputs c.parts.result.now _ _ _ paths

@@ -14,8 +14,8 @@ pub check_visit-requires-clause-kept : goal.check_visit-requires-clause-kept
 check_visit-requires-clause-kept c =
     subst AreKept (sym c.deref.ensures.value) c.requires.found.kept
 
-pub output_paths-requires : goal.output_paths-requires
-output_paths-requires c =
+pub known_paths-requires : goal.known_paths-requires
+known_paths-requires c =
     let lent = parts_outputs c.parts-parts.result.now _ _
     c.parts-parts.ensures.parts c.deref-2.ensures.value in
     subst (All (IsPathOf _))
@@ -26,8 +26,8 @@ output_paths-requires c =
     (checking_right _ _ _ c.args.visit
     _ _ c.deref.ensures.value c.in_ok-kind.ensures).0)
 
-pub source_paths-requires : goal.source_paths-requires
-source_paths-requires c = search (rules, parts_sources)
+pub known_paths-requires-2 : goal.known_paths-requires-2
+known_paths-requires-2 c = search (rules, parts_sources)
 
 pub own-requires-clause-kept : goal.own-requires-clause-kept
 own-requires-clause-kept c =

@@ -4,8 +4,8 @@ use Rattle.nix_names.specs.StorePaths.{IsPathOf}
 use Rattle.drv_graph.proofs.Leaving.{inputs_are}
 use Rattle.drv_graph.proofs.walk.begin.Goals as goal
 
-pub input_paths-requires : goal.input_paths-requires
-input_paths-requires c =
+pub known_paths-requires : goal.known_paths-requires
+known_paths-requires c =
     subst (All (IsPathOf _)) (sym (inputs_are _ c.args.drv _ c.inputs.ensures refl)) c.requires
 
 pub returns-clause-inputs : goal.returns-clause-inputs
