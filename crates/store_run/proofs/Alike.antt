@@ -1,5 +1,5 @@
 -- Two whole runs over one opening are alike, derivation by derivation in plan order.
-use Rattle.std.proofs.Common.{◌≡◌, ◌∙◌, inl, inr, ◌<◌, length, ℕ, zero, suc, true, false, List, [], ◌++◌, Result, Ok, Err, Option, Some, refl, sym, ap, subst, ⊎_elim, arith, rules}
+use Rattle.std.proofs.Common.{◌≡◌, ◌∙◌, inl, inr, ◌<◌, length, ℕ, zero, suc, true, false, List, [], ◌++◌, Result, Err, Option, Some, refl, sym, ap, subst, ⊎_elim, arith, rules}
 use Rattle.std.specs.Prelude.{Contains, flat_map, slice_get}
 use Rattle.std.specs.List.{position_or_len}
 use Rattle.std.proofs.lemmas.List.Elements.{Contains-append_cases, Contains-append_left}
@@ -12,7 +12,7 @@ use Rattle.nix_drv.specs.Derivation.{Input}
 use Rattle.drv_graph.specs.Nodes.{Node, inputs_of, paths_of as node_paths}
 use Rattle.drv_graph.specs.PlanNodes.{output_paths_of}
 use Rattle.drv_graph.specs.SoundGraphs.{IsSound}
-use Rattle.valid_table.specs.Entries.{paths_registered, registered, registered_by}
+use Rattle.valid_table.specs.Entries.{registered, registered_by}
 use Rattle.valid_table.specs.PathInfos.{PathInfo}
 use Rattle.valid_table.specs.Valid.{AreReferencesValid, IsOnce, IsValid, Registers}
 use Rattle.valid_table.specs.declared.entry.Entry.{Entry}
@@ -102,36 +102,36 @@ module _ (may : Job → Result Answer Reason → Type 0) (run : Run) (sound : Is
       subst (λ (rs : List Registration). IsCarried rs (registered other.entries) path) (sym whole)
       (subst (λ (rs : List Registration). IsCarried (first ++ registered end.more) rs path)
       (sym whole')
-      (first_carried first (registered end.more) (registered end'.more) end.closed
-      (subst IsOnce whole end.once) path
-      (Contains-from_any equal_from_eq path (paths_registered first) is)))
+      (first_carried _ _ _ end.closed
+      (subst IsOnce whole end.once) _
+      (Contains-from_any equal_from_eq _ _ is)))
 
   module _ (d : ℕ) (below : (i : ℕ) → i < d → IsAlikeAt run history other i) where
     input_alike : (i : ℕ) → Contains (inputs_in run d) i → IsAlikeAt run history other i
-    input_alike i has = below i (inputs_first run.graph sound d i has)
+    input_alike i has = below i (inputs_first _ sound d i has)
 
     twin_alike : (t : ℕ) → Contains (twins_in run history d) t → IsAlikeAt run history other t
-    twin_alike t has = below t (is_earlier_twin run history.opening d t has).earlier
+    twin_alike t has = below t (is_earlier_twin _ _ d t has).earlier
 
     -- the outputs of a derivation that was reused are carried: they were valid at the opening, or
     -- are those of an earlier twin
     reused_carried : phase_of history.events d ≡ Idle → Carries run history other d
-    reused_carried idle good node at path has = by (good_is run history sound d good)
+    reused_carried idle good node at path has = by (good_is _ _ sound d good)
       where
         by : IsGoodBy run history d
             → IsCarried (registered history.entries) (registered other.entries) path
         by (good_ended ends) = search (rules, idle)
         by (good_reused rests stands) =
-            opening_carried path
-            (output_of_reused run.system history.opening node.drv
-            (sym (ap (standing_at run.system history.opening) at) ∙ stands) path has)
+            opening_carried _
+            (output_of_reused _ history.opening node.drv
+            (sym (ap (standing_at run.system history.opening) at) ∙ stands) _ has)
         by (good_twin t rests twin ends) =
             let nodes = run.graph.nodes in
-            let is = is_earlier_twin run history.opening d t twin in
-            let there = is_there (slice_get nodes t) (slice_get nodes d) is.twins in
-            (twin_alike t twin).there (ap is_good (state_by run history sound t Ended ends)) there.0
+            let is = is_earlier_twin _ _ d t twin in
+            let there = is_there _ _ is.twins in
+            (twin_alike t twin).there (ap is_good (state_by _ history sound t _ ends)) there.0
             there.1 path
-            (path_of_twin (slice_get nodes t) (slice_get nodes d) there.0 node path there.1 at
+            (path_of_twin _ _ _ _ _ there.1 at
             is.twins has)
 
     pub unhindered_there : IsUnhindered run history d → IsUnhindered run other d
@@ -197,12 +197,12 @@ module _ (may : Job → Result Answer Reason → Type 0) (run : Run) (history : 
       → (n : ℕ) × (slice_get (output_paths_of node.drv) n ≡ Some path)
       × (slice_get made.infos n ≡ Some info)
   record_is path info own has =
-      let place = get_from_contains (output_paths_of node.drv) path own in
+      let place = get_from_contains _ _ own in
       let below = slice_get_within (output_paths_of node.drv) place.0 path place.1 in
       let count = came_count may run history once d node at made.infos made.came in
       let found = element_at made.infos place.0 (omega (arith, below, count)) in
-      let same : found.0 ≡ info = one_info (registered history.entries) once path found.0 info
-      (record_registered place.0 path found.0 place.1 found.1) has in
+      let same : found.0 ≡ info = one_info _ once _ _ _
+      (record_registered _ _ _ place.1 found.1) has in
       (place.0, place.1, found.1 ∙ ap Some same)
 
 -- the outputs of a derivation with the same records are carried
@@ -216,16 +216,16 @@ made_carried : (may : Job → Result Answer Reason → Type 0) (run : Run) (hist
     → (path : List ℕ) → Contains (output_paths_of node.drv) path
     → IsCarried (registered history.entries) (registered other.entries) path
 made_carried may run history other once once' d node at made made' same carried =
-    outputs_carried (registered history.entries) (registered other.entries)
-    (seeds_of run.graph.nodes node.drv) (output_paths_of node.drv) carried
+    outputs_carried _ _
+    _ _ carried
     (λ path info own has.
-    let place = record_is may run history once d node at made path info own has in
-    record_registered may run other once' d node at made' place.0 path info place.1
+    let place = record_is _ _ history once d node at made path info own has in
+    record_registered _ _ _ once' d node at made' place.0 path info place.1
     (ap (λ (infos : List PathInfo). slice_get infos place.0) (sym same) ∙ place.2))
     (λ path next info own has refers.
     let place = record_is may run history once d node at made path info own has in
-    came_refers may run history once d node at made.infos made.came info next
-    (Contains-from_get made.infos place.0 info place.2) refers)
+    came_refers may _ _ once d node at _ made.came _ _
+    (Contains-from_get _ _ _ place.2) refers)
 
 -- ---- one derivation
 
@@ -235,7 +235,7 @@ module _ (may : Job → Result Answer Reason → Type 0) (run : Run) (sound : Is
     (opening : other.opening ≡ history.opening) (d : ℕ)
     (below : (i : ℕ) → i < d → IsAlikeAt run history other i) where
   above : (i : ℕ) → i < d → IsAlikeAt run other history i
-  above i less = swapped run history other i (below i less)
+  above i less = swapped _ _ _ i (below i less)
 
   -- the seeds of what has an event are carried
   seeds_there : (phase_of history.events d ≡ Idle → ⊥) → (node : Node)
@@ -243,7 +243,7 @@ module _ (may : Job → Result Answer Reason → Type 0) (run : Run) (sound : Is
       → Contains (seeds_of run.graph.nodes node.drv) seed
       → IsCarried (registered history.entries) (registered other.entries) seed
   seeds_there moved node at =
-      seed_carried may run sound history other end end' opening d below node at
+      seed_carried _ run sound _ other end end' opening d below node at
       (end.begun d moved).unhindered
 
   seeds_back : (phase_of other.events d ≡ Idle → ⊥) → (node : Node)
@@ -251,7 +251,7 @@ module _ (may : Job → Result Answer Reason → Type 0) (run : Run) (sound : Is
       → Contains (seeds_of run.graph.nodes node.drv) seed
       → IsCarried (registered other.entries) (registered history.entries) seed
   seeds_back moved node at =
-      seed_carried may run sound other history end' end (sym opening) d above node at
+      seed_carried _ run sound _ history end' end (sym opening) d above node at
       (end'.begun d moved).unhindered
 
   -- so it came to one verdict
@@ -266,8 +266,8 @@ module _ (may : Job → Result Answer Reason → Type 0) (run : Run) (sound : Is
   both_idle idle idle' = record {
     same = state_by run history sound d Idle idle
         ∙ aside_same run history other d (sym opening)
-        (λ i has. (below i (inputs_first run.graph sound d i has)).same)
-        (λ t has. (below t (is_earlier_twin run history.opening d t has).earlier).same)
+        (λ i has. (below i (inputs_first _ sound d i has)).same)
+        (λ t has. (below t (is_earlier_twin _ _ d t has).earlier).same)
         ∙ sym (state_by run other sound d Idle idle');
     there = reused_carried may run sound history other end end' opening d below idle;
     back = reused_carried may run sound other history end' end (sym opening) d above idle';
@@ -282,15 +282,15 @@ module _ (may : Job → Result Answer Reason → Type 0) (run : Run) (sound : Is
       λ idle. let clash : Ended ≡ Idle = sym ends' ∙ idle in cc in
       let made = end.made d ends in
       let made' = end'.made d ends' in
-      let one = verdicts_same moved moved' (Ok made.infos) (Ok made'.infos) made.came made'.came in
+      let one = verdicts_same moved moved' _ _ made.came made'.came in
       let same : made.infos ≡ made'.infos = cc in
       record {
-        same = state_by run history sound d Ended ends
-            ∙ sym (state_by run other sound d Ended ends');
+        same = state_by _ history sound d _ ends
+            ∙ sym (state_by _ other sound d _ ends');
         there = λ good node at. made_carried may run history other end.once end'.once d node at made
-            made' same (seeds_there moved node at);
+            made' same (seeds_there moved _ at);
         back = λ good node at. made_carried may run other history end'.once end.once d node at
-            made' made (sym same) (seeds_back moved' node at);
+            made' made (sym same) (seeds_back moved' _ at);
       }
 
   ended_and_broken : (why : Reason) → phase_of history.events d ≡ Ended
@@ -301,7 +301,7 @@ module _ (may : Job → Result Answer Reason → Type 0) (run : Run) (sound : Is
       let moved' : phase_of other.events d ≡ Idle → ⊥ =
       λ idle. let clash : Broken why ≡ Idle = sym breaks ∙ idle in cc in
       let made = end.made d ends in
-      let one = verdicts_same moved moved' (Ok made.infos) (Err why) made.came
+      let one = verdicts_same moved moved' _ _ made.came
       (end'.broke d why breaks) in
       cc
 
@@ -313,7 +313,7 @@ module _ (may : Job → Result Answer Reason → Type 0) (run : Run) (sound : Is
       let moved' : phase_of other.events d ≡ Idle → ⊥ =
       λ idle. let clash : Ended ≡ Idle = sym ends ∙ idle in cc in
       let made = end'.made d ends in
-      let one = verdicts_same moved moved' (Err why) (Ok made.infos) (end.broke d why breaks)
+      let one = verdicts_same moved moved' _ _ (end.broke d why breaks)
       made.came in
       cc
 
@@ -324,10 +324,10 @@ module _ (may : Job → Result Answer Reason → Type 0) (run : Run) (sound : Is
       λ idle. let clash : Broken why ≡ Idle = sym breaks ∙ idle in cc in
       let moved' : phase_of other.events d ≡ Idle → ⊥ =
       λ idle. let clash : Broken why' ≡ Idle = sym breaks' ∙ idle in cc in
-      let one = verdicts_same moved moved' (Err why) (Err why') (end.broke d why breaks)
+      let one = verdicts_same moved moved' _ _ (end.broke d why breaks)
       (end'.broke d why' breaks') in
       let same : why ≡ why' = cc in
-      let state = state_by run history sound d (Broken why) breaks in
+      let state = state_by _ history sound d (Broken why) breaks in
       let state' = state_by run other sound d (Broken why') breaks' in
       record {
         same = state ∙ ap (λ (r : Reason). Failed r) same ∙ sym state';
@@ -344,9 +344,9 @@ module _ (may : Job → Result Answer Reason → Type 0) (run : Run) (sound : Is
           → IsAlikeAt run history other d
       by Idle Idle is is' = both_idle is is'
       by Ended Ended is is' = both_ended is is'
-      by (Broken why) (Broken why') is is' = both_broken why why' is is'
-      by Ended (Broken why) is is' = absurd (ended_and_broken why is is')
-      by (Broken why) Ended is is' = absurd (broken_and_ended why is is')
+      by (Broken why) (Broken why') is is' = both_broken _ _ is is'
+      by Ended (Broken why) is is' = absurd (ended_and_broken _ is is')
+      by (Broken why) Ended is is' = absurd (broken_and_ended _ is is')
       by (Begun lease) q is is' = absurd (turn.over lease is)
       by p (Begun lease) is is' = search rules
       by Idle Ended is is' = search rules
@@ -386,10 +386,10 @@ module _ (may : Job → Result Answer Reason → Type 0) (run : Run) (sound : Is
       by (from_opening first) =
           let whole' : registered other.entries
           ≡ registered history.opening ++ registered end'.more =
-          ap registered end'.parts ∙ registered-append other.opening end'.more
+          ap registered end'.parts ∙ registered-append other.opening _
           ∙ ap (λ (es : List Entry). registered es ++ registered end'.more) opening in
           subst (λ (rs : List Registration). Registers rs path info) (sym whole')
-          (Contains-append_left (registered history.opening) (registered end'.more)
+          (Contains-append_left _ _
           (record { path = path; info = info }) first)
       by (from_built d node at ends own) =
           (alike d).there (is_good_by run history sound d (good_ended ends)) node at path own path
@@ -406,7 +406,7 @@ module _ (may : Job → Result Answer Reason → Type 0) (run : Run) (sound : Is
   none_building d lease phase =
       let was = end.begun d (λ idle. let clash : Begun lease ≡ Idle = sym phase ∙ idle in cc) in
       settled d was.within was.wanted
-      (inr (inr (lease, state_by run history sound d (Begun lease) phase)))
+      (inr (inr (lease, state_by _ history sound d (Begun lease) phase)))
 
   -- what can begin there has an event here, where the derivations before it are alike
   pub not_idle : (d : ℕ) → ((i : ℕ) → i < d → IsAlikeAt run other history i)
@@ -414,7 +414,7 @@ module _ (may : Job → Result Answer Reason → Type 0) (run : Run) (sound : Is
       → IsWanted run other.opening d → IsUnhindered run other d → ⊥
   not_idle d above idle within wanted un =
       settled d within (subst (λ (opens : List Entry). IsWanted run opens d) opening wanted)
-      (inr (inl (unhindered_ready run history sound d
+      (inr (inl (unhindered_ready _ history sound d
       (unhindered_there may run sound other history end' end (sym opening) d above un) idle)))
 
   -- what has no event here has none there
@@ -439,22 +439,22 @@ pub are_alike : (may : Job → Result Answer Reason → Type 0) (run : Run)
 are_alike may run sound outcome history other end end' settled settled' opening = record {
   states = λ d. (alike d).same;
   records = λ path info. (
-    record_there may run sound outcome history other end end' opening alike path info,
-    record_there may run sound outcome other history end' end (sym opening)
-        (λ d. swapped run history other d (alike d)) path info,
+    record_there may _ sound outcome history other end end' opening alike path info,
+    record_there may _ sound outcome other history end' end (sym opening)
+        (λ d. swapped _ _ _ d (alike d)) path info,
   );
 }
   where
     turn : (d : ℕ) → ((i : ℕ) → i < d → IsAlikeAt run history other i)
         → HasSameTurn history other d
     turn d below = record {
-      over = none_building may run sound history other end end' settled opening d;
-      over_there = none_building may run sound other history end' end settled' (sym opening) d;
-      idle = idle_too may run sound other history end' end settled' (sym opening) d below;
-      idle_there = idle_too may run sound history other end end' settled opening d
-          (λ i less. swapped run history other i (below i less));
+      over = none_building _ _ sound history other end end' settled opening d;
+      over_there = none_building _ _ sound other history end' end settled' (sym opening) d;
+      idle = idle_too _ run sound other history end' end settled' (sym opening) d below;
+      idle_there = idle_too _ run sound history other end end' settled opening d
+          (λ i less. swapped _ _ _ i (below i less));
     }
 
     alike : (d : ℕ) → IsAlikeAt run history other d
-    alike d = alike_below may run sound outcome history other end end' opening (suc d)
+    alike d = alike_below _ run sound outcome history other end end' opening (suc d)
         (λ e low below. turn e below) (suc d) d (omega arith) (omega arith)

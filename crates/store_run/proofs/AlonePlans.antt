@@ -4,7 +4,6 @@ use Rattle.std.specs.Prelude.{All, Contains, codes, ◌-◌, take}
 use Rattle.std.specs.List.{IsDistinct}
 use Rattle.std.proofs.lemmas.List.{length-append}
 use Rattle.std.proofs.lemmas.List.Elements.{All-cons, All-nil}
-use Rattle.sha2.specs.Sha256.{sha256}
 use Rattle.nix_names.specs.Names.{is_dotted, is_name, is_name_char}
 use Rattle.nix_names.specs.StorePaths.{IsDrvPath, name_of, path_text, store_path}
 use Rattle.nix_names.proofs.Lists.{All-from_contains, Contains-cons_cases, Contains-nothing}
@@ -57,7 +56,7 @@ path_short hash name long short = search (rules, length-append, store)
 
 pub out_short : (recipe : Recipe) → length recipe.name < 256 → length (out_alone recipe) < 1000
 unfolding store_path
-out_short recipe short = path_short _ recipe.name (hash_part_len _ (hash_part_of_fold _)) short
+out_short recipe short = path_short _ _ (hash_part_len _ (hash_part_of_fold _)) short
 
 -- ---- one derivation with one output
 
@@ -109,7 +108,7 @@ module _ (recipe : Recipe) (out algo hash : List ℕ) where
         drv_with.outputs (λ o has. (
           out,
           expected_at o has,
-          sym (ap (λ (p : Output). p.path) (one_of output o has)),
+          sym (ap (λ (p : Output). p.path) (one_of _ o has)),
         )) in
         let sound : AreSound recipe.name drv_with [] kind = record {
           has_kind = has_kind;
@@ -139,7 +138,7 @@ module _ (recipe : Recipe) (out algo hash : List ℕ) where
         check = subst
             (λ (n : List ℕ). IsOutputsCheck IsThePath store n drv_with [] [] (Ok kind))
             (sym (ap (λ (n : List ℕ). take (length n - 4) n)
-            (text_named (recipe.name ++ codes ".drv") (text_of drv_with) filed) ∙ cut))
+            (text_named _ _ filed) ∙ cut))
             (check_with named);
       };
       apart = apart;
@@ -173,7 +172,7 @@ module _ (recipe : Recipe) where
       → ((earlier : Node) → Contains before earlier → ShareOutput earlier.drv drv → ⊥)
       → IsLawful store before (node_alone recipe)
   lawful_alone before filed named cut alone =
-      lawful_with recipe (out_alone recipe) [] [] Addressed kind_alone expected_alone before filed
+      lawful_with _ (out_alone recipe) [] [] Addressed kind_alone expected_alone before filed
       named cut (λ earlier has. inl (alone earlier has))
 
 -- ---- the two
@@ -201,15 +200,13 @@ shared_name one other named named' (x, y, of_x, of_y, same) =
     let outs : out_alone one ≡ out_alone other =
     ap (λ (p : Output). p.path) (one_of _ x of_x) ∙ same
     ∙ sym (ap (λ (p : Output). p.path) (one_of _ y of_y)) in
-    sym (named_path (codes "output:out") (sha256 (text_of (drv_alone one []))) one.name named)
+    sym (named_path _ _ _ named)
     ∙ ap name_of outs
-    ∙ named_path (codes "output:out") (sha256 (text_of (drv_alone other []))) other.name named'
+    ∙ named_path _ _ _ named'
 
 pub outputs_differ : ShareOutput left.drv right.drv → ⊥
 outputs_differ share =
-    let names : codes "left" ≡ codes "right" =
-    shared_name failing making left_named right_named share in
-    cc
+    let names : codes "left" ≡ codes "right" = shared_name _ _ left_named right_named share in cc
 
 pub files_differ : left.path ≡ right.path → ⊥
 files_differ same =
@@ -222,9 +219,9 @@ lawful_left = search (rules, lawful_alone, left_filed, left_named, Contains-noth
 
 lawful_right : IsLawful store (left ∷ []) right
 lawful_right =
-    lawful_alone making (left ∷ []) right_filed right_named refl
+    lawful_alone _ (left ∷ []) right_filed right_named refl
     (λ earlier has share. outputs_differ
-    (subst (λ (n : Node). ShareOutput n.drv right.drv) (sym (one_of left earlier has)) share))
+    (subst (λ (n : Node). ShareOutput n.drv right.drv) (sym (one_of _ _ has)) share))
 
 pub lawful_both : AreLawful store both.graph.nodes
 lawful_both [] after node parts = search (rules, store, lawful_left)
@@ -244,10 +241,10 @@ both_sound = record {
   dir = store;
   lawful = lawful_both;
   few = omega arith;
-  distinct = ((other_path left.path right.path files_differ, tt), (tt, tt));
+  distinct = ((other_path _ _ files_differ, tt), (tt, tt));
   roots_within = all_two (λ root. root < 2) 0 1 (omega arith) (omega arith);
   roots_once = ((refl, tt), (tt, tt));
-  named = all_two (λ (n : Node). IsDrvPath n.path) left right left_file right_file;
-  own_outputs = all_two (λ (n : Node). AreDistinct (output_paths_of n.drv)) left right (tt, tt)
+  named = all_two (λ (n : Node). IsDrvPath n.path) _ _ left_file right_file;
+  own_outputs = all_two (λ (n : Node). AreDistinct (output_paths_of n.drv)) _ _ (tt, tt)
       (tt, tt);
 }

@@ -50,7 +50,7 @@ after_finishing may before after job number infos answered came finishes =
     rw (finishes.run, finishes.history)
     (answered_done before.history job.derivation number finishes.done.node infos finishes.entry
     answered finishes.done.is_node
-    (verdict_behind may before.run before.history.entries job (Ok infos) finishes.lease.is_job
+    (verdict_behind may _ _ _ _ finishes.lease.is_job
     (came finishes.lease))
     finishes.done.is_entry)
 
@@ -61,7 +61,7 @@ why_behind : (may : Job → Result Answer Reason → Type 0) (run : Run) (histor
     → (reason ≡ OutOfMemory) ⊎ IsVerdictBehind may run history.entries job.derivation (Err reason)
 why_behind may run history job number reason lease (inl refused) = inl refused
 why_behind may run history job number reason lease (inr came) =
-    inr (verdict_behind may run history.entries job (Err reason) lease.is_job (came lease))
+    inr (verdict_behind may _ _ _ _ lease.is_job (came lease))
 
 pub after_failing : (may : Job → Result Answer Reason → Type 0) (before after : Ledger)
     (job : Job) (number : ℕ) (reason : Reason) → IsAnswered may before.run before.history
@@ -71,7 +71,7 @@ pub after_failing : (may : Job → Result Answer Reason → Type 0) (before afte
 after_failing may before after job number reason answered why fails =
     rw (fails.run, fails.history)
     (answered_fail before.history job.derivation number reason answered
-    (why_behind may before.run before.history job number reason fails.lease why))
+    (why_behind may _ _ _ _ _ fails.lease why))
 
 -- records come of an answer alone
 outcome_may_refer : (entries : List Entry) (job : Job) (outcome : Result Answer Reason)
@@ -83,8 +83,7 @@ outcome_may_refer entries job (Err reason) infos is = let no = is.2 in absurd cc
 pub came_may_refer : (may : Job → Result Answer Reason → Type 0) (entries : List Entry)
     (job : Job) (infos : List PathInfo) → MayComeTo may entries job (Ok infos)
     → MayAllRefer entries job infos
-came_may_refer may entries job infos came =
-    outcome_may_refer entries job came.0 infos came.2
+came_may_refer may entries job infos came = outcome_may_refer entries _ _ _ came.2
 
 -- an outcome without an answer has one reason
 same_reason : (reason : Reason) → ◌≡◌ {A = Result Answer Reason} (Err reason) (Err OutOfMemory)
@@ -119,7 +118,7 @@ unanswered_comes {P} may seen entries job reason found = by found.outcome found.
         → IsFoundBy seen job outcome (Unanswered reason)
         → (reason ≡ OutOfMemory) ⊎ (P → MayComeTo may entries job (Err reason))
     by (Ok answer) given is = absurd is
-    by (Err why) (inl refused) is = inl (is ∙ same_reason why refused)
+    by (Err why) (inl refused) is = inl (is ∙ same_reason _ refused)
     by (Err why) (inr given) is = search rules
 
 -- records come of an outcome

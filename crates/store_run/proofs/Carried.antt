@@ -31,14 +31,14 @@ leads_carried : (all other : List Registration) (from to : List ℕ) (steps : Li
     → IsCarried all other from → LeadsByReferences all from to steps
     → LeadsByReferences other from to steps
 leads_carried all other from to [] carried leads =
-    let had = registers_from_valid all from leads.0 in (
-      valid_from_registers other from had.0 (carried from had.0 ([], (leads.0, refl)) had.1),
+    let had = registers_from_valid _ _ leads.0 in (
+      valid_from_registers _ _ _ (carried from had.0 ([], (leads.0, refl)) had.1),
       leads.1,
     )
 leads_carried all other from to (next ∷ steps) carried leads =
-    let valid = valid_from_registers all from leads.0.0 leads.0.1 in (
+    let valid = valid_from_registers _ _ _ leads.0.1 in (
       (leads.0.0, carried from leads.0.0 ([], (valid, refl)) leads.0.1, leads.0.2),
-      leads_carried all other next to steps
+      leads_carried _ other next to steps
           (λ x info reaches has. carried x info (next ∷ reaches.0, (leads.0, reaches.1)) has)
           leads.1,
     )
@@ -54,7 +54,7 @@ may_refer_there all other seeds outputs carried path may =
       reached.1,
       (
         reached.2.0,
-        leads_carried all other reached.0 path reached.2.0 (carried reached.0 reached.1)
+        leads_carried _ _ _ _ _ (carried reached.0 reached.1)
             reached.2.1,
       ),
     ))
@@ -65,13 +65,13 @@ pub first_carried : (first more other : List Registration) → AreReferencesVali
     → IsOnce (first ++ more) → (path : List ℕ) → IsValid first path
     → IsCarried (first ++ more) (first ++ other) path
 first_carried first more other closed once path valid to info reaches has =
-    let there = reached_is_valid first path to reaches.0
-    (leads_before first more closed once path to reaches.0 valid reaches.1) in
-    let had = registers_from_valid first to there in
-    let same : had.0 ≡ info = one_info (first ++ more) once to had.0 info
-    (Contains-append_left first more (record { path = to; info = had.0 }) had.1) has in
+    let there = reached_is_valid _ _ _ _
+    (leads_before _ _ closed once _ _ _ valid reaches.1) in
+    let had = registers_from_valid _ _ there in
+    let same : had.0 ≡ info = one_info _ once _ _ _
+    (Contains-append_left _ _ _ had.1) has in
     subst (Registers (first ++ other) to) same
-    (Contains-append_left first other (record { path = to; info = had.0 }) had.1)
+    (Contains-append_left _ _ _ had.1)
 
 -- outputs are carried that have the same records, and refer to one another or to what carried seeds
 -- reach
@@ -90,11 +90,10 @@ module _ (all other : List Registration) (seeds outputs : List (List ℕ))
         ⊎_elim
         (λ reached. carried reached.0 reached.1 to info (
           reached.2.0 ++ steps,
-          leads_on all reached.0 next to reached.2.0 steps reached.2.1 leads.1,
+          leads_on _ _ _ _ _ _ reached.2.1 leads.1,
         ) has)
         (λ inner. output_leads next to steps inner leads.1 info has)
         (refers from next leads.0.0 own leads.0.1 leads.0.2)
 
     pub outputs_carried : (path : List ℕ) → Contains outputs path → IsCarried all other path
-    outputs_carried path own to info reaches has =
-        output_leads path to reaches.0 own reaches.1 info has
+    outputs_carried path own to info reaches has = output_leads _ _ _ own reaches.1 _ has

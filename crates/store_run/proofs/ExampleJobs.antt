@@ -68,7 +68,7 @@ record_of_empty : (permitted : List (List ℕ)) (tree : Tree) → IsEmptyFolder 
 record_of_empty permitted tree is = search (rules, empty_pieces, Contains-nothing)
 
 no_fault : (tree : Tree) → IsEmptyFolder tree → (why : Reason) → IsTreeFault Addressed tree why → ⊥
-no_fault tree is TooLarge unfit = unfit (empty_fits tree is)
+no_fault tree is TooLarge unfit = unfit (empty_fits _ is)
 no_fault tree is (ExitStatus n) none = none
 no_fault tree is NoStart none = none
 no_fault tree is (MissingOutput n) none = none
@@ -119,7 +119,7 @@ module _ (job : Job) (one_output : length job.outputs.items ≡ 1) (answer : Ans
           sound why (subst (λ (t : Tree). IsTreeFault job.kind t why) same fault.2),
     ),
     record { count = sym one_output; each = records },
-    no_cycle info none (outputs_of job),
+    no_cycle _ none (outputs_of job),
   )
     where
       records : (n : ℕ) (other : PathInfo) → slice_get (info ∷ []) n ≡ Some other
@@ -146,12 +146,12 @@ module _ (graph : Graph) (d : ℕ) (at : slice_get graph.nodes d ≡ Some right)
       → IsVerdict job permitted answer (Ok (nothing_in ∷ []))
   right_verdict answer left_behind permitted =
       let folder = left_behind.1.0 in
-      one_verdict job right_one_output answer folder left_behind.0 left_behind.1.2
-      (λ why fault. no_fault folder left_behind.1.1 why
+      one_verdict _ right_one_output answer folder left_behind.0 left_behind.1.2
+      (λ why fault. no_fault _ left_behind.1.1 _
       (subst (λ (k : Kind). IsTreeFault k folder why) right_kind fault))
       permitted nothing_in refl
       (subst (λ (k : Kind). IsRecordOf (algorithm_for k) permitted folder nothing_in)
-      (sym right_kind) (record_of_empty permitted folder left_behind.1.1))
+      (sym right_kind) (record_of_empty _ _ left_behind.1.1))
 
 pub left_verdict : (job : Job) (permitted : List (List ℕ)) (answer : Answer)
     → Leaves true answer → IsVerdict job permitted answer (Err (ExitStatus (pos 1)))
@@ -173,14 +173,14 @@ comes zero job permitted (Ok answer) a is may on =
     search (rules, has_one_verdict, comes_to, left_verdict, left_builder)
 comes (suc zero) job permitted (Ok answer) a is may on =
     has_one_verdict job permitted answer a (comes_to 1) on
-    (right_verdict both.graph 1 refl job is answer
+    (right_verdict _ 1 refl job is answer
     (subst (λ (b : List ℕ). Leaves (same_bytes b (codes "/bin/false")) answer)
     (right_builder both.graph 1 refl job is) may) permitted)
 comes (suc (suc d)) job permitted (Ok answer) a is may on = search rules
 
 pub both_outcome : HasOneOutcome may_leave both.graph
 both_outcome d job again permitted x y a b is is' may may' on on' =
-    comes d job permitted x a is may on ∙ sym (comes d again permitted y b is' may' on')
+    comes d _ _ x a is may on ∙ sym (comes d _ _ y b is' may' on')
 
 -- ---- a job and an answer for each
 
@@ -258,7 +258,7 @@ module _ (recipe : Recipe) (short : length recipe.name < 256)
 -- the job of right, by its number
 pub job_of_right : ℕ → Job
 job_of_right d = job_of making (omega arith) (omega arith) making_args (omega arith)
-    (out_alone making) (out_short making (omega arith)) Addressed d
+    (out_alone making) (out_short _ (omega arith)) Addressed d
 
 pub is_job_of_right : (graph : Graph) (d : ℕ) → slice_get graph.nodes d ≡ Some right
     → IsJob graph d (job_of_right d)
@@ -269,14 +269,14 @@ is_job_of_right graph d at = search (rules, is_job_of, making_args, out_short, k
 
 pub left_job : Job
 left_job = job_of failing (omega arith) (omega arith) [] (omega arith) (out_alone failing)
-    (out_short failing (omega arith)) Addressed 0
+    (out_short _ (omega arith)) Addressed 0
 
 pub left_is_job : IsJob both.graph 0 left_job
 unfolding left_job
 left_is_job =
-    is_job_of failing (omega arith) (omega arith) [] (omega arith) (out_alone failing)
-    (out_short failing (omega arith)) Addressed 0 both.graph left refl refl refl refl refl refl
-    (kind_alone failing) refl
+    is_job_of _ _ (omega arith) [] (omega arith) (out_alone failing)
+    (out_short _ (omega arith)) Addressed 0 both.graph left refl refl refl refl refl refl
+    (kind_alone _) refl
 
 pub left_answer : Answer
 left_answer = record { status = Some (pos 1); trees = vec_of [] (omega arith) }
@@ -303,5 +303,5 @@ left_may = search (rules, left_answer, left_builder, left_job, left_is_job, left
 
 pub right_may : may_leave (job_of_right 1) (Ok right_answer)
 right_may = subst (λ (b : List ℕ). Leaves (same_bytes b (codes "/bin/false")) right_answer)
-    (sym (right_builder both.graph 1 refl (job_of_right 1) (is_job_of_right both.graph 1 refl)))
+    (sym (right_builder both.graph 1 refl (job_of_right 1) (is_job_of_right _ 1 refl)))
     right_leaves

@@ -50,7 +50,7 @@ right_keys out = search rules
 -- lists that rise are in order
 pub in_order_by : (drv : Drv) → KeysRise derivation_form (drv_value drv)
     → InOrder derivation_form (drv_value drv)
-in_order_by drv = (order_means_rising derivation_form (drv_value drv)).1
+in_order_by drv = (order_means_rising _ _).1
 
 -- a derivation with one output, and without inputs and sources, stands at its own path
 module _ (recipe : Recipe) (out algo hash : List ℕ) where
@@ -76,7 +76,7 @@ module _ (recipe : Recipe) (out algo hash : List ℕ) where
       rising = tt;
       same = λ ref. (λ has. has, λ has. has);
       is_path = ap (λ (name : List ℕ). text_path store name (text_of drv) [])
-          (sym (text_named (recipe.name ++ codes ".drv") (text_of drv) filed));
+          (sym (text_named _ (text_of drv) filed));
     };
   }
 
@@ -85,13 +85,13 @@ left_stands = record {
   bytes = text_of left.drv;
   given = rw (nat_list_eq_equiv.refl left.path) refl;
   found = found_with failing (out_alone failing) [] [] left_filed left_file
-      (left_few (out_alone failing) (out_short failing (omega arith)))
+      (left_few _ (out_short _ (omega arith)))
       (in_order_by left.drv (left_keys (out_alone failing)));
 }
 
 pub right_found : IsFoundAt store right.path (text_of right.drv) right.drv right.path
 right_found = found_with making (out_alone making) [] [] right_filed right_file
-    (right_few (out_alone making) (out_short making (omega arith)))
+    (right_few _ (out_short making (omega arith)))
     (in_order_by right.drv (right_keys (out_alone making)))
 
 right_stands : MayBeAt store (listing_gives two_files) right.path right.drv
@@ -111,7 +111,7 @@ module _ (nodes : List Node) (alone : (n : Node) → Contains nodes n → inputs
       by : (root : List ℕ) → Contains roots root → (steps : List (List ℕ))
           → LeadsBy (Uses nodes) root path steps → Contains roots path
       by root is [] same = subst (Contains roots) same is
-      by root is (next ∷ steps) leads = absurd (uses_none root next leads.0)
+      by root is (next ∷ steps) leads = absurd (uses_none _ _ leads.0)
 
 without_inputs : (n : Node) → Contains both.graph.nodes n → inputs_of n.drv ≡ []
 without_inputs n has = search (rules, one_of, Contains-cons_cases)
@@ -120,22 +120,22 @@ in_order : AreLeft both.graph.nodes [] (left.path ∷ right.path ∷ []) (left.p
 in_order =
     left_behind_inputs left [] [] (right.path ∷ []) (left.path ∷ right.path ∷ [])
     (Contains-first left (right ∷ [])) (Contains-nothing left.path) (none_left [])
-    (Contains-nothing left.path)
+    (Contains-nothing _)
     (left_behind_inputs right (left.path ∷ []) (left.path ∷ []) [] (left.path ∷ right.path ∷ [])
     (Contains-later left (right ∷ []) right (Contains-first right [])) not_left
     (none_left (left.path ∷ [])) not_left (none_left (left.path ∷ right.path ∷ [])))
   where
     not_left : Contains (left.path ∷ []) right.path → ⊥
-    not_left has = files_differ (one_of left.path right.path has)
+    not_left has = files_differ (one_of _ _ has)
 
 pub loads : IsPlan store (listing_gives two_files) (left.path ∷ right.path ∷ []) both.graph
 loads = record {
-  given = all_two (λ (n : Node). MayBeAt store (listing_gives two_files) n.path n.drv) left right
+  given = all_two (λ (n : Node). MayBeAt store (listing_gives two_files) n.path n.drv) _ _
       left_stands right_stands;
   in_order = in_order;
   reached = λ path has. record { root = path; is_root = has; steps = []; leads = refl };
-  whole = reached_root both.graph.nodes without_inputs (left.path ∷ right.path ∷ []);
+  whole = reached_root _ without_inputs (left.path ∷ right.path ∷ []);
   lawful = lawful_both;
   few = omega arith;
-  is_roots = rw (other_path left.path right.path files_differ) refl;
+  is_roots = rw (other_path _ _ files_differ) refl;
 }

@@ -11,7 +11,7 @@ use Rattle.sched_core.specs.Runs.{History, Run}
 use Rattle.sched_core.specs.States.{Phase, Idle, Begun, Ended, Broken, phase_of}
 use Rattle.sched_core.specs.declared.job.Answer.{Answer}
 use Rattle.sched_core.specs.declared.job.Job.{Job}
-use Rattle.sched_core.specs.declared.reason.Event.TheVariants.{Begin, Done as Finish, Fail}
+use Rattle.sched_core.specs.declared.reason.Event.TheVariants.{Begin, Done as Finish}
 use Rattle.sched_core.specs.declared.reason.Reason.{Reason}
 use Rattle.sched_core.specs.declared.reason.Reason.TheVariants.{OutOfMemory}
 use Rattle.sched_core.proofs.Histories.{ready_is_idle}
@@ -85,8 +85,7 @@ module _ (excused : Reason → Type 0) (may : Job → Result Answer Reason → T
         → outcome_failed entries d reason why ≡ outcomes d
         → excused reason ⊎ IsVerdictBehind (GivesEach may outcomes) run entries d (Err reason)
     given_failed entries d reason (inl excuse) is = inl excuse
-    given_failed entries d reason (inr behind) is =
-        inr (given_behind entries d (Err reason) behind is)
+    given_failed entries d reason (inr behind) is = inr (given_behind _ d _ behind is)
 
     -- of an event the outcome is that of its derivation, and the others keep theirs
     here : (d : ℕ) (given rest : Result Answer Reason)
@@ -110,9 +109,9 @@ module _ (excused : Reason → Type 0) (may : Job → Result Answer Reason → T
     given_in _ (told_begin history e told legal can) are =
         told_begin history e (given_in history told (λ d over.
         ⊎_elim
-        (λ same. absurd (over_idle (phase_of history.events d)
+        (λ same. absurd (over_idle _
         (subst (λ n. phase_of history.events n ≡ Idle) same
-        (ready_is_idle run history e can.ready)) over))
+        (ready_is_idle _ history e can.ready)) over))
         (λ other. are d (subst IsOver
         (sym (phase_other history.events (Begin e (begins history.events)) d other)) over))
         (same_or_other e d))) legal can
@@ -120,26 +119,26 @@ module _ (excused : Reason → Type 0) (may : Job → Result Answer Reason → T
         told_done history e lease node infos entry
         (given_in history told (λ d over.
         ⊎_elim
-        (λ same. absurd (over_begun (phase_of history.events d) lease
+        (λ same. absurd (over_begun _ _
         (subst (λ n. phase_of history.events n ≡ Begun lease) same phase) over))
-        (λ other. elsewhere e d (outcome_behind history.entries e (Ok infos) came)
-        (outcomes_in history told d) other (are d (subst IsOver
+        (λ other. elsewhere e d _
+        _ other (are d (subst IsOver
         (sym (phase_other history.events (Finish e lease) d other)) over)))
         (same_or_other e d)))
         legal phase at
-        (given_behind history.entries e (Ok infos) came
-        (here e (outcome_behind history.entries e (Ok infos) came) (outcomes_in history told e)
+        (given_behind _ e _ came
+        (here e (outcome_behind history.entries e (Ok infos) came) _
         (are e (subst IsOver (sym (phase_ended history.events e lease)) tt))))
         is_entry
     given_in _ (told_fail history e lease reason told legal phase why) are =
         told_fail history e lease reason
         (given_in history told (λ d over.
         ⊎_elim
-        (λ same. absurd (over_begun (phase_of history.events d) lease
+        (λ same. absurd (over_begun _ _
         (subst (λ n. phase_of history.events n ≡ Begun lease) same phase) over))
-        (λ other. elsewhere e d (outcome_failed history.entries e reason why)
-        (outcomes_in history told d) other (are d (subst IsOver
-        (sym (phase_other history.events (Fail e lease reason) d other)) over)))
+        (λ other. elsewhere e d _
+        _ other (are d (subst IsOver
+        (sym (phase_other history.events _ d other)) over)))
         (same_or_other e d)))
         legal phase
         (given_failed history.entries e reason why
@@ -151,13 +150,12 @@ answered_from : (may : Job → Result Answer Reason → Type 0) (run : Run) (his
     → IsTold (λ reason. reason ≡ OutOfMemory) may run history → IsAnswered may run history
 answered_from may run _ (told_opening entries journal) = answered_opening entries
 answered_from may run _ (told_begin history d told legal can) =
-    answered_begin history d (answered_from may run history told)
+    answered_begin history d (answered_from may _ _ told)
 answered_from may run _
     (told_done history d lease node infos entry told legal phase at came is_entry) =
-    answered_done history d lease node infos entry (answered_from may run history told) at came
-    is_entry
+    answered_done history d lease node infos entry (answered_from may _ _ told) at came is_entry
 answered_from may run _ (told_fail history d lease reason told legal phase why) =
-    answered_fail history d lease reason (answered_from may run history told) why
+    answered_fail history d lease reason (answered_from may _ _ told) why
 
 -- ---- where each derivation is given one outcome
 
@@ -202,8 +200,8 @@ outcomes_decide may run history end = (
     gives = GivesEach may outcomes
 
     given : IsAnswered (GivesEach may outcomes) run history
-    given = answered_from (GivesEach may outcomes) run history
-        (given_in (λ reason. reason ≡ OutOfMemory) may run outcomes history told (λ d over. refl))
+    given = answered_from (GivesEach may outcomes) _ _
+        (given_in (λ reason. reason ≡ OutOfMemory) _ run outcomes history told (λ d over. refl))
 
     whole : IsWholeRun (GivesEach may outcomes) run history
     whole = search (rules, whole_by, outcomes, given)

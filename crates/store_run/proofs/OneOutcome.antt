@@ -55,11 +55,11 @@ pub refers_behind : (may : Job → Result Answer Reason → Type 0) (run : Run) 
 refers_behind may run entries d node infos at behind info path has refers =
     let job = behind.job in
     let there : MayRefer (registered entries) job.seeds.items (outputs_of job) path =
-    came_may_refer may entries job infos behind.comes_to info path has refers in
+    came_may_refer may entries _ _ behind.comes_to info path has refers in
     subst (λ (seeds : List (List ℕ)). MayRefer (registered entries) seeds (output_paths_of node.drv)
-    path) (job_seeds run.graph d job node behind.is_job at)
+    path) (job_seeds _ d _ _ behind.is_job at)
     (subst (λ (outputs : List (List ℕ)). MayRefer (registered entries) job.seeds.items outputs
-    path) (job_outputs run.graph d job node behind.is_job at) there)
+    path) (job_outputs _ d _ _ behind.is_job at) there)
 
 -- ---- what is permitted behind the first entries is permitted behind all
 
@@ -88,8 +88,8 @@ module _ (may : Job → Result Answer Reason → Type 0) (run : Run) (history : 
       → MayRefer (registered history.entries) (seeds_of run.graph.nodes node.drv)
       (output_paths_of node.drv) path
   came_refers infos came info path has refers =
-      (permitted_whole (Ok infos) came path).0
-      (refers_behind may run came.before d node infos at came.behind info path has refers)
+      (permitted_whole (Ok infos) came _).0
+      (refers_behind may _ _ d _ _ at came.behind info path has refers)
 
   -- there is a record for each output
   pub came_count : (infos : List PathInfo) → CameTo may run history d (Ok infos)
@@ -98,7 +98,7 @@ module _ (may : Job → Result Answer Reason → Type 0) (run : Run) (history : 
       let job = came.behind.job in
       by came.behind.comes_to.0 came.behind.comes_to.2
       ∙ sym (length-map job.outputs.items (λ (o : JobOutput). o.path))
-      ∙ ap length (job_outputs run.graph d job node came.behind.is_job at)
+      ∙ ap length (job_outputs _ d _ _ came.behind.is_job at)
     where
       by : (outcome : Result Answer Reason)
           → IsOutcomeVerdict came.before came.behind.job outcome (Ok infos)
@@ -125,14 +125,14 @@ module _ (may : Job → Result Answer Reason → Type 0) (run : Run)
       let outputs = output_paths_of node.drv in
       let are = permitted_job run.graph d came.behind.job node came.before p came.behind.is_job at
       of_p in
-      let are' = permitted_job run.graph d came'.behind.job node came'.before q
+      let are' = permitted_job run.graph d came'.behind.job _ came'.before q
       came'.behind.is_job at of_q in
       rising_same p q are.rising are'.rising (λ path. (
         λ has. (are'.each path).1
-            ((permitted_whole may run other once' d node at w came' path).1
-            (may_refer_there (registered history.entries) (registered other.entries) seeds outputs
-            there path
-            ((permitted_whole may run history once d node at v came path).0
+            ((permitted_whole _ _ _ once' d node at w came' path).1
+            (may_refer_there _ _ _ _
+            there _
+            ((permitted_whole _ _ history once d node at v came path).0
             ((are.each path).0 has)))),
         λ has. (are.each path).1
             ((permitted_whole may run history once d node at v came path).1
@@ -156,7 +156,7 @@ module _ (may : Job → Result Answer Reason → Type 0) (run : Run)
           outcome d came.behind.job came'.behind.job is.0 (Ok a) (Ok b) v w came.behind.is_job
           came'.behind.is_job may_a may_b is.2
           (subst (λ (ps : List (List ℕ)). IsVerdict came'.behind.job ps b w)
-          (sym (same_permitted v w came came' is.0 is'.0 is.1 is'.1)) is'.2)
+          (sym (same_permitted v w came came' _ _ is.1 is'.1)) is'.2)
       by (Ok a) (Err r) may_a may_b is is' = search rules
       by (Err r) (Ok b) may_a may_b is is' = search rules
       by (Err r) (Err s) may_a may_b is is' = search rules

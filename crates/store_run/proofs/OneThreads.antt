@@ -1,5 +1,5 @@
 -- To each whole run there is one thread over the same opening.
-use Rattle.std.proofs.Common.{◌≡◌, ◌↔◌, ◌∙◌, ◌<◌, ℕ, zero, suc, List, length, Result, Ok, Err, Some, refl, sym, subst, ⊎_elim, arith, rules}
+use Rattle.std.proofs.Common.{◌≡◌, ◌↔◌, ◌∙◌, ◌<◌, ℕ, zero, suc, List, Result, Ok, Err, Some, refl, sym, subst, ⊎_elim, arith, rules}
 use Rattle.std.specs.Prelude.{Contains, slice_get}
 use Rattle.drv_graph.specs.Nodes.{Node}
 use Rattle.drv_graph.specs.PlanNodes.{output_paths_of}
@@ -48,22 +48,22 @@ module _ (may : Job → Result Answer Reason → Type 0) (run : Run) (history ot
       let job = came.behind.job in
       let seeds = seeds_of run.graph.nodes node.drv in
       let outputs = output_paths_of node.drv in
-      let are = permitted_job run.graph d job node came.before permitted came.behind.is_job at of in
+      let are = permitted_job _ d _ _ came.before _ came.behind.is_job at of in
       let whole = permitted_whole may run history once d node at verdict came in
       record {
         rising = of.rising;
         each = λ path.
             subst (λ (ss : List (List ℕ)). Contains permitted path
             ↔ MayRefer (registered other.entries) ss (outputs_of job) path)
-            (sym (job_seeds run.graph d job node came.behind.is_job at))
+            (sym (job_seeds _ d _ _ came.behind.is_job at))
             (subst (λ (os : List (List ℕ)). Contains permitted path
             ↔ MayRefer (registered other.entries) seeds os path)
-            (sym (job_outputs run.graph d job node came.behind.is_job at)) (
-              λ has. may_refer_there (registered history.entries) (registered other.entries) seeds
-                  outputs there path ((whole path).0 ((are.each path).0 has)),
+            (sym (job_outputs _ d _ _ came.behind.is_job at)) (
+              λ has. may_refer_there _ _ _
+                  _ there _ ((whole path).0 ((are.each path).0 has)),
               λ can. (are.each path).1 ((whole path).1
-                  (may_refer_there (registered other.entries) (registered history.entries) seeds
-                  outputs back path can)),
+                  (may_refer_there _ _ _
+                  _ back _ can)),
             ));
       }
 
@@ -81,7 +81,7 @@ module _ (may : Job → Result Answer Reason → Type 0) (run : Run) (history ot
       by : (outcome : Result Answer Reason)
           → IsOutcomeVerdict came.before came.behind.job outcome verdict
           → IsOutcomeVerdict other.entries came.behind.job outcome verdict
-      by (Ok answer) is = (is.0, permitted_there is.0 is.1, is.2)
+      by (Ok answer) is = (is.0, permitted_there _ is.1, is.2)
       by (Err reason) is = is
 
 -- ---- one turn after another
@@ -107,12 +107,12 @@ turns_more history other after count phases turns last d low =
       over_there = λ lease is. turn.over_there lease (sym (phases d apart) ∙ is);
       idle = λ is. turn.idle (sym (phases d apart) ∙ is);
       idle_there = λ is. phases d apart ∙ turn.idle_there is;
-    }) (same_or_other count d)
+    }) (same_or_other _ d)
 
 module _ (may : Job → Result Answer Reason → Type 0) (run : Run) (history : History)
     (whole : IsWholeRun may run history) (d : ℕ) (thread : IsThread may run history d) where
   told : IsAccounted may run history
-  told = run_accounted may run history whole
+  told = run_accounted may _ _ whole
 
   told_there : IsAccounted may run thread.other
   told_there = search (rules, turns_accounted)
@@ -121,15 +121,15 @@ module _ (may : Job → Result Answer Reason → Type 0) (run : Run) (history : 
   turned = search (rules, turned_is)
 
   below : (i : ℕ) → i < d → IsAlikeAt run history thread.other i
-  below i less = alike_below may run whole.end.plan whole.outcome history thread.other told
+  below i less = alike_below may _ whole.end.plan whole.outcome _ _ told
       told_there
       turned.opening_is d (λ e low rest. thread.turns e low) d i less less
 
   above : (i : ℕ) → i < d → IsAlikeAt run thread.other history i
-  above i less = swapped run history thread.other i (below i less)
+  above i less = swapped _ _ _ i (below i less)
 
   unhindered : (phase_of history.events d ≡ Idle → ⊥) → IsUnhindered run thread.other d
-  unhindered moved = unhindered_there may run whole.end.plan history thread.other told told_there
+  unhindered moved = unhindered_there may _ whole.end.plan _ _ told told_there
       turned.opening_is d below (told.begun d moved).unhindered
 
   can_begin : (phase_of history.events d ≡ Idle → ⊥) → CanBegin run thread.other d
@@ -137,7 +137,7 @@ module _ (may : Job → Result Answer Reason → Type 0) (run : Run) (history : 
     within = (told.begun d moved).within;
     wanted = subst (λ (opens : List Entry). IsWanted run opens d) (sym turned.opening_is)
         (told.begun d moved).wanted;
-    ready = unhindered_ready run thread.other whole.end.plan d (unhindered moved)
+    ready = unhindered_ready _ thread.other whole.end.plan d (unhindered moved)
         (turned.rest d (omega arith));
   }
 
@@ -147,8 +147,8 @@ module _ (may : Job → Result Answer Reason → Type 0) (run : Run) (history : 
       let node = came.behind.is_job.node in
       let at = came.behind.is_job.is_node in
       behind_there may run history thread.other told.once d verdict came node at
-      (seed_carried may run whole.end.plan history thread.other told told_there turned.opening_is d
-      below node at (told.begun d moved).unhindered)
+      (seed_carried may run whole.end.plan history _ told told_there turned.opening_is d
+      below _ at (told.begun d moved).unhindered)
       (seed_carried may run whole.end.plan thread.other history told_there told
       (sym turned.opening_is) d above node at (unhindered moved))
 
@@ -232,5 +232,5 @@ thread_of may run history whole (suc count) =
 
 pub has_one_thread : (may : Job → Result Answer Reason → Type 0) → HasOneThread may
 has_one_thread may run history whole =
-    let thread = thread_of may run history whole (length run.graph.nodes) in
+    let thread = thread_of may _ _ whole _ in
     (thread.other, thread.had)

@@ -32,7 +32,7 @@ seeds_stay before after job goes valid =
     subst (λ (entries : List Entry). AreSeedsValid entries job) goes.1
     (subst (λ (registrations : List Registration). All (IsValid registrations) job.seeds.items)
     (sym (registered-append before goes.0))
-    (valid_more (registered before) (registered goes.0) job.seeds.items valid))
+    (valid_more _ (registered goes.0) _ valid))
 
 -- a closure of the seeds beside the job's own outputs
 pub closure_and_outputs : (entries : List Entry) (job : Job) (reached all : List (List ℕ))
@@ -51,7 +51,7 @@ same_behind before after job path goes showable valid =
     (outputs_of job) path
     (closed_references_valid before (showable_front before goes.0 whole).closed)
     (subst IsOnce (registered-append before goes.0) whole.once)
-    (λ seed has. All-contains (IsValid (registered before)) job.seeds.items seed valid has) in
+    (λ seed has. All-contains (IsValid (registered before)) _ _ valid has) in
     subst (λ (entries : List Entry). MayRefer (registered before) job.seeds.items (outputs_of job)
     path
     ↔ MayRefer (registered entries) job.seeds.items (outputs_of job) path) goes.1
@@ -80,9 +80,9 @@ pub stays_by_view : (seen now shown entries : List Entry) (job : Job) → IsPref
     → AreSeedsValid seen job → AreSeedsValid shown job → StaysPermitted seen entries job
 stays_by_view seen now shown entries job from_seen from_shown goes_on showable journal valid there =
     permitted_by_both seen entries job (λ path.
-    let first = same_behind seen now job path from_seen showable valid in
-    let second = same_behind shown now job path from_shown showable there in
-    let third = same_behind shown entries job path goes_on journal there in
+    let first = same_behind _ _ job _ from_seen showable valid in
+    let second = same_behind _ _ job _ from_shown showable there in
+    let third = same_behind _ _ job _ goes_on journal there in
     (λ may. third.0 (second.1 (first.0 may)), λ may. first.1 (second.0 (third.1 may))))
 
 -- from no seeds nothing is reached

@@ -1,5 +1,5 @@
 -- Verdicts on answers that are the same, trees of the same bytes counting as one.
-use Rattle.std.proofs.Common.{◌≡◌, ◌∙◌, ℕ, List, All, Option, Some, None, Result, Ok, Err, refl, sym, length, rules}
+use Rattle.std.proofs.Common.{◌≡◌, ◌∙◌, ℕ, List, All, Option, Some, None, Result, Ok, Err, refl, sym, rules}
 use Rattle.nix_names.specs.declared.digest.Algorithm.{Algorithm}
 use Rattle.drv_graph.specs.declared.kinds.Kind.{Kind}
 use Rattle.drv_graph.specs.declared.kinds.Kind.TheVariants.{Addressed, Fixed}
@@ -61,7 +61,7 @@ first_same P Q there back count n first = search (rules, all_weaker, back)
 
 trees_back : (o p : Option Tree) → AreSameTrees o p → AreSameTrees p o
 trees_back None None same = tt
-trees_back (Some tree) (Some other) same = same_back tree other same
+trees_back (Some tree) (Some other) same = same_back _ _ same
 trees_back None (Some other) same = absurd same
 trees_back (Some tree) None same = absurd same
 
@@ -92,7 +92,7 @@ module _ (job : Job) (answer other : Answer) (same : AreSameAnswers answer other
 
 module _ (job : Job) (answer other : Answer) (same : AreSameAnswers answer other) where
   back : AreSameAnswers other answer
-  back = answers_back answer other same
+  back = answers_back _ _ same
 
   there_too : AreOutputsThere job answer → AreOutputsThere job other
   there_too there = search (rules, missing_there, back)
@@ -102,10 +102,10 @@ module _ (job : Job) (answer other : Answer) (same : AreSameAnswers answer other
     first.0,
     first_same (λ m. (why : Reason) × IsFaulty job answer why m)
         (λ m. (why : Reason) × IsFaulty job other why m)
-        (λ m faulty. (faulty.0, faulty_there job answer other same m faulty.0 faulty.1))
-        (λ m faulty. (faulty.0, faulty_there job other answer back m faulty.0 faulty.1))
-        (length job.outputs.items) first.0 first.1,
-    faulty_there job answer other same first.0 reason first.2,
+        (λ m faulty. (faulty.0, faulty_there job _ other same m faulty.0 faulty.1))
+        (λ m faulty. (faulty.0, faulty_there job _ answer back m faulty.0 faulty.1))
+        _ _ first.1,
+    faulty_there job _ other same first.0 reason first.2,
   )
 
   taken_too : IsTaken job answer → IsTaken job other

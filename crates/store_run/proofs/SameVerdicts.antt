@@ -55,7 +55,7 @@ module _ (job again : Job) (outputs : outputs_of job ≡ outputs_of again)
       → IsVerdict job permitted answer verdict → IsVerdict again permitted answer verdict
   verdict_too permitted (Ok infos) is = (
     taken_too is.0,
-    records_too permitted infos is.1,
+    records_too _ _ is.1,
     subst (λ (paths : List (List ℕ)). IsCyclic paths infos → ⊥) outputs is.2,
   )
   verdict_too permitted (Err Killed) is = is
@@ -68,7 +68,7 @@ module _ (job again : Job) (outputs : outputs_of job ≡ outputs_of again)
     taken_too is.0,
     (
       is.1.0,
-      records_too permitted is.1.0 is.1.1,
+      records_too _ _ is.1.1,
       subst (λ (paths : List (List ℕ)). IsCyclic paths is.1.0) outputs is.1.2,
     ),
   )

@@ -60,7 +60,7 @@ left_behind entries = record {
     left_may,
     (
       output_paths_of left.drv,
-      permitted_own both.graph entries 0 left_job left left_is_job refl refl _ refl,
+      permitted_own _ entries 0 _ _ left_is_job refl refl _ refl,
       left_verdict left_job (output_paths_of left.drv) left_answer left_leaves,
     ),
   );
@@ -70,16 +70,16 @@ right_behind : (entries : List Entry)
     → IsVerdictBehind may_leave both entries 1 (Ok (nothing_in ∷ []))
 right_behind entries = record {
   job = job_of_right 1;
-  is_job = is_job_of_right both.graph 1 refl;
+  is_job = is_job_of_right _ 1 refl;
   comes_to = (
     Ok right_answer,
     right_may,
     (
       output_paths_of right.drv,
-      permitted_own both.graph entries 1 (job_of_right 1) right (is_job_of_right both.graph 1 refl)
+      permitted_own _ entries 1 _ _ (is_job_of_right both.graph 1 refl)
           refl refl _ refl,
-      right_verdict both.graph 1 refl (job_of_right 1) (is_job_of_right both.graph 1 refl)
-          right_answer right_leaves (output_paths_of right.drv),
+      right_verdict both.graph 1 refl _ (is_job_of_right both.graph 1 refl)
+          _ right_leaves _,
     ),
   );
 }
@@ -107,7 +107,7 @@ module _ (info : PathInfo) (none : info.references ≡ []) where
       → AreOutputRecords node.drv (info ∷ []) → AreNewOutputs entries node.drv
       → IsAllowed graph entries node (info ∷ [])
   one_allowed graph entries node own new = record {
-    records = record { own = own; acyclic = no_cycle info none (output_paths_of node.drv) };
+    records = record { own = own; acyclic = no_cycle _ none (output_paths_of node.drv) };
     new = new;
     permitted = λ other path has refers. absurd (none_refers other path has refers);
   }
@@ -142,11 +142,11 @@ module _ (node : Node) (own : List ℕ) (info : PathInfo)
 pub right_allowed : (graph : Graph) (entries : List Entry) → AreNewOutputs entries right.drv
     → IsAllowed graph entries right (nothing_in ∷ [])
 right_allowed graph entries new =
-    one_allowed nothing_in refl graph entries right (record {
+    one_allowed _ refl _ entries right (record {
       count = refl;
       fixed = λ method digest kind info has.
-          let clash : Addressed ≡ Fixed method digest = one_kind right.drv Addressed
-          (Fixed method digest) (kind_alone making) kind in
+          let clash : Addressed ≡ Fixed method digest = one_kind right.drv _
+          _ (kind_alone _) kind in
           absurd cc;
     }) new
 
@@ -154,14 +154,14 @@ pub right_entry : IsEntryOf right (nothing_in ∷ []) made
 right_entry = one_entry right (out_alone making) nothing_in refl
 
 pub none_valid : (node : Node) → AreNewOutputs [] node.drv
-none_valid node path own valid = Contains-nothing path valid
+none_valid node path own valid = Contains-nothing _ valid
 
 -- ---- side by side
 
 -- the two make different outputs, so neither has a twin
 no_twin : (opening : List Entry) (d t : ℕ) → Contains (earlier_twins both opening d) t → ⊥
 no_twin opening d t has =
-    let is = is_earlier_twin both opening d t has in by d t is.earlier is.twins
+    let is = is_earlier_twin _ _ d t has in by d t is.earlier is.twins
   where
     by : (d t : ℕ) → t < d
         → are_twins_at (slice_get both.graph.nodes t) (slice_get both.graph.nodes d) ≡ true → ⊥
@@ -170,8 +170,8 @@ no_twin opening d t has =
     by (suc zero) zero low twins =
         let path_in : Output → List ℕ = λ o. o.path in
         let own : Contains (output_paths_of left.drv) (out_alone failing) =
-        Contains-first (out_alone failing) [] in
-        let one = Contains-from_map path_in left.drv.outputs (out_alone failing) own in
+        Contains-first _ [] in
+        let one = Contains-from_map path_in left.drv.outputs _ own in
         let other = Contains-from_map path_in right.drv.outputs (out_alone failing)
         (twins_path left.drv right.drv (out_alone failing) twins own) in
         outputs_differ (one.0, other.0, one.1, other.1, one.2 ∙ sym other.2)
@@ -182,7 +182,7 @@ unhindered : (history : History) (d : ℕ) → standing_in both history d ≡ Fr
     → inputs_in both d ≡ [] → IsUnhindered both history d
 unhindered history d free none = record {
   free = free;
-  spent = λ t has. absurd (no_twin history.opening d t has);
+  spent = λ t has. absurd (no_twin _ d t has);
   good = λ i has. absurd (Contains-nothing i (subst (λ l. Contains l i) none has));
 }
 
@@ -193,10 +193,10 @@ second_ready : state_in both (begun (opened []) 0) 1 ≡ Ready
 second_ready = search (rules, unhindered_ready, both_sound, unhindered)
 
 pub left_failed : state_in both side_by_side 0 ≡ Failed (ExitStatus (pos 1))
-left_failed = state_by both side_by_side both_sound 0 (Broken (ExitStatus (pos 1))) refl
+left_failed = state_by _ side_by_side both_sound 0 (Broken (ExitStatus (pos 1))) refl
 
 pub right_built : state_in both side_by_side 1 ≡ Done
-right_built = state_by both side_by_side both_sound 1 Ended refl
+right_built = state_by _ side_by_side both_sound 1 Ended refl
 
 legal_both : IsLegal both (begun (begun (opened []) 0) 1)
 legal_both =
@@ -208,7 +208,7 @@ legal : IsLegal both side_by_side
 legal =
     legal_fail (ended (begun (begun (opened []) 0) 1) 1 1 made) 0 0 (ExitStatus (pos 1))
     (legal_done (begun (begun (opened []) 0) 1) 1 1 right (nothing_in ∷ []) made legal_both refl
-    refl (right_allowed both.graph [] (none_valid right)) right_entry) refl
+    refl (right_allowed _ [] (none_valid right)) right_entry) refl
 
 answered : IsAnswered may_leave both side_by_side
 answered =
@@ -216,7 +216,7 @@ answered =
     (answered_done (begun (begun (opened []) 0) 1) 1 1 right (nothing_in ∷ []) made
     (answered_begin (begun (opened []) 0) 1
     (answered_begin (opened []) 0 (answered_opening []))) refl (right_behind []) right_entry)
-    (inr (left_behind (made ∷ [])))
+    (inr (left_behind _))
 
 pub closed_failed : (s : State) (reason : Reason) → s ≡ Failed reason → IsOpen s → ⊥
 closed_failed s reason is (inl blocked) = cc
@@ -229,7 +229,7 @@ closed_done s is (inr (inl ready)) = cc
 closed_done s is (inr (inr (lease, building))) = cc
 
 settled : IsRunSettled both side_by_side
-settled zero low is = closed_failed _ (ExitStatus (pos 1)) left_failed
+settled zero low is = closed_failed _ _ left_failed
 settled (suc zero) low is = closed_done _ right_built
 settled (suc (suc d)) low is = absurd (omega arith)
 

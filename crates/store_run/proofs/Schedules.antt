@@ -29,11 +29,10 @@ module _ (excused : Reason → Type 0) (may : Job → Result Answer Reason → T
   pub opening_journal : (history : History) → IsTold excused may run history
       → IsJournal history.opening
   opening_journal _ (told_opening entries journal) = journal
-  opening_journal _ (told_begin history d told legal can) = opening_journal history told
+  opening_journal _ (told_begin history d told legal can) = opening_journal _ told
   opening_journal _ (told_done history d lease node infos entry told legal phase at came is_entry) =
-      opening_journal history told
-  opening_journal _ (told_fail history d lease reason told legal phase why) =
-      opening_journal history told
+      opening_journal _ told
+  opening_journal _ (told_fail history d lease reason told legal phase why) = opening_journal _ told
 
   -- a told history in which nothing is excused
   accounted : IsSound run.graph → (history : History) → IsTold excused may run history
@@ -41,17 +40,17 @@ module _ (excused : Reason → Type 0) (may : Job → Result Answer Reason → T
       → ((d : ℕ) (why : Reason) → phase_of history.events d ≡ Broken why → excused why → ⊥)
       → IsAccounted may run history
   accounted sound history told legal none =
-      let opens = opened_with run history legal in
+      let opens = opened_with _ _ legal in
       record {
-        begun = begun_is excused may run sound history told;
-        made = made_is excused may run sound history told;
+        begun = begun_is excused may _ sound _ told;
+        made = made_is excused may _ sound _ told;
         broke = λ d why at. ⊎_elim (λ excuse. absurd (none d why at excuse)) (λ came. came)
-            (broke_is excused may run sound history told d why at);
+            (broke_is excused may _ sound _ told d _ at);
         more = opens.0;
         parts = opens.1;
-        closed = closed_references_valid history.opening (opening_journal history told).closed;
+        closed = closed_references_valid _ (opening_journal _ told).closed;
         once = (entries_are_journal run history (drv_paths excused may run sound) legal).once;
-        from = from_is excused may run history told;
+        from = from_is excused may _ _ told;
       }
 
 module _ (may : Job → Result Answer Reason → Type 0) (run : Run) (history : History)
@@ -63,11 +62,11 @@ module _ (may : Job → Result Answer Reason → Type 0) (run : Run) (history : 
   none_excused : (d : ℕ) (why : Reason) → phase_of history.events d ≡ Broken why
       → why ≡ OutOfMemory → ⊥
   none_excused d why at is =
-      let was = begun_is (λ reason. reason ≡ OutOfMemory) may run whole.end.plan history run_told d
+      let was = begun_is (λ reason. reason ≡ OutOfMemory) may _ whole.end.plan _ run_told d
       (λ idle. let clash : Broken why ≡ Idle = sym at ∙ idle in cc) in
       whole.end.memory d was.within was.wanted
       (subst (λ (r : Reason). state_in run history d ≡ Failed r) is
-      (state_by run history whole.end.plan d (Broken why) at))
+      (state_by _ history whole.end.plan d _ at))
 
   pub run_accounted : IsAccounted may run history
   run_accounted = search (rules, accounted, run_told, none_excused)
@@ -90,14 +89,14 @@ pub turns_accounted : (may : Job → Result Answer Reason → Type 0) (run : Run
     (sound : IsSound run.graph) (opening : List Entry) (count : ℕ) (other : History)
     → HadTurns may run opening count other → IsAccounted may run other
 turns_accounted may run sound opening count other had =
-    let turned = turned_is may run sound opening count other had in
-    accounted (λ reason. ⊥) may run sound other turned.told turned.legal (λ d why at none. none)
+    let turned = turned_is may _ sound _ _ _ had in
+    accounted (λ reason. ⊥) _ run sound other turned.told turned.legal (λ d why at none. none)
 
 pub any_schedule : (may : Job → Result Answer Reason → Type 0) → AnySchedule may
 any_schedule may run history other whole one =
-    let turned = turned_is may run whole.end.plan history.opening (length run.graph.nodes) other
+    let turned = turned_is may _ whole.end.plan _ _ _
     one in
-    are_alike may run whole.end.plan whole.outcome history other
+    are_alike may run whole.end.plan whole.outcome _ _
     (run_accounted may run history whole)
     (turns_accounted may run whole.end.plan history.opening (length run.graph.nodes) other one)
     whole.end.settled (turned_settled may run whole.end.plan history.opening other one)
@@ -107,14 +106,14 @@ any_schedule may run history other whole one =
 pub one_report_of : (may : Job → Result Answer Reason → Type 0) → OneReport may
 one_report_of may run history other a b whole one of_a of_b =
     let alike = any_schedule may run history other whole one in
-    let turned = turned_is may run whole.end.plan history.opening (length run.graph.nodes) other
+    let turned = turned_is may _ whole.end.plan _ _ _
     one in
     let states : state_in run other ≡ state_in run history = λ i d. sym (alike.states d) i in
     let there : IsReport run.graph (IsWanted run history.opening) (state_in run history) b =
     subst (λ (s : ℕ → State). IsReport run.graph (IsWanted run history.opening) s b) states
     (subst (λ (opens : List Entry). IsReport run.graph (IsWanted run opens) (state_in run other) b)
     turned.opening_is of_b) in
-    one_report run.graph (IsWanted run history.opening) (state_in run history) a b of_a there
+    one_report _ (IsWanted run history.opening) (state_in run history) a b of_a there
 
 -- so does whatever is a report
 pub alike_report_the_same : AlikeReportTheSame

@@ -1,11 +1,11 @@
 -- What a derivation's standing says of its sources and its outputs.
 use Rattle.std.proofs.Common.{◌≡◌, ℕ, true, false, List, Option, Some, None, refl, rules}
 use Rattle.std.specs.Prelude.{Contains, not}
-use Rattle.std.specs.List.{list_all, position}
+use Rattle.std.specs.List.{position}
 use Rattle.nix_drv.specs.Derivation.{Drv}
 use Rattle.drv_graph.specs.PlanNodes.{output_paths_of}
 use Rattle.valid_table.specs.declared.entry.Entry.{Entry}
-use Rattle.sched_core.specs.Runs.{cause_at, is_valid, or_else, own_cause, standing_of}
+use Rattle.sched_core.specs.Runs.{cause_at, is_valid, or_else, standing_of}
 use Rattle.sched_core.specs.declared.reason.Refusal.{Refusal}
 use Rattle.sched_core.specs.declared.reason.Refusal.TheVariants.{MissingSource, PartlyValid}
 use Rattle.sched_core.specs.declared.standing.Standing.TheVariants.{AllValid, Free}
@@ -20,11 +20,7 @@ module _ (system : List ℕ) (opening : List Entry) (drv : Drv) where
   -- where all outputs are valid, each of them is
   pub output_of_reused : standing_of system opening drv ≡ AllValid → (path : List ℕ)
       → Contains (output_paths_of drv) path → is_valid opening path ≡ true
-  output_of_reused all path has =
-      list_all_has (is_valid opening) (output_paths_of drv) path
-      (standing_all (list_all (is_valid opening) (output_paths_of drv))
-      (own_cause system opening drv)
-      all) has
+  output_of_reused all path has = list_all_has (is_valid opening) _ _ (standing_all _ _ all) has
 
   -- the last two causes of one that is free
   last_causes : standing_of system opening drv ≡ Free
@@ -36,18 +32,18 @@ module _ (system : List ℕ) (opening : List Entry) (drv : Drv) where
   pub source_of_free : standing_of system opening drv ≡ Free → (path : List ℕ)
       → Contains drv.sources path → is_valid opening path ≡ true
   source_of_free free path has =
-      not_false (is_valid opening path)
-      (none_found (λ p. not (is_valid opening p)) drv.sources
-      (cause_none MissingSource (position (λ p. not (is_valid opening p)) drv.sources)
-      (or_else_none (cause_at PartlyValid (position (is_valid opening) (output_paths_of drv))) _
-      (last_causes free))) path has)
+      not_false _
+      (none_found (λ p. not (is_valid opening p)) _
+      (cause_none MissingSource _
+      (or_else_none _ _
+      (last_causes free))) _ has)
 
   -- and none of its outputs is
   pub output_of_free : standing_of system opening drv ≡ Free → (path : List ℕ)
       → Contains (output_paths_of drv) path → is_valid opening path ≡ false
   output_of_free free path has =
-      none_found (is_valid opening) (output_paths_of drv)
-      (cause_none PartlyValid (position (is_valid opening) (output_paths_of drv))
-      (or_else_first (cause_at PartlyValid (position (is_valid opening) (output_paths_of drv)))
-      (cause_at MissingSource (position (λ p. not (is_valid opening p)) drv.sources))
-      (last_causes free))) path has
+      none_found (is_valid opening) _
+      (cause_none PartlyValid _
+      (or_else_first _
+      _
+      (last_causes free))) _ has

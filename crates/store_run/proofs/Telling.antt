@@ -1,5 +1,5 @@
 -- What a told history says of each derivation that has an event.
-use Rattle.std.proofs.Common.{◌≡◌, ◌∙◌, ◌⊎◌, inl, inr, ◌<◌, ℕ, Bool, true, false, List, [], ◌∷◌, ◌++◌, length, Result, Ok, Err, Some, refl, sym, ap, subst, ⊎_elim, append_assoc, rules}
+use Rattle.std.proofs.Common.{◌≡◌, ◌∙◌, ◌⊎◌, inl, inr, ◌<◌, ℕ, true, List, [], ◌∷◌, ◌++◌, length, Result, Ok, Err, Some, refl, sym, ap, subst, ⊎_elim, append_assoc, rules}
 use Rattle.std.specs.Prelude.{Contains, slice_get}
 use Rattle.std.proofs.lemmas.List.{append-nil}
 use Rattle.std.proofs.lemmas.List.Elements.{All-contains, Contains-append_cases, Contains-append_left, Contains-append_right}
@@ -17,14 +17,13 @@ use Rattle.valid_table.proofs.JournalLists.{closed_references_valid, registered-
 use Rattle.sched_core.specs.Headline.{AreDrvPaths}
 use Rattle.sched_core.specs.Jobs.{seeds_of}
 use Rattle.sched_core.specs.Legal.{IsEntryOf, IsLegal, begins, begun, ended, failed}
-use Rattle.sched_core.specs.Runs.{History, IsWanted, Run, earlier_twins, rows_of, standing_at, state_in}
-use Rattle.sched_core.specs.States.{Phase, Idle, Begun, Ended, Broken, is_bad, is_good, is_open, phase_of, state}
+use Rattle.sched_core.specs.Runs.{History, IsWanted, Run, rows_of, state_in}
+use Rattle.sched_core.specs.States.{Phase, Idle, Begun, Ended, Broken, is_open, phase_of}
 use Rattle.sched_core.specs.declared.job.Answer.{Answer}
 use Rattle.sched_core.specs.declared.job.Job.{Job}
 use Rattle.sched_core.specs.declared.reason.Event.{Event}
 use Rattle.sched_core.specs.declared.reason.Event.TheVariants.{Begin, Done as Finish, Fail}
 use Rattle.sched_core.specs.declared.reason.Reason.{Reason}
-use Rattle.sched_core.proofs.ClosedStates.{bad_is_closed, states_stay, good_is_closed}
 use Rattle.sched_core.proofs.Dones.{registered_output}
 use Rattle.sched_core.proofs.Histories.{ready_is_idle}
 use Rattle.sched_core.proofs.Permitting.{begun_event}
@@ -33,7 +32,7 @@ use Rattle.sched_core.proofs.Seeds.{phase_push, seeds_are_valid}
 use Rattle.store_run.specs.Builders.{IsVerdictBehind}
 use Rattle.store_run.proofs.ToldRuns.{IsTold, told_begin, told_done, told_fail, told_opening}
 use Rattle.sched_core.proofs.Unhindered.{IsUnhindered as IsUnhinderedIn, ready_unhindered, behind_event, building_is_open}
-use Rattle.store_run.proofs.Unhindered.{IsGoodBy, IsUnhindered, good_ended, good_is, good_reused, good_twin, is_good_by, state_by}
+use Rattle.store_run.proofs.Unhindered.{IsUnhindered}
 use Rattle.sched_core.proofs.OtherEvents.{number_of, same_or_other, phase_other, begun_not_idle}
 
 -- ---- where a derivation stands behind one event more
@@ -69,7 +68,7 @@ begun_stays run history after x opening events still d was = record {
   unhindered =
       subst (λ (opens : List Entry). IsUnhinderedIn (rows_of run opens after.events) d) (sym opening)
       (subst (λ (es : List Event). IsUnhinderedIn (rows_of run history.opening es) d) (sym events)
-      (behind_event run history.opening history.events x still d was.unhindered));
+      (behind_event _ _ history.events x still d was.unhindered));
 }
 
 begun_not_ended : (p : Phase) (lease : ℕ) → p ≡ Begun lease → p ≡ Ended → ⊥
@@ -88,30 +87,30 @@ module _ (excused : Reason → Type 0) (may : Job → Result Answer Reason → T
       → (phase_of history.events d ≡ Idle → ⊥) → WasBegun run history d
   begun_is _ (told_opening entries journal) d moved = absurd (moved refl)
   begun_is _ (told_begin history e told legal can) d moved =
-      begun_stays run history (begun history e) (Begin e (begins history.events)) refl refl
+      begun_stays _ _ _ _ refl refl
       (ap is_open can.ready) d
       (⊎_elim
       (λ same. subst (WasBegun run history) same (record {
         within = can.within;
         wanted = can.wanted;
-        unhindered = ready_unhindered run history sound e can.ready;
+        unhindered = ready_unhindered _ history sound e can.ready;
       }))
-      (λ other. begun_is history told d (λ idle. moved
+      (λ other. begun_is _ told d (λ idle. moved
       (phase_other history.events (Begin e (begins history.events)) d other ∙ idle)))
       (same_or_other e d))
   begun_is _ (told_done history e lease node infos entry told legal phase is_node came is_entry) d
       moved =
       begun_stays run history (ended history e lease entry) (Finish e lease) refl refl
-      (building_is_open run sound history e lease phase) d
-      (begun_is history told d (λ idle. ⊎_elim
-      (λ same. begun_not_idle (phase_of history.events e) lease phase
+      (building_is_open _ sound history e _ phase) d
+      (begun_is _ told d (λ idle. ⊎_elim
+      (λ same. begun_not_idle _ _ phase
       (ap (phase_of history.events) same ∙ idle))
       (λ other. moved (phase_other history.events (Finish e lease) d other ∙ idle))
       (same_or_other e d)))
   begun_is _ (told_fail history e lease reason told legal phase why) d moved =
       begun_stays run history (failed history e lease reason) (Fail e lease reason) refl refl
-      (building_is_open run sound history e lease phase) d
-      (begun_is history told d (λ idle. ⊎_elim
+      (building_is_open _ sound history e _ phase) d
+      (begun_is _ told d (λ idle. ⊎_elim
       (λ same. begun_not_idle (phase_of history.events e) lease phase
       (ap (phase_of history.events) same ∙ idle))
       (λ other. moved (phase_other history.events (Fail e lease reason) d other ∙ idle))
@@ -164,7 +163,7 @@ module _ (excused : Reason → Type 0) (may : Job → Result Answer Reason → T
       → WasMade may run after d
   made_more history after more d is made = record {
     infos = made.infos;
-    came = came_more history after more d (Ok made.infos) is made.came;
+    came = came_more _ _ _ d _ is made.came;
     node = made.node;
     is_node = made.is_node;
     entry = made.entry;
@@ -185,9 +184,9 @@ module _ (excused : Reason → Type 0) (may : Job → Result Answer Reason → T
     before = history.entries;
     more = [];
     parts = sym (append-nil history.entries);
-    closed = closed_references_valid history.entries
+    closed = closed_references_valid _
         (entries_are_journal run history drv_paths legal).closed;
-    seeds = seeds_are_valid run history legal d lease (begun_event history.events d lease phase);
+    seeds = seeds_are_valid run history legal d lease (begun_event _ d _ phase);
     behind = behind;
   }
 
@@ -197,7 +196,7 @@ module _ (excused : Reason → Type 0) (may : Job → Result Answer Reason → T
   made_is _ (told_begin history e told legal can) d ends =
       ⊎_elim
       (λ same. let lease = begins history.events in
-      absurd (begun_not_ended (phase_of (begun history e).events d) lease
+      absurd (begun_not_ended _ _
       (subst (λ n. phase_of (begun history e).events n ≡ Begun lease) same
       (phase_begun history.events e lease)) ends))
       (λ other. made_more history (begun history e) [] d (sym (append-nil history.entries))
@@ -224,7 +223,7 @@ module _ (excused : Reason → Type 0) (may : Job → Result Answer Reason → T
       (same_or_other e d)
   made_is _ (told_fail history e lease reason told legal phase why) d ends =
       ⊎_elim
-      (λ same. absurd (ended_not_broken (phase_of (failed history e lease reason).events d) reason
+      (λ same. absurd (ended_not_broken _ _
       ends
       (subst (λ n. phase_of (failed history e lease reason).events n ≡ Broken reason) same
       (phase_broken history.events e lease reason))))
@@ -268,7 +267,7 @@ module _ (excused : Reason → Type 0) (may : Job → Result Answer Reason → T
       (λ same. absurd (ended_not_broken (phase_of (ended history e lease entry).events d) why
       (subst (λ n. phase_of (ended history e lease entry).events n ≡ Ended) same
       (phase_ended history.events e lease)) breaks))
-      (λ other. why_more history (ended history e lease entry) (entry ∷ []) d why refl
+      (λ other. why_more _ _ _ d _ refl
       (broke_is history told d why
       (sym (phase_other history.events (Finish e lease) d other) ∙ breaks)))
       (same_or_other e d)
@@ -321,7 +320,7 @@ module _ (excused : Reason → Type 0) (may : Job → Result Answer Reason → T
       → IsFrom run history path info
   from_is _ (told_opening entries journal) path info has = from_opening has
   from_is _ (told_begin history e told legal can) path info has =
-      search (rules, from_more, ended_stays, idle_not_ended, ready_is_idle, from_is history told path info has)
+      search (rules, from_more, ended_stays, idle_not_ended, ready_is_idle, from_is _ told _ _ has)
   from_is _ (told_done history e lease node infos entry told legal phase is_node came is_entry) path
       info has =
       ⊎_elim
@@ -338,4 +337,4 @@ module _ (excused : Reason → Type 0) (may : Job → Result Answer Reason → T
       (subst (λ (rs : List Registration). Registers rs path info)
       (registered_push history.entries entry) has))
   from_is _ (told_fail history e lease reason told legal phase why) path info has =
-      search (rules, from_more, ended_stays, begun_not_ended, phase, from_is history told path info has)
+      search (rules, from_more, ended_stays, begun_not_ended, phase, from_is _ told _ _ has)

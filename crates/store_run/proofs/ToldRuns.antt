@@ -12,7 +12,6 @@ use Rattle.sched_core.specs.Runs.{History, Run}
 use Rattle.sched_core.specs.States.{Begun, phase_of}
 use Rattle.sched_core.specs.declared.job.Answer.{Answer}
 use Rattle.sched_core.specs.declared.job.Job.{Job}
-use Rattle.sched_core.specs.declared.reason.Event.TheVariants.{Done as Finish}
 use Rattle.sched_core.specs.declared.reason.Reason.{Reason}
 use Rattle.sched_core.specs.declared.reason.Reason.TheVariants.{OutOfMemory}
 use Rattle.store_run.specs.Builders.{IsAnswered, IsVerdictBehind, answered_begin, answered_done, answered_fail, answered_opening}
@@ -73,11 +72,11 @@ module _ (may : Job → Result Answer Reason → Type 0) (run : Run) where
       search (rules, same_from_push)
   answered_by_done _ (answered_done before e number node infos own answered at came is_entry)
       history d lease entry is =
-      let events = same_from_push before.events history.events (Finish e number)
-      (Finish d lease) (ap (λ (h : History). h.events) is) in
-      let entries = same_from_push before.entries history.entries own entry
+      let events = same_from_push _ _ _
+      _ (ap (λ (h : History). h.events) is) in
+      let entries = same_from_push _ _ _ _
       (ap (λ (h : History). h.entries) is) in
-      let same = same_history before history (ap (λ (h : History). h.opening) is) entries.0 events.0
+      let same = same_history _ _ (ap (λ (h : History). h.opening) is) entries.0 events.0
       in
       let last = events.1 in
       let number_is : e ≡ d = cc in
@@ -114,14 +113,14 @@ module _ (may : Job → Result Answer Reason → Type 0) (run : Run) where
       → IsTold (λ reason. reason ≡ OutOfMemory) may run history
   told_from _ (legal_opening entries journal) answered = told_opening entries journal
   told_from _ (legal_begin history d legal within wanted ready) answered =
-      search (rules, told_begin, answered_before_begin, told_from history legal (answered_before_begin (begun history d) answered history d refl))
+      search (rules, told_begin, answered_before_begin, told_from _ legal (answered_before_begin _ answered _ d refl))
   told_from _ (legal_done history d lease node infos entry legal phase is_node allowed is_entry)
       answered =
       let was =
-      answered_by_done (ended history d lease entry) answered history d lease entry refl in
-      told_done history d lease was.node was.infos entry (told_from history legal was.before) legal
+      answered_by_done _ answered _ d _ _ refl in
+      told_done history d lease was.node was.infos entry (told_from _ legal was.before) legal
       phase was.is_node was.came was.is_entry
   told_from _ (legal_fail history d lease reason legal phase) answered =
       let was =
-      answered_by_fail (failed history d lease reason) answered history d lease reason refl in
-      told_fail history d lease reason (told_from history legal was.before) legal phase was.why
+      answered_by_fail _ answered _ d _ _ refl in
+      told_fail history d lease reason (told_from _ legal was.before) legal phase was.why

@@ -10,7 +10,7 @@ use Rattle.nix_names.proofs.Lists.{Contains-first, Contains-later, either_side}
 use Rattle.drv_graph.specs.Nodes.{Node}
 use Rattle.drv_graph.specs.PlanNodes.{output_paths_of}
 use Rattle.drv_graph.specs.SoundGraphs.{IsSound}
-use Rattle.valid_table.specs.Entries.{paths_registered, registered}
+use Rattle.valid_table.specs.Entries.{registered}
 use Rattle.valid_table.specs.PathInfos.{PathInfo}
 use Rattle.valid_table.specs.Valid.{IsValid}
 use Rattle.valid_table.specs.declared.entry.Entry.{Entry}
@@ -58,16 +58,16 @@ pub states_before : (run : Run) (sound : IsSound run.graph) (history after : His
     → (bound e : ℕ) → e < bound → e < d → state_in run history e ≡ state_in run after e
 states_before run sound history after opening d phases zero e low less = absurd (omega arith)
 states_before run sound history after opening d phases (suc bound) e low less =
-    state_by run history sound e (phase_of after.events e) (phases e less)
+    state_by _ history sound e _ (phases e less)
     ∙ ap (by_phase (phase_of after.events e))
-    (aside_same run history after e opening
+    (aside_same _ history after e opening
     (λ i has.
-    let first = inputs_first run.graph sound e i has in
+    let first = inputs_first _ sound e i has in
     states_before run sound history after opening d phases bound i (omega arith) (omega arith))
     (λ t has.
-    let first = (is_earlier_twin run history.opening e t has).earlier in
+    let first = (is_earlier_twin _ _ e t has).earlier in
     states_before run sound history after opening d phases bound t (omega arith) (omega arith)))
-    ∙ sym (state_by run after sound e (phase_of after.events e) refl)
+    ∙ sym (state_by _ after sound e _ refl)
 
 -- what isn't open is good or bad
 not_open : (s : State) → (IsOpen s → ⊥) → (is_good s ≡ true) ⊎ (is_bad s ≡ true)
@@ -94,7 +94,7 @@ all_good_or_bad : (f : ℕ → State) (inputs : List ℕ)
     → find (λ i. is_bad (f i)) inputs ≡ None → list_all (λ i. is_good (f i)) inputs ≡ true
 all_good_or_bad f [] closed none = refl
 all_good_or_bad f (i ∷ is) closed none =
-    by (is_good (f i)) (is_bad (f i)) (closed i (Contains-first i is))
+    by (is_good (f i)) (is_bad (f i)) (closed i (Contains-first i _))
     (all_good_or_bad f is (λ j has. closed j (Contains-later i is j has))) none
   where
     by : (good bad : Bool) → (good ≡ true) ⊎ (bad ≡ true)
@@ -137,7 +137,7 @@ idle_open Free true false first all none closed (inl is) = absurd cc
 idle_open Free true false first all none closed (inr (inl is)) = is
 idle_open Free true false first all none closed (inr (inr is)) = let clash = is.1 in absurd cc
 idle_open Free false false first all none closed (inl is) =
-    absurd (never_blocked first all (closed refl) is)
+    absurd (never_blocked _ _ (closed refl) is)
 idle_open Free false false first all none closed (inr (inl is)) = is
 idle_open Free false false first all none closed (inr (inr is)) =
     absurd (never_building first all is.0 is.1)
@@ -172,8 +172,8 @@ module _ (may : Job → Result Answer Reason → Type 0) (run : Run) (sound : Is
       outputs_new : (path : List ℕ) → Contains (output_paths_of node.drv) path
           → IsValid (registered history.entries) path → ⊥
       outputs_new path own valid =
-          let had = registers_from_valid (registered history.entries) path valid in
-          by had.0 (from_is (λ reason. ⊥) may run history told path had.0 had.1)
+          let had = registers_from_valid _ _ valid in
+          by had.0 (from_is (λ reason. ⊥) may _ _ told _ _ had.1)
         where
           -- no twin was built: an earlier one would stand for this one, and a later one would have
           -- begun behind it
@@ -186,37 +186,37 @@ module _ (may : Job → Result Answer Reason → Type 0) (run : Run) (sound : Is
               λ idle. let clash : Idle ≡ Ended = sym idle ∙ ends in cc in
               let wanted : is_wanted run history.opening d ≡ true =
               (wanted_told run history.opening d sound).1 can.wanted in
-              let bad = legal_ended run history legal e d moved
-              (twins_from run history.opening e d less (and_from (is_wanted run history.opening d)
-              (are_twins_at (slice_get run.graph.nodes d) (slice_get run.graph.nodes e)) wanted
+              let bad = legal_ended _ _ legal e d moved
+              (twins_from _ _ e d less (and_from _
+              _ wanted
               twins)) in
               let clash : false ≡ true = sym (ap is_bad can.ready) ∙ bad in
               cc
           made_once e ends twins (inr (inr more)) =
-              let un = ready_unhindered run history sound d can.ready in
+              let un = ready_unhindered _ history sound d can.ready in
               let moved : phase_of history.events e ≡ Idle → ⊥ =
               λ idle. let clash : Idle ≡ Ended = sym idle ∙ ends in cc in
-              let was = begun_is (λ reason. ⊥) may run sound history told e moved in
+              let was = begun_is (λ reason. ⊥) may _ sound _ told e moved in
               let wanted : is_wanted run history.opening e ≡ true =
               (wanted_told run history.opening e sound).1 was.wanted in
-              let bad = un.spent e (twins_from run history.opening d e more
-              (and_from (is_wanted run history.opening e)
-              (are_twins_at (slice_get run.graph.nodes e) (slice_get run.graph.nodes d)) wanted
-              (turned (slice_get run.graph.nodes d) (slice_get run.graph.nodes e) twins))) in
-              let done = ap is_bad (state_by run history sound e Ended ends) in
+              let bad = un.spent e (twins_from _ _ d e more
+              (and_from _
+              _ wanted
+              (turned _ (slice_get run.graph.nodes e) twins))) in
+              let done = ap is_bad (state_by _ history sound e _ ends) in
               let clash : false ≡ true = sym done ∙ bad in
               cc
 
           by : (info : PathInfo) → IsFrom run history path info → ⊥
           by info (from_opening has) =
-              let un = ready_unhindered run history sound d can.ready in
+              let un = ready_unhindered _ history sound d can.ready in
               let none : is_valid history.opening path ≡ false =
-              output_of_free run.system history.opening node.drv
-              (sym (ap (standing_at run.system history.opening) at) ∙ un.free) path own in
+              output_of_free _ history.opening node.drv
+              (sym (ap (standing_at run.system history.opening) at) ∙ un.free) _ own in
               let some : is_valid history.opening path ≡ true =
-              list_any-from_Contains nat_list_eq_equiv path
-              (paths_registered (registered history.opening))
-              (valid_from_registers (registered history.opening) path info has) in
+              list_any-from_Contains nat_list_eq_equiv _
+              _
+              (valid_from_registers _ _ _ has) in
               let clash : false ≡ true = sym none ∙ some in
               cc
           by info (from_built e other at' ends own') =
@@ -239,7 +239,7 @@ module _ (may : Job → Result Answer Reason → Type 0) (run : Run) (sound : Is
       allowed = record {
         records = registrable.1.records;
         new = outputs_new;
-        permitted = refers_behind may run history.entries d node infos at behind;
+        permitted = refers_behind may _ _ d _ _ at behind;
       }
 
   -- a turn that was passed over
@@ -341,14 +341,13 @@ module _ (may : Job → Result Answer Reason → Type 0) (run : Run) (sound : Is
     rest = λ d past. refl;
     closed = λ d low within wanted still. absurd (omega arith);
   }
-  turned_is _ _ (turn_skipped d history had cannot) =
-      skipped d history (turned_is d history had) cannot
+  turned_is _ _ (turn_skipped d history had cannot) = skipped d _ (turned_is d _ had) cannot
   turned_is _ _ (turn_done d history node infos entry had can at behind is_entry) =
-      let turned = turned_is d history had in
+      let turned = turned_is d _ had in
       let lease = begins history.events in
       let middle = begun history d in
       let after = ended middle d lease entry in
-      let phase = phase_begun history.events d lease in
+      let phase = phase_begun history.events d _ in
       let legal = legal_begin history d turned.legal can.within can.wanted can.ready in
       turned_more d history after turned refl
       (λ i other. phase_other middle.events (Finish d lease) i other
@@ -358,13 +357,13 @@ module _ (may : Job → Result Answer Reason → Type 0) (run : Run) (sound : Is
       (told_done middle d lease node infos entry (told_begin history d turned.told turned.legal can)
       legal phase at behind is_entry)
       (λ still. done_is_closed
-      (subst IsOpen (state_by run after sound d Ended (phase_ended middle.events d lease)) still))
+      (subst IsOpen (state_by _ after sound d _ (phase_ended middle.events d lease)) still))
   turned_is _ _ (turn_failed d history reason had can behind) =
-      let turned = turned_is d history had in
+      let turned = turned_is d _ had in
       let lease = begins history.events in
       let middle = begun history d in
       let after = failed middle d lease reason in
-      let phase = phase_begun history.events d lease in
+      let phase = phase_begun history.events d _ in
       let legal = legal_begin history d turned.legal can.within can.wanted can.ready in
       turned_more d history after turned refl
       (λ i other. phase_other middle.events (Fail d lease reason) i other

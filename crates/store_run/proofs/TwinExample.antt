@@ -9,7 +9,6 @@ use Rattle.drv_graph.specs.PlanNodes.{output_paths_of}
 use Rattle.drv_graph.specs.Twins.{are_twins_at}
 use Rattle.drv_graph.specs.declared.kinds.Kind.TheVariants.{Fixed}
 use Rattle.drv_graph.specs.declared.kinds.Method.{Method}
-use Rattle.drv_graph.specs.declared.kinds.Method.TheVariants.{Flat}
 use Rattle.drv_graph.proofs.FirstTwins.{twins_are_told}
 use Rattle.drv_graph.proofs.KindAnswers.{one_kind}
 use Rattle.valid_table.specs.PathInfos.{PathInfo}
@@ -30,7 +29,7 @@ use Rattle.store_run.specs.Builders.{IsAnswered, IsVerdictBehind, answered_begin
 use Rattle.store_run.specs.OneThread.{IsOneThread, turn_done, turn_failed, turn_opening}
 use Rattle.store_run.specs.Scheduling.{HasMemory, IsWholeRun}
 use Rattle.store_run.specs.ScheduleExample.{Overlap, made, making, out_alone, right}
-use Rattle.store_run.specs.TwinExample.{empty_digest, first_twin, freed, made_file, making_twin, may_leave_file, one_by_one, second_twin, three, tried_again, waiting}
+use Rattle.store_run.specs.TwinExample.{first_twin, freed, made_file, making_twin, may_leave_file, one_by_one, second_twin, three, tried_again, waiting}
 use Rattle.store_run.proofs.AlonePlans.{one_of}
 use Rattle.store_run.proofs.ExampleJobs.{is_job_of_right, job_of_right, left_answer, left_leaves, left_verdict, nothing_in, right_answer, right_leaves, right_verdict}
 use Rattle.store_run.proofs.ScheduleExample.{closed_done, closed_failed, journal, none_valid, one_allowed, one_entry, permitted_own, right_allowed, right_entry}
@@ -52,7 +51,7 @@ first_behind entries = record {
     first_may,
     (
       output_paths_of first_twin.drv,
-      permitted_own three.graph entries 0 first_job first_twin first_is_job refl refl _ refl,
+      permitted_own _ entries 0 _ _ first_is_job refl refl _ refl,
       left_verdict first_job (output_paths_of first_twin.drv) left_answer left_leaves,
     ),
   );
@@ -68,8 +67,8 @@ second_behind entries = record {
     second_may,
     (
       output_paths_of second_twin.drv,
-      permitted_own three.graph entries 1 second_job second_twin second_is_job refl refl _ refl,
-      second_verdict second_job second_is_job second_answer second_leaves,
+      permitted_own _ entries 1 _ _ second_is_job refl refl _ refl,
+      second_verdict _ second_is_job _ second_leaves,
     ),
   );
 }
@@ -78,16 +77,16 @@ third_behind : (entries : List Entry)
     → IsVerdictBehind may_leave_file three entries 2 (Ok (nothing_in ∷ []))
 third_behind entries = record {
   job = job_of_right 2;
-  is_job = is_job_of_right three.graph 2 refl;
+  is_job = is_job_of_right _ 2 refl;
   comes_to = (
     Ok right_answer,
     third_may,
     (
       output_paths_of right.drv,
-      permitted_own three.graph entries 2 (job_of_right 2) right
+      permitted_own _ entries 2 _ right
           (is_job_of_right three.graph 2 refl) refl refl _ refl,
-      right_verdict three.graph 2 refl (job_of_right 2) (is_job_of_right three.graph 2 refl)
-          right_answer right_leaves (output_paths_of right.drv),
+      right_verdict three.graph 2 refl _ (is_job_of_right three.graph 2 refl)
+          _ right_leaves _,
     ),
   );
 }
@@ -99,14 +98,14 @@ same_digest method other a b same = cc
 
 second_allowed : IsAllowed three.graph [] second_twin (file_in ∷ [])
 second_allowed =
-    one_allowed file_in refl three.graph [] second_twin (record {
+    one_allowed _ refl _ [] second_twin (record {
       count = refl;
       fixed = λ method digest kind info has.
           let kinds : Fixed method digest ≡ empty_kind =
-          one_kind second_twin.drv (Fixed method digest) empty_kind kind
+          one_kind second_twin.drv _ _ kind
           (kind_empty making_twin) in
-          sym (ap (λ (i : PathInfo). i.digest) (one_of file_in info has))
-          ∙ ap Some (sym (same_digest method Flat digest empty_digest kinds));
+          sym (ap (λ (i : PathInfo). i.digest) (one_of _ _ has))
+          ∙ ap Some (sym (same_digest _ _ _ _ kinds));
     }) (none_valid second_twin)
 
 second_entry : IsEntryOf second_twin (file_in ∷ []) made_file
@@ -128,7 +127,7 @@ wanted (suc (suc (suc d))) low = absurd (omega arith)
 
 -- the first is the one earlier twin of the second
 twin_is_first : (t : ℕ) → Contains (earlier_twins three [] 1) t → t ≡ 0
-twin_is_first t has = let low = (is_earlier_twin three [] 1 t has).earlier in omega arith
+twin_is_first t has = let low = (is_earlier_twin _ [] 1 t has).earlier in omega arith
 
 first_is_twin : Contains (earlier_twins three [] 1) 0
 first_is_twin =
@@ -136,7 +135,7 @@ first_is_twin =
 
 -- the first and the third have none
 first_no_twin : (t : ℕ) → Contains (earlier_twins three [] 0) t → ⊥
-first_no_twin t has = let low = (is_earlier_twin three [] 0 t has).earlier in omega arith
+first_no_twin t has = let low = (is_earlier_twin _ [] 0 t has).earlier in omega arith
 
 -- a twin of the third would share its output
 not_twins : (node : Node) (path : List ℕ) → output_paths_of node.drv ≡ path ∷ []
@@ -144,7 +143,7 @@ not_twins : (node : Node) (path : List ℕ) → output_paths_of node.drv ≡ pat
 not_twins node path one differs twins = search (rules, one_of, twins_path, Contains-first)
 
 third_no_twin : (t : ℕ) → Contains (earlier_twins three [] 2) t → ⊥
-third_no_twin t has = let is = is_earlier_twin three [] 2 t has in by t is.earlier is.twins
+third_no_twin t has = let is = is_earlier_twin _ [] 2 t has in by t is.earlier is.twins
   where
     by : (t : ℕ) → t < 2 → are_twins_at (slice_get three.graph.nodes t) (Some right) ≡ true → ⊥
     by zero low twins = search (rules, not_twins, outs_differ)
@@ -187,8 +186,7 @@ third_unhindered entries events = record {
 
 failed_by : (entries : List Entry) (events : List Event)
     → phase_of events 0 ≡ Broken ends → is_bad (state_in three (behind entries events) 0) ≡ true
-failed_by entries events is =
-    ap is_bad (state_by three (behind entries events) three_sound 0 (Broken ends) is)
+failed_by entries events is = ap is_bad (state_by _ (behind entries events) three_sound 0 _ is)
 
 first_ready : state_in three (opened []) 0 ≡ Ready
 first_ready = unhindered_ready three (opened []) three_sound 0 (first_unhindered [] []) refl
@@ -206,13 +204,13 @@ pub second_freed : state_in three freed 1 ≡ Ready
 second_freed = search (rules, unhindered_ready, three_sound, second_unhindered, failed_by)
 
 pub first_failed : state_in three tried_again 0 ≡ Failed ends
-first_failed = state_by three tried_again three_sound 0 (Broken ends) refl
+first_failed = state_by _ tried_again three_sound 0 (Broken ends) refl
 
 pub second_built : state_in three tried_again 1 ≡ Done
-second_built = state_by three tried_again three_sound 1 Ended refl
+second_built = state_by _ tried_again three_sound 1 Ended refl
 
 pub third_built : state_in three tried_again 2 ≡ Done
-third_built = state_by three tried_again three_sound 2 Ended refl
+third_built = state_by _ tried_again three_sound 2 Ended refl
 
 -- ---- two workers
 
@@ -235,7 +233,7 @@ legal =
     legal_done (ended (begun freed 1) 1 2 made_file) 2 1 right (nothing_in ∷ []) made
     (legal_done (begun freed 1) 1 2 second_twin (file_in ∷ []) made_file legal_begun refl refl
     second_allowed second_entry) refl refl
-    (right_allowed three.graph (made_file ∷ []) new_third) right_entry
+    (right_allowed _ _ new_third) right_entry
 
 answered_freed : IsAnswered may_leave_file three freed
 answered_freed =
@@ -248,10 +246,10 @@ answered =
     answered_done (ended (begun freed 1) 1 2 made_file) 2 1 right (nothing_in ∷ []) made
     (answered_done (begun freed 1) 1 2 second_twin (file_in ∷ []) made_file
     (answered_begin freed 1 answered_freed) refl (second_behind []) second_entry) refl
-    (third_behind (made_file ∷ [])) right_entry
+    (third_behind _) right_entry
 
 settled : IsRunSettled three tried_again
-settled zero low is = closed_failed _ ends first_failed
+settled zero low is = closed_failed _ _ first_failed
 settled (suc zero) low is = closed_done _ second_built
 settled (suc (suc zero)) low is = closed_done _ third_built
 settled (suc (suc (suc d))) low is = absurd (omega arith)
@@ -310,4 +308,4 @@ thread =
     (turn_failed 0 (opened []) ends (turn_opening journal)
     (record { within = omega arith; wanted = wanted 0 (omega arith); ready = first_ready })
     (first_behind [])) second_can refl (second_behind []) second_entry) last_can refl
-    (third_behind (made_file ∷ [])) right_entry
+    (third_behind _) right_entry

@@ -48,7 +48,7 @@ abbrev pub file_in : PathInfo
 file_in = record { references = []; digest = Some empty_digest }
 
 no_fault : (tree : Tree) → IsEmptyFile tree → (why : Reason) → IsTreeFault empty_kind tree why → ⊥
-no_fault tree is TooLarge unfit = unfit (file_fits tree is)
+no_fault tree is TooLarge unfit = unfit (file_fits _ is)
 no_fault tree is NotFlatFile fault = search rules
 no_fault tree is HashMismatch fault = search rules
 no_fault tree is (ExitStatus n) none = none
@@ -80,9 +80,9 @@ record_of_file tree is = record {
       (sym is.1) (record {
         rising = tt;
         each = λ path. (
-          λ none. absurd (Contains-nothing path none),
-          λ some. absurd (none_occurs (hash_part_of path)
-              (subst (λ (p : List ℕ). length (hash_part_of p) ≡ 32) (one_of _ path some.0)
+          λ none. absurd (Contains-nothing _ none),
+          λ some. absurd (none_occurs _
+              (subst (λ (p : List ℕ). length (hash_part_of p) ≡ 32) (one_of _ _ some.0)
               hash_long)
               some.1),
         );
@@ -100,7 +100,7 @@ module _ (job : Job) (is_job : IsJob three.graph 1 job) where
   second_one_output = search (rules, length-map, second_node)
 
   second_kind : job.kind ≡ empty_kind
-  second_kind = one_kind second_twin.drv job.kind empty_kind
+  second_kind = one_kind second_twin.drv _ _
       (subst (λ (n : Node). HasKind n.drv job.kind) second_node is_job.kind)
       (kind_empty making_twin)
 
@@ -108,13 +108,13 @@ module _ (job : Job) (is_job : IsJob three.graph 1 job) where
       → IsVerdict job (out_empty (codes "src") ∷ []) answer (Ok (file_in ∷ []))
   second_verdict answer left_behind =
       let file = left_behind.1.0 in
-      one_verdict job second_one_output answer file left_behind.0 left_behind.1.2
-      (λ why fault. no_fault file left_behind.1.1 why
+      one_verdict _ second_one_output _ _ left_behind.0 left_behind.1.2
+      (λ why fault. no_fault _ left_behind.1.1 _
       (subst (λ (k : Kind). IsTreeFault k file why) second_kind fault))
-      (out_empty (codes "src") ∷ []) file_in refl
+      _ _ refl
       (subst (λ (k : Kind). IsRecordOf (algorithm_for k) (out_empty (codes "src") ∷ []) file
       file_in)
-      (sym second_kind) (record_of_file file left_behind.1.1))
+      (sym second_kind) (record_of_file _ left_behind.1.1))
 
 -- ---- what a job leaves behind is what its derivation says
 
@@ -211,7 +211,7 @@ first_job = job_of failing_twin (omega arith) (omega arith) [] (omega arith)
 pub first_is_job : IsJob three.graph 0 first_job
 unfolding first_job
 first_is_job =
-    is_job_of failing_twin (omega arith) (omega arith) [] (omega arith)
+    is_job_of _ _ _ [] (omega arith)
     (out_empty (codes "src")) output_short empty_kind 0 three.graph first_twin refl refl refl
     refl refl refl (kind_empty failing_twin) refl
 
@@ -222,9 +222,7 @@ second_job = job_of making_twin (omega arith) (omega arith) script_args (omega a
 pub second_is_job : IsJob three.graph 1 second_job
 unfolding second_job
 second_is_job =
-    is_job_of making_twin (omega arith) (omega arith) script_args (omega arith)
-    (out_empty (codes "src")) output_short empty_kind 1 three.graph second_twin refl refl refl
-    refl refl refl (kind_empty making_twin) refl
+    is_job_of _ _ _ _ _ _ _ _ 1 _ _ refl refl refl refl refl refl (kind_empty making_twin) refl
 
 pub second_answer : Answer
 second_answer = record {
@@ -243,5 +241,5 @@ pub second_may : may_leave_file second_job (Ok second_answer)
 second_may = may_leave_by 1 second_twin refl second_job second_is_job second_answer second_leaves
 
 pub third_may : may_leave_file (job_of_right 2) (Ok right_answer)
-third_may = may_leave_by 2 right refl (job_of_right 2) (is_job_of_right three.graph 2 refl)
+third_may = may_leave_by 2 right refl (job_of_right 2) (is_job_of_right _ 2 refl)
     right_answer right_leaves

@@ -56,9 +56,9 @@ first_stands : MayBeAt store (listing_gives three_files) first_twin.path first_t
 first_stands = record {
   bytes = text_of first_twin.drv;
   given = rw (nat_list_eq_equiv.refl first_twin.path) refl;
-  found = found_with failing_twin (out_empty (codes "src")) (codes "sha256") hash src_filed
+  found = found_with _ _ _ _ src_filed
       (twin_file failing_twin refl)
-      (first_few (out_empty (codes "src")) hash output_short hash_short)
+      (first_few _ _ output_short hash_short)
       (in_order_by first_twin.drv (first_keys (out_empty (codes "src")) hash));
 }
 
@@ -66,10 +66,10 @@ second_stands : MayBeAt store (listing_gives three_files) second_twin.path secon
 second_stands = record {
   bytes = text_of second_twin.drv;
   given = rw (
-    other_path second_twin.path first_twin.path (λ same. twins_differ (sym same)),
+    other_path _ _ (λ same. twins_differ (sym same)),
     nat_list_eq_equiv.refl second_twin.path,
   ) refl;
-  found = found_with making_twin (out_empty (codes "src")) (codes "sha256") hash src_filed
+  found = found_with _ _ _ _ src_filed
       (twin_file making_twin refl)
       (second_few (out_empty (codes "src")) hash output_short hash_short)
       (in_order_by second_twin.drv (second_keys (out_empty (codes "src")) hash));
@@ -80,7 +80,7 @@ right_stands = record {
   bytes = text_of right.drv;
   given = rw (
     other_path right.path first_twin.path (λ same. other_file failing_twin refl (sym same)),
-    other_path right.path second_twin.path (λ same. other_file making_twin refl (sym same)),
+    other_path _ _ (λ same. other_file making_twin refl (sym same)),
     nat_list_eq_equiv.refl right.path,
   ) refl;
   found = right_found;
@@ -101,39 +101,39 @@ right_not_left : Contains (first_twin.path ∷ second_twin.path ∷ []) right.pa
 right_not_left has =
     ⊎_elim (λ is_first. other_file failing_twin refl is_first)
     (λ later. other_file making_twin refl (one_of second_twin.path right.path later))
-    (Contains-cons_cases first_twin.path (second_twin.path ∷ []) right.path has)
+    (Contains-cons_cases _ (second_twin.path ∷ []) _ has)
 
 right_left : AreLeft three.graph.nodes (first_twin.path ∷ second_twin.path ∷ [])
     (right.path ∷ []) roots
 right_left =
     left_behind_inputs right (first_twin.path ∷ second_twin.path ∷ [])
     (first_twin.path ∷ second_twin.path ∷ []) [] roots
-    (Contains-later first_twin (second_twin ∷ right ∷ []) right
-    (Contains-later second_twin (right ∷ []) right (Contains-first right []))) right_not_left
+    (Contains-later _ (second_twin ∷ right ∷ []) _
+    (Contains-later second_twin (right ∷ []) _ (Contains-first _ []))) right_not_left
     (none_left (first_twin.path ∷ second_twin.path ∷ [])) right_not_left (none_left roots)
 
 in_order : AreLeft three.graph.nodes [] roots roots
 in_order =
     left_behind_inputs first_twin [] [] (second_twin.path ∷ right.path ∷ []) roots
-    (Contains-first first_twin (second_twin ∷ right ∷ []))
-    (Contains-nothing first_twin.path) (none_left []) (Contains-nothing first_twin.path)
+    (Contains-first _ (second_twin ∷ right ∷ []))
+    (Contains-nothing _) (none_left []) (Contains-nothing _)
     (left_behind_inputs second_twin (first_twin.path ∷ []) (first_twin.path ∷ [])
     (right.path ∷ []) roots
-    (Contains-later first_twin (second_twin ∷ right ∷ []) second_twin
-    (Contains-first second_twin (right ∷ []))) second_not_left
+    (Contains-later _ (second_twin ∷ right ∷ []) _
+    (Contains-first _ (right ∷ []))) second_not_left
     (none_left (first_twin.path ∷ [])) second_not_left right_left)
 
 pub loads : IsPlan store (listing_gives three_files) roots three.graph
 loads = record {
   given = all_three (λ (n : Node). MayBeAt store (listing_gives three_files) n.path n.drv)
-      first_twin second_twin right first_stands second_stands right_stands;
+      _ _ _ first_stands second_stands right_stands;
   in_order = in_order;
   reached = λ path has. record { root = path; is_root = has; steps = []; leads = refl };
-  whole = reached_root three.graph.nodes without_inputs roots;
+  whole = reached_root _ without_inputs roots;
   lawful = lawful_three;
   few = omega arith;
   is_roots = rw (
-    other_path first_twin.path second_twin.path twins_differ,
+    other_path _ _ twins_differ,
     other_path second_twin.path right.path (other_file making_twin refl),
     other_path first_twin.path right.path (other_file failing_twin refl),
   ) refl;

@@ -1,23 +1,20 @@
 -- What the state of a derivation follows from, in a history of a run.
-use Rattle.std.proofs.Common.{◌≡◌, ◌∙◌, ℕ, Bool, true, false, List, Option, Some, None, refl, sym, ap, if◌then◌else◌, rules}
-use Rattle.std.specs.Prelude.{Contains, find, slice_get}
-use Rattle.std.specs.List.{list_all, list_any}
+use Rattle.std.proofs.Common.{◌≡◌, ◌∙◌, ℕ, Bool, true, false, List, Option, refl, sym, ap, if◌then◌else◌}
+use Rattle.std.specs.Prelude.{Contains, slice_get}
+use Rattle.std.specs.List.{list_any}
 use Rattle.drv_graph.specs.SoundGraphs.{IsSound}
 use Rattle.sched_core.specs.Runs.{History, Run, earlier_twins, inputs_at, rows_of, standing_at, state_in}
-use Rattle.sched_core.specs.States.{Phase, Rows, Idle, Begun, Ended, Broken, by_first, by_hindrance, by_inputs, by_phase, by_twins, by_validity, is_bad, is_done, is_good, is_open, phase_of, table}
+use Rattle.sched_core.specs.States.{Phase, Rows, Idle, Begun, Ended, Broken, by_first, by_hindrance, by_inputs, by_phase, by_validity, is_done, is_good, is_open, phase_of}
 use Rattle.sched_core.specs.declared.reason.State.{State}
 use Rattle.sched_core.specs.declared.reason.State.TheVariants.{Blocked, Ready, Reused}
 use Rattle.sched_core.specs.declared.standing.Standing.{Standing}
 use Rattle.sched_core.specs.declared.standing.Standing.TheVariants.{AllValid, Hindered, Free}
 use Rattle.sched_core.proofs.Aside.{aside, aside_same as rows_same, state_aside}
 use Rattle.sched_core.proofs.Unhindered.{IsUnhindered as IsUnhinderedIn, unhindered_ready as ready_aside}
-use Rattle.sched_core.proofs.ClosedStates.{bad_is_closed, bad_is_not_done, all_from, none_bad}
-use Rattle.sched_core.proofs.EarlierTwins.{run_twins}
-use Rattle.sched_core.proofs.NearestTwins.{ready_ended, none_from}
+use Rattle.sched_core.proofs.NearestTwins.{none_from}
 use Rattle.sched_core.proofs.PlanInputs.{rows_in_order}
 use Rattle.sched_core.proofs.Seeds.{done_is_ended, not_good_by_first}
-use Rattle.sched_core.proofs.Tests.{any_passes, list_all_has, one_passes}
-use Rattle.sched_core.proofs.StateLaws.{all_same, any_same, find_same, states_agree}
+use Rattle.sched_core.proofs.Tests.{any_passes, one_passes}
 use Rattle.valid_table.specs.declared.entry.Entry.{Entry}
 
 -- the rows of a history
@@ -42,7 +39,7 @@ pub state_by : (run : Run) (history : History) → IsSound run.graph → (d : �
     → phase_of history.events d ≡ p
     → state_in run history d ≡ by_phase p (aside (rows_in run history) (state_in run history) d)
 state_by run history sound d p is =
-    state_aside (rows_in run history) (rows_in_order run history.opening history.events sound) d p is
+    state_aside _ (rows_in_order run history.opening history.events sound) d p is
 
 -- Nothing but its own events is in the way of a derivation.
 abbrev pub IsUnhindered : Run → History → ℕ → Type 0
@@ -52,7 +49,7 @@ IsUnhindered run history d = IsUnhinderedIn (rows_in run history) d
 pub unhindered_ready : (run : Run) (history : History) → IsSound run.graph → (d : ℕ)
     → IsUnhindered run history d → phase_of history.events d ≡ Idle → state_in run history d ≡ Ready
 unhindered_ready run history sound d un idle =
-    state_by run history sound d Idle idle ∙ ready_aside (rows_in run history) d un
+    state_by _ history sound d _ idle ∙ ready_aside _ d un
 
 -- one that has no event is blocked where an earlier twin still has something before it, and none
 -- was built
@@ -64,7 +61,7 @@ pub blocked_by_twin : (run : Run) (history : History) → IsSound run.graph → 
 blocked_by_twin run history sound d t idle free has still none =
     let f = state_in run history in
     let twins = twins_in run history d in
-    state_by run history sound d Idle idle
+    state_by _ history sound d Idle idle
     ∙ rw (
       free,
       none_from (λ u. is_done (f u)) twins none,
@@ -101,7 +98,7 @@ good_parts run history d Idle Free true still first all at stands by_twin is =
     let twin = by_twin refl in good_twin twin.0 at twin.1 twin.2
 good_parts run history d Idle Free false true first all at stands by_twin is = absurd cc
 good_parts run history d Idle Free false false first all at stands by_twin is =
-    absurd (not_good_by_first first all is)
+    absurd (not_good_by_first _ _ is)
 
 pub good_is : (run : Run) (history : History) → IsSound run.graph → (d : ℕ)
     → is_good (state_in run history d) ≡ true → IsGoodBy run history d
@@ -111,10 +108,10 @@ good_is run history sound d good =
     let twins = twins_in run history d in
     good_parts run history d (phase_of history.events d) (standing_in run history d)
     (list_any (λ t. is_done (f t)) twins) (list_any (λ t. is_open (f t)) twins)
-    (find (λ i. is_bad (f i)) inputs) (list_all (λ i. is_good (f i)) inputs) refl refl
-    (λ built. let found = one_passes (λ t. is_done (f t)) twins built in
+    _ _ refl refl
+    (λ built. let found = one_passes (λ t. is_done (f t)) _ built in
     (found.0, found.1, done_is_ended (rows_of run history.opening history.events) found.0 found.2))
-    (sym (ap is_good (state_by run history sound d (phase_of history.events d) refl)) ∙ good)
+    (sym (ap is_good (state_by run history sound d _ refl)) ∙ good)
 
 good_by_twin : (s : Standing) (still : Bool) (other : State) → is_good (by_validity s
     (if true then Reused else if still then Blocked else other)) ≡ true
@@ -125,22 +122,21 @@ good_by_twin Free still other = refl
 -- and is good then
 pub is_good_by : (run : Run) (history : History) → IsSound run.graph → (d : ℕ)
     → IsGoodBy run history d → is_good (state_in run history d) ≡ true
-is_good_by run history sound d (good_ended at) =
-    ap is_good (state_by run history sound d Ended at)
+is_good_by run history sound d (good_ended at) = ap is_good (state_by run history sound d _ at)
 is_good_by run history sound d (good_reused at stands) =
-    ap is_good (state_by run history sound d Idle at) ∙ rw stands refl
+    ap is_good (state_by _ history sound d Idle at) ∙ rw stands refl
 is_good_by run history sound d (good_twin t at has ends) =
     let f = state_in run history in
     let twins = twins_in run history d in
     let built : list_any (λ u. is_done (f u)) twins ≡ true =
-    any_passes (λ u. is_done (f u)) twins t has (ap is_done
-    (state_by run history sound t Ended ends))
+    any_passes (λ u. is_done (f u)) _ t has (ap is_done
+    (state_by run history sound t _ ends))
     in
-    ap is_good (state_by run history sound d Idle at)
+    ap is_good (state_by run history sound d _ at)
     ∙ ap (λ b. is_good (by_validity (standing_in run history d)
     (if b then Reused else if list_any (λ u. is_open (f u)) twins then Blocked
     else by_hindrance (standing_in run history d) (by_inputs f (inputs_in run d))))) built
-    ∙ good_by_twin (standing_in run history d) (list_any (λ u. is_open (f u)) twins)
+    ∙ good_by_twin _ (list_any (λ u. is_open (f u)) twins)
     (by_hindrance (standing_in run history d) (by_inputs f (inputs_in run d)))
 
 -- ---- two histories of one opening

@@ -1,4 +1,4 @@
-use Rattle.std.proofs.Common.{ℕ, List, [], ◌∷◌, ap}
+use Rattle.std.proofs.Common.{rules}
 use Rattle.store_run.proofs.TwinExample.{beside_first, beside_second, first_failed, second_built, second_freed, second_waits, third_built, thread, whole}
 use Rattle.store_run.proofs.TwinLoads.{loads}
 use Rattle.store_run.proofs.TwinPlans.{are_twins, first_path, output_is, second_path}
@@ -14,7 +14,7 @@ pub returns-clause-second_path : goal.returns-clause-second_path
 returns-clause-second_path c = second_path
 
 pub returns-clause-output : goal.returns-clause-output
-returns-clause-output c = ap (λ (path : List ℕ). path ∷ []) output_is
+returns-clause-output c = search (rules, output_is)
 
 pub returns-clause-twins : goal.returns-clause-twins
 returns-clause-twins c = are_twins

@@ -1,4 +1,4 @@
-use Rattle.std.proofs.Common.{◌≡◌, ◌↔◌, ◌∙◌, IsTrue, ap, length, sym, take, true≢false}
+use Rattle.std.proofs.Common.{◌≡◌, ◌↔◌, ◌∙◌, IsTrue, sym, take, true≢false, rules}
 use Rattle.std.specs.Cmp.Lexicographic.{bytes_decides, pointwise_decides}
 use Rattle.store_run.proofs.Openings.{opening_is_taken}
 use Rattle.store_run.proofs.lent.is_over.Goals as goal
@@ -6,10 +6,7 @@ use Rattle.store_run.proofs.lent.is_over.Goals.{then-eq, else-eq}
 
 -- src/lent.rt:20:19
 pub slice_bounds-opening-end : goal.slice_bounds-opening-end
-slice_bounds-opening-end g c =
-    rw (c.opening.ensures.count, c.entries.ensures.value, c.journal.ensures.entries)
-    (sym (ap length (opening_is_taken c.args.book.now.run c.args.book.now.history
-    c.journal.ensures.legal)))
+slice_bounds-opening-end g c = search (rules, opening_is_taken)
 
 -- src/lent.rt:14:1
 pub returns-then-eq-2-clause-over : goal.returns-then-eq-2-clause-over
@@ -17,7 +14,7 @@ returns-then-eq-2-clause-over g c =
     let book = c.args.book.now in
     let taken : take c.opening.result c.entries.result.now ≡ book.history.opening =
     rw (c.opening.ensures.count, c.entries.ensures.value, c.journal.ensures.entries)
-    (opening_is_taken book.run book.history c.journal.ensures.legal) in
+    (opening_is_taken _ _ c.journal.ensures.legal) in
     let same_opening : IsTrue c.eq-then-eq-2.result
     ↔ (book.history.opening ≡ c.args.journal.now.entries) =
     rw (c.eq-then-eq-2.ensures, taken, c.entries-then-eq-2.ensures.value)

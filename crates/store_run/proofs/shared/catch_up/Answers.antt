@@ -11,20 +11,20 @@ pub returns-in_default-clause-ok : goal.returns-in_default-clause-ok
 returns-in_default-clause-ok g c = λ number lease showable valid.
     stays_without_seeds c.args.reader.now.seen c.args.book.now.history.entries c.args.job.now
     (sym c.deref.ensures.value
-    ∙ none_first c.deref.result.now
+    ∙ none_first _
     (sym c.first.ensures.value ∙ ap option_copied c.in_default.is))
 
 pub returns-clause-ok : goal.returns-clause-ok
 returns-clause-ok g c = λ number lease showable valid.
-    let known = where_answered c.look.result (ap is_ok c.in_ok-look.was) c.look.ensures.known in
+    let known = where_answered _ (ap is_ok c.in_ok-look.was) c.look.ensures.known in
     let told : IsPrefix c.args.book.now.shown c.learn.new.self.told =
     subst (λ (front : List Entry). IsPrefix front c.learn.new.self.told)
     (c.front.ensures c.args.book.now.shown c.tell.ensures.told) c.learn.ensures.told in
-    stays_by_view c.args.reader.now.seen c.look.new.self.seen c.args.book.now.shown
-    c.args.book.now.history.entries c.args.job.now
+    stays_by_view _ _ _
+    _ c.args.job.now
     (subst (λ (seen : List Entry). IsPrefix seen c.look.new.self.seen) c.learn.ensures.seen
     c.look.ensures.later)
-    (prefix_trans c.args.book.now.shown c.learn.new.self.told c.look.new.self.seen told known.0)
+    (prefix_trans _ _ _ told known.0)
     (c.args.book.now.pending, c.tell.ensures.outlet) known.1
-    (journal_showable c.args.book.now.history.entries c.tell.ensures.is_journal) valid
+    (journal_showable _ c.tell.ensures.is_journal) valid
     (c.tell.ensures.seeds c.args.job.now number lease)

@@ -12,7 +12,7 @@ returns-clause-seeds g c =
     let named = subst (λ o. MatchOption o ⊥ (λ told. (entries : List Entry)
     × g.O.Outlet.names told entries × AreSeedsValid entries c.args.lease.now.job))
     (sym c.told.ensures.told ∙ c.in-Some.is) c.requires in
-    seeds_stay named.0 c.learn.new.self.told c.told.new.self.job
+    seeds_stay named.0 _ c.told.new.self.job
     (subst (λ (front : List Entry). IsPrefix front c.learn.new.self.told)
     (c.front.ensures named.0 named.1) c.learn.ensures.told)
     (subst (AreSeedsValid named.0) (sym c.told.ensures.job) named.2)

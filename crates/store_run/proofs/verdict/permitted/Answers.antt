@@ -15,8 +15,8 @@ unreachable-requires g c =
     let answer = rw c.in-Err-NotValid.field-0-is at c.in-Err-NotValid.ensures.answer in
     let first = subst (λ roots. IsFirst (IsValid registrations) (IsNotValid registrations) roots
     c.in-Err-NotValid.field-0-0) c.deref.ensures.value answer in
-    all_are_valid registrations c.args.job.now.seeds.items c.in-Err-NotValid.field-0-0
-    (seeds_stay c.args.reader.now.told c.closure.new.self.seen c.args.job.now known.0 c.requires)
+    all_are_valid _ _ _
+    (seeds_stay _ _ c.args.job.now known.0 c.requires)
     first
 
 -- src/verdict.rt:69:1
@@ -29,8 +29,8 @@ returns-in-Ok-permitted_beside-clause-seeds g c =
 pub returns-in-Ok-permitted_beside-clause-permitted :
     goal.returns-in-Ok-permitted_beside-clause-permitted
 returns-in-Ok-permitted_beside-clause-permitted g c =
-    closure_and_outputs c.closure.new.self.seen c.args.job.now c.in-Ok.reached.items
-    c.in-Ok-permitted_beside.paths.items
+    closure_and_outputs c.closure.new.self.seen c.args.job.now _
+    _
     (subst (λ roots. IsClosure (registered c.closure.new.self.seen) roots c.in-Ok.reached.items)
     c.deref.ensures.value c.in-Ok.ensures.answer.1)
     c.in-Ok-permitted_beside.ensures.ok

@@ -1,4 +1,4 @@
-use Rattle.std.proofs.Common.{subst}
+use Rattle.std.proofs.Common.{subst, rules}
 use Rattle.std.specs.Prelude.{OnOk}
 use Rattle.sched_core.specs.declared.job.Job.{Job}
 use Rattle.store_run.specs.Finding.{HasCaughtUp}
@@ -17,4 +17,4 @@ end_by-requires-after_bounds g c κs within = (
 )
 
 pub returns : goal.returns
-returns g c = (c.catch_up-caught_up.result, c.end_by.ensures)
+returns g c = search rules
