@@ -66,7 +66,8 @@ begun_stays run history after x opening events still d was = record {
   within = was.within;
   wanted = subst (λ (opens : List Entry). IsWanted run opens d) (sym opening) was.wanted;
   unhindered =
-      subst (λ (opens : List Entry). IsUnhinderedIn (rows_of run opens after.events) d) (sym opening)
+      subst (λ (opens : List Entry). IsUnhinderedIn (rows_of run opens after.events) d)
+      (sym opening)
       (subst (λ (es : List Event). IsUnhinderedIn (rows_of run history.opening es) d) (sym events)
       (behind_event _ _ history.events x still d was.unhindered));
 }

@@ -12,6 +12,8 @@ returns g c =
     let paths = c.deref.result.now in
     let lent = subst (λ (ps : List (List ℕ)). ArePermittedPaths entries job ps)
     (sym c.deref.ensures.value) c.in_ok-permitted.ensures.ok in
-    let examined = subst (λ (j : Job). IsExamining j paths c.in_ok-answer.answer c.examine-verdict.result)
+    let examined =
+    subst (λ (j : Job). IsExamining j paths c.in_ok-answer.answer c.examine-verdict.result)
     c.job.ensures c.examine-verdict.ensures in
-    examined_may_refer entries job paths c.in_ok-answer.answer c.examine-verdict.result lent examined
+    examined_may_refer entries job paths c.in_ok-answer.answer c.examine-verdict.result lent
+    examined
