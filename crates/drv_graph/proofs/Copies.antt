@@ -33,8 +33,14 @@ all_kept nodes [] [] zip right = right
 all_kept nodes [] (y ∷ ys) zip right = absurd zip
 all_kept nodes (x ∷ xs) [] zip right = absurd zip
 all_kept nodes (x ∷ xs) (y ∷ ys) zip right =
-    search (rules, All-cons, same_kept, All-head, All-tail,
-        all_kept nodes xs ys zip.1 (All-tail (IsPlanNode nodes) x xs right))
+    search (
+      rules,
+      All-cons,
+      same_kept,
+      All-head,
+      All-tail,
+      all_kept nodes xs ys zip.1 (All-tail (IsPlanNode nodes) x xs right),
+    )
 
 -- copies are kept right
 pub kept_copies : (xs ys : List PlanNode) → AllZip IsSameNode xs ys → AreKept xs → AreKept ys

@@ -40,8 +40,14 @@ pub numbers_grow : (nodes more : List Node) (ns : List ℕ) (ps : List (List ℕ
 numbers_grow nodes more [] ps e = e
 numbers_grow nodes more (n ∷ ns) [] e = absurd cc
 numbers_grow nodes more (n ∷ ns) (p ∷ ps) e =
-    search (rules, number_first, number_grows, first_number, later_numbers,
-        numbers_grow nodes more ns ps (later_numbers nodes n ns p ps e))
+    search (
+      rules,
+      number_first,
+      number_grows,
+      first_number,
+      later_numbers,
+      numbers_grow nodes more ns ps (later_numbers nodes n ns p ps e),
+    )
 
 -- one number more, at the end
 pub numbers_push : (nodes : List Node) (ns : List ℕ) (ps : List (List ℕ)) (n : ℕ) (p : List ℕ)
@@ -60,8 +66,15 @@ pub numbers_within : (nodes : List Node) (ns : List ℕ) (ps : List (List ℕ)) 
 numbers_within nodes [] ps e = All-nil (λ n. n < length nodes)
 numbers_within nodes (n ∷ ns) [] e = absurd cc
 numbers_within nodes (n ∷ ns) (p ∷ ps) e =
-    search (rules, slice_get_within, first_number, All-cons, length-map, later_numbers,
-        numbers_within nodes ns ps (later_numbers _ n _ p _ e))
+    search (
+      rules,
+      slice_get_within,
+      first_number,
+      All-cons,
+      length-map,
+      later_numbers,
+      numbers_within nodes ns ps (later_numbers _ n _ p _ e),
+    )
 
 -- hashes stay those of their paths
 pub hashes_grow : {nodes : List Node} {paths hashes : List (List ℕ)} (more : List Node)

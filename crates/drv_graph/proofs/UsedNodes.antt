@@ -52,8 +52,13 @@ used_paths kept [] (u ∷ us) ps zip e = absurd zip
 used_paths kept (n ∷ ns) [] ps zip e = absurd zip
 used_paths kept (n ∷ ns) (u ∷ us) [] zip e = absurd cc
 used_paths kept (n ∷ ns) (u ∷ us) (p ∷ ps) zip e =
-    search (rules, used_path, first_number, later_numbers,
-        used_paths kept ns us ps zip.1 (later_numbers (nodes_of kept) n ns p ps e))
+    search (
+      rules,
+      used_path,
+      first_number,
+      later_numbers,
+      used_paths kept ns us ps zip.1 (later_numbers (nodes_of kept) n ns p ps e),
+    )
 
 -- the derivations that are used are those of the inputs
 pub used_drvs : (kept : List PlanNode) (ns : List ℕ) (us : List UsedInput)

@@ -118,8 +118,14 @@ pub lookup_inserted : (wanted : List ℕ) (entries : List (Vec ℕ × Vec ℕ)) 
     (lookup (same_bytes wanted) (entries_of entries))
 lookup_inserted wanted [] k v = refl
 lookup_inserted wanted (e ∷ entries) k v =
-    search (rules, cases_Bool, bytes_eq-Decides, same_twice, either_first,
-        lookup_inserted wanted entries k v)
+    search (
+      rules,
+      cases_Bool,
+      bytes_eq-Decides,
+      same_twice,
+      either_first,
+      lookup_inserted wanted entries k v,
+    )
 
 -- the files that are left decide before those by path
 abbrev pub AreByPath : List ListedFile → List (Vec ℕ × Vec ℕ) → List ListedFile → Type 0

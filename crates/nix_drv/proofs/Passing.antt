@@ -56,9 +56,13 @@ among_below order key_of text_of Within below before p (v ∷ vs) r (inl at) = o
 among_below order key_of text_of Within below before p (v ∷ vs) r (inr (inl at)) =
     search (rules, below, length-append)
 among_below order key_of text_of Within below before p (v ∷ vs) r (inr (inr at)) =
-    search (rules, below, length-append,
-        among_below order key_of text_of Within below (Some (key_of v))
-        (p + length (text_of v) + 1) vs r at)
+    search (
+      rules,
+      below,
+      length-append,
+      among_below order key_of text_of Within below (Some (key_of v))
+          (p + length (text_of v) + 1) vs r at,
+    )
 
 -- with a comma after each, a list is one byte longer than with commas between
 commas_between : {A : Type 0} (text_of : A → List ℕ) (v : A) (vs : List A)

@@ -117,11 +117,27 @@ unfolding spelling bytes_at
 bytes-told true [] = stops_behind [] 0 refl
 bytes-told false [] = stops_here [] 0 refl
 bytes-told true (b ∷ s) =
-    search (rules, by_letter, bytes_text, told_before, bytes_at-refused, stops_behind,
-        bytes-told false s)
+    search (
+      rules,
+      by_letter,
+      bytes_text,
+      told_before,
+      bytes_at-refused,
+      stops_behind,
+      bytes-told false s,
+    )
 bytes-told false (b ∷ s) =
-    search (rules, by_byte, bytes_text, stops_here, bytes_at-plain, spelling-plain, told_before,
-        bytes-told true s, bytes-told false s)
+    search (
+      rules,
+      by_byte,
+      bytes_text,
+      stops_here,
+      bytes_at-plain,
+      spelling-plain,
+      told_before,
+      bytes-told true s,
+      bytes-told false s,
+    )
 
 pub bytes_at-spellings : (v s : List ℕ) → bytes_at false (flat_map spelling v ++ s)
     ≡ before v (bytes_at false s)
@@ -139,8 +155,14 @@ bytes-shrinks escaped [] = omega arith
 bytes-shrinks true (b ∷ s) =
     search (rules, by_letter, left-before, bytes_at-refused, bytes-shrinks false s)
 bytes-shrinks false (b ∷ s) =
-    search (rules, by_byte, bytes_at-plain, left-before, bytes-shrinks true s,
-        bytes-shrinks false s)
+    search (
+      rules,
+      by_byte,
+      bytes_at-plain,
+      left-before,
+      bytes-shrinks true s,
+      bytes-shrinks false s,
+    )
 
 -- ---- how far is read
 

@@ -48,5 +48,11 @@ base32_push bytes before after i len digit ch h long first is_digit is_ch pushed
 pub base32_stands : (bytes : List ℕ) → All (λ b. b < 256) bytes → StandsFor (base32 bytes) bytes
 unfolding base32
 base32_stands bytes below =
-    search (rules, digits_of_below, length_digits_of, number_digits_of, number_below,
-        digits_hold_bytes)
+    search (
+      rules,
+      digits_of_below,
+      length_digits_of,
+      number_digits_of,
+      number_below,
+      digits_hold_bytes,
+    )

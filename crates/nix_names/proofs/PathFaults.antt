@@ -44,8 +44,17 @@ fewer_is_no_hash hash few = search (rules, and_left, ne_eqb)
 -- no 32 bytes or fewer begin with a hash part and a dash
 pub short_is_no_hash : (base : List ℕ) → length base ≤ 32 → begins_with_hash base ≡ false
 short_is_no_hash base short =
-    search (rules, cases_lt, begins_with_hash, and_left, fewer_is_no_hash, length-take, and_right,
-        nat_eq, drop_all)
+    search (
+      rules,
+      cases_lt,
+      begins_with_hash,
+      and_left,
+      fewer_is_no_hash,
+      length-take,
+      and_right,
+      nat_eq,
+      drop_all,
+    )
 
 -- a test that is passed, where nothing is wrong
 passed : (t : Bool) (f : NameFault) (rest : Option NameFault) → (if not t then Some f else rest)
@@ -125,5 +134,14 @@ no_fault_of_parts hash name is_hash named =
 -- nothing is wrong with a path of the folder
 pub no_fault_of_path : (dir text : List ℕ) → IsPathOf dir text → path_fault dir text ≡ None
 no_fault_of_path dir text p =
-    search (rules, path_text_parts, nat_eq, starts_is, Decides-eqb, drop_at, length-append,
-        fault_inside, no_fault_of_parts)
+    search (
+      rules,
+      path_text_parts,
+      nat_eq,
+      starts_is,
+      Decides-eqb,
+      drop_at,
+      length-append,
+      fault_inside,
+      no_fault_of_parts,
+    )

@@ -25,8 +25,16 @@ joined_parts : (parts : List ℕ) → 47 ∷ parts ≡ flat_map (λ part. 47 ∷
     (slice_split (λ b. b == 47) parts)
 joined_parts [] = refl
 joined_parts (x ∷ xs) =
-    search (rules, cases_Bool, slice_split-cons_yes, eqb-true, slice_split-cons_no, joined_more,
-        some_parts, joined_parts xs)
+    search (
+      rules,
+      cases_Bool,
+      slice_split-cons_yes,
+      eqb-true,
+      slice_split-cons_no,
+      joined_more,
+      some_parts,
+      joined_parts xs,
+    )
 
 -- a slash and components are a store folder
 pub dir_of_parts : (parts : List ℕ) → length (47 ∷ parts) ≤ 255

@@ -187,5 +187,13 @@ pub marked_one :
     IsPlaceOfPart parts window (Some place) →
     Marked parts met (set met place true) window
 marked_one parts met window place rises count at =
-    search (rules, length-set, get_or-set_other, cases_eq, mark_stays, set, one_place,
-        get_or-set_same)
+    search (
+      rules,
+      length-set,
+      get_or-set_other,
+      cases_eq,
+      mark_stays,
+      set,
+      one_place,
+      get_or-set_same,
+    )

@@ -207,8 +207,17 @@ module _ (rows : Rows) (phase : ℕ → Phase)
       reads : ((i : ℕ) → i < bound → Stays (state rows i) (state behind i)) → (i : ℕ)
           → Stays (before i) (after i)
       reads earlier i =
-          search (rules, moved_stays, before, after, behind, state_at, open_stays, state_past,
-              cases_lt)
+          search (
+            rules,
+            moved_stays,
+            before,
+            after,
+            behind,
+            state_at,
+            open_stays,
+            state_past,
+            cases_lt,
+          )
 
   pub states_stay : (d : ℕ) → Stays (state rows d) (state behind d)
   states_stay d = below_stay (suc d) d (omega arith)

@@ -126,8 +126,16 @@ beside all path info = (there, back)
         × (slice_get (infos_of all) n ≡ Some info))
         → Contains all (record { path = path; info = info })
     back (n, path_at, info_at) =
-        search (rules, get_source, path_in, path_at, same_element, slice_get-map, info_in,
-            Contains-from_get)
+        search (
+          rules,
+          get_source,
+          path_in,
+          path_at,
+          same_element,
+          slice_get-map,
+          info_in,
+          Contains-from_get,
+        )
 
 sorted_entry : (node : Node) (infos : List PathInfo) (all outputs : List Registration)
     → paths_registered all ≡ output_paths_of node.drv

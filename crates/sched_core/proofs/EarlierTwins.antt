@@ -167,8 +167,17 @@ module _ (run : Run) (opening : List Entry) where
   twins_last : (d : ℕ) → (earlier_twins run opening d ≡ [])
       ⊎ ((t : ℕ) × (earlier_twins run opening d ≡ earlier_twins run opening t ++ t ∷ []))
   twins_last d =
-      search (rules, twins_are, is_twin, passing, filter_agree, is_twin_same, and_parts, node,
-          last_passing)
+      search (
+        rules,
+        twins_are,
+        is_twin,
+        passing,
+        filter_agree,
+        is_twin_same,
+        and_parts,
+        node,
+        last_passing,
+      )
 
   twins_valid : (d t : ℕ) → Contains (earlier_twins run opening d) t
       → standing_at run.system opening (node t) ≡ AllValid

@@ -135,15 +135,32 @@ last_wanted nodes wanted last d low is before = record {
         → listed (slice_index_or (set last (first_twin_of nodes d) (Some d)) first None)
         ≡ last_alone (wanted_with nodes wanted first (d + 1))
     here first within same =
-        search (rules, nodes, within, is_wanted_with, and_from, eq-eqb, set, get_or-set_same,
-            last_with)
+        search (
+          rules,
+          nodes,
+          within,
+          is_wanted_with,
+          and_from,
+          eq-eqb,
+          set,
+          get_or-set_same,
+          last_with,
+        )
 
     kept : (first : ℕ) → first < length nodes → (first ≡ first_twin_of nodes d → ⊥)
         → listed (slice_index_or (set last (first_twin_of nodes d) (Some d)) first None)
         ≡ last_alone (wanted_with nodes wanted first (d + 1))
     kept first within apart =
-        search (rules, nodes, is_wanted_with, and_right, ne_eqb, get_or-set_other, within,
-            none_with)
+        search (
+          rules,
+          nodes,
+          is_wanted_with,
+          and_right,
+          ne_eqb,
+          get_or-set_other,
+          within,
+          none_with,
+        )
 
 -- another is_not
 pub last_unwanted : (nodes : List Node) (wanted : List Bool) (last : List (Option ℕ)) (d : ℕ)

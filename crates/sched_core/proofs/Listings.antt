@@ -124,8 +124,13 @@ paths_are : (nodes : List Node) (listed : List Listed) → All (HasItsPath nodes
     → listed_paths listed ≡ map (path_at nodes) (numbers_of listed)
 paths_are nodes [] each = refl
 paths_are nodes (l ∷ listed) each =
-    search (rules, get_or_from_slice_get, All-head, All-tail,
-        paths_are nodes listed (All-tail (HasItsPath nodes) l listed each))
+    search (
+      rules,
+      get_or_from_slice_get,
+      All-head,
+      All-tail,
+      paths_are nodes listed (All-tail (HasItsPath nodes) l listed each),
+    )
 
 -- sorted by path they rise
 listed_by_path : (nodes : List Node) (is_such : ℕ → Type 0) (listed sorted : List Listed)

@@ -43,8 +43,13 @@ numbers_are nodes [] [] once are = refl
 numbers_are nodes [] (p ∷ ps) once are = absurd cc
 numbers_are nodes (n ∷ ns) [] once are = absurd cc
 numbers_are nodes (n ∷ ns) (p ∷ ps) once are =
-    search (rules, place_is, first_number, later_numbers,
-        numbers_are nodes ns ps once (later_numbers nodes n ns p ps are))
+    search (
+      rules,
+      place_is,
+      first_number,
+      later_numbers,
+      numbers_are nodes ns ps once (later_numbers nodes n ns p ps are),
+    )
 
 -- an input is found before its user
 path_before : (graph : Graph) (d : ℕ) (node : Node) (path : List ℕ) → IsSound graph

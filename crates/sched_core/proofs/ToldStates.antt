@@ -275,8 +275,22 @@ module _ (tally : Tally) (awaited : Awaited) (heard : List News) (place input : 
   pub told_later : (good : Bool) → good ≡ false → tally.first ≤ place
       → IsTally awaited (slice_set heard place (news_by good)) tally
   told_later good failed past =
-      search (rules, tally_from_counts, set, count, number, ins_now, first-later, ins, unknown,
-          held_now, tws, by_counts, count_of_inputs, tws_now)
+      search (
+        rules,
+        tally_from_counts,
+        set,
+        count,
+        number,
+        ins_now,
+        first-later,
+        ins,
+        unknown,
+        held_now,
+        tws,
+        by_counts,
+        count_of_inputs,
+        tws_now,
+      )
 
 -- ---- a tally that is told of its twin
 

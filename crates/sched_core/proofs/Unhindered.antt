@@ -61,8 +61,17 @@ module _ (rows : Rows) (phase : ℕ → Phase)
 
   good_stays : (i : ℕ) → is_good (state rows i) ≡ true → is_good (state behind i) ≡ true
   good_stays i good =
-      search (rules, states_stay, rows, moves, good_is_closed, good, closed_is_good, behind,
-          good_not_bad)
+      search (
+        rules,
+        states_stay,
+        rows,
+        moves,
+        good_is_closed,
+        good,
+        closed_is_good,
+        behind,
+        good_not_bad,
+      )
 
   bad_stays : (i : ℕ) → is_bad (state rows i) ≡ true → is_bad (state behind i) ≡ true
   bad_stays i bad =

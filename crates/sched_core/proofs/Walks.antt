@@ -110,8 +110,15 @@ pub walk_start : (links : List (Vec ℕ)) (before after : List Node) (start : �
     → after ≡ set before start (record { mark = Open; left = node.left })
     → IsWalk links after (start ∷ [])
 walk_start links before after start node was at is =
-    search (rules, length-set, slice_get_within, after_open, Contains-push, set_cases,
-        get_push_cases)
+    search (
+      rules,
+      length-set,
+      slice_get_within,
+      after_open,
+      Contains-push,
+      set_cases,
+      get_push_cases,
+    )
 
 -- a number on a trail leads to the trail's last
 goes_to_last : (links : List (Vec ℕ)) (rest : List ℕ) (top to : ℕ)

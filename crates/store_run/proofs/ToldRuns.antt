@@ -113,8 +113,12 @@ module _ (may : Job → Result Answer Reason → Type 0) (run : Run) where
       → IsTold (λ reason. reason ≡ OutOfMemory) may run history
   told_from _ (legal_opening entries journal) answered = told_opening entries journal
   told_from _ (legal_begin history d legal within wanted ready) answered =
-      search (rules, told_begin, answered_before_begin,
-          told_from _ legal (answered_before_begin _ answered _ d refl))
+      search (
+        rules,
+        told_begin,
+        answered_before_begin,
+        told_from _ legal (answered_before_begin _ answered _ d refl),
+      )
   told_from _ (legal_done history d lease node infos entry legal phase is_node allowed is_entry)
       answered =
       let was =

@@ -131,8 +131,16 @@ twin_is_first t has = let low = (is_earlier_twin _ [] 1 t has).earlier in omega 
 
 first_is_twin : Contains (earlier_twins three [] 1) 0
 first_is_twin =
-    search (rules, twins_from, and_from, wanted_told, three_sound, wanted, twins_are_told,
-        are_twins)
+    search (
+      rules,
+      twins_from,
+      and_from,
+      wanted_told,
+      three_sound,
+      wanted,
+      twins_are_told,
+      are_twins,
+    )
 
 -- the first and the third have none
 first_no_twin : (t : ℕ) → Contains (earlier_twins three [] 0) t → ⊥

@@ -57,8 +57,16 @@ distinct_kept : (p : ℕ → Bool) (xs : List ℕ) → IsDistinct nat_eq xs
 unfolding IsDistinct
 distinct_kept p [] distinct = tt
 distinct_kept p (x ∷ xs) distinct =
-    search (rules, nat_eq, kept_same, none_from_apart, and_none, kept_or_not, apart_from_none,
-        distinct_kept p xs distinct.1)
+    search (
+      rules,
+      nat_eq,
+      kept_same,
+      none_from_apart,
+      and_none,
+      kept_or_not,
+      apart_from_none,
+      distinct_kept p xs distinct.1,
+    )
 
 distinct_both : (xs ys : List ℕ) → IsDistinct nat_eq xs → IsDistinct nat_eq ys
     → ((x : ℕ) → list_any (nat_eq x) xs ≡ true → list_any (nat_eq x) ys ≡ false)

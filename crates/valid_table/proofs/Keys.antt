@@ -30,8 +30,16 @@ use Rattle.valid_table.proofs.RowNumbers.{paths_are_keys, row_count}
 lesser_key : (folder text other : List ℕ) (k l : ℕ) → IsKey folder text k → IsKey folder other l
     → k < l → slice_cmp nat_cmp text other ≡ Less
 lesser_key folder text other k l of_k of_l less =
-    search (rules, ap₂, append_assoc, folder, same_front, bytes_less, recursion_from_All,
-        eight_spelt)
+    search (
+      rules,
+      ap₂,
+      append_assoc,
+      folder,
+      same_front,
+      bytes_less,
+      recursion_from_All,
+      eight_spelt,
+    )
 
 -- a key above a bound isn't 0
 is_key : (folder text : List ℕ) (key bound : ℕ) → (key ≡ 0) ⊎ (IsKey folder text key)

@@ -47,8 +47,14 @@ apart_from_unknown : (x : List ℕ) (xs ys : List (List ℕ)) → AreUnknown (x 
     → AllByRecursion (λ y. pointwise nat_eq x y ≡ false) ys
 apart_from_unknown x xs [] new = tt
 apart_from_unknown x xs (y ∷ ys) new =
-    search (rules, false_from_ne_true, All-head, equal_from_eq, All-tail,
-        apart_from_unknown x xs ys (All-tail (IsNotKnown (x ∷ xs)) y _ new))
+    search (
+      rules,
+      false_from_ne_true,
+      All-head,
+      equal_from_eq,
+      All-tail,
+      apart_from_unknown x xs ys (All-tail (IsNotKnown (x ∷ xs)) y _ new),
+    )
 
 -- a path that differs from each of two lists does from both, one behind the other
 apart_from_both : (x : List ℕ) (xs ys : List (List ℕ))

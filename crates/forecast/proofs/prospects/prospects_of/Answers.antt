@@ -30,8 +30,11 @@ loop-d-preserved c =
     let first_low : c.first_twin-first.result < length built =
     omega (arith, c.first_twin-first.ensures.within, low, had.built.size) in
     record {
-      count = omega (arith, ap length c.in_ok-push.ensures.items,
-          length_push c.loop-d.prospects.items p);
+      count = omega (
+        arith,
+        ap length c.in_ok-push.ensures.items,
+        length_push c.loop-d.prospects.items p,
+      );
       built = elim c.if-wanted-d.branch [
         | then-wanted-d+then-is_build w ↦
             marked_next _ _ _ _ _ _ d _ p had.count low
