@@ -51,9 +51,9 @@ name_char_is_ascii b h = search (rules, codes, or_cases, letter_is_ascii, among)
 -- bytes that pass a test that only ASCII bytes pass
 all_ascii : (test : ℕ → Bool) → ((b : ℕ) → test b ≡ true → b < 128)
     → (bytes : List ℕ) → list_all test bytes ≡ true → All IsAsciiByte bytes
-all_ascii test passes [] h = All-nil _
+all_ascii test passes [] h = All-nil IsAsciiByte
 all_ascii test passes (b ∷ bytes) h =
-    let parts = both _ b bytes h in
+    let parts = both test b bytes h in
     All-cons IsAsciiByte b bytes (passes b parts.0) (all_ascii test passes bytes parts.1)
 
 -- the bytes of a hash part, of a name and of a component pass their tests
@@ -73,11 +73,11 @@ component_passes part h = search (rules, and_parts)
 -- components, each behind a slash, are ASCII
 components_are_ascii : (parts : List (List ℕ)) → All (λ part. IsTrue (is_component part)) parts
     → All IsAsciiByte (flat_map (λ part. 47 ∷ part) parts)
-components_are_ascii [] each = All-nil _
+components_are_ascii [] each = All-nil IsAsciiByte
 components_are_ascii (part ∷ parts) each =
     let Is : List ℕ → Type 0 = λ p. IsTrue (is_component p) in
-    let passes = component_passes _ (All-head Is part _ each) in
-    let first = all_ascii _ name_char_is_ascii _ passes in
+    let passes = component_passes part (All-head Is part parts each) in
+    let first = all_ascii is_name_char name_char_is_ascii part passes in
     All-append IsAsciiByte (47 ∷ part) _ (All-cons IsAsciiByte 47 part (omega arith) first)
     (components_are_ascii parts (All-tail Is part parts each))
 
@@ -89,9 +89,9 @@ dir_is_ascii dir is_dir = search (rules, components_are_ascii)
 pub path_is_text : (path : List ℕ) → IsStorePath path → IsUtf8 path
 path_is_text path is =
     let parts = is.is_path in
-    let digits = hash_passes _ parts.is_hash in
-    let hash = all_ascii _ digit_is_ascii _ digits in
-    let passes = name_passes _ parts.named in
+    let digits = hash_passes parts.hash parts.is_hash in
+    let hash = all_ascii is_digit digit_is_ascii parts.hash digits in
+    let passes = name_passes parts.name parts.named in
     let name = all_ascii is_name_char name_char_is_ascii parts.name passes in
     let base : All IsAsciiByte (parts.hash ++ 45 ∷ parts.name) =
     All-append IsAsciiByte parts.hash _ hash

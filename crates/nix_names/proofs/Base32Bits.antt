@@ -38,17 +38,17 @@ pub digit_of_bytes : (bytes : List ℕ) (place at s : ℕ) → All (λ b. b < 25
     ≡ (get_or bytes (at + 1) 0 * 256 + get_or bytes at 0) / 2 ^ s % 32
 digit_of_bytes bytes place at s below e h =
     let wide : 32 ^ place ≡ 256 ^ at * 2 ^ s =
-    pow_of_pow 5 _ ∙ ap (λ x. 2 ^ x) (sym e) ∙ pow-add 2 (8 * at) s
-    ∙ ap (λ x. x * 2 ^ s) (sym (pow_of_pow 8 _)) in
+    pow_of_pow 5 place ∙ ap (λ x. 2 ^ x) (sym e) ∙ pow-add 2 (8 * at) s
+    ∙ ap (λ x. x * 2 ^ s) (sym (pow_of_pow 8 at)) in
     rw (
       wide,
       ← div-div-eq-div-mul (number 256 bytes) (256 ^ at) (2 ^ s),
-      number_div _ _ _ below,
-      number_drop _ _ _,
-      number_drop _ _ _,
+      number_div 256 bytes at below,
+      number_drop 256 bytes at,
+      number_drop 256 bytes (at + 1),
     )
-    (bits_in_two _ _
-    _ s h)
+    (bits_in_two (get_or bytes at 0) (get_or bytes (at + 1) 0)
+    (number 256 (drop (at + 1 + 1) bytes)) s h)
 
 -- the bytes of a slice are below 256
 pub bytes_below : (bytes : List ℕ) → ((i : ℕ) → Fits w8 (get_or bytes i 0))
@@ -58,7 +58,7 @@ bytes_below bytes fit = All-from_get_or (λ b. b < 256) bytes 0 (λ i h. omega (
 -- the digits have room for the bytes
 pub digits_hold_bytes : (n : ℕ) → 256 ^ n ≤ 32 ^ text_len n
 digits_hold_bytes n =
-    rw (pow_of_pow 8 n, pow_of_pow 5 _) (pow-le-pow_right (omega arith) (omega arith))
+    rw (pow_of_pow 8 n, pow_of_pow 5 (text_len n)) (pow-le-pow_right (omega arith) (omega arith))
 
 -- the eight bits that begin at a bit of a digit lie in that digit and the next two
 bits_in_three : (low middle high more s : ℕ) → s < 5
@@ -78,31 +78,31 @@ pub byte_of_digits : (ds : List ℕ) (at place s : ℕ) → All (λ d. d < 32) d
     256
 byte_of_digits ds at place s below e h =
     let wide : 256 ^ at ≡ 32 ^ place * 2 ^ s =
-    pow_of_pow 8 _ ∙ ap (λ x. 2 ^ x) (sym e) ∙ pow-add 2 (5 * place) s
-    ∙ ap (λ x. x * 2 ^ s) (sym (pow_of_pow 5 _)) in
+    pow_of_pow 8 at ∙ ap (λ x. 2 ^ x) (sym e) ∙ pow-add 2 (5 * place) s
+    ∙ ap (λ x. x * 2 ^ s) (sym (pow_of_pow 5 place)) in
     let next : place + 1 + 1 ≡ place + 2 = omega arith in
     rw (
       wide,
       ← div-div-eq-div-mul (number 32 ds) (32 ^ place) (2 ^ s),
-      number_div _ _ _ below,
-      number_drop _ _ _,
-      number_drop _ _ _,
+      number_div 32 ds place below,
+      number_drop 32 ds place,
+      number_drop 32 ds (place + 1),
       next,
-      number_drop _ _ _,
+      number_drop 32 ds (place + 2),
     )
-    (bits_in_three _ _ _
-    _ s h)
+    (bits_in_three (get_or ds place 0) (get_or ds (place + 1) 0) (get_or ds (place + 2) 0)
+    (number 32 (drop (place + 2 + 1) ds)) s h)
 
 -- no bit of the digits is spare where the byte after the bytes is 0
 pub spare_bits : (ds : List ℕ) (n : ℕ) → All (λ d. d < 32) ds → length ds ≡ text_len n
     → number 32 ds / 256 ^ n % 256 ≡ number 32 ds / 256 ^ n
 spare_bits ds n below long =
     let wide : 32 ^ text_len n ≤ 2 ^ (8 * n + 8) =
-    rw (pow_of_pow 5 _) (pow-le-pow_right (omega arith) (omega arith)) in
+    rw (pow_of_pow 5 (text_len n)) (pow-le-pow_right (omega arith) (omega arith)) in
     let room : 2 ^ (8 * n + 8) ≡ 256 * 256 ^ n = pow-add 2 (8 * n) 8
     ∙ ap (λ x. x * 256) (sym (pow_of_pow 8 n)) ∙ omega arith in
-    let small : number 32 ds < 32 ^ text_len n = rw (← long) (number_below _ _ below) in
+    let small : number 32 ds < 32 ^ text_len n = rw (← long) (number_below 32 ds below) in
     let some : 0 < 256 ^ n = one-le-pow n 256 (omega arith) in
-    let top : number 32 ds / 256 ^ n < 256 = div_below _ _ _ some
+    let top : number 32 ds / 256 ^ n < 256 = div_below (number 32 ds) (256 ^ n) 256 some
     (omega arith) in
     omega arith

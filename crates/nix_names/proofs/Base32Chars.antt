@@ -70,7 +70,7 @@ digit_bits = 0 ∷ 67043328 ∷ 0 ∷ 131039198 ∷ 0 ∷ 0 ∷ 0 ∷ 0 ∷ []
 
 pub is_digit_by_bit : (c : ℕ) → c < 256 → (bit_in digit_bits c == 1) ≡ is_digit c
 is_digit_by_bit c below =
-    told_by_bit _ _
+    told_by_bit (bit_in digit_bits c) (is_digit c)
     (eqb-true (bit_in digit_bits c) (bit (is_digit c))
     (each_from 0 256 (λ x. bit_in digit_bits x == bit (is_digit x)) refl c (omega arith)
     (omega arith)))

@@ -15,7 +15,7 @@ rest_of_number base d n h = search (rules, div-mul-add)
 pub digit_of_number : (base d n : ℕ) → d < base → (d + base * n) % base ≡ d
 digit_of_number base d n h =
     let e : d + base * n ≡ n * base + d = omega arith in
-    rw e (mod-mul-add n _ d h)
+    rw e (mod-mul-add n base d h)
 
 -- the number of the digits from a place on
 pub number_div : (base : ℕ) (ds : List ℕ) (i : ℕ) → All (λ d. d < base) ds
@@ -26,7 +26,7 @@ number_div base (d ∷ ds) (suc i) below =
     rw (
       pow-succ' base i,
       ← div-div-eq-div-mul (d + base * number base ds) base (base ^ i),
-      rest_of_number _ d _ (All-head (λ d. d < base) d ds below),
+      rest_of_number base d (number base ds) (All-head (λ d. d < base) d ds below),
     )
     (number_div base ds i (All-tail (λ d. d < base) d ds below))
 
@@ -36,7 +36,7 @@ pub number_digits_of : (base k n : ℕ) → 0 < base → n < base ^ k → number
 number_digits_of base zero n some small = search (rules, pow-zero)
 number_digits_of base (suc k) n some small =
     let h : n < base ^ k * base = rw (pow-suc base k) at small in
-    rw (number_digits_of _ k _ some (div_below n _ _ some h))
+    rw (number_digits_of base k (n / base) some (div_below n base (base ^ k) some h))
     (mod-add-div n base)
 
 -- digits are those of their number
@@ -50,12 +50,12 @@ digits_of_number base (d ∷ ds) below =
 
 pub length_digits_of : (base k n : ℕ) → length (digits_of base k n) ≡ k
 length_digits_of base zero n = refl
-length_digits_of base (suc k) n = ap suc (length_digits_of _ k _)
+length_digits_of base (suc k) n = ap suc (length_digits_of base k (n / base))
 
 pub digits_of_below : (base k n : ℕ) → 0 < base → All (λ d. d < base) (digits_of base k n)
-digits_of_below base zero n some = All-nil _
+digits_of_below base zero n some = All-nil (λ d. d < base)
 digits_of_below base (suc k) n some =
-    search (rules, All-cons, mod_below, digits_of_below _ k (n / base) some)
+    search (rules, All-cons, mod_below, digits_of_below base k (n / base) some)
 
 -- the digit at a place
 pub digits_of_at : (base k n i : ℕ) → i < k → get_or (digits_of base k n) i 0 ≡ n / base ^ i % base
@@ -63,7 +63,7 @@ digits_of_at base zero n i h = omega arith
 digits_of_at base (suc k) n zero h = rw (pow-zero base, div-one n)
 digits_of_at base (suc k) n (suc i) h =
     rw (pow-succ' base i, ← div-div-eq-div-mul n base (base ^ i))
-    (digits_of_at _ k _ i (omega arith))
+    (digits_of_at base k (n / base) i (omega arith))
 
 -- so many digits are a number below that power
 pub number_below : (base : ℕ) (ds : List ℕ) → All (λ d. d < base) ds → number base ds
@@ -81,5 +81,5 @@ pub digits_of_push : (base k n i : ℕ) (before after : List ℕ) (digit : ℕ) 
     ≡ take i (digits_of base k n) → digit ≡ n / base ^ i % base → after ≡ before ++ digit ∷ []
     → after ≡ take (i + 1) (digits_of base k n)
 digits_of_push base k n i before after digit h first next pushed =
-    let more = take_more _ i 0 (omega (arith, length_digits_of base k n)) in
+    let more = take_more (digits_of base k n) i 0 (omega (arith, length_digits_of base k n)) in
     pushed ∙ rw (first, next, ← digits_of_at base k n i h) (sym more)

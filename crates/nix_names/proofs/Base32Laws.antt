@@ -23,8 +23,8 @@ stood_of_base32 text bytes below is = search (rules, base32_stands)
 digits_stood : (text bytes : List ℕ) → (stands : StandsFor text bytes) → digits_in text
     ≡ stands.digits
 digits_stood text bytes stands =
-    let all = All-reverse (λ d. d < 32) _ stands.below in
-    ap digits_in stands.spelled ∙ ap reverse (map_digit_of _ all)
+    let all = All-reverse (λ d. d < 32) stands.digits stands.below in
+    ap digits_in stands.spelled ∙ ap reverse (map_digit_of (reverse stands.digits) all)
     ∙ reverse-reverse stands.digits
 
 -- a text's number is that of the bytes for which it stands
@@ -37,23 +37,25 @@ number_stood text bytes stands = ap (λ ds. number 32 ds) (digits_stood text byt
 pub one_stood : (text a b : List ℕ) → length a ≡ length b → All (λ x. x < 256) a
     → All (λ x. x < 256) b → StandsFor text a → StandsFor text b → a ≡ b
 one_stood text a b long below_a below_b stands_a stands_b =
-    let same : number 256 a ≡ number 256 b = sym (number_stood _ a stands_a)
-    ∙ number_stood _ b stands_b in
-    sym (digits_of_number _ a below_a) ∙ rw (long, same) (digits_of_number _ b below_b)
+    let same : number 256 a ≡ number 256 b = sym (number_stood text a stands_a)
+    ∙ number_stood text b stands_b in
+    sym (digits_of_number 256 a below_a) ∙ rw (long, same) (digits_of_number 256 b below_b)
 
 -- nothing is wrong with a text that stands for so many bytes
 text_of_stood : (text bytes : List ℕ) (n : ℕ) → length bytes ≡ n → All (λ b. b < 256) bytes
     → StandsFor text bytes → IsText text n
 text_of_stood text bytes n long below stands =
     let spelled : text ≡ map digit_char (reverse stands.digits) = stands.spelled in
-    let all = All-reverse (λ d. d < 32) _ stands.below in
+    let all = All-reverse (λ d. d < 32) stands.digits stands.below in
     record {
       long = ap length spelled ∙ length-map (reverse stands.digits) digit_char
           ∙ length-reverse stands.digits ∙ stands.count ∙ ap text_len long;
       digits =
           subst (λ t. All (λ c. is_digit c ≡ true) t) (sym spelled)
-          (All-map (λ c. is_digit c ≡ true) _ _ (All-weaker _ _ is_digit_digit_char _ all));
-      small = rw (number_stood _ _ stands, ← long) (number_below _ _ below);
+          (All-map (λ c. is_digit c ≡ true) digit_char (reverse stands.digits)
+          (All-weaker (λ d. d < 32) (λ d. is_digit (digit_char d) ≡ true) is_digit_digit_char
+          (reverse stands.digits) all));
+      small = rw (number_stood text bytes stands, ← long) (number_below 256 bytes below);
     }
 
 pub fault_exact : (text : List ℕ) (n : ℕ) → (base32_fault text n ≡ None)
@@ -61,9 +63,9 @@ pub fault_exact : (text : List ℕ) (n : ℕ) → (base32_fault text n ≡ None)
 fault_exact text n = (
   (λ none. (
     digits_of 256 n (text_number text),
-    length_digits_of _ n _,
-    digits_of_below _ n _ (omega arith),
-    text_stands _ n (text_where_no_fault _ n none),
+    length_digits_of 256 n (text_number text),
+    digits_of_below 256 n (text_number text) (omega arith),
+    text_stands text n (text_where_no_fault text n none),
   )),
-  (λ some. no_fault_in_text _ n (text_of_stood _ _ n some.1 some.2 some.3)),
+  (λ some. no_fault_in_text text n (text_of_stood text some.0 n some.1 some.2 some.3)),
 )

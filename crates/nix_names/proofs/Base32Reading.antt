@@ -1,5 +1,5 @@
 -- What a text stands for, and what is wrong with one that stands for nothing.
-use Rattle.std.proofs.Common.{◌≡◌, ◌-◌, ◌/◌, ◌%◌, ◌^◌, ◌<◌, ℕ, Bool, true, false, List, Option, Some, None, length, get_or, refl, sym, ap, subst, ◌∙◌, arith, rules}
+use Rattle.std.proofs.Common.{◌≡◌, ◌-◌, ◌/◌, ◌%◌, ◌^◌, ◌<◌, ◌==◌, ℕ, Bool, true, false, List, Option, Some, None, length, get_or, refl, sym, ap, subst, ◌∙◌, arith, rules}
 use Rattle.std.specs.Prelude.{map, reverse, not, nat_lt, cond, if◌then◌else◌}
 use Rattle.std.specs.List.{All, AllPass, position, position_or_len}
 use Rattle.std.proofs.Math.Nat.{one-le-pow, mod-add-div}
@@ -28,7 +28,7 @@ digit_in text place h = search (rules, get_or-reverse, length-map, get_or-map)
 
 pub digits_in_below : (text : List ℕ) → AllPass is_digit text → All (λ d. d < 32) (digits_in text)
 digits_in_below text are =
-    All-from_get_or (λ d. d < 32) _ 0
+    All-from_get_or (λ d. d < 32) (digits_in text) 0
     (λ k h.
     let within : k < length text = omega (arith, length_digits_in text) in
     subst (λ d. d < 32) (sym (digit_in text k within))
@@ -53,7 +53,7 @@ pub none_fails_where_all_pass : (p : ℕ → Bool) (xs : List ℕ) → AllPass p
     → position (λ x. not (p x)) xs ≡ None
 none_fails_where_all_pass p xs pass =
     let first : position_or_len (λ x. not (p x)) xs ≡ length xs =
-    position_or_len_is _ xs (length xs) 0 (omega arith)
+    position_or_len_is (λ x. not (p x)) xs (length xs) 0 (omega arith)
     (λ k h. not_from_true (p (get_or xs k 0)) (pass k 0 h)) (λ h. absurd (omega arith)) in
     rw (first, le-ltb (length xs) (length xs) (omega arith))
 
@@ -79,10 +79,11 @@ fault_parts true None value limit none = (refl, refl, small_where_none (nat_lt v
 
 pub text_where_no_fault : (text : List ℕ) (n : ℕ) → base32_fault text n ≡ None → IsText text n
 text_where_no_fault text n none =
-    let parts = fault_parts _ _ _ _ none in
+    let parts = fault_parts (length text == text_len n) (position (λ c. not (is_digit c)) text)
+    (text_number text) (256 ^ n) none in
     record {
       long = eqb-true (length text) (text_len n) parts.0;
-      digits = pass_where_none_fails _ _ parts.1;
+      digits = pass_where_none_fails is_digit text parts.1;
       small = ltb-true (text_number text) (256 ^ n) parts.2;
     }
 
@@ -101,12 +102,12 @@ below_where_none n k some none = search (rules, mod-add-div, mod_below)
 pub small_text : (text : List ℕ) (n : ℕ) → length text ≡ text_len n → AllPass is_digit text
     → text_number text / 256 ^ n % 256 ≡ 0 → IsText text n
 small_text text n long are none =
-    let spare = spare_bits _ n (digits_in_below _ are)
-    (length_digits_in _ ∙ long) in
+    let spare = spare_bits (digits_in text) n (digits_in_below text are)
+    (length_digits_in text ∙ long) in
     record {
       long = long;
       digits = are;
-      small = below_where_none _ _ (one-le-pow n 256 (omega arith))
+      small = below_where_none (text_number text) (256 ^ n) (one-le-pow n 256 (omega arith))
           (omega arith);
     }
 
@@ -118,9 +119,9 @@ pub text_stands : (text : List ℕ) (n : ℕ) → IsText text n
 text_stands text n is =
     record {
       digits = digits_in text;
-      spelled = rw reverse-reverse (sym (map_digit_char _ is.digits));
-      below = digits_in_below _ is.digits;
-      count = length_digits_in _ ∙ is.long
-          ∙ ap text_len (sym (length_digits_of _ n _));
-      same = sym (number_digits_of _ n _ (omega arith) is.small);
+      spelled = rw reverse-reverse (sym (map_digit_char text is.digits));
+      below = digits_in_below text is.digits;
+      count = length_digits_in text ∙ is.long
+          ∙ ap text_len (sym (length_digits_of 256 n (text_number text)));
+      same = sym (number_digits_of 256 n (text_number text) (omega arith) is.small);
     }

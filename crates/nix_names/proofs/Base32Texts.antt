@@ -22,8 +22,8 @@ base32_at bytes i h =
     let n = number 256 bytes in
     let len = text_len (length bytes) in
     let digits = digits_of 32 len n in
-    let long : length digits ≡ len = length_digits_of _ _ n in
-    get_or-map _ (reverse digits) i 0 0 (omega (arith, length-reverse digits))
+    let long : length digits ≡ len = length_digits_of 32 len n in
+    get_or-map digit_char (reverse digits) i 0 0 (omega (arith, length-reverse digits))
     ∙ ap digit_char (get_or-reverse digits i 0 (omega arith)
     ∙ ap (λ k. get_or digits (k - 1 - i) 0) long
     ∙ digits_of_at 32 len n (len - 1 - i) (omega arith))
@@ -33,7 +33,7 @@ pub base32_more : (bytes : List ℕ) (i : ℕ) → i < text_len (length bytes)
     → take (i + 1) (base32 bytes) ≡ take i (base32 bytes)
     ++ digit_char (number 256 bytes / 32 ^ (text_len (length bytes) - 1 - i) % 32) ∷ []
 base32_more bytes i h =
-    take_more _ i 0 (omega (arith, length_base32 bytes))
+    take_more (base32 bytes) i 0 (omega (arith, length_base32 bytes))
     ∙ ap (λ c. take i (base32 bytes) ++ c ∷ []) (base32_at bytes i h)
 
 -- a text that is the first characters, and one character more
@@ -48,11 +48,4 @@ base32_push bytes before after i len digit ch h long first is_digit is_ch pushed
 pub base32_stands : (bytes : List ℕ) → All (λ b. b < 256) bytes → StandsFor (base32 bytes) bytes
 unfolding base32
 base32_stands bytes below =
-    search (
-      rules,
-      digits_of_below,
-      length_digits_of,
-      number_digits_of,
-      number_below,
-      digits_hold_bytes,
-    )
+    search (rules, digits_of_below, length_digits_of, number_digits_of, number_below, digits_hold_bytes)

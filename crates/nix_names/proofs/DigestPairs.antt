@@ -43,23 +43,23 @@ pub read_more : (i : ℕ) (digits read : List ℕ) (high low : ℕ) → length d
     → ReadUpTo (i + 1) digits (set read i (16 * high + low))
 read_more i digits read high low long within is_high is_low before =
     λ bytes each same k below.
-    let count = twice_as_long _ _ _ long same in
+    let count = twice_as_long (length read) digits bytes long same in
     let inside : i < length bytes = omega (arith, count) in
     let fits : slice_index bytes i < 256 = each i 0 inside in
-    let two = digits_at _ i inside in
+    let two = digits_at bytes i inside in
     let h = is_high (slice_index bytes i / 16) (omega (arith, fits))
     (ap (λ (text : List ℕ). slice_index text (2 * i)) same ∙ two.0) in
     let l = is_low (slice_index bytes i % 16) (omega arith)
     (ap (λ (text : List ℕ). slice_index text (2 * i + 1)) same ∙ two.1) in
     let whole : 16 * high + low ≡ get_or bytes i 0 = omega (arith, h, l) in
-    rw whole (fill_by_more _ _ i 0 within (before bytes each same) k below)
+    rw whole (fill_by_more (λ j. get_or bytes j 0) read i 0 within (before bytes each same) k below)
 
 -- all bytes are read
 pub read_all : (n : ℕ) (digits read : List ℕ) → length digits ≡ 2 * n → length read ≡ n
     → ReadUpTo n digits read → (bytes : List ℕ) → All (λ b. b < 256) bytes
     → digits ≡ encode_lower bytes → read ≡ bytes
 read_all n digits read long count up bytes each same =
-    let all = twice_as_long n _ _ long same in
+    let all = twice_as_long n digits bytes long same in
     ext_get_or 0 read bytes (omega (arith, count, all))
     (λ k below. up bytes each same k (omega (arith, count)))
 

@@ -25,7 +25,7 @@ bytes_everywhere xs each i = search (rules, cases_lt, get_or_past)
 -- the digits of bytes decode to them
 pub digits_decode : (n : ℕ) (bytes : List ℕ) → AreBytes n bytes
     → decode_sized (encode_lower bytes) n ≡ Ok bytes
-digits_decode n bytes are = decode_sized-encode_lower _ n are.0 (bytes_everywhere _ are.1)
+digits_decode n bytes are = decode_sized-encode_lower bytes n are.0 (bytes_everywhere bytes are.1)
 
 -- bytes are told by their digits
 pub one_list : (n : ℕ) (a b : List ℕ) → AreBytes n a → AreBytes n b

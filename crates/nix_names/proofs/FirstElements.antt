@@ -15,7 +15,8 @@ module _ {X : Type 0} (Other Kind : X → Type 0) where
 
   -- the first element is a member
   pub first_contained : (list : List X) (x : X) → IsFirst Other Kind list x → Contains list x
-  first_contained list x first = subst (λ l. Contains l x) (sym first.parts) (Contains-middle _ _ x)
+  first_contained list x first = subst (λ l. Contains l x) (sym first.parts)
+      (Contains-middle first.before first.after x)
 
   -- the first of a list is the first of a longer one, where none stands before the list
   pub first_within : (before middle after : List X) (x : X) → All Other before
@@ -27,7 +28,7 @@ module _ {X : Type 0} (Other Kind : X → Type 0) where
         ap (λ (m : List X). before ++ (m ++ after)) first.parts
         ∙ ap (λ (m : List X). before ++ m) (append_assoc first.before (x ∷ first.after) after)
         ∙ sym (append_assoc before first.before ((x ∷ first.after) ++ after));
-    others = All-append Other _ _ others first.others;
+    others = All-append Other before first.before others first.others;
     is = first.is;
   }
 
@@ -35,7 +36,7 @@ module _ {X : Type 0} (Other Kind : X → Type 0) where
     -- where all are others there is no first
     pub no_first : (list : List X) (x : X) → IsFirst Other Kind list x → All Other list → ⊥
     no_first list x first all = apart x
-        (All-contains Other _ x all (first_contained _ x first)) first.is
+        (All-contains Other list x all (first_contained list x first)) first.is
 
     one_of_parts : (before other after behind : List X) (x y : X) → before ++ x ∷ after ≡ other
         ++ y ∷ behind → All Other before → All Other other → Kind x → Kind y → x ≡ y
@@ -78,7 +79,8 @@ all_numbers P from (suc count) (suc n) each (suc k) d below =
 pub first_number : (Holds : ℕ → Type 0) (count n : ℕ) → n < count → Holds n
     → ((m : ℕ) → m < n → Holds m → ⊥) → IsFirstWhere Holds (range_with_len 0 count) n
 first_number Holds count n below holds none =
-    first_at _ _ _ n n (number_at 0 count n below ∙ ap Some (omega arith))
+    first_at (λ m. Holds m → ⊥) Holds (range_with_len 0 count) n n
+    (number_at 0 count n below ∙ ap Some (omega arith))
     (all_numbers (λ m. Holds m → ⊥) 0 count n (λ m low. subst (λ k. Holds k → ⊥) (omega arith)
     (none m (omega arith)))) holds
 
@@ -86,6 +88,6 @@ first_number Holds count n below holds none =
 pub number_within : (Other Kind : ℕ → Type 0) (count n : ℕ)
     → IsFirst Other Kind (range_with_len 0 count) n → n < count
 number_within Other Kind count n first =
-    let (k, inside, is) = first_contained _ _ (range_with_len 0 count) n first in
+    let (k, inside, is) = first_contained Other Kind (range_with_len 0 count) n first in
     let below : k < count = omega (arith, inside, length-range_with_len 0 count) in
     omega (arith, below, sym is ∙ get_or-range_with_len 0 count k n below)

@@ -97,7 +97,7 @@ small_first zero hash digits = tt
 small_first (suc n) [] digits = tt
 small_first (suc n) (b ∷ hash) digits =
     let parts = and_parts (is_digit b) (list_all is_digit hash) digits in
-    let ascii = digit_is_ascii b parts.0 in (omega (arith, ascii), small_first n _ parts.1)
+    let ascii = digit_is_ascii b parts.0 in (omega (arith, ascii), small_first n hash parts.1)
 
 -- texts that begin with hash parts compare as the keys of these do, where they differ
 pub lesser_hash : (p q rest others : List ℕ) → is_hash_part p ≡ true → is_hash_part q ≡ true
@@ -105,14 +105,14 @@ pub lesser_hash : (p q rest others : List ℕ) → is_hash_part p ≡ true → i
     → slice_cmp nat_cmp (p ++ rest) (q ++ others) ≡ Less
 lesser_hash p q rest others of_p of_q less =
     ap₂ (slice_cmp nat_cmp) (split p rest) (split q others)
-    ∙ bytes_less 0 _ _ _ _
+    ∙ bytes_less 0 (take 8 p) (take 8 q) (drop 8 p ++ rest) (drop 8 q ++ others)
     (eight p of_p ∙ sym (eight q of_q))
     (small_first 8 p (hash_passes p of_p)) (small_first 8 q (hash_passes q of_q))
     (omega (
       arith,
       less,
-      eight_spelt _ (eight p of_p),
-      eight_spelt _
+      eight_spelt (take 8 p) (eight p of_p),
+      eight_spelt (take 8 q)
           (eight q of_q),
     ))
   where
@@ -128,8 +128,8 @@ pub lesser_hash_part : (path other : List ℕ) → IsStorePath path → IsStoreP
 lesser_hash_part path other of_path of_other less =
     ap₂ (slice_cmp nat_cmp) (sym (append-nil (hash_part_of path)))
     (sym (append-nil (hash_part_of other)))
-    ∙ lesser_hash _ _ [] []
-    (hash_part_of_is _ of_path) (hash_part_of_is _ of_other) less
+    ∙ lesser_hash (hash_part_of path) (hash_part_of other) [] []
+    (hash_part_of_is path of_path) (hash_part_of_is other of_other) less
 
 pub lesser_path : (dir path other : List ℕ) → IsPathOf dir path → IsPathOf dir other
     → key_of path < key_of other → slice_cmp nat_cmp path other ≡ Less
@@ -139,7 +139,7 @@ lesser_path dir path other of_path of_other less =
     (47 ∷ of_other.hash ++ (45 ∷ of_other.name))
     ∙ same_front (47 ∷ []) (of_path.hash ++ (45 ∷ of_path.name))
     (of_other.hash ++ (45 ∷ of_other.name))
-    ∙ lesser_hash _ _ (45 ∷ of_path.name) (45 ∷ of_other.name)
+    ∙ lesser_hash of_path.hash of_other.hash (45 ∷ of_path.name) (45 ∷ of_other.name)
     of_path.is_hash of_other.is_hash
     (omega (
       arith,

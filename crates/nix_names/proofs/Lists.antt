@@ -40,31 +40,32 @@ module _ {X : Type 0} where
       ⊎ (y ≡ x)
   Contains-push_cases xs y x has =
       ⊎_elim inl (λ last. ⊎_elim inr (λ none. absurd (Contains-nothing x none))
-      (Contains-cons_cases y [] x last)) (Contains-append_cases _ _ x has)
+      (Contains-cons_cases y [] x last)) (Contains-append_cases xs (y ∷ []) x has)
 
   pub Contains-middle : (before after : List X) (x : X) → Contains (before ++ x ∷ after) x
-  Contains-middle [] after x = Contains-first x _
-  Contains-middle (y ∷ before) after x = Contains-later y _ x (Contains-middle before after x)
+  Contains-middle [] after x = Contains-first x after
+  Contains-middle (y ∷ before) after x = Contains-later y (before ++ x ∷ after) x
+      (Contains-middle before after x)
 
   -- what holds of each member
   pub All-from_contains : (P : X → Type 0) (xs : List X) → ((x : X) → Contains xs x → P x)
       → All P xs
-  All-from_contains P xs h k d lt = h (get_or xs k d) (Contains-get_or _ k d lt)
+  All-from_contains P xs h k d lt = h (get_or xs k d) (Contains-get_or xs k d lt)
 
   -- the front of a list whose elements have a property
   pub All-left : (P : X → Type 0) (xs ys : List X) → All P (xs ++ ys) → All P xs
-  All-left P xs ys all = All-from_contains P _
-      (λ x has. All-contains P _ x all (Contains-append_left _ _ x has))
+  All-left P xs ys all = All-from_contains P xs
+      (λ x has. All-contains P (xs ++ ys) x all (Contains-append_left xs ys x has))
 
   -- ---- places
 
   -- what stands at a place is a member, and a member stands at one
   pub Contains-from_get : (xs : List X) (n : ℕ) (x : X) → slice_get xs n ≡ Some x → Contains xs x
-  Contains-from_get xs n x is = (n, slice_get_within xs n x is, get_or_from_slice_get _ n x x is)
+  Contains-from_get xs n x is = (n, slice_get_within xs n x is, get_or_from_slice_get xs n x x is)
 
   pub get_from_contains : (xs : List X) (x : X) → Contains xs x → (n : ℕ)
       × (slice_get xs n ≡ Some x)
-  get_from_contains xs x (n, lt, is) = (n, slice_get-get_or _ n x lt ∙ ap Some is)
+  get_from_contains xs x (n, lt, is) = (n, slice_get-get_or xs n x lt ∙ ap Some is)
 
   -- one place has one element
   pub same_element : (xs : List X) (n : ℕ) (x y : X) → slice_get xs n ≡ Some x → slice_get xs n
@@ -131,14 +132,14 @@ module _ {X Y : Type 0} (f : X → Y) where
   Contains-map [] x has = absurd (Contains-nothing x has)
   Contains-map (y ∷ xs) x has =
       ⊎_elim (λ same. (zero, omega arith, ap f same))
-      (λ later. Contains-later _ _ (f x) (Contains-map xs x later))
+      (λ later. Contains-later (f y) (map f xs) (f x) (Contains-map xs x later))
       (Contains-cons_cases y xs x has)
 
   pub Contains-from_map : (xs : List X) (y : Y) → Contains (map f xs) y → (x : X) × Contains xs x
       × (f x ≡ y)
   Contains-from_map [] y has = absurd (Contains-nothing y has)
   Contains-from_map (x ∷ xs) y has =
-      ⊎_elim (λ same. (x, Contains-first x _, same))
+      ⊎_elim (λ same. (x, Contains-first x xs, same))
       (λ later. let found = Contains-from_map xs y later
       in (found.0, Contains-later x xs found.0 found.1, found.2))
       (Contains-cons_cases (f x) (map f xs) y has)

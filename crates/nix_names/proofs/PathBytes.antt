@@ -13,7 +13,7 @@ apart test n b fails passes = search (rules, false_from_ne_true, false≢true, e
 -- a byte of a name is no slash
 pub no_slash_in_name : (b : ℕ) → is_name_char b ≡ true → (b == 47) ≡ false
 unfolding is_name_char
-no_slash_in_name b h = apart is_name_char _ b refl h
+no_slash_in_name b h = apart is_name_char 47 b refl h
 
 -- a digit is no slash
 pub no_slash_in_digit : (b : ℕ) → is_digit b ≡ true → (b == 47) ≡ false

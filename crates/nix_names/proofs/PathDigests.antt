@@ -21,13 +21,13 @@ use Rattle.sha2.specs.Sha256.{sha256}
 pub folded_past : (x j i : ℕ) (digest : List ℕ) → length digest ≤ i
     → bit_xor x (folded_at j i (drop i digest)) ≡ folded_at j 0 digest → x ≡ folded_at j 0 digest
 folded_past x j i digest past held =
-    sym (xor_zero_r x) ∙ ap (λ rest. bit_xor x (folded_at j i rest)) (sym (drop_all i _ past))
+    sym (xor_zero_r x) ∙ ap (λ rest. bit_xor x (folded_at j i rest)) (sym (drop_all i digest past))
     ∙ held
 
 -- a folded digest has 20 bytes
 length_fold : (digest : List ℕ) → length (fold digest) ≡ 20
 unfolding fold
-length_fold digest = length-map-range_with_len (λ j. folded_at j 0 digest) 0 _
+length_fold digest = length-map-range_with_len (λ j. folded_at j 0 digest) 0 20
 
 -- the text of 20 bytes is a hash part
 hash_part_of_bytes : (bytes : List ℕ) → length bytes ≡ 20 → is_hash_part (base32 bytes) ≡ true
@@ -37,19 +37,20 @@ hash_part_of_bytes bytes twenty =
     let below = All-reverse (λ d. d < 32) digits
     (digits_of_below 32 (text_len (length bytes)) (number 256 bytes) (lit< tt)) in
     let each = list_all-from_AllPass (λ d. is_digit (digit_char d)) (reverse digits)
-    (All-weaker _ _ is_digit_digit_char (reverse digits) below) in
-    and_from _ _ (eq-eqb _ _ (length_base32 _ ∙ ap text_len twenty))
+    (All-weaker (λ d. d < 32) (λ d. is_digit (digit_char d) ≡ true) is_digit_digit_char
+    (reverse digits) below) in
+    and_from _ _ (eq-eqb _ _ (length_base32 bytes ∙ ap text_len twenty))
     (list_all-map is_digit digit_char (reverse digits) ∙ each)
 
 -- the text of a folded digest is a hash part
 pub hash_part_of_fold : (digest : List ℕ) → is_hash_part (base32 (fold digest)) ≡ true
-hash_part_of_fold digest = hash_part_of_bytes _ (length_fold _)
+hash_part_of_fold digest = hash_part_of_bytes (fold digest) (length_fold digest)
 
 -- the store path of a name is a path of its folder
 pub store_path_is_path : (kind inner dir name : List ℕ) → is_name name ≡ true
     → IsPathOf dir (store_path kind inner dir name)
 unfolding store_path
-store_path_is_path kind inner dir name named = path_of_parts _ _ _ (hash_part_of_fold _) named
+store_path_is_path kind inner dir name named = path_of_parts dir _ name (hash_part_of_fold _) named
 
 -- the text of the path made of a hash part's text, as it was computed
 pub made_path : (kind inner dir name path digest folded hash : List ℕ) → path

@@ -8,7 +8,7 @@ use Rattle.std.proofs.lemmas.Slice.Eq.{starts_is}
 use Rattle.nix_names.specs.Names.{is_name}
 use Rattle.nix_names.specs.StorePaths.{IsPathOf, base_fault, is_hash_part, path_fault, path_text}
 use Rattle.nix_names.specs.declared.fault.NameFault.{NameFault}
-use Rattle.nix_names.specs.declared.fault.NameFault.TheVariants.{NotInStore, BadName}
+use Rattle.nix_names.specs.declared.fault.NameFault.TheVariants.{NotInStore, BadHashPart, BadName}
 use Rattle.nix_names.proofs.PathTexts.{hash_part_len}
 
 -- `and` of three tests
@@ -30,7 +30,7 @@ pub starts_with_slash_behind : (text dir rest : List ℕ) → starts_with nat_eq
     ≡ drop (length dir) text → starts_with nat_eq rest (47 ∷ [])
     ≡ starts_with nat_eq text (dir ++ 47 ∷ [])
 starts_with_slash_behind text dir rest begins behind =
-    rw (starts_with_slash _ _, begins, behind) refl
+    rw (starts_with_slash text dir, begins, behind) refl
 
 -- whether a base name begins with a hash part and a dash
 abbrev pub begins_with_hash : List ℕ → Bool
@@ -44,17 +44,7 @@ fewer_is_no_hash hash few = search (rules, and_left, ne_eqb)
 -- no 32 bytes or fewer begin with a hash part and a dash
 pub short_is_no_hash : (base : List ℕ) → length base ≤ 32 → begins_with_hash base ≡ false
 short_is_no_hash base short =
-    search (
-      rules,
-      cases_lt,
-      begins_with_hash,
-      and_left,
-      fewer_is_no_hash,
-      length-take,
-      and_right,
-      nat_eq,
-      drop_all,
-    )
+    search (rules, cases_lt, begins_with_hash, and_left, fewer_is_no_hash, length-take, and_right, nat_eq, drop_all)
 
 -- a test that is passed, where nothing is wrong
 passed : (t : Bool) (f : NameFault) (rest : Option NameFault) → (if not t then Some f else rest)
@@ -104,16 +94,16 @@ pub path_of_no_fault : (dir text : List ℕ) → path_fault dir text ≡ None �
 unfolding path_fault base_fault
 path_of_no_fault dir text none =
     let base : List ℕ = drop (length dir + 1) text in
-    let in_dir = passed _ _ _ none in
-    let begins = passed _ _ _ in_dir.1 in
-    let named = passed _ _ _ begins.1 in
+    let in_dir = passed _ NotInStore _ none in
+    let begins = passed _ BadHashPart _ in_dir.1 in
+    let named = passed _ BadName _ begins.1 in
     record {
       hash = take 32 base;
       name = drop 33 base;
       is_hash = (and_parts _ _ begins.0).0;
       named = named.0;
-      parts = behind_slash _ _ in_dir.0 ∙ ap (λ rest. (dir ++ 47 ∷ []) ++ rest)
-          (base_parts _ begins.0) ∙ path_text_parts _ _ _;
+      parts = behind_slash dir text in_dir.0 ∙ ap (λ rest. (dir ++ 47 ∷ []) ++ rest)
+          (base_parts base begins.0) ∙ path_text_parts dir (take 32 base) (drop 33 base);
     }
 
 -- nothing is wrong with a hash part, a dash and a name
@@ -121,27 +111,17 @@ no_fault_of_parts : (hash name : List ℕ) → is_hash_part hash ≡ true → is
     → base_fault (hash ++ 45 ∷ name) ≡ None
 no_fault_of_parts hash name is_hash named =
     let base : List ℕ = hash ++ 45 ∷ name in
-    let long = hash_part_len _ is_hash in
+    let long = hash_part_len hash is_hash in
     let front : take 32 base ≡ hash = take_at hash (45 ∷ name) 32 long in
     let dash : drop 32 base ≡ 45 ∷ name = drop_at hash (45 ∷ name) 32 long in
     let rest : drop 33 base ≡ name = sym (drop-drop 1 32 base) ∙ ap (drop 1) dash in
     let begins : begins_with_hash base ≡ true =
     and_from _ _ (ap is_hash_part front ∙ is_hash)
     (ap (λ b. starts_with nat_eq b (45 ∷ [])) dash) in
-    fault_behind_hash _ _ begins (sym rest)
+    fault_behind_hash base name begins (sym rest)
     ∙ ap (λ b. if not b then Some BadName else None) named
 
 -- nothing is wrong with a path of the folder
 pub no_fault_of_path : (dir text : List ℕ) → IsPathOf dir text → path_fault dir text ≡ None
 no_fault_of_path dir text p =
-    search (
-      rules,
-      path_text_parts,
-      nat_eq,
-      starts_is,
-      Decides-eqb,
-      drop_at,
-      length-append,
-      fault_inside,
-      no_fault_of_parts,
-    )
+    search (rules, path_text_parts, nat_eq, starts_is, Decides-eqb, drop_at, length-append, fault_inside, no_fault_of_parts)

@@ -25,16 +25,7 @@ joined_parts : (parts : List ℕ) → 47 ∷ parts ≡ flat_map (λ part. 47 ∷
     (slice_split (λ b. b == 47) parts)
 joined_parts [] = refl
 joined_parts (x ∷ xs) =
-    search (
-      rules,
-      cases_Bool,
-      slice_split-cons_yes,
-      eqb-true,
-      slice_split-cons_no,
-      joined_more,
-      some_parts,
-      joined_parts xs,
-    )
+    search (rules, cases_Bool, slice_split-cons_yes, eqb-true, slice_split-cons_no, joined_more, some_parts, joined_parts xs)
 
 -- a slash and components are a store folder
 pub dir_of_parts : (parts : List ℕ) → length (47 ∷ parts) ≤ 255
@@ -42,7 +33,7 @@ pub dir_of_parts : (parts : List ℕ) → length (47 ∷ parts) ≤ 255
 dir_of_parts parts short each = record {
   components = slice_split (λ b. b == 47) parts;
   some = some_parts parts;
-  each = AllPass-from_list_all _ _ each;
+  each = AllPass-from_list_all is_component _ each;
   parts = joined_parts parts;
   short = short;
 }
@@ -62,8 +53,9 @@ cut_components part [] first rest =
     search (rules, append-nil, slice_split_none, no_slash_in_component)
 cut_components part (next ∷ parts) first rest =
     let both = and_parts _ _ rest in
-    slice_split_at _ _ _ _ (no_slash_in_component _ first) refl
-    ∙ ap (λ ps. part ∷ ps) (cut_components _ _ both.0 both.1)
+    slice_split_at (λ b. b == 47) part 47 (next ++ flat_map (λ p. 47 ∷ p) parts)
+    (no_slash_in_component part first) refl
+    ∙ ap (λ ps. part ∷ ps) (cut_components next parts both.0 both.1)
 
 -- what some components, each with a slash before it, are cut into behind the first slash
 components_cut : (text : List ℕ) (parts : List (List ℕ)) → parts ≢ [] → 47 ∷ text

@@ -6,6 +6,7 @@ use Rattle.std.proofs.lemmas.Bool.{and_parts, eqb-true, leb-true, not_from_true}
 use Rattle.std.proofs.lemmas.List.{length-append, get_or-append_right, get_or_at, drop_at, drop-drop, take_at, append_cancel_right}
 use Rattle.std.proofs.lemmas.List.Elements.{All-append, All-cons}
 use Rattle.std.proofs.lemmas.List.Sums.{suffix_len_is}
+use Rattle.nix_names.specs.Base32.{is_digit}
 use Rattle.nix_names.specs.Names.{IsStoreDir, is_name}
 use Rattle.nix_names.specs.StorePaths.{IsPathOf, IsStorePath, base_of, hash_part_of, is_hash_part, name_of, path_text}
 use Rattle.nix_names.proofs.PathBytes.{no_slash_in_name, no_slash_in_digit, all_no_slash}
@@ -51,7 +52,7 @@ hash_part_len hash h = eqb-true _ _ (and_parts _ _ h).0
 -- a hash part has no slash
 hash_part_bytes : (hash : List ℕ) → is_hash_part hash ≡ true → AllPass (λ b. not (b == 47)) hash
 unfolding is_hash_part
-hash_part_bytes hash h = all_no_slash _ no_slash_in_digit _ (and_parts _ _ h).1
+hash_part_bytes hash h = all_no_slash is_digit no_slash_in_digit hash (and_parts _ _ h).1
 
 -- a name has no slash
 name_bytes : (name : List ℕ) → is_name name ≡ true → AllPass (λ b. not (b == 47)) name
@@ -67,9 +68,9 @@ all_pass_join p xs ys y first between rest = search (rules, All-append, All-cons
 pub base_of_path : (dir hash name : List ℕ) → is_hash_part hash ≡ true → is_name name ≡ true
     → base_of (path_text dir hash name) ≡ hash ++ 45 ∷ name
 base_of_path dir hash name is_hash named =
-    after_last_at (λ b. b == 47) dir _ 47 refl
-    (all_pass_join (λ b. not (b == 47)) _ _ _ (hash_part_bytes _ is_hash) refl
-    (name_bytes _ named))
+    after_last_at (λ b. b == 47) dir (hash ++ 45 ∷ name) 47 refl
+    (all_pass_join (λ b. not (b == 47)) hash name 45 (hash_part_bytes hash is_hash) refl
+    (name_bytes name named))
 
 -- a base name behind a hash part and a dash
 record Parts (base : List ℕ) : Type 0 where
@@ -86,18 +87,18 @@ parts_of dir text p = record {
   name = p.name;
   is_hash = p.is_hash;
   named = p.named;
-  parts = ap base_of p.parts ∙ base_of_path dir _ _ p.is_hash p.named;
+  parts = ap base_of p.parts ∙ base_of_path dir p.hash p.name p.is_hash p.named;
 }
 
 -- the first 32 bytes of such a base name are its hash part
 hash_of_parts : (base : List ℕ) (p : Parts base) → take 32 base ≡ p.hash
 hash_of_parts base p = ap (take 32) p.parts ∙ take_at p.hash (45 ∷ p.name) 32
-    (hash_part_len _ p.is_hash)
+    (hash_part_len p.hash p.is_hash)
 
 -- all behind the first 33 bytes of such a base name is its name
 name_of_parts : (base : List ℕ) (p : Parts base) → drop 33 base ≡ p.name
 name_of_parts base p =
-    let long = hash_part_len _ p.is_hash in
+    let long = hash_part_len p.hash p.is_hash in
     let at : length p.hash + 1 ≡ 33 = omega arith in
     ap (drop 33) p.parts ∙ ap (λ n. drop n (p.hash ++ 45 ∷ p.name)) (sym at)
     ∙ drop_front_more p.hash p.name 45
@@ -120,11 +121,11 @@ path_of_parts dir hash name is_hash named = record {
 -- the hash part and the name of a path of a folder
 pub hash_part_is : (dir text : List ℕ) (p : IsPathOf dir text) → hash_part_of text ≡ p.hash
 unfolding parts_of
-hash_part_is dir text p = hash_of_parts _ (parts_of dir text p)
+hash_part_is dir text p = hash_of_parts (base_of text) (parts_of dir text p)
 
 pub name_is : (dir text : List ℕ) (p : IsPathOf dir text) → name_of text ≡ p.name
 unfolding parts_of
-name_is dir text p = name_of_parts _ (parts_of dir text p)
+name_is dir text p = name_of_parts (base_of text) (parts_of dir text p)
 
 pub hash_part_of_path : (dir hash name : List ℕ) → is_hash_part hash ≡ true → is_name name ≡ true
     → hash_part_of (path_text dir hash name) ≡ hash
@@ -135,7 +136,7 @@ hash_part_of_path dir hash name is_hash named =
 pub name_of_path : (dir hash name : List ℕ) → is_hash_part hash ≡ true → is_name name ≡ true
     → name_of (path_text dir hash name) ≡ name
 unfolding path_of_parts
-name_of_path dir hash name is_hash named = name_is _ _ (path_of_parts dir hash name is_hash named)
+name_of_path dir hash name is_hash named = name_is dir _ (path_of_parts dir hash name is_hash named)
 
 -- the base name of a store path has more than 33 bytes
 pub base_long : (text : List ℕ) → IsStorePath text → 33 ≤ length (base_of text)
@@ -143,11 +144,11 @@ base_long text p = search (rules, parts_long, parts_of)
 
 -- a store path's hash part is one
 pub hash_part_of_is : (text : List ℕ) → IsStorePath text → is_hash_part (hash_part_of text) ≡ true
-hash_part_of_is text p = ap is_hash_part (hash_part_is _ text p.is_path) ∙ p.is_path.is_hash
+hash_part_of_is text p = ap is_hash_part (hash_part_is p.dir text p.is_path) ∙ p.is_path.is_hash
 
 -- a store path's name is one
 pub name_of_is : (text : List ℕ) → IsStorePath text → is_name (name_of text) ≡ true
-name_of_is text p = ap is_name (name_is _ text p.is_path) ∙ p.is_path.named
+name_of_is text p = ap is_name (name_is p.dir text p.is_path) ∙ p.is_path.named
 
 -- a name has at most 211 bytes
 pub name_len : (name : List ℕ) → is_name name ≡ true → length name ≤ 211
@@ -173,7 +174,7 @@ behind_last_slash text slash last = search (rules, after_last_from, unmet, not_f
 pub without_slash : (text : List ℕ) → IsLastByte (is_byte 47) text None → drop 0 text ≡ base_of text
 without_slash text none =
     let len : suffix_len (λ b. not (b == 47)) text
-    ≡ length text - 0 = suffix_len_is _ _ 0 0 (omega arith)
+    ≡ length text - 0 = suffix_len_is (λ b. not (b == 47)) text 0 0 (omega arith)
     (λ k low high. unmet _ (none k low high)) (λ positive. absurd (omega arith)) in
     let place : length text - suffix_len (λ b. not (b == 47)) text ≡ 0 = omega arith in
     sym (ap (λ k. drop k text) place)
@@ -184,10 +185,10 @@ pub parts_from_text : (dir hash name other part title : List ℕ) → is_hash_pa
     → path_text dir hash name ≡ path_text other part title → (dir ≡ other) × (hash ≡ part)
     × (name ≡ title)
 parts_from_text dir hash name other part title is_hash named is_part titled same =
-    let hashes = sym (hash_part_of_path dir _ _ is_hash named) ∙ ap hash_part_of same
-    ∙ hash_part_of_path other _ _ is_part titled in
-    let names = sym (name_of_path dir _ _ is_hash named) ∙ ap name_of same
-    ∙ name_of_path other _ _ is_part titled in
+    let hashes = sym (hash_part_of_path dir hash name is_hash named) ∙ ap hash_part_of same
+    ∙ hash_part_of_path other part title is_part titled in
+    let names = sym (name_of_path dir hash name is_hash named) ∙ ap name_of same
+    ∙ name_of_path other part title is_part titled in
     let parts : path_text dir part title ≡ path_text dir hash name =
     ap (λ h. path_text dir h title) (sym hashes) ∙ ap (path_text dir hash) (sym names) in
     let dirs : path_text dir part title ≡ path_text other part title = parts ∙ same in

@@ -1,6 +1,6 @@
 -- Lists of texts that rise strictly: their parts, what a sort makes, and that their members tell
 -- them.
-use Rattle.std.proofs.Common.{◌≡◌, ◌≢◌, ◌↔◌, ◌⊎◌, inl, inr, ℕ, ◌+◌, Bool, true, false, List, [], ◌∷◌, ◌++◌, take, get_or, nat_eq, refl, sym, ap, subst, ◌∙◌, ⊎_elim, IsTrue, arith, rules}
+use Rattle.std.proofs.Common.{◌≡◌, ◌≢◌, ◌↔◌, ◌⊎◌, inl, inr, ℕ, ◌+◌, Bool, true, false, List, [], ◌∷◌, ◌++◌, take, drop, get_or, nat_eq, refl, sym, ap, subst, ◌∙◌, ⊎_elim, IsTrue, arith, rules}
 use Rattle.std.specs.Prelude.{Contains}
 use Rattle.std.specs.BTreeSet.{BTreeSet}
 use Rattle.std.specs.Cmp.Lexicographic.{bytes_decides, nat_list_eq_equiv, pointwise, slice_cmp, texts_ties}
@@ -87,7 +87,7 @@ earlier_below [] after y x rises has = absurd (Contains-nothing x has)
 earlier_below (z ∷ zs) after y x rises has =
     ⊎_elim
     (λ is. subst (λ w. IsBelow w y) is
-    (first_below z _ y rises
+    (first_below z (zs ++ y ∷ after) y rises
     (Contains-append_right zs (y ∷ after) y (Contains-first y after))))
     (λ later. earlier_below zs after y x (rising_later z (zs ++ y ∷ after) rises) later)
     (Contains-cons_cases z zs x has)
@@ -102,7 +102,8 @@ rising_back [] ys rises = rises
 rising_back (x ∷ xs) ys rises = rising_back xs ys (rising_later x (xs ++ ys) rises)
 
 pub rising_take : (xs : List (List ℕ)) (i : ℕ) → IsRising xs → IsRising (take i xs)
-rising_take xs i rises = rising_front _ _ (subst IsRising (sym (take-append-drop i xs)) rises)
+rising_take xs i rises = rising_front (take i xs) (drop i xs)
+    (subst IsRising (sym (take-append-drop i xs)) rises)
 
 -- one text more, above all
 pub rising_push : (xs : List (List ℕ)) (y : List ℕ) → IsRising xs
@@ -145,9 +146,11 @@ rising_from_sorted (x ∷ y ∷ texts) sorted = (sorted.0.0, rising_from_sorted 
 pub distinct_from_rising : (texts : List (List ℕ)) → IsRising texts
     → IsDistinct (pointwise nat_eq) texts
 distinct_from_rising texts rises =
-    IsDistinct-from_apart _ _ (λ i j d before within.
+    IsDistinct-from_apart (pointwise nat_eq) texts
+    (λ i j d before within.
     let less : IsBelow (get_or texts i d) (get_or texts j d) =
-    Less-from_sorted _ _ i j d (sorted_from_rising _ rises) before within in
+    Less-from_sorted (slice_cmp nat_cmp) texts i j d (sorted_from_rising texts rises) before
+    within in
     texts_ties (get_or texts i d) (get_or texts j d) ∙ ap is_eq less)
 
 -- distinct texts in order rise
@@ -163,14 +166,15 @@ rising_sorted texts sorted distinct =
 pub rising_dedup : (sorted : List (List ℕ)) → IsSorted (slice_cmp nat_cmp) sorted
     → IsRising (dedup (pointwise nat_eq) sorted)
 rising_dedup sorted ordered =
-    rising_from_sorted _ (IsStrictlySortedBy-dedup nat_list_cmp_total texts_ties sorted ordered)
+    rising_from_sorted (dedup (pointwise nat_eq) sorted)
+    (IsStrictlySortedBy-dedup nat_list_cmp_total texts_ties sorted ordered)
 
 -- a sort and `dedup` keep just the members
 pub members_of_dedup : (texts sorted : List (List ℕ)) → IsPermutation texts sorted → (text : List ℕ)
     → Contains (dedup (pointwise nat_eq) sorted) text ↔ Contains texts text
 members_of_dedup texts sorted moved text = (
-  λ has. Contains-permutation _ _ _ (IsPermutation-sym texts sorted moved)
-      (Contains-from_dedup _ _ _ has),
+  λ has. Contains-permutation sorted texts text (IsPermutation-sym texts sorted moved)
+      (Contains-from_dedup (pointwise nat_eq) sorted text has),
   λ has. Contains-dedup nat_list_eq_equiv equal_from_eq sorted text
       (Contains-permutation texts sorted text moved has),
 )
@@ -191,8 +195,8 @@ rising_same xs ys rises rises' same =
     let t : BTreeSet (List ℕ) = record { keys = ys } in
     let in_xs = btree_set_contains_iff nat_list_cmp_total exact_bytes s in
     let in_ys = btree_set_contains_iff nat_list_cmp_total exact_bytes t in
-    btree_set_from_contains nat_list_cmp_total s t (sorted_from_rising _ rises)
-    (sorted_from_rising _ rises')
+    btree_set_from_contains nat_list_cmp_total s t (sorted_from_rising xs rises)
+    (sorted_from_rising ys rises')
     (λ text. same_answer _ _ (λ has. (in_ys text).1 ((same text).0 ((in_xs text).0 has)))
     (λ has. (in_xs text).1 ((same text).1 ((in_ys text).0 has))))
     exact_bytes

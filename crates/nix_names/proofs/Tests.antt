@@ -18,4 +18,4 @@ told_other xs ys zs r is other unlike same =
 
 pub told_same : (xs ys zs : List ℕ) (r : Bool) → r ≡ pointwise nat_eq xs ys → ys ≡ zs → r ≡ true
     → xs ≡ zs
-told_same xs ys zs r is other alike = (slice_eq-Decides Decides-eqb _ _ r is).0 alike ∙ other
+told_same xs ys zs r is other alike = (slice_eq-Decides Decides-eqb xs ys r is).0 alike ∙ other

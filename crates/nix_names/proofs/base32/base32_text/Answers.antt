@@ -1,12 +1,16 @@
-use Rattle.std.proofs.Common.{◌∙◌, arith, rules}
+use Rattle.std.proofs.Common.{string_bytes, sym, subst, ◌∙◌, arith}
 use Rattle.std.proofs.lemmas.List.{take_all}
-use Rattle.nix_names.specs.Base32.{base32}
+use Rattle.nix_names.specs.Base32.{base32, StandsFor}
 use Rattle.nix_names.proofs.Base32Bits.{bytes_below}
 use Rattle.nix_names.proofs.Base32Texts.{length_base32, base32_push, base32_stands}
 use Rattle.nix_names.proofs.base32.base32_text.Goals as goal
 
 pub loop-i-preserved : goal.loop-i-preserved
-loop-i-preserved c = search (rules, base32_push)
+loop-i-preserved c =
+    base32_push c.args.bytes.now (string_bytes c.loop-i.text) (string_bytes c.push.new.self)
+    c.loop-i.i c.text_len-len.result c.digit_at.result c.digit_char.result
+    (omega arith) c.text_len-len.ensures c.loop-i.invariant c.digit_at.ensures c.digit_char.ensures
+    c.in_ok-push.ensures.bytes
 
 pub returns-clause-text : goal.returns-clause-text
 returns-clause-text c =
@@ -14,4 +18,6 @@ returns-clause-text c =
     (omega (arith, length_base32 c.args.bytes.now))
 
 pub returns-clause-stands : goal.returns-clause-stands
-returns-clause-stands c = search (rules, returns-clause-text, base32_stands, bytes_below)
+returns-clause-stands c =
+    subst (λ t. StandsFor t c.args.bytes.now) (sym (returns-clause-text c))
+    (base32_stands c.args.bytes.now (bytes_below c.args.bytes.now c.type_inv.bytes))

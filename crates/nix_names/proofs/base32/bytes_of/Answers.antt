@@ -1,11 +1,14 @@
-use Rattle.std.proofs.Common.{◌∙◌, arith, rules}
+use Rattle.std.proofs.Common.{◌∙◌, arith}
 use Rattle.std.proofs.lemmas.List.{take_all}
 use Rattle.nix_names.specs.Base32.{digits_of, text_number}
 use Rattle.nix_names.proofs.Base32Digits.{length_digits_of, digits_of_push}
 use Rattle.nix_names.proofs.base32.bytes_of.Goals as goal
 
 pub loop-at-preserved : goal.loop-at-preserved
-loop-at-preserved c = search (rules, digits_of_push)
+loop-at-preserved c =
+    digits_of_push 256 c.args.n (text_number c.args.text.now) c.loop-at.at c.loop-at.bytes.items
+    c.push.new.self.items c.byte_of.result
+    c.loop-at-test.true c.loop-at.invariant c.byte_of.ensures c.in_ok-push.ensures.items
 
 pub returns : goal.returns
 returns c =

@@ -1,9 +1,12 @@
-use Rattle.std.proofs.Common.{rules}
+use Rattle.std.proofs.Common.{subst}
+use Rattle.memchr.specs.Find.{IsLastByte, is_byte}
 use Rattle.nix_names.proofs.PathTexts.{behind_last_slash, without_slash}
 use Rattle.nix_names.proofs.store_path.base_place.Goals as goal
 
 pub returns-in-Some-clause-place : goal.returns-in-Some-clause-place
-returns-in-Some-clause-place c = search (rules, behind_last_slash)
+returns-in-Some-clause-place c = behind_last_slash _ _
+    (subst (IsLastByte (is_byte 47) c.args.text.now) c.in-Some.is c.memrchr.ensures)
 
 pub returns-in-None-clause-place : goal.returns-in-None-clause-place
-returns-in-None-clause-place c = search (rules, without_slash)
+returns-in-None-clause-place c = without_slash _
+    (subst (IsLastByte (is_byte 47) c.args.text.now) c.in-None.is c.memrchr.ensures)

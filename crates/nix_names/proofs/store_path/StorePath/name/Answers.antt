@@ -10,4 +10,4 @@ returns-clause-value c = take_rest c.base.result.now 33 ∙ ap (drop 33) c.base.
 pub returns-clause-named : goal.returns-clause-named
 returns-clause-named c =
     let same = take_rest c.base.result.now 33 ∙ ap (drop 33) c.base.ensures.value in
-    ap is_name same ∙ name_of_is _ c.base.ensures.is_path
+    ap is_name same ∙ name_of_is c.args.self.now c.base.ensures.is_path
