@@ -189,28 +189,38 @@ fn valid_of<J: Naming + Send, R: Wait + Drop>(
     Ok(count)
 }
 
+// The number of valid paths that a reader finds between two printed lines.
 fn looked<J: Naming + Send, R: Wait + Abort + Print>(
     rt: &R,
     alloc: Global,
     name: Name,
-) -> Result<(), Fail>
+) -> Result<u32, Fail>
     requires { name ≡ J.book }
 {
     let paths = all_numbered(alloc, 2)?;
     let (store, mut readers) = Store::<J, &R>::open(rt, alloc, name, &paths, 1)?;
-    let begins = rt.println(format_args!("memory is refused from here"));
-    let valid = valid_of(&store, &mut readers[0], &paths);
-    let ends = rt.println(format_args!("up to here; two looks"));
+    let valid = valid_between(rt, &store, &mut readers[0], &paths);
     store.close();
-    assert!(rt; begins.is_ok() && ends.is_ok());
-    assert_eq!(rt; valid?, 1);
-    Ok(())
+    valid
+}
+
+fn valid_between<J: Naming + Send, R: Wait + Abort + Print>(
+    rt: &R,
+    store: &Store<J, &R>,
+    reader: &mut ViewReader<J>,
+    paths: &[StorePath],
+) -> Result<u32, Fail> {
+    rt.println(format_args!("memory is refused from here"))?;
+    let valid = valid_of(store, reader, paths);
+    rt.println(format_args!("up to here; two looks"))?;
+    Ok(valid?)
 }
 
 // `tests/refused-growths` refuses memory between the two printed lines.
 #[test]
 fn looks_without_memory(rt: HostRuntime) -> Result<(), Fail> {
-    looked::<Brand, _>(&rt, rt.alloc(), Name::new())
+    assert_eq!(rt; looked::<Brand, _>(&rt, rt.alloc(), Name::new())?, 1);
+    Ok(())
 }
 
 // Shows path 1 of these.
@@ -234,15 +244,23 @@ fn published_again<J: Naming + Send, R: Wait + Abort + Print>(
 {
     let paths = all_numbered(alloc, 2)?;
     let (mut store, _readers) = Store::<J, &R>::open(rt, alloc, name, &paths, 1)?;
-    let shown = show_next(alloc, &mut store, &paths);
-    let begins = rt.println(format_args!("memory is refused from here"));
-    let again = store.publish();
-    let ends = rt.println(format_args!("up to here; a publication of nothing"));
+    let again = publish_again(rt, alloc, &mut store, &paths);
     store.close();
-    shown?;
-    assert!(rt; begins.is_ok() && ends.is_ok());
-    assert!(rt; again.is_ok());
-    Ok(())
+    again
+}
+
+// Shows path 1 of these, and publishes nothing between two printed lines.
+fn publish_again<J: Naming + Send, R: Wait + Abort + Print>(
+    rt: &R,
+    alloc: Global,
+    store: &mut Store<J, &R>,
+    paths: &[StorePath],
+) -> Result<(), Fail> {
+    show_next(alloc, store, paths)?;
+    rt.println(format_args!("memory is refused from here"))?;
+    let again = store.publish();
+    rt.println(format_args!("up to here; a publication of nothing"))?;
+    Ok(again?)
 }
 
 // To bring the other copy up to date would take memory, which `tests/refused-growths` refuses

@@ -70,21 +70,26 @@ fn grown<J: Naming + Send, R: Wait + Drop>(
     Ok((last, asked(alloc, reader, &path(alloc, NEXT)?)?))
 }
 
-fn opened<J: Naming + Send, R: Wait + Abort>(rt: &R, alloc: Global, name: Name) -> Result<(), Fail>
+// The same of a view that opens with the chain.
+fn opened<J: Naming + Send, R: Wait + Abort>(
+    rt: &R,
+    alloc: Global,
+    name: Name,
+) -> Result<(Found, Found), Fail>
     requires { name ≡ J.book }
 {
     let journal = chain(alloc)?;
     let (mut writer, mut readers) = open::<J, &R>(alloc, rt, name, &journal, 1)?;
     let found = grown(alloc, &journal, &mut writer, &mut readers[0]);
     writer.close();
-    let (last, next) = found?;
-    let valid = Seen::Valid(None);
-    assert_eq!(rt; last, (valid, MANY, MANY as u64));
-    assert_eq!(rt; next, (valid, MANY + 1, MANY as u64 + 1));
-    Ok(())
+    found
 }
 
 #[test]
 fn many_entries(rt: HostRuntime) -> Result<(), Fail> {
-    opened::<Brand, _>(&rt, rt.alloc(), Name::new())
+    let (last, next) = opened::<Brand, _>(&rt, rt.alloc(), Name::new())?;
+    let valid = Seen::Valid(None);
+    assert_eq!(rt; last, (valid, MANY, MANY as u64));
+    assert_eq!(rt; next, (valid, MANY + 1, MANY as u64 + 1));
+    Ok(())
 }

@@ -22,17 +22,28 @@ A /nix/store/aaaaaaaaaaaaaaaaaaaaaaaaaaaaaaaa-x -
 
 #[test]
 fn shown_once_published(rt: HostRuntime) -> Result<(), Fail> {
-    asked_at_each_step::<Brand, _>(&rt, rt.alloc(), Name::new())
+    let (absent, valid) = (Seen::Absent, Seen::Valid(None));
+    let (answers, is_gone) = seen_at_each_step::<Brand, _>(&rt, rt.alloc(), Name::new())?;
+    assert_eq!(rt; answers, [absent, absent, valid, valid]);
+    assert!(rt; is_gone);
+    Ok(())
 }
 
 #[test]
 fn closure_of_a_reader(rt: HostRuntime) -> Result<(), Fail> {
-    asked_for_closures::<Brand, _>(&rt, rt.alloc(), Name::new())
+    let (is_refused, is_found) = asked_for_closures::<Brand, _>(&rt, rt.alloc(), Name::new())?;
+    assert!(rt; is_refused);
+    assert!(rt; is_found);
+    Ok(())
 }
 
 #[test]
 fn asked_beside_a_writer(rt: HostRuntime) -> Result<(), Fail> {
-    raced::<Brand, _>(&rt, rt.alloc(), Name::new())
+    let (published, wrong, told) = raced::<Brand, _>(&rt, rt.alloc(), Name::new())?;
+    assert!(rt; published);
+    assert_eq!(rt; wrong, 0);
+    assert_eq!(rt; told, 2);
+    Ok(())
 }
 
 // The journal that has x.
@@ -73,11 +84,12 @@ fn append_y<J: Naming, R>(
     append_next(journal, writer, added_y(alloc)?)
 }
 
-fn asked_at_each_step<J: Naming + Send, R: Wait + Abort>(
+// What a reader finds of y at each step, and whether it has no view once the writer is closed.
+fn seen_at_each_step<J: Naming + Send, R: Wait + Abort>(
     rt: &R,
     alloc: Global,
     name: Name,
-) -> Result<(), Fail>
+) -> Result<([Seen; 4], bool), Fail>
     requires { name ≡ J.book }
 {
     let journal = opening(alloc)?;
@@ -85,11 +97,17 @@ fn asked_at_each_step<J: Naming + Send, R: Wait + Abort>(
     let (mut writer, mut readers) = open::<J, &R>(alloc, rt, name, &journal, 1)?;
     let answers = answers(alloc, &journal, &mut writer, &mut readers[0]);
     writer.close();
-    let gone = readers[0].look(&x);
-    let (absent, valid) = (Seen::Absent, Seen::Valid(None));
-    assert_eq!(rt; answers?, [absent, absent, valid, valid]);
-    assert!(rt; matches!(gone, Err(ViewFault::NoView)));
-    Ok(())
+    with_end(answers, &mut readers[0], &x)
+}
+
+// These answers, and whether the reader that gave them has no view any more.
+fn with_end<J: Naming>(
+    answers: Result<[Seen; 4], Fail>,
+    reader: &mut ViewReader<J>,
+    path: &StorePath,
+) -> Result<([Seen; 4], bool), Fail> {
+    let is_gone = matches!(reader.look(path), Err(ViewFault::NoView));
+    Ok((answers?, is_gone))
 }
 
 // What a reader finds of y: at first, when y is pending, when the reader has learnt of y, and
@@ -111,66 +129,79 @@ fn answers<J: Naming + Send, R: Wait + Drop>(
     Ok([first, waiting, reader.look(&y)?, reader.look(&y)?])
 }
 
+// Whether the closure of x and y is refused for y before y is shown, and whether the closure of y
+// is x and y after that.
 fn asked_for_closures<J: Naming + Send, R: Wait + Abort>(
     rt: &R,
     alloc: Global,
     name: Name,
-) -> Result<(), Fail>
+) -> Result<(bool, bool), Fail>
     requires { name ≡ J.book }
 {
     let journal = opening(alloc)?;
     let (mut writer, mut readers) = open::<J, &R>(alloc, rt, name, &journal, 64)?;
     let answers = closures(alloc, &journal, &mut writer, &mut readers[63]);
     writer.close();
-    let (early, late) = answers?;
-    let (x, y) = (path(alloc, X)?, path(alloc, Y)?);
-    assert!(rt; matches!(&early, Err(ViewFault::NotValid(root)) if *root == y));
-    assert!(rt; late? == vec![in alloc; x, y]?);
-    Ok(())
+    answers
 }
 
-// The closure of x and y before y is shown, and the closure of y after that.
 fn closures<J: Naming + Send, R: Wait + Drop>(
     alloc: Global,
     journal: &Journal,
     writer: &mut ViewWriter<J, R>,
     reader: &mut ViewReader<J>,
-) -> Result<
-    (
-        Result<Vec<StorePath>, ViewFault>,
-        Result<Vec<StorePath>, ViewFault>,
-    ),
-    Fail,
->
+) -> Result<(bool, bool), Fail>
     requires { writer.old.shown ++ writer.old.pending ≡ journal.now.entries }
 {
-    let early = reader.closure(alloc, &vec![in alloc; path(alloc, X)?, path(alloc, Y)?]?);
+    let is_refused = refuses_y(alloc, reader)?;
     append_y(alloc, journal, writer)?;
     writer.publish()?;
-    let late = reader.closure(alloc, &vec![in alloc; path(alloc, Y)?]?);
-    Ok((early, late))
+    Ok((is_refused, finds_both(alloc, reader)?))
 }
 
+// Whether the closure of x and y is refused, since y is not valid.
+fn refuses_y<J: Naming>(alloc: Global, reader: &mut ViewReader<J>) -> Result<bool, Fail> {
+    let roots = vec![in alloc; path(alloc, X)?, path(alloc, Y)?]?;
+    match reader.closure(alloc, &roots) {
+        Err(ViewFault::NotValid(root)) => Ok(roots.last() == Some(&root)),
+        _ => Ok(false),
+    }
+}
+
+// Whether the closure of y is x and y.
+fn finds_both<J: Naming>(alloc: Global, reader: &mut ViewReader<J>) -> Result<bool, Fail> {
+    let both = vec![in alloc; path(alloc, X)?, path(alloc, Y)?]?;
+    Ok(reader.closure(alloc, &both[1..])? == both)
+}
+
+// What `publishes` and `forgets` find beside each other, and how many entries the writer shows.
 fn raced<J: Naming + Send + Sync, R: Threads + Wait + Abort + Sync>(
     rt: &R,
     alloc: Global,
     name: Name,
-) -> Result<(), Fail>
+) -> Result<(bool, u32, u64), Fail>
     requires { name ≡ J.book }
 {
     let journal = opening(alloc)?;
-    let y = path(alloc, Y)?;
     let (mut writer, mut readers) = open::<J, &R>(alloc, rt, name, &journal, 2)?;
-    let appended = append_y(alloc, &journal, &mut writer);
-    let reader = &mut readers[1];
-    let (published, wrong) = join(rt, || publishes(&mut writer), || forgets(reader, &y));
-    let learnt = writer.tell();
+    let found = race(rt, alloc, &journal, &mut writer, &mut readers[1]);
     writer.close();
-    appended?;
-    assert!(rt; published);
-    assert_eq!(rt; wrong, 0);
-    assert_eq!(rt; learnt.len(), 2);
-    Ok(())
+    found
+}
+
+fn race<J: Naming + Send + Sync, R: Threads + Wait + Abort + Sync>(
+    rt: &R,
+    alloc: Global,
+    journal: &Journal,
+    writer: &mut ViewWriter<J, &R>,
+    reader: &mut ViewReader<J>,
+) -> Result<(bool, u32, u64), Fail>
+    requires { writer.old.shown ++ writer.old.pending ≡ journal.now.entries }
+{
+    append_y(alloc, journal, writer)?;
+    let y = path(alloc, Y)?;
+    let (published, wrong) = join(rt, || publishes(writer), || forgets(reader, &y));
+    Ok((published, wrong, writer.tell().len()))
 }
 
 // Publishes the pending entries, and then nothing many times. Says whether each call succeeded.
