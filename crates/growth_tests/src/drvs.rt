@@ -20,34 +20,50 @@ pub(crate) fn has_text(alloc: Global, drv: &Derivation, text: &[u8]) -> Result<b
     Ok(write(alloc, drv)?.as_slice() == text)
 }
 
+// The derivation `TOP`, read from its text.
+fn top<R: Print>(rt: &R, alloc: Global) -> Result<Derivation, Fail> {
+    begins(rt, "read");
+    let first = read(alloc, TOP_TEXT);
+    ends(rt, "read");
+    Ok(granted(first, read(alloc, TOP_TEXT))?)
+}
+
+// Whether a derivation is written as the text of `TOP`.
+fn writes_top<R: Print>(rt: &R, alloc: Global, drv: &Derivation) -> Result<bool, Fail> {
+    begins(rt, "write");
+    let first = write(alloc, drv);
+    ends(rt, "write");
+    Ok(granted(first, write(alloc, drv))?.as_slice() == TOP_TEXT)
+}
+
+// Whether the copy of a derivation equals it.
+fn equals_copy<R: Print>(rt: &R, alloc: Global, drv: &Derivation) -> Result<bool, Fail> {
+    begins(rt, "Derivation::copy");
+    let first = drv.copy(alloc);
+    ends(rt, "Derivation::copy");
+    Ok(granted(first, drv.copy(alloc))? == *drv)
+}
+
 #[test]
 fn texts_that_are_read(rt: HostRuntime) -> Result<(), Fail> {
-    let alloc = rt.alloc();
-    begins(&rt, "read");
-    let first = read(alloc, TOP_TEXT);
-    ends(&rt, "read");
-    let drv = granted(first, read(alloc, TOP_TEXT))?;
-    begins(&rt, "write");
-    let first = write(alloc, &drv);
-    ends(&rt, "write");
-    let text = granted(first, write(alloc, &drv))?;
-    assert!(rt; text.as_slice() == TOP_TEXT);
-    begins(&rt, "Derivation::copy");
-    let first = drv.copy(alloc);
-    ends(&rt, "Derivation::copy");
-    let copy = granted(first, drv.copy(alloc))?;
-    assert!(rt; copy == drv);
+    let drv = top(&rt, rt.alloc())?;
+    assert!(rt; writes_top(&rt, rt.alloc(), &drv)?);
+    assert!(rt; equals_copy(&rt, rt.alloc(), &drv)?);
     Ok(())
+}
+
+// The text of `PLAIN` with the inputs of `OTHER`.
+fn with_other_inputs<R: Print>(rt: &R, alloc: Global) -> Result<Vec<u8>, Fail> {
+    let (drv, other) = (read(alloc, PLAIN)?, read(alloc, OTHER)?);
+    begins(rt, "Parts::text_with_inputs");
+    let first = drv.parts().text_with_inputs(alloc, other.inputs());
+    ends(rt, "Parts::text_with_inputs");
+    Ok(granted(first, drv.parts().text_with_inputs(alloc, other.inputs()))?)
 }
 
 #[test]
 fn parts_with_other_inputs(rt: HostRuntime) -> Result<(), Fail> {
-    let alloc = rt.alloc();
-    let (drv, other) = (read(alloc, PLAIN)?, read(alloc, OTHER)?);
-    begins(&rt, "Parts::text_with_inputs");
-    let first = drv.parts().text_with_inputs(alloc, other.inputs());
-    ends(&rt, "Parts::text_with_inputs");
-    let text = granted(first, drv.parts().text_with_inputs(alloc, other.inputs()))?;
+    let text = with_other_inputs(&rt, rt.alloc())?;
     assert!(rt; text.as_slice() == OTHER);
     Ok(())
 }
@@ -57,15 +73,18 @@ fn are_plain(alloc: Global, parts: Parts) -> Result<bool, Fail> {
     has_text(alloc, &Derivation::new(parts)?, PLAIN)
 }
 
+// Whether the copy of the parts of `PLAIN` is right.
+fn are_copied<R: Print>(rt: &R, alloc: Global) -> Result<bool, Fail> {
+    let drv = read(alloc, PLAIN)?;
+    begins(rt, "Parts::copy");
+    let first = drv.parts().copy(alloc);
+    ends(rt, "Parts::copy");
+    are_plain(alloc, granted(first, drv.parts().copy(alloc))?)
+}
+
 #[test]
 fn copies_of_parts(rt: HostRuntime) -> Result<(), Fail> {
-    let alloc = rt.alloc();
-    let drv = read(alloc, PLAIN)?;
-    begins(&rt, "Parts::copy");
-    let first = drv.parts().copy(alloc);
-    ends(&rt, "Parts::copy");
-    let copy = granted(first, drv.parts().copy(alloc))?;
-    assert!(rt; are_plain(alloc, copy)?);
+    assert!(rt; are_copied(&rt, rt.alloc())?);
     Ok(())
 }
 
@@ -97,19 +116,22 @@ fn gives_top(alloc: Global, source: &mut ListSource) -> Result<bool, Fail> {
     Ok(source.fetch(alloc, &path)?.as_slice() == TOP_TEXT)
 }
 
+// The source of the files, made between two printed lines; where memory was refused, it is made
+// again.
+fn made<R: Print>(rt: &R, alloc: Global) -> Result<ListSource, Fail> {
+    let files = listed(alloc)?;
+    begins(rt, "ListSource::new");
+    let answer = ListSource::new(alloc, files, Vec::new(alloc));
+    ends(rt, "ListSource::new");
+    match answer {
+        Err(SourceFault::NoMemory) => source(alloc),
+        answer => Ok(answer?),
+    }
+}
+
 #[test]
 fn sources_that_are_made(rt: HostRuntime) -> Result<(), Fail> {
-    let files = listed(rt.alloc())?;
-    begins(&rt, "ListSource::new");
-    let answer = ListSource::new(rt.alloc(), files, Vec::new(rt.alloc()));
-    ends(&rt, "ListSource::new");
-    let mut source = match answer {
-        Ok(source) => source,
-        Err(fault) => {
-            assert_eq!(rt; fault, SourceFault::NoMemory);
-            crate::files::source(rt.alloc())?
-        }
-    };
+    let mut source = made(&rt, rt.alloc())?;
     assert!(rt; gives_top(rt.alloc(), &mut source)?);
     Ok(())
 }
@@ -225,19 +247,23 @@ fn is_elsewhere(answer: Result<Derivation, DrvFault>) -> bool {
     }
 }
 
-#[test]
-fn text_at_another_path(rt: HostRuntime) -> Result<(), Fail> {
-    let alloc = rt.alloc();
+// Whether the text of `TOP` is refused at another path by that fault.
+fn is_refused_elsewhere<R: Print>(rt: &R, alloc: Global) -> Result<bool, Fail> {
     let other = path(
         alloc,
         b"/nix/store/aaaaaaaaaaaaaaaaaaaaaaaaaaaaaaaa-top.drv",
     )?;
     let dir = store_dir(alloc)?;
-    begins(&rt, "check_text elsewhere");
+    begins(rt, "check_text elsewhere");
     let first = check_text(alloc, &dir, &other, TOP_TEXT);
-    ends(&rt, "check_text elsewhere");
+    ends(rt, "check_text elsewhere");
     let answer = granted(first, check_text(alloc, &dir, &other, TOP_TEXT));
-    assert!(rt; is_elsewhere(answer));
+    Ok(is_elsewhere(answer))
+}
+
+#[test]
+fn text_at_another_path(rt: HostRuntime) -> Result<(), Fail> {
+    assert!(rt; is_refused_elsewhere(&rt, rt.alloc())?);
     Ok(())
 }
 
@@ -249,15 +275,19 @@ fn is_stray(answer: Result<Vec<StorePath>, DrvFault>) -> bool {
     }
 }
 
+// Whether the references of `PLAIN` are refused by that fault.
+fn are_refused_outside<R: Print>(rt: &R, alloc: Global) -> Result<bool, Fail> {
+    let (dir, drv) = (store_dir(alloc)?, read(alloc, PLAIN)?);
+    begins(rt, "references outside");
+    let first = references(alloc, &dir, &drv);
+    ends(rt, "references outside");
+    let answer = granted(first, references(alloc, &dir, &drv));
+    Ok(is_stray(answer))
+}
+
 #[test]
 fn references_outside_the_folder(rt: HostRuntime) -> Result<(), Fail> {
-    let alloc = rt.alloc();
-    let (dir, drv) = (store_dir(alloc)?, read(alloc, PLAIN)?);
-    begins(&rt, "references outside");
-    let first = references(alloc, &dir, &drv);
-    ends(&rt, "references outside");
-    let answer = granted(first, references(alloc, &dir, &drv));
-    assert!(rt; is_stray(answer));
+    assert!(rt; are_refused_outside(&rt, rt.alloc())?);
     Ok(())
 }
 

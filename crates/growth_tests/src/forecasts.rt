@@ -14,8 +14,9 @@ use valid_table::Journal;
 
 // The parts of a forecast: a plan whose root is `LEFT`, a journal and a system.
 fn parts(alloc: Global) -> Result<(Plan, Journal, Vec<u8>), Fail> {
-    let (plan, journal) = (plan(alloc, LEFT)?, journal(alloc, BEFORE)?);
-    Ok((plan, journal, Vec::from_slice(alloc, SYSTEM)?))
+    let system = Vec::from_slice(alloc, SYSTEM)?;
+    let journal = journal(alloc, BEFORE)?;
+    Ok((plan(alloc, LEFT)?, journal, system))
 }
 
 // The forecast of these parts, made in ample memory.
@@ -49,24 +50,32 @@ const PICTURE: &[u8] = b"digraph plan {
 }
 ";
 
+// The text of a forecast.
+fn text_of<R: Print>(rt: &R, forecast: &Forecast) -> Result<Vec<u8>, Fail> {
+    begins(rt, "Forecast::text");
+    let first = forecast.text();
+    ends(rt, "Forecast::text");
+    Ok(granted(first, forecast.text())?)
+}
+
 #[test]
 fn forecasts(rt: HostRuntime) -> Result<(), Fail> {
-    let forecast = opened(&rt, rt.alloc())?;
-    begins(&rt, "Forecast::text");
-    let first = forecast.text();
-    ends(&rt, "Forecast::text");
-    let text = granted(first, forecast.text())?;
+    let text = text_of(&rt, &opened(&rt, rt.alloc())?)?;
     assert!(rt; is_text(&rt, &text, TEXT));
     Ok(())
 }
 
+// The picture of a forecast.
+fn picture_of<R: Print>(rt: &R, forecast: &Forecast) -> Result<Vec<u8>, Fail> {
+    begins(rt, "Forecast::picture");
+    let first = forecast.picture();
+    ends(rt, "Forecast::picture");
+    Ok(granted(first, forecast.picture())?)
+}
+
 #[test]
 fn pictures(rt: HostRuntime) -> Result<(), Fail> {
-    let forecast = foretold(rt.alloc())?;
-    begins(&rt, "Forecast::picture");
-    let first = forecast.picture();
-    ends(&rt, "Forecast::picture");
-    let picture = granted(first, forecast.picture())?;
+    let picture = picture_of(&rt, &foretold(rt.alloc())?)?;
     assert!(rt; is_text(&rt, &picture, PICTURE));
     Ok(())
 }

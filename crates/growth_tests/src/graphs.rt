@@ -50,16 +50,19 @@ fn loaded_top<R: Print>(rt: &R, alloc: Global) -> Result<Plan, Fail> {
     loaded(rt, alloc, &mut source, &roots)
 }
 
+// Whether the copy of a plan equals it.
+fn equals_copy<R: Print>(rt: &R, alloc: Global, plan: &Plan) -> Result<bool, Fail> {
+    begins(rt, "Plan::copy");
+    let first = plan.copy(alloc);
+    ends(rt, "Plan::copy");
+    Ok(granted(first, plan.copy(alloc))? == *plan)
+}
+
 #[test]
 fn plans(rt: HostRuntime) -> Result<(), Fail> {
-    let alloc = rt.alloc();
-    let plan = loaded_top(&rt, alloc)?;
+    let plan = loaded_top(&rt, rt.alloc())?;
     assert!(rt; has_paths(&plan, &ORDER));
-    begins(&rt, "Plan::copy");
-    let first = plan.copy(alloc);
-    ends(&rt, "Plan::copy");
-    let copy = granted(first, plan.copy(alloc))?;
-    assert!(rt; copy == plan);
+    assert!(rt; equals_copy(&rt, rt.alloc(), &plan)?);
     Ok(())
 }
 
@@ -80,21 +83,16 @@ fn filled<R: Print>(
     }
 }
 
-// The draft of `LEFT`, and the same draft filled.
-fn filled_left<R: Print>(
-    rt: &R,
-    alloc: Global,
-) -> Result<(Derivation, (Derivation, StorePath)), Fail> {
-    let mut source = source(alloc)?;
-    let draft = read(alloc, LEFT_DRAFT)?;
-    let filled = filled(rt, alloc, &mut source, &draft)?;
-    Ok((draft, filled))
+// Whether a draft, filled, is `LEFT`.
+fn fills_left<R: Print>(rt: &R, alloc: Global, draft: &Derivation) -> Result<bool, Fail> {
+    let (drv, path) = filled(rt, alloc, &mut source(alloc)?, draft)?;
+    Ok(has_text(alloc, &drv, LEFT_TEXT)? && path.text() == LEFT)
 }
 
 #[test]
 fn drafts(rt: HostRuntime) -> Result<(), Fail> {
-    let (draft, (drv, path)) = filled_left(&rt, rt.alloc())?;
-    assert!(rt; has_text(rt.alloc(), &drv, LEFT_TEXT)? && path.text() == LEFT);
+    let draft = read(rt.alloc(), LEFT_DRAFT)?;
+    assert!(rt; fills_left(&rt, rt.alloc(), &draft)?);
     assert!(rt; has_text(rt.alloc(), &draft, LEFT_DRAFT)?);
     Ok(())
 }
@@ -138,17 +136,22 @@ fn is_top_told<R: Print>(rt: &R, plan: &Plan) -> bool {
         && plan.roots() == [number].as_slice()
 }
 
-#[test]
-fn without_memory(rt: HostRuntime) -> Result<(), Fail> {
-    let plan = plan(rt.alloc(), TOP)?;
-    begins(&rt, "drv_graph");
-    let is_told = is_top_told(&rt, &plan);
+// Whether a plan answers right, and the numbers of three faults, between two printed lines.
+fn told<R: Print>(rt: &R, plan: &Plan) -> (bool, [u8; 3]) {
+    begins(rt, "drv_graph");
+    let is_told = is_top_told(rt, plan);
     let numbers = [
         GraphFault::NoMemory.number(),
         NodeFault::Cycle.number(),
         OutputFault::MixedOutputs.number(),
     ];
-    ends(&rt, "drv_graph");
+    ends(rt, "drv_graph");
+    (is_told, numbers)
+}
+
+#[test]
+fn without_memory(rt: HostRuntime) -> Result<(), Fail> {
+    let (is_told, numbers) = told(&rt, &plan(rt.alloc(), TOP)?);
     assert!(rt; is_told);
     assert_eq!(rt; numbers, [9, 21, 24]);
     Ok(())

@@ -27,8 +27,8 @@ fn stand<R: Print>(
 
 #[test]
 fn standings(rt: HostRuntime) -> Result<(), Fail> {
-    let (plan, journal) = (plan(rt.alloc(), LEFT)?, journal(rt.alloc(), BEFORE)?);
-    let standings = stand(&rt, rt.alloc(), &plan, &journal)?;
+    let journal = journal(rt.alloc(), BEFORE)?;
+    let standings = stand(&rt, rt.alloc(), &plan(rt.alloc(), LEFT)?, &journal)?;
     assert!(rt; are_values(&rt, &standings, &[Standing::AllValid, Standing::Free]));
     Ok(())
 }
@@ -47,8 +47,7 @@ fn want<R: Print>(rt: &R, alloc: Global, plan: &Plan) -> Result<Vec<bool>, Fail>
 
 #[test]
 fn wanted(rt: HostRuntime) -> Result<(), Fail> {
-    let plan = plan(rt.alloc(), LEFT)?;
-    let wanted = want(&rt, rt.alloc(), &plan)?;
+    let wanted = want(&rt, rt.alloc(), &plan(rt.alloc(), LEFT)?)?;
     assert!(rt; are_values(&rt, &wanted, &[true, true]));
     Ok(())
 }

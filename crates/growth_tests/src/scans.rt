@@ -9,6 +9,7 @@ use ref_scan::{Member, ScanFault, Scanner, Tree, scan};
 use std::alloc::{AllocError, Global};
 use std::io::Print;
 use std::test::*;
+use valid_table::Journal;
 
 // A folder with a file that holds the path `Y`.
 fn tree(alloc: Global) -> Result<Tree, AllocError> {
@@ -77,12 +78,16 @@ fn found<R: Print>(
     }
 }
 
+// What a scanner for the references of `Z` finds.
+fn found_of_z<R: Print>(rt: &R, alloc: Global, journal: &Journal) -> Result<Vec<StorePath>, Fail> {
+    let permitted = references_of(journal, 2);
+    let scanner = fed(made(rt, alloc, permitted)?);
+    Ok(found(rt, alloc, permitted, scanner)?)
+}
+
 #[test]
 fn scanners(rt: HostRuntime) -> Result<(), Fail> {
-    let journal = journal(rt.alloc(), JOURNAL)?;
-    let permitted = references_of(&journal, 2);
-    let scanner = fed(made(&rt, rt.alloc(), permitted)?);
-    let found = found(&rt, rt.alloc(), permitted, scanner)?;
+    let found = found_of_z(&rt, rt.alloc(), &journal(rt.alloc(), JOURNAL)?)?;
     assert!(rt; are_paths(&rt, &found, &[Y]));
     Ok(())
 }
@@ -101,7 +106,8 @@ fn without_memory(rt: HostRuntime) -> Result<(), Fail> {
     let scanner = fed(scanner);
     let told = (tree.fits(), ScanFault::NoMemory.number());
     ends(&rt, "ref_scan");
+    let found = scanner.finish()?;
     assert_eq!(rt; told, (true, 9));
-    assert!(rt; are_paths(&rt, &scanner.finish()?, &[Y]));
+    assert!(rt; are_paths(&rt, &found, &[Y]));
     Ok(())
 }

@@ -61,43 +61,57 @@ pub(crate) fn is_as_read<R: Print>(rt: &R, alloc: Global, journal: &Journal) -> 
     Ok(is_table_as_read(rt, alloc, journal.table())? && is_same)
 }
 
+// The journal `JOURNAL`, read from its text.
+fn known<R: Print>(rt: &R, alloc: Global) -> Result<Journal, Fail> {
+    let dir = store_dir(alloc)?;
+    begins(rt, "Journal::read");
+    let first = Journal::read(alloc, &dir, JOURNAL);
+    ends(rt, "Journal::read");
+    Ok(granted(first, Journal::read(alloc, &dir, JOURNAL))?)
+}
+
+// The text of a journal.
+fn written<R: Print>(rt: &R, alloc: Global, journal: &Journal) -> Result<Vec<u8>, Fail> {
+    begins(rt, "Journal::write");
+    let first = journal.write(alloc);
+    ends(rt, "Journal::write");
+    Ok(granted(first, journal.write(alloc))?)
+}
+
 #[test]
 fn texts_of_journals(rt: HostRuntime) -> Result<(), Fail> {
-    let alloc = rt.alloc();
-    let dir = store_dir(alloc)?;
-    begins(&rt, "Journal::read");
-    let first = Journal::read(alloc, &dir, JOURNAL);
-    ends(&rt, "Journal::read");
-    let journal = granted(first, Journal::read(alloc, &dir, JOURNAL))?;
-    begins(&rt, "Journal::write");
-    let first = journal.write(alloc);
-    ends(&rt, "Journal::write");
-    let text = granted(first, journal.write(alloc))?;
+    let text = written(&rt, rt.alloc(), &known(&rt, rt.alloc())?)?;
     assert!(rt; is_text(&rt, &text, JOURNAL));
     Ok(())
 }
 
+// The copy of a journal.
+fn copied<R: Print>(rt: &R, alloc: Global, journal: &Journal) -> Result<Journal, Fail> {
+    begins(rt, "Journal::copy");
+    let first = journal.copy(alloc);
+    ends(rt, "Journal::copy");
+    Ok(granted(first, journal.copy(alloc))?)
+}
+
 #[test]
 fn copies_of_journals(rt: HostRuntime) -> Result<(), Fail> {
-    let alloc = rt.alloc();
-    let journal = journal(alloc, JOURNAL)?;
-    begins(&rt, "Journal::copy");
-    let first = journal.copy(alloc);
-    ends(&rt, "Journal::copy");
-    let copy = granted(first, journal.copy(alloc))?;
-    assert!(rt; is_as_read(&rt, alloc, &copy)?);
+    let copy = copied(&rt, rt.alloc(), &journal(rt.alloc(), JOURNAL)?)?;
+    assert!(rt; is_as_read(&rt, rt.alloc(), &copy)?);
     Ok(())
+}
+
+// The table of a journal.
+fn replayed<R: Print>(rt: &R, alloc: Global, journal: &Journal) -> Result<Table, Fail> {
+    begins(rt, "Table::replay");
+    let first = Table::replay(alloc, journal);
+    ends(rt, "Table::replay");
+    Ok(granted(first, Table::replay(alloc, journal))?)
 }
 
 #[test]
 fn tables(rt: HostRuntime) -> Result<(), Fail> {
-    let alloc = rt.alloc();
-    let journal = journal(alloc, JOURNAL)?;
-    begins(&rt, "Table::replay");
-    let first = Table::replay(alloc, &journal);
-    ends(&rt, "Table::replay");
-    let table = granted(first, Table::replay(alloc, &journal))?;
-    assert!(rt; is_table_as_read(&rt, alloc, &table)?);
+    let table = replayed(&rt, rt.alloc(), &journal(rt.alloc(), JOURNAL)?)?;
+    assert!(rt; is_table_as_read(&rt, rt.alloc(), &table)?);
     Ok(())
 }
 
@@ -106,27 +120,34 @@ pub(crate) fn table(alloc: Global) -> Result<Table, Fail> {
     Ok(Table::replay(alloc, &journal(alloc, JOURNAL)?)?)
 }
 
+// The closure of `Z`.
+fn closure<R: Print>(rt: &R, alloc: Global) -> Result<Vec<StorePath>, Fail> {
+    let (root, table) = (path(alloc, Z)?, table(alloc)?);
+    begins(rt, "Table::closure");
+    let first = table.closure(alloc, slice::from_ref(&root));
+    ends(rt, "Table::closure");
+    Ok(granted(first, table.closure(alloc, slice::from_ref(&root)))?)
+}
+
 #[test]
 fn closures(rt: HostRuntime) -> Result<(), Fail> {
-    let alloc = rt.alloc();
-    let (table, root) = (table(alloc)?, path(alloc, Z)?);
-    begins(&rt, "Table::closure");
-    let first = table.closure(alloc, slice::from_ref(&root));
-    ends(&rt, "Table::closure");
-    let all = granted(first, table.closure(alloc, slice::from_ref(&root)))?;
+    let all = closure(&rt, rt.alloc())?;
     assert!(rt; are_paths(&rt, &all, &[X, Y, Z]));
     Ok(())
 }
 
+// The references of `Y` and of `Z` in one list.
+fn united<R: Print>(rt: &R, alloc: Global, journal: &Journal) -> Result<Vec<StorePath>, Fail> {
+    let (left, right) = (references_of(journal, 1), references_of(journal, 2));
+    begins(rt, "union");
+    let first = union(alloc, left, right);
+    ends(rt, "union");
+    Ok(granted(first, union(alloc, left, right))?)
+}
+
 #[test]
 fn unions(rt: HostRuntime) -> Result<(), Fail> {
-    let alloc = rt.alloc();
-    let journal = journal(alloc, JOURNAL)?;
-    let (left, right) = (references_of(&journal, 1), references_of(&journal, 2));
-    begins(&rt, "union");
-    let first = union(alloc, left, right);
-    ends(&rt, "union");
-    let all = granted(first, union(alloc, left, right))?;
+    let all = united(&rt, rt.alloc(), &journal(rt.alloc(), JOURNAL)?)?;
     assert!(rt; are_paths(&rt, &all, &[X, Y]));
     Ok(())
 }
@@ -159,33 +180,41 @@ fn records(rt: HostRuntime) -> Result<(), Fail> {
     Ok(())
 }
 
-#[test]
-fn copies_of_outputs(rt: HostRuntime) -> Result<(), Fail> {
-    let alloc = rt.alloc();
-    let journal = journal(alloc, JOURNAL)?;
+// Whether the outputs of the last of three entries equal their copy.
+fn outputs_equal_copy<R: Print>(rt: &R, alloc: Global, journal: &Journal) -> Result<bool, Fail> {
     let [_, _, Entry::Done(_, outputs)] = journal.entries() else {
         return Err("the last entry is one of outputs".into());
     };
-    begins(&rt, "Outputs::copy");
+    begins(rt, "Outputs::copy");
     let first = outputs.copy(alloc);
-    ends(&rt, "Outputs::copy");
+    ends(rt, "Outputs::copy");
     let copy = granted(first, outputs.copy(alloc))?;
-    assert!(rt; are_values(&rt, copy.as_slice(), outputs.as_slice()));
+    Ok(are_values(rt, copy.as_slice(), outputs.as_slice()))
+}
+
+#[test]
+fn copies_of_outputs(rt: HostRuntime) -> Result<(), Fail> {
+    let journal = journal(rt.alloc(), JOURNAL)?;
+    assert!(rt; outputs_equal_copy(&rt, rt.alloc(), &journal)?);
     Ok(())
+}
+
+// Whether the last of three entries equals its copy.
+fn entry_equals_copy<R: Print>(rt: &R, alloc: Global, journal: &Journal) -> Result<bool, Fail> {
+    let [_, _, last] = journal.entries() else {
+        return Err("there are three entries".into());
+    };
+    begins(rt, "Entry::copy");
+    let first = last.copy(alloc);
+    ends(rt, "Entry::copy");
+    let copy = granted(first, last.copy(alloc))?;
+    Ok(are_values(rt, slice::from_ref(&copy), slice::from_ref(last)))
 }
 
 #[test]
 fn copies_of_entries(rt: HostRuntime) -> Result<(), Fail> {
-    let alloc = rt.alloc();
-    let journal = journal(alloc, JOURNAL)?;
-    let [_, _, last] = journal.entries() else {
-        return Err("there are three entries".into());
-    };
-    begins(&rt, "Entry::copy");
-    let first = last.copy(alloc);
-    ends(&rt, "Entry::copy");
-    let copy = granted(first, last.copy(alloc))?;
-    assert!(rt; are_values(&rt, slice::from_ref(&copy), slice::from_ref(last)));
+    let journal = journal(rt.alloc(), JOURNAL)?;
+    assert!(rt; entry_equals_copy(&rt, rt.alloc(), &journal)?);
     Ok(())
 }
 
