@@ -47,10 +47,10 @@ pub(crate) static BUILDING: Stand = Stand {
 fn parts(alloc: Global) -> Result<(Plan, Journal, Vec<u8>, ListOutlet), Fail>
     ensures { IfOk result (λ x. x.3.shown ++ x.3.pending ≡ x.1.entries) }
 {
-    let (plan, journal) = (plan(alloc, LEFT)?, journal(alloc, BEFORE)?);
     let system = Vec::from_slice(alloc, SYSTEM)?;
+    let journal = journal(alloc, BEFORE)?;
     let outlet = ListOutlet::open(alloc, &journal)?;
-    Ok((plan, journal, system, outlet))
+    Ok((plan(alloc, LEFT)?, journal, system, outlet))
 }
 
 /// The book of these parts, made in ample memory.

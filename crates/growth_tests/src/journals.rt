@@ -270,16 +270,21 @@ fn entry_that_is_registered(rt: HostRuntime) -> Result<(), Fail> {
     Ok(())
 }
 
+// Whether an outlet shows the entries of the journal with which it opens, and whether none waits.
+fn opens<R: Print>(rt: &R, alloc: Global, journal: &Journal) -> Result<[bool; 2], Fail> {
+    begins(rt, "ListOutlet::open");
+    let first = ListOutlet::open(alloc, journal);
+    ends(rt, "ListOutlet::open");
+    let outlet = granted(first, ListOutlet::open(alloc, journal))?;
+    let is_shown = are_values(rt, outlet.shown(), journal.entries());
+    Ok([is_shown, are_values(rt, outlet.pending(), &[])])
+}
+
 #[test]
 fn outlets(rt: HostRuntime) -> Result<(), Fail> {
-    let alloc = rt.alloc();
-    let journal = journal(alloc, JOURNAL)?;
-    begins(&rt, "ListOutlet::open");
-    let first = ListOutlet::open(alloc, &journal);
-    ends(&rt, "ListOutlet::open");
-    let outlet = granted(first, ListOutlet::open(alloc, &journal))?;
-    assert!(rt; are_values(&rt, outlet.shown(), journal.entries()));
-    assert!(rt; are_values(&rt, outlet.pending(), &[]));
+    let [is_shown, none_waits] = opens(&rt, rt.alloc(), &journal(rt.alloc(), JOURNAL)?)?;
+    assert!(rt; is_shown);
+    assert!(rt; none_waits);
     Ok(())
 }
 
@@ -338,16 +343,22 @@ fn published(outlet: &mut ListOutlet) -> [usize; 2] {
     [outlet.tell(), outlet.pending().len()]
 }
 
+// Publishes what waits and closes the outlet, between two printed lines. What `published` gives,
+// and whether the outlet then shows this entry alone.
+fn shows<R: Print>(rt: &R, mut outlet: ListOutlet, entry: &Entry) -> ([usize; 2], bool) {
+    begins(rt, "valid_table");
+    let told = published(&mut outlet);
+    let is_shown = are_values(rt, outlet.shown(), slice::from_ref(entry));
+    outlet.close();
+    ends(rt, "valid_table");
+    (told, is_shown)
+}
+
 #[test]
 fn entry_that_waits(rt: HostRuntime) -> Result<(), Fail> {
-    let mut outlet = outlet_of_one(&rt, rt.alloc())?;
+    let outlet = outlet_of_one(&rt, rt.alloc())?;
     assert!(rt; has_lengths(&rt, &outlet, [0, 1]));
-    let entry = alone(rt.alloc())?;
-    begins(&rt, "valid_table");
-    let told = published(&mut outlet);
-    let is_shown = are_values(&rt, outlet.shown(), slice::from_ref(&entry));
-    outlet.close();
-    ends(&rt, "valid_table");
+    let (told, is_shown) = shows(&rt, outlet, &alone(rt.alloc())?);
     assert_eq!(rt; told, [1, 0]);
     assert!(rt; is_shown);
     Ok(())

@@ -388,9 +388,9 @@ fn work_in_one_thread(rt: HostRuntime) -> Result<(), Fail> {
 fn plain_book(alloc: Global) -> Result<Book<ListOutlet>, Fail>
     ensures { IfOk result (λ book. book.history ≡ opened []) }
 {
-    let (plan, system) = (plan(alloc, TOP)?, Vec::from_slice(alloc, SYSTEM)?);
-    let journal = Journal::new(alloc);
+    let (system, journal) = (Vec::from_slice(alloc, SYSTEM)?, Journal::new(alloc));
     let outlet = ListOutlet::open(alloc, &journal)?;
+    let plan = plan(alloc, TOP)?;
     Ok(Book::open(alloc, plan, journal, system, outlet)?)
 }
 

@@ -257,18 +257,24 @@ fn told_by_new(alloc: Global, path: &StorePath) -> [bool; 2] {
     [journal.registers(path), table.registers(path)]
 }
 
-#[test]
-fn without_memory(rt: HostRuntime) -> Result<(), Fail> {
-    let journal = journal(rt.alloc(), JOURNAL)?;
-    let z = path(rt.alloc(), Z)?;
-    begins(&rt, "valid_table");
-    let is_told = is_journal_told(&rt, rt.alloc(), &journal);
-    let by_new = told_by_new(rt.alloc(), &z);
+// What the calls answer that take no memory: whether a journal is told right, whether `Z` is valid
+// where nothing is, and the numbers of two faults.
+fn told<R: Print>(rt: &R, alloc: Global) -> Result<(bool, [bool; 2], [u8; 2]), Fail> {
+    let (z, journal) = (path(alloc, Z)?, journal(alloc, JOURNAL)?);
+    begins(rt, "valid_table");
+    let is_told = is_journal_told(rt, alloc, &journal);
+    let by_new = told_by_new(alloc, &z);
     let numbers = [
         TableFault::WrongVersion.number(),
         OutletFault::NoView.number(),
     ];
-    ends(&rt, "valid_table");
+    ends(rt, "valid_table");
+    Ok((is_told, by_new, numbers))
+}
+
+#[test]
+fn without_memory(rt: HostRuntime) -> Result<(), Fail> {
+    let (is_told, by_new, numbers) = told(&rt, rt.alloc())?;
     assert!(rt; is_told);
     assert_eq!(rt; by_new, [false, false]);
     assert_eq!(rt; numbers, [33, 40]);

@@ -178,8 +178,8 @@ fn is_closed<J: Naming + Send, R: Wait + Print>(
 ) -> Result<bool, Fail>
     requires { name ≡ J.book }
 {
-    let (journal, z) = (journal(alloc, JOURNAL)?, path(alloc, Z)?);
-    let (writer, mut readers) = open::<J, &R>(alloc, rt, name, &journal, 1)?;
+    let z = path(alloc, Z)?;
+    let (writer, mut readers) = open::<J, &R>(alloc, rt, name, &journal(alloc, JOURNAL)?, 1)?;
     let all = closure(rt, alloc, &mut readers[0], &z);
     writer.close();
     Ok(are_paths(rt, &all?, &[X, Y, Z]))
@@ -222,8 +222,8 @@ fn view_told<J: Naming + Send, R: Wait + Print>(
 ) -> Result<([u64; 2], u8), Fail>
     requires { name ≡ J.book }
 {
-    let (journal, z) = (journal(alloc, JOURNAL)?, path(alloc, Z)?);
-    let (writer, mut readers) = open::<J, &R>(alloc, rt, name, &journal, 1)?;
+    let z = path(alloc, Z)?;
+    let (writer, mut readers) = open::<J, &R>(alloc, rt, name, &journal(alloc, JOURNAL)?, 1)?;
     begins(rt, "valid_view");
     let _name = Name::new();
     let told = told(&writer, &mut readers[0], &z);
