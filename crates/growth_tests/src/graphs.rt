@@ -22,8 +22,7 @@ fn has_paths(plan: &Plan, texts: &[&[u8]]) -> bool {
 // The paths of the plan of the diamond, in its order.
 const ORDER: [&[u8]; 4] = [BASE, RIGHT, LEFT, TOP];
 
-// The plan of the roots. Where memory was refused, it is loaded again from the same source. The
-// source's count of failures doesn't change.
+// The plan of the roots; where memory was refused, that of a second load from the same source.
 fn loaded<R: Print>(
     rt: &R,
     alloc: Global,
@@ -32,22 +31,20 @@ fn loaded<R: Print>(
 ) -> Result<Plan, Fail> {
     let dir = store_dir(alloc)?;
     begins(rt, "Plan::load");
-    let answer = Plan::load(alloc, source, &dir, roots);
+    let first = Plan::load(alloc, source, &dir, roots);
     ends(rt, "Plan::load");
-    if source.failures() != 0 {
-        return Err("no device failed".into());
-    }
-    match answer {
-        Err(GraphFault::NoMemory) => Ok(Plan::load(alloc, source, &dir, roots)?),
-        answer => Ok(answer?),
-    }
+    Ok(granted(first, Plan::load(alloc, source, &dir, roots))?)
 }
 
-// The plan of `TOP`.
+// The plan of `TOP`. The source's count of failures doesn't change.
 fn loaded_top<R: Print>(rt: &R, alloc: Global) -> Result<Plan, Fail> {
     let mut source = source(alloc)?;
     let roots = paths(alloc, &[TOP])?;
-    loaded(rt, alloc, &mut source, &roots)
+    let plan = loaded(rt, alloc, &mut source, &roots)?;
+    if source.failures() != 0 {
+        return Err("no device failed".into());
+    }
+    Ok(plan)
 }
 
 // Whether the copy of a plan equals it.
@@ -66,7 +63,7 @@ fn plans(rt: HostRuntime) -> Result<(), Fail> {
     Ok(())
 }
 
-// A draft, filled. Where memory was refused, it is filled again.
+// A draft, filled; where memory was refused, filled by a second call.
 fn filled<R: Print>(
     rt: &R,
     alloc: Global,
@@ -75,12 +72,9 @@ fn filled<R: Print>(
 ) -> Result<(Derivation, StorePath), Fail> {
     let dir = store_dir(alloc)?;
     begins(rt, "fill_outputs");
-    let answer = fill_outputs(alloc, source, &dir, b"left", draft);
+    let first = fill_outputs(alloc, source, &dir, b"left", draft);
     ends(rt, "fill_outputs");
-    match answer {
-        Err(GraphFault::NoMemory) => Ok(fill_outputs(alloc, source, &dir, b"left", draft)?),
-        answer => Ok(answer?),
-    }
+    Ok(granted(first, fill_outputs(alloc, source, &dir, b"left", draft))?)
 }
 
 // Whether a draft, filled, is `LEFT`.
