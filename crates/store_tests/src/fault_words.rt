@@ -5,12 +5,21 @@ use nix_names::NameFault;
 use ref_scan::ScanFault;
 use std::alloc::{AllocError, Global};
 use std::fmt::Display;
+use std::process::Abort;
 use std::test::Fail;
 use valid_table::{Journal, OutletFault, Registration, TableFault};
 
-// A fault's number and its words in one line.
-fn line<F: Display>(alloc: Global, number: u8, fault: &F) -> Result<String, AllocError> {
-    format!(in alloc; "{number} {fault}")
+// Fails unless a fault's number and its words in one line are these.
+fn check_line<F: Display>(
+    rt: &impl Abort,
+    alloc: Global,
+    number: u8,
+    fault: &F,
+    words: &str,
+) -> Result<(), AllocError> {
+    let line = format!(in alloc; "{number} {fault}")?;
+    assert_eq!(*rt; line.as_str(), words);
+    Ok(())
 }
 
 static NAME_FAULTS: [(NameFault, &str); 8] = [
@@ -42,8 +51,7 @@ static NAME_FAULTS: [(NameFault, &str); 8] = [
 #[test]
 fn words_of_name_faults(rt: HostRuntime) -> Result<(), Fail> {
     for (fault, words) in &NAME_FAULTS {
-        let line = line(rt.alloc(), fault.number(), fault)?;
-        assert_eq!(rt; line.as_str(), *words);
+        check_line(&rt, rt.alloc(), fault.number(), fault, words)?;
     }
     Ok(())
 }
@@ -65,21 +73,25 @@ static OUTLET_FAULTS: [(OutletFault, &str); 2] = [
 #[test]
 fn words_of_plain_faults(rt: HostRuntime) -> Result<(), Fail> {
     for (fault, words) in &SOURCE_FAULTS {
-        let line = line(rt.alloc(), fault.number(), fault)?;
-        assert_eq!(rt; line.as_str(), *words);
+        check_line(&rt, rt.alloc(), fault.number(), fault, words)?;
     }
     for (fault, words) in &OUTLET_FAULTS {
-        let line = line(rt.alloc(), fault.number(), fault)?;
-        assert_eq!(rt; line.as_str(), *words);
+        check_line(&rt, rt.alloc(), fault.number(), fault, words)?;
     }
     let fault = ScanFault::NoMemory;
-    let line = line(rt.alloc(), fault.number(), &fault)?;
-    assert_eq!(rt; line.as_str(), "9 memory was refused");
+    check_line(
+        &rt,
+        rt.alloc(),
+        fault.number(),
+        &fault,
+        "9 memory was refused",
+    )?;
     Ok(())
 }
 
 // Each fault of a derivation, with its number and its words.
 fn drv_faults(alloc: Global) -> Result<[(DrvFault, &'static str); 8], Fail> {
+    let path = path(alloc, P0)?;
     Ok([
         (DrvFault::NoMemory, "9 memory was refused"),
         (
@@ -95,7 +107,7 @@ fn drv_faults(alloc: Global) -> Result<[(DrvFault, &'static str); 8], Fail> {
             "12 the text has more than 4,194,304 bytes",
         ),
         (
-            DrvFault::TextPathMismatch(path(alloc, P0)?),
+            DrvFault::TextPathMismatch(path),
             "13 the derivation stands at another path than its own",
         ),
         (
@@ -113,8 +125,7 @@ fn drv_faults(alloc: Global) -> Result<[(DrvFault, &'static str); 8], Fail> {
 #[test]
 fn words_of_derivation_faults(rt: HostRuntime) -> Result<(), Fail> {
     for (fault, words) in &drv_faults(rt.alloc())? {
-        let line = line(rt.alloc(), fault.number(), fault)?;
-        assert_eq!(rt; line.as_str(), *words);
+        check_line(&rt, rt.alloc(), fault.number(), fault, words)?;
     }
     Ok(())
 }
@@ -122,7 +133,8 @@ fn words_of_derivation_faults(rt: HostRuntime) -> Result<(), Fail> {
 // The fault of an entry that refers to a path which is not valid.
 fn unclosed(alloc: Global) -> Result<TableFault, Fail> {
     let Registration { path, info } = registration(alloc, P0, &[P1])?;
-    match Journal::new(alloc).add(path, info) {
+    let answer = Journal::new(alloc).add(path, info);
+    match answer {
         Ok(()) => Err("the entry is taken in".into()),
         Err(fault) => Ok(fault),
     }
@@ -130,6 +142,9 @@ fn unclosed(alloc: Global) -> Result<TableFault, Fail> {
 
 // Each fault of a journal or a table, with its number and its words.
 fn table_faults(alloc: Global) -> Result<[(TableFault, &'static str); 9], Fail> {
+    let one = path(alloc, P0)?;
+    let other = path(alloc, P0)?;
+    let unclosed = unclosed(alloc)?;
     Ok([
         (TableFault::NoMemory, "9 memory was refused"),
         (TableFault::BadLine(2), "30 line 2 is no line of a journal"),
@@ -142,17 +157,14 @@ fn table_faults(alloc: Global) -> Result<[(TableFault, &'static str); 9], Fail> 
             TableFault::WrongVersion,
             "33 the journal has another version",
         ),
-        (
-            TableFault::NotValid(path(alloc, P0)?),
-            "34 a path is not valid",
-        ),
+        (TableFault::NotValid(one), "34 a path is not valid"),
         (
             TableFault::TooLong,
             "35 the journal has more bytes than its version may have",
         ),
-        (unclosed(alloc)?, "36 a reference is not valid"),
+        (unclosed, "36 a reference is not valid"),
         (
-            TableFault::AlreadyValid(path(alloc, P0)?),
+            TableFault::AlreadyValid(other),
             "37 a path is valid already",
         ),
     ])
@@ -161,8 +173,7 @@ fn table_faults(alloc: Global) -> Result<[(TableFault, &'static str); 9], Fail> 
 #[test]
 fn words_of_table_faults(rt: HostRuntime) -> Result<(), Fail> {
     for (fault, words) in &table_faults(rt.alloc())? {
-        let line = line(rt.alloc(), fault.number(), fault)?;
-        assert_eq!(rt; line.as_str(), *words);
+        check_line(&rt, rt.alloc(), fault.number(), fault, words)?;
     }
     Ok(())
 }

@@ -235,29 +235,38 @@ fn behind_version(text: &[u8]) -> &[u8] {
 // Whether a journal that was read from a text is written in version 2 with the same lines. The text
 // is of version 2 or has no digests.
 fn is_kept(alloc: Global, journal: &Journal, text: &[u8]) -> bool {
-    match journal.write(alloc) {
+    match &journal.write(alloc) {
         Ok(written) => {
-            written.starts_with(V2) && behind_version(&written) == behind_version(text)
+            written.starts_with(V2) && behind_version(written) == behind_version(text)
         }
         Err(_) => false,
     }
 }
 
-/// The line that a fault names, or 0.
-pub(crate) fn line_of(fault: &TableFault) -> usize {
+// The line that a fault names, or 0.
+fn line_of(fault: &TableFault) -> usize {
     match fault {
         TableFault::BadLine(line) | TableFault::NotClosed(line) | TableFault::Twice(line) => *line,
         _ => 0,
     }
 }
 
-// How a text of version 2, or without digests, is read: 0 and the number of entries, or the number
-// of the fault and its line. None where the journal is not written as it was read.
-fn reading(alloc: Global, text: &[u8]) -> Option<(u8, usize)> {
-    match read(alloc, text) {
-        Ok(journal) if is_kept(alloc, &journal, text) => Some((0, journal.entries().len())),
-        Ok(_) => None,
-        Err(fault) => Some((fault.number(), line_of(&fault))),
+// 0 and the number of entries of a journal that was read from such a text. None where the journal
+// is not written as it was read.
+fn entries_kept(alloc: Global, journal: &Journal, text: &[u8]) -> Option<(u8, usize)> {
+    if is_kept(alloc, journal, text) {
+        Some((0, journal.entries().len()))
+    } else {
+        None
+    }
+}
+
+/// How a text of version 2, or without digests, is read: 0 and the number of entries, or the number
+/// of the fault and its line. None where the journal is not written as it was read.
+pub(crate) fn reading(alloc: Global, text: &[u8]) -> Option<(u8, usize)> {
+    match &read(alloc, text) {
+        Ok(journal) => entries_kept(alloc, journal, text),
+        Err(fault) => Some((fault.number(), line_of(fault))),
     }
 }
 
@@ -278,17 +287,20 @@ fn long_text(alloc: Global, line: &[u8], len: usize) -> Result<Vec<u8>, AllocErr
     Ok(text)
 }
 
-// The number of the fault of a text of `len` bytes with this first line.
-fn fault_of_long(alloc: Global, line: &[u8], len: usize) -> Result<Option<u8>, AllocError> {
+// The number of the fault of a text of `len` bytes with this first line, or 0.
+fn fault_of_long(alloc: Global, line: &[u8], len: usize) -> Result<u8, AllocError> {
     let text = long_text(alloc, line, len)?;
-    Ok(reading(alloc, &text).map(|(number, _)| number))
+    match reading(alloc, &text) {
+        Some((number, _)) => Ok(number),
+        None => Ok(0),
+    }
 }
 
 #[test]
 fn limit_of_version_1(rt: HostRuntime) -> Result<(), Fail> {
     for (len, number) in [(67_108_864, 30), (67_108_865, 35)] {
         let found = fault_of_long(rt.alloc(), V1, len)?;
-        assert!(rt; found == Some(number), "at {len}");
+        assert!(rt; found == number, "{found} at {len}");
     }
     Ok(())
 }
@@ -296,20 +308,20 @@ fn limit_of_version_1(rt: HostRuntime) -> Result<(), Fail> {
 #[test]
 fn limit_of_version_2(rt: HostRuntime) -> Result<(), Fail> {
     let found = fault_of_long(rt.alloc(), V2, 134_217_729)?;
-    assert!(rt; found == Some(35));
+    assert!(rt; found == 35, "{found}");
     Ok(())
 }
 
 #[test]
 fn limit_of_other_versions(rt: HostRuntime) -> Result<(), Fail> {
     let found = fault_of_long(rt.alloc(), b"realiser-journal 3\n", 134_217_728)?;
-    assert!(rt; found == Some(33));
+    assert!(rt; found == 33, "{found}");
     Ok(())
 }
 
-/// Whether a beginning of the text of a journal of added paths is read rightly. It is accepted
-/// where it ends with a line, and else its last line is the bad one.
-pub(crate) fn is_read_rightly(alloc: Global, front: &[u8]) -> bool {
+// Whether a beginning of the text of a journal of added paths is read rightly. It is accepted where
+// it ends with a line, and else its last line is the bad one.
+fn is_read_rightly(alloc: Global, front: &[u8]) -> bool {
     let line = 1 + front.iter().filter(|byte| **byte == b'\n').count();
     let is_whole = front.is_empty() || front.ends_with(b"\n");
     match reading(alloc, front) {
@@ -319,18 +331,26 @@ pub(crate) fn is_read_rightly(alloc: Global, front: &[u8]) -> bool {
     }
 }
 
+/// The length of the first beginning of such a text that is not read rightly.
+pub(crate) fn first_misread(alloc: Global, text: &[u8]) -> Option<usize> {
+    for len in 0..=text.len() {
+        if !is_read_rightly(alloc, &text[..len]) {
+            return Some(len);
+        }
+    }
+    None
+}
+
 #[test]
 fn beginnings(rt: HostRuntime) -> Result<(), Fail> {
     let other = in_version_1(rt.alloc(), TWO_PATHS)?;
-    for len in 0..=TWO_PATHS.len() {
-        assert!(rt; is_read_rightly(rt.alloc(), &TWO_PATHS[..len]));
-        assert!(rt; is_read_rightly(rt.alloc(), &other[..len.min(other.len())]));
-    }
+    assert_eq!(rt; first_misread(rt.alloc(), TWO_PATHS), None);
+    assert_eq!(rt; first_misread(rt.alloc(), &other), None);
     Ok(())
 }
 
-/// Whether a text with another byte at a place is refused, or written as it was read.
-pub(crate) fn is_refused_or_kept(
+// Whether a text with another byte at a place is refused, or written as it was read.
+fn is_refused_or_kept(
     alloc: Global,
     text: &[u8],
     place: usize,
@@ -343,14 +363,28 @@ pub(crate) fn is_refused_or_kept(
     Ok(matches!(reading(alloc, &text), Some((number, _)) if number != 9))
 }
 
+/// The first place of a text at which one of the bytes makes another text that is neither refused
+/// nor written as it was read.
+pub(crate) fn first_altered(
+    alloc: Global,
+    text: &[u8],
+    bytes: &[u8],
+) -> Result<Option<usize>, AllocError> {
+    for place in 0..text.len() {
+        for byte in bytes {
+            if !is_refused_or_kept(alloc, text, place, *byte)? {
+                return Ok(Some(place));
+            }
+        }
+    }
+    Ok(None)
+}
+
 #[test]
 fn one_byte_changed(rt: HostRuntime) -> Result<(), Fail> {
     let other = in_version_1(rt.alloc(), TWO_PATHS)?;
-    for place in 0..TWO_PATHS.len() {
-        for byte in b"\n -/12ADORz" {
-            assert!(rt; is_refused_or_kept(rt.alloc(), TWO_PATHS, place, *byte)?);
-            assert!(rt; is_refused_or_kept(rt.alloc(), &other, place, *byte)?);
-        }
-    }
+    let bytes = b"\n -/12ADORz";
+    assert_eq!(rt; first_altered(rt.alloc(), TWO_PATHS, bytes)?, None);
+    assert_eq!(rt; first_altered(rt.alloc(), &other, bytes)?, None);
     Ok(())
 }

@@ -1,6 +1,6 @@
 //! A journal of two paths, its copy and its table.
 use crate::paths::{add, are, path, registration};
-use nix_names::is_drv_name;
+use nix_names::{StorePath, is_drv_name};
 use std::alloc::Global;
 use std::test::Fail;
 use valid_table::{Entry, Journal, Outputs, Table};
@@ -35,13 +35,19 @@ fn is_copied(alloc: Global, journal: &Journal) -> Result<bool, Fail> {
 }
 
 // Whether the table says of Y that it refers to X alone, and nothing of Z.
-fn is_table_of_two(alloc: Global, journal: &Journal) -> Result<bool, Fail> {
-    let table = Table::replay(alloc, journal)?;
-    let is_y = match table.get(&path(alloc, Y)?) {
-        Some(info) => are(info.references(), &[X]),
+fn says(table: &Table, y: &StorePath, z: &StorePath) -> bool {
+    match table.get(y) {
+        Some(info) => are(info.references(), &[X]) && table.get(z).is_none(),
         None => false,
-    };
-    Ok(is_y && table.get(&path(alloc, Z)?).is_none())
+    }
+}
+
+// Whether the table of the journal says that of Y and Z.
+fn is_table_of_two(alloc: Global, journal: &Journal) -> Result<bool, Fail> {
+    let y = path(alloc, Y)?;
+    let z = path(alloc, Z)?;
+    let table = Table::replay(alloc, journal)?;
+    Ok(says(&table, &y, &z))
 }
 
 // The one output of a derivation, Z, which refers to itself.
@@ -52,13 +58,13 @@ fn output(alloc: Global) -> Result<Outputs, Fail> {
 
 // Whether adding the output of a derivation adds one entry.
 fn takes_output(alloc: Global, journal: &mut Journal) -> Result<bool, Fail> {
-    let deriver = path(alloc, Z_DRV)?;
     let outputs = output(alloc)?;
+    let deriver = path(alloc, Z_DRV)?;
     if !is_drv_name(deriver.name()) {
         return Ok(false);
     }
-    let answer = journal.append(deriver, outputs);
-    Ok(answer.is_ok() && journal.entries().len() == 3)
+    let is_taken = journal.append(deriver, outputs).is_ok();
+    Ok(is_taken && journal.entries().len() == 3)
 }
 
 #[test]

@@ -1,10 +1,10 @@
 //! As many entries, outputs, roots and permitted paths as in a large store.
-use crate::paths::{P0, add, all_paths, are, is_written_as, path, read};
+use crate::paths::{P0, add, all_paths, are, is_rewritten_as, is_written_as, path, read, table_of};
 use nix_names::StorePath;
 use ref_scan::{Tree, scan};
 use std::alloc::{AllocError, Global};
 use std::test::Fail;
-use valid_table::{Entry, Journal, ListOutlet, Table, union};
+use valid_table::{Entry, Journal, ListOutlet, Table, TableFault, union};
 
 const MANY: usize = 200_000;
 
@@ -55,35 +55,32 @@ fn chain(alloc: Global) -> Result<Journal, Fail> {
     Ok(journal)
 }
 
-// Whether the text is read as `MANY` entries and written back to the same text, and the journal
-// that is made path by path is written to it too.
-fn is_chain(alloc: Global, text: &[u8]) -> Result<bool, Fail> {
-    let journal = read(alloc, text)?;
-    Ok(
-        journal.entries().len() == MANY
-            && is_written_as(alloc, &journal, text)
-            && is_written_as(alloc, &chain(alloc)?, text)
-            && shown(alloc, &journal.copy(alloc)?)? == MANY,
-    )
+// How many entries an outlet shows that opens with a copy of the journal.
+fn shown(alloc: Global, journal: &Journal) -> Result<usize, Fail> {
+    let copy = journal.copy(alloc)?;
+    let outlet = ListOutlet::open(alloc, &copy)?;
+    Ok(outlet.shown().len())
 }
 
-// How many entries an outlet shows that opens with the journal.
-fn shown(alloc: Global, journal: &Journal) -> Result<usize, Fail> {
-    let outlet = ListOutlet::open(alloc, journal)?;
-    Ok(outlet.shown().len())
+// Whether the text is read as `MANY` entries, which an outlet shows, and written back to it.
+fn is_chain(alloc: Global, text: &[u8]) -> Result<bool, Fail> {
+    let journal = read(alloc, text)?;
+    let shown = shown(alloc, &journal)?;
+    Ok(shown == MANY && journal.entries().len() == MANY && is_written_as(alloc, &journal, text))
 }
 
 #[test]
 fn many_entries(rt: HostRuntime) -> Result<(), Fail> {
     let text = chain_text(rt.alloc())?;
     assert!(rt; is_chain(rt.alloc(), text.as_bytes())?);
+    assert!(rt; is_written_as(rt.alloc(), &chain(rt.alloc())?, text.as_bytes()));
     Ok(())
 }
 
 // The table of that journal, as it is read.
 fn chain_table(alloc: Global) -> Result<Table, Fail> {
-    let journal = read(alloc, chain_text(alloc)?.as_bytes())?;
-    Ok(Table::replay(alloc, &journal)?)
+    let text = chain_text(alloc)?;
+    Ok(table_of(alloc, text.as_bytes())?)
 }
 
 // All paths of the journal.
@@ -134,11 +131,15 @@ fn outputs_text(alloc: Global) -> Result<String, AllocError> {
 // How many outputs are valid in a table that registers the entries of this text.
 fn valid_outputs(alloc: Global, text: &[u8]) -> Result<usize, Fail> {
     let journal = read(alloc, text)?;
-    let mut table = Table::new(alloc);
+    Ok(register(&mut Table::new(alloc), journal.entries())?)
+}
+
+// Registers entries. Gives how many paths of the last one are valid then.
+fn register(table: &mut Table, entries: &[Entry]) -> Result<usize, TableFault> {
     let mut outputs = 0;
-    for entry in journal.entries() {
+    for entry in entries {
         table.register(entry)?;
-        outputs = valid_in(&table, entry);
+        outputs = valid_in(table, entry);
     }
     Ok(outputs)
 }
@@ -155,8 +156,7 @@ fn valid_in(table: &Table, entry: &Entry) -> usize {
 #[test]
 fn many_outputs(rt: HostRuntime) -> Result<(), Fail> {
     let text = outputs_text(rt.alloc())?;
-    let journal = read(rt.alloc(), text.as_bytes())?;
-    assert!(rt; is_written_as(rt.alloc(), &journal, text.as_bytes()));
     assert_eq!(rt; valid_outputs(rt.alloc(), text.as_bytes())?, OUTPUTS);
+    assert!(rt; is_rewritten_as(rt.alloc(), text.as_bytes(), text.as_bytes()));
     Ok(())
 }

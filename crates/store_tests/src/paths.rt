@@ -5,7 +5,7 @@ ghost use Rattle.nix_names.specs.Rising.{IsRising};
 use nix_names::{StoreDir, StorePath, parse_path};
 use std::alloc::Global;
 use std::test::Fail;
-use valid_table::{Journal, Record, Registration, TableFault};
+use valid_table::{Journal, Record, Registration, Table, TableFault};
 
 // Paths whose hash part is a number in 32 digits.
 pub(crate) const P0: &[u8] = b"/nix/store/00000000000000000000000000000000-x";
@@ -111,7 +111,7 @@ pub(crate) fn add(
     references: &[&[u8]],
 ) -> Result<u8, Fail> {
     let Registration { path, info } = registration(alloc, text, references)?;
-    match journal.add(path, info) {
+    match &journal.add(path, info) {
         Ok(_) => Ok(0),
         Err(fault) => Ok(fault.number()),
     }
@@ -125,10 +125,24 @@ pub(crate) fn read(alloc: Global, text: &[u8]) -> Result<Journal, TableFault> {
     }
 }
 
+// The table of the journal with this text.
+pub(crate) fn table_of(alloc: Global, text: &[u8]) -> Result<Table, TableFault> {
+    let journal = read(alloc, text)?;
+    Table::replay(alloc, &journal)
+}
+
 // Whether a journal is written to this text.
 pub(crate) fn is_written_as(alloc: Global, journal: &Journal, text: &[u8]) -> bool {
-    match journal.write(alloc) {
+    match &journal.write(alloc) {
         Ok(written) => written.as_slice() == text,
+        Err(_) => false,
+    }
+}
+
+// Whether the journal that is read from a text is written to the other text.
+pub(crate) fn is_rewritten_as(alloc: Global, text: &[u8], other: &[u8]) -> bool {
+    match &read(alloc, text) {
+        Ok(journal) => is_written_as(alloc, journal, other),
         Err(_) => false,
     }
 }

@@ -116,7 +116,7 @@ fn are_valid(alloc: Global, table: &Table, valid: &[bool; 5]) -> Result<bool, Fa
 // Whether the entry is registered where the row has no fault, and else refused with the row's
 // fault.
 fn is_answered(table: &mut Table, entry: &Entry, row: &Attempt) -> bool {
-    match table.register(entry) {
+    match &table.register(entry) {
         Ok(()) => row.fault == 0,
         Err(TableFault::AlreadyValid(path)) => row.fault == 37 && path.text() == row.path,
         Err(TableFault::Unclosed(reference)) => row.fault == 36 && reference.text() == row.path,
@@ -166,10 +166,10 @@ fn push(alloc: Global, journal: &mut Journal, text: &[u8], reference: &[u8]) -> 
     ensures { journal.old.room ≤ journal.new.room + 1 }
 {
     let entry = Entry::Add(registration(alloc, text, &[reference])?);
-    let copy = entry.copy(alloc)?;
     if let Some(_) = journal.table().obstacle(&entry) {
         return Ok(false);
     }
+    let copy = entry.copy(alloc)?;
     journal.push_reserved(entry, copy);
     Ok(true)
 }
