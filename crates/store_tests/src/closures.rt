@@ -4,7 +4,7 @@ use crate::paths::*;
 use nix_names::StorePath;
 use std::alloc::Global;
 use std::test::Fail;
-use valid_table::TableFault;
+use valid_table::{Table, TableFault};
 
 // Paths 0 to 5: 1 and 2 refer to each other, 3 to 1, 4 to itself, 5 to 0 and 4.
 const SIX_PATHS: &[u8] = b"realiser-journal 2
@@ -106,20 +106,20 @@ fn closings() -> &'static [Closing] {
     &CLOSINGS
 }
 
-// Whether the answer is as the row says.
-fn is_answer(answer: &Result<Vec<StorePath>, TableFault>, row: &Closing) -> bool {
-    match answer {
-        Ok(all) => row.missing.is_empty() && are(all, row.all),
+// Whether the table's closure of the roots is as the row says.
+fn closes(alloc: Global, table: &Table, roots: &[StorePath], row: &Closing) -> bool {
+    match table.closure(alloc, roots) {
+        Ok(all) => row.missing.is_empty() && are(&all, row.all),
         Err(TableFault::NotValid(root)) => root.text() == row.missing,
         Err(_) => false,
     }
 }
 
-// Whether the closure is as the row says.
+// Whether the closure of the row's roots is as the row says.
 fn is_closed(alloc: Global, row: &Closing) -> Result<bool, Fail> {
     let roots = all_paths(alloc, row.roots)?;
     let table = table_of(alloc, row.journal)?;
-    Ok(is_answer(&table.closure(alloc, &roots), row))
+    Ok(closes(alloc, &table, &roots, row))
 }
 
 #[test]

@@ -1,5 +1,5 @@
 //! Digests in both versions of a journal's text: how they are read and written.
-use crate::journal_texts::{V1, V2, first_altered, first_misread, reading};
+use crate::journal_texts::{V1, V2, first_altered, is_read_rightly, reading};
 use crate::paths::is_rewritten_as;
 use std::alloc::{AllocError, Global};
 use std::test::Fail;
@@ -82,7 +82,7 @@ fn holds(alloc: Global, row: &Reading) -> Result<bool, AllocError> {
         return Ok(reading(alloc, &text) == Some((30, 2)));
     };
     let other = with_digest(alloc, V2, digest)?;
-    Ok(is_rewritten_as(alloc, &text, &other))
+    Ok(is_rewritten_as(alloc, &text, &other).unwrap_or(false))
 }
 
 #[test]
@@ -105,13 +105,15 @@ A /nix/store/dddddddddddddddddddddddddddddddd-z sha512:cf83e1357eefb8bdf1542850d
 
 #[test]
 fn beginnings_with_digests(rt: HostRuntime) -> Result<(), Fail> {
-    assert_eq!(rt; first_misread(rt.alloc(), FOUR_FILES), None);
+    for len in 0..=FOUR_FILES.len() {
+        assert!(rt; is_read_rightly(rt.alloc(), &FOUR_FILES[..len]), "at {len}");
+    }
     Ok(())
 }
 
 #[test]
 fn digests_with_one_byte_changed(rt: HostRuntime) -> Result<(), Fail> {
-    let place = first_altered(rt.alloc(), FOUR_FILES, b"\n -/:12aAfFgm")?;
-    assert_eq!(rt; place, None);
+    let place = first_altered(rt.alloc(), FOUR_FILES, b"\n -/:12aAfFgm");
+    assert!(rt; place.is_none(), "at {place:?}");
     Ok(())
 }

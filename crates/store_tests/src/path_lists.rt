@@ -33,7 +33,7 @@ fn sortings() -> &'static [(&'static [Pair], &'static [Pair])] {
 // Whether the outputs are sorted to these pairs, or refused where no pairs are given.
 fn is_sorted(alloc: Global, outputs: &[Pair], sorted: &[Pair]) -> Result<bool, Fail> {
     let sorted = registrations(alloc, sorted)?;
-    match &Outputs::sorted(registrations(alloc, outputs)?) {
+    match Outputs::sorted(registrations(alloc, outputs)?) {
         None => Ok(sorted.is_empty()),
         Some(outputs) => Ok(outputs.as_slice() == sorted.as_slice()),
     }

@@ -111,7 +111,7 @@ pub(crate) fn add(
     references: &[&[u8]],
 ) -> Result<u8, Fail> {
     let Registration { path, info } = registration(alloc, text, references)?;
-    match &journal.add(path, info) {
+    match journal.add(path, info) {
         Ok(_) => Ok(0),
         Err(fault) => Ok(fault.number()),
     }
@@ -133,16 +133,18 @@ pub(crate) fn table_of(alloc: Global, text: &[u8]) -> Result<Table, TableFault> 
 
 // Whether a journal is written to this text.
 pub(crate) fn is_written_as(alloc: Global, journal: &Journal, text: &[u8]) -> bool {
-    match &journal.write(alloc) {
+    match journal.write(alloc) {
         Ok(written) => written.as_slice() == text,
         Err(_) => false,
     }
 }
 
 // Whether the journal that is read from a text is written to the other text.
-pub(crate) fn is_rewritten_as(alloc: Global, text: &[u8], other: &[u8]) -> bool {
-    match &read(alloc, text) {
-        Ok(journal) => is_written_as(alloc, journal, other),
-        Err(_) => false,
-    }
+pub(crate) fn is_rewritten_as(
+    alloc: Global,
+    text: &[u8],
+    other: &[u8],
+) -> Result<bool, TableFault> {
+    let journal = read(alloc, text)?;
+    Ok(is_written_as(alloc, &journal, other))
 }

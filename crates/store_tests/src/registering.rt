@@ -94,13 +94,12 @@ fn built(alloc: Global, outputs: &[Pair]) -> Result<Entry, Fail> {
     }
 }
 
-// The table of paths 0 and 3.
-fn two_paths(alloc: Global) -> Result<Table, Fail> {
-    let mut table = Table::new(alloc);
+// Registers paths 0 and 3 in a table.
+fn register_two(alloc: Global, table: &mut Table) -> Result<(), Fail> {
     for pair in [(P0, P0), (P3, P0)] {
         table.register(&Entry::Add(registration(alloc, pair.0, &[pair.1])?))?;
     }
-    Ok(table)
+    Ok(())
 }
 
 // Whether these of paths 0 to 4 are valid and no others.
@@ -116,7 +115,7 @@ fn are_valid(alloc: Global, table: &Table, valid: &[bool; 5]) -> Result<bool, Fa
 // Whether the entry is registered where the row has no fault, and else refused with the row's
 // fault.
 fn is_answered(table: &mut Table, entry: &Entry, row: &Attempt) -> bool {
-    match &table.register(entry) {
+    match table.register(entry) {
         Ok(()) => row.fault == 0,
         Err(TableFault::AlreadyValid(path)) => row.fault == 37 && path.text() == row.path,
         Err(TableFault::Unclosed(reference)) => row.fault == 36 && reference.text() == row.path,
@@ -135,8 +134,9 @@ fn is_obstacle(table: &Table, entry: &Entry, row: &Attempt) -> bool {
 
 // Whether the table of two paths answers as the row says, and has the row's paths then.
 fn holds(alloc: Global, row: &Attempt) -> Result<bool, Fail> {
-    let mut table = two_paths(alloc)?;
     let entry = built(alloc, row.outputs)?;
+    let mut table = Table::new(alloc);
+    register_two(alloc, &mut table)?;
     Ok(
         is_obstacle(&table, &entry, row)
             && is_answered(&mut table, &entry, row)
@@ -156,7 +156,9 @@ fn registered_entries_and_obstacles(rt: HostRuntime) -> Result<(), Fail> {
 #[test]
 fn registered_record(rt: HostRuntime) -> Result<(), Fail> {
     let entry = registration(rt.alloc(), P3, &[P0])?;
-    assert!(rt; two_paths(rt.alloc())?.get(&entry.path) == Some(&entry.info));
+    let mut table = Table::new(rt.alloc());
+    register_two(rt.alloc(), &mut table)?;
+    assert!(rt; table.get(&entry.path) == Some(&entry.info));
     Ok(())
 }
 
