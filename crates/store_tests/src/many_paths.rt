@@ -134,14 +134,9 @@ fn outputs_text(alloc: Global) -> Result<String, AllocError> {
 // How many outputs are valid in a table that registers the entries of this text.
 fn valid_outputs(alloc: Global, text: &[u8]) -> Result<usize, TableFault> {
     let journal = read(alloc, text)?;
-    registered(alloc, journal.entries())
-}
-
-// How many paths of the last entry are valid in a table that registers the entries.
-fn registered(alloc: Global, entries: &[Entry]) -> Result<usize, TableFault> {
     let mut table = Table::new(alloc);
     let mut outputs = 0;
-    for entry in entries {
+    for entry in journal.entries() {
         table.register(entry)?;
         outputs = valid_in(&table, entry);
     }

@@ -94,12 +94,13 @@ fn built(alloc: Global, outputs: &[Pair]) -> Result<Entry, Fail> {
     }
 }
 
-// Registers paths 0 and 3 in a table.
-fn register_two(alloc: Global, table: &mut Table) -> Result<(), Fail> {
+// The table of paths 0 and 3.
+fn two_paths(alloc: Global) -> Result<Table, Fail> {
+    let mut table = Table::new(alloc);
     for pair in [(P0, P0), (P3, P0)] {
         table.register(&Entry::Add(registration(alloc, pair.0, &[pair.1])?))?;
     }
-    Ok(())
+    Ok(table)
 }
 
 // Whether these of paths 0 to 4 are valid and no others.
@@ -132,16 +133,20 @@ fn is_obstacle(table: &Table, entry: &Entry, row: &Attempt) -> bool {
     }
 }
 
-// Whether the table of two paths answers as the row says, and has the row's paths then.
+// Whether the table answers for the entry as the row says, and has the row's paths then.
+fn answers(alloc: Global, table: &mut Table, entry: &Entry, row: &Attempt) -> Result<bool, Fail> {
+    Ok(
+        is_obstacle(table, entry, row)
+            && is_answered(table, entry, row)
+            && are_valid(alloc, table, &row.valid)?,
+    )
+}
+
+// Whether the table of two paths answers for the row's entry as the row says.
 fn holds(alloc: Global, row: &Attempt) -> Result<bool, Fail> {
     let entry = built(alloc, row.outputs)?;
-    let mut table = Table::new(alloc);
-    register_two(alloc, &mut table)?;
-    Ok(
-        is_obstacle(&table, &entry, row)
-            && is_answered(&mut table, &entry, row)
-            && are_valid(alloc, &table, &row.valid)?,
-    )
+    let mut table = two_paths(alloc)?;
+    answers(alloc, &mut table, &entry, row)
 }
 
 #[test]
@@ -156,9 +161,7 @@ fn registered_entries_and_obstacles(rt: HostRuntime) -> Result<(), Fail> {
 #[test]
 fn registered_record(rt: HostRuntime) -> Result<(), Fail> {
     let entry = registration(rt.alloc(), P3, &[P0])?;
-    let mut table = Table::new(rt.alloc());
-    register_two(rt.alloc(), &mut table)?;
-    assert!(rt; table.get(&entry.path) == Some(&entry.info));
+    assert!(rt; two_paths(rt.alloc())?.get(&entry.path) == Some(&entry.info));
     Ok(())
 }
 
