@@ -218,6 +218,12 @@ fn forecast(alloc: Global, row: &Row) -> Result<Forecast, Fail> {
     forecast_of(alloc, plan(alloc, row.roots)?, journal(alloc, row.before)?)
 }
 
+// The text of a row's forecast, and whether the forecast is whole.
+fn text_of(alloc: Global, row: &Row) -> Result<(Vec<u8>, bool), Fail> {
+    let forecast = forecast(alloc, row)?;
+    Ok((forecast.text()?, forecast.is_whole()))
+}
+
 // A report's piece in place of this piece of a forecast.
 fn reported(piece: &'static [u8]) -> &'static [u8] {
     if piece == BUILD {
@@ -255,10 +261,10 @@ fn run(alloc: Global, row: &Row) -> Result<Vec<u8>, Fail> {
 #[test]
 fn texts_of_forecasts(rt: HostRuntime) -> Result<(), Fail> {
     for row in &ROWS {
-        let forecast = forecast(rt.alloc(), row)?;
+        let (text, is_whole) = text_of(rt.alloc(), row)?;
         let told = joined(rt.alloc(), row.told)?;
-        assert_eq!(rt; forecast.text()?, told, "{}", row.label);
-        assert_eq!(rt; forecast.is_whole(), row.whole, "{}", row.label);
+        assert_eq!(rt; text, told, "{}", row.label);
+        assert_eq!(rt; is_whole, row.whole, "{}", row.label);
     }
     Ok(())
 }

@@ -4,6 +4,7 @@ ghost use Rattle.std.specs.Prelude.{◌≡◌};
 
 use crate::books::{journal, paths, plan, system};
 use crate::files::*;
+use drv_graph::Plan;
 use nix_names::StorePath;
 use sched_core::Book;
 use std::alloc::Global;
@@ -11,6 +12,7 @@ use std::marker::Brand;
 use std::process::Abort;
 use std::sync::{Mutex, Wait};
 use std::test::*;
+use valid_table::Journal;
 use valid_view::{Name, Naming, Tells, ViewFault, ViewReader, open};
 
 // A journal with the output of `BASE`.
@@ -42,19 +44,31 @@ fn asked_meanwhile<J: Naming, O: Tells<J>, R: Wait>(
     (answer, entries)
 }
 
+// The same for the book of a run over a plan that opens with a journal.
+fn asked_of_book<J: Naming + Send, R: Wait>(
+    rt: &R,
+    alloc: Global,
+    name: Name,
+    plan: Plan,
+    journal: Journal,
+    roots: &[StorePath],
+) -> Result<(Vec<StorePath>, usize), Fail>
+    requires { name ≡ J.book }
+{
+    let system = system(alloc)?;
+    let (outlet, mut readers) = open::<J, &R>(alloc, rt, name, &journal, 1)?;
+    let book = Book::open(alloc, plan, journal, system, outlet)?;
+    let (answer, entries) = asked_meanwhile::<J, _, R>(rt, alloc, book, &mut readers[0], roots);
+    Ok((answer?, entries))
+}
+
 fn asked<J: Naming + Send, R: Wait + Abort>(rt: &R, alloc: Global, name: Name) -> Result<(), Fail>
     requires { name ≡ J.book }
 {
-    let (plan, journal, system) = (
-        plan(alloc, &[BASE])?,
-        journal(alloc, BEFORE)?,
-        system(alloc)?,
-    );
-    let (copy, roots) = (journal.copy(alloc)?, paths(alloc, &[BASE_OUT])?);
-    let (outlet, mut readers) = open::<J, &R>(alloc, rt, name, &journal, 1)?;
-    let book = Book::open(alloc, plan, copy, system, outlet)?;
-    let (answer, entries) = asked_meanwhile::<J, _, R>(rt, alloc, book, &mut readers[0], &roots);
-    assert!(rt; answer? == roots);
+    let roots = paths(alloc, &[BASE_OUT])?;
+    let (journal, plan) = (journal(alloc, BEFORE)?, plan(alloc, &[BASE])?);
+    let (answer, entries) = asked_of_book::<J, R>(rt, alloc, name, plan, journal, &roots)?;
+    assert!(rt; answer == roots);
     assert_eq!(rt; entries, 1);
     Ok(())
 }

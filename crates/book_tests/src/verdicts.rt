@@ -118,14 +118,20 @@ pub(crate) fn ended_well(trees: Vec<Option<Tree>>) -> Answer {
     }
 }
 
-// The verdict on files with these bytes, at the three outputs.
-fn verdict(alloc: Global, files: &[&[u8]]) -> Result<Result<Checked, Reason>, Fail> {
-    let job = small_job(alloc, Kind::Addressed, 3)?;
-    let permitted = paths(alloc, DEV, DOC, OUT)?;
+// Files with these bytes.
+fn file_trees(alloc: Global, files: &[&[u8]]) -> Result<Vec<Option<Tree>>, Fail> {
     let mut trees = Vec::new(alloc);
     for bytes in files {
         trees.push(Some(file(alloc, bytes)?))?;
     }
+    Ok(trees)
+}
+
+// The verdict on files with these bytes, at the three outputs.
+fn verdict(alloc: Global, files: &[&[u8]]) -> Result<Result<Checked, Reason>, Fail> {
+    let trees = file_trees(alloc, files)?;
+    let permitted = paths(alloc, DEV, DOC, OUT)?;
+    let job = small_job(alloc, Kind::Addressed, 3)?;
     Ok(examine(alloc, &job, &permitted, ended_well(trees)))
 }
 
@@ -262,14 +268,20 @@ const ROWS: [Row; 17] = [
     },
 ];
 
-// The reason why a row isn't built, if there is one.
-fn reason(alloc: Global, row: &Row) -> Result<Option<Reason>, Fail> {
-    let job = small_job(alloc, row.kind, row.left.len())?;
-    let permitted = paths(alloc, DEV, DOC, OUT)?;
+// What is left at the outputs.
+fn left_trees(alloc: Global, all: &[Left]) -> Result<Vec<Option<Tree>>, Fail> {
     let mut trees = Vec::new(alloc);
-    for left in row.left {
+    for left in all {
         trees.push(tree(alloc, left)?)?;
     }
+    Ok(trees)
+}
+
+// The reason why a row isn't built, if there is one.
+fn reason(alloc: Global, row: &Row) -> Result<Option<Reason>, Fail> {
+    let trees = left_trees(alloc, row.left)?;
+    let permitted = paths(alloc, DEV, DOC, OUT)?;
+    let job = small_job(alloc, row.kind, row.left.len())?;
     let status = row.status;
     Ok(examine(alloc, &job, &permitted, Answer { status, trees }).err())
 }
@@ -328,15 +340,21 @@ fn large_job(alloc: Global) -> Result<Job, Fail> {
     Ok(job(alloc, Kind::Addressed, outputs))
 }
 
-// The verdict on many outputs: each holds the path of the next one, the last one these bytes.
-fn verdict_on_many(alloc: Global, last: &[u8]) -> Result<Result<Checked, Reason>, Fail> {
-    let job = large_job(alloc)?;
-    let permitted = permitted_beside(alloc, Vec::new(alloc), &job)?;
+// Files that hold the paths of many outputs but the first, in order, and a file with these bytes.
+fn many_trees(alloc: Global, last: &[u8]) -> Result<Vec<Option<Tree>>, Fail> {
     let mut trees = Vec::new(alloc);
     for number in 1..MANY {
         trees.push(Some(file(alloc, &numbered(number))?))?;
     }
     trees.push(Some(file(alloc, last)?))?;
+    Ok(trees)
+}
+
+// The verdict on many outputs: each holds the path of the next one, the last one these bytes.
+fn verdict_on_many(alloc: Global, last: &[u8]) -> Result<Result<Checked, Reason>, Fail> {
+    let trees = many_trees(alloc, last)?;
+    let job = large_job(alloc)?;
+    let permitted = permitted_beside(alloc, Vec::new(alloc), &job)?;
     Ok(examine(alloc, &job, &permitted, ended_well(trees)))
 }
 
