@@ -6,7 +6,6 @@ use super::traces::realised;
 use crate::books::plan;
 use crate::builders::{Script, answer};
 use crate::files::*;
-use drv_graph::Plan;
 use sched_core::{Answer, Build, Event, Job, Reason, Watch};
 use std::alloc::Global;
 use std::sync::Wait;
@@ -102,11 +101,10 @@ fn are_numbered(heard: &Heard, events: &[Event]) -> bool {
     begun.count() == built.count() && events.iter().all(|event| is_numbered(heard, event))
 }
 
-// What is heard of a run over a plan by `workers` workers; none where a number is wrong.
+// What is heard of a run over a diamond by `workers` workers; none where a number is wrong.
 fn heard_of<R: Threads + Wait + Sync>(
     rt: &R,
     alloc: Global,
-    plan: &Plan,
     scripts: &'static [Script],
     workers: usize,
 ) -> Result<Option<(u64, u64, u64)>, Fail> {
@@ -117,7 +115,8 @@ fn heard_of<R: Threads + Wait + Sync>(
         heard,
     };
     let builders = vec![in alloc; listening; workers]?;
-    let events = realised(rt, alloc, plan, &Journal::new(alloc), builders)?.events;
+    let plan = plan(alloc, &[TOP])?;
+    let events = realised(rt, alloc, &plan, &Journal::new(alloc), builders)?.events;
     if !are_numbered(heard, &events) {
         return Ok(None);
     }
@@ -137,9 +136,8 @@ fn numbers_of_leases_and_of_what_is_left(rt: HostRuntime) -> Result<(), Fail> {
         status: Some(7),
         files: &[],
     }];
-    let plan = plan(rt.alloc(), &[TOP])?;
     for workers in [1, 2, 4, 64] {
-        match heard_of(&rt, rt.alloc(), &plan, &[], workers)? {
+        match heard_of(&rt, rt.alloc(), &[], workers)? {
             Some((begun, ended, good)) => {
                 assert_eq!(rt;
                     (begun | 0b100, ended, good),
@@ -149,7 +147,7 @@ fn numbers_of_leases_and_of_what_is_left(rt: HostRuntime) -> Result<(), Fail> {
             }
             None => return Err("a builder is run under another number than its lease's".into()),
         }
-        let heard = heard_of(&rt, rt.alloc(), &plan, FAILS, workers)?;
+        let heard = heard_of(&rt, rt.alloc(), FAILS, workers)?;
         assert_eq!(rt;
             heard,
             Some((0b10000, 0b1, 0)),
