@@ -1,14 +1,16 @@
 //! Tests of loading.
-use drv_graph::{GraphFault, NodeFault, Plan};
+use drv_graph::Plan;
 use files::*;
-use nix_drv::{DrvFault, ListSource, ListedFile, read, references, text_path};
+use nix_drv::{ListSource, ListedFile, read, references, text_path};
 use nix_files::nix_files;
 use nix_names::{StoreDir, StorePath, make_path, parse_path};
 use output_files::output_files;
 use std::alloc::{AllocError, Global};
 use std::test::*;
+use told::{told_from, told_of};
 use twin_files::*;
 
+mod chains;
 mod digests;
 mod files;
 mod filling;
@@ -18,6 +20,7 @@ mod orders;
 mod output_files;
 mod outputs;
 mod plans;
+mod told;
 mod twin_files;
 mod twins;
 mod words;
@@ -47,11 +50,16 @@ fn all_files(alloc: Global) -> Result<Vec<ListedFile>, AllocError> {
     Ok(files)
 }
 
+// The source of these files, in which the fetches with these numbers fail.
+fn source_of(alloc: Global, files: Vec<ListedFile>, failing: &[u64]) -> Result<ListSource, Fail> {
+    let failing = Vec::from_slice(alloc, failing)?;
+    Ok(ListSource::new(alloc, files, failing)?)
+}
+
 // The source of all files, in which the fetches with these numbers fail.
 fn all_but(alloc: Global, failing: &[u64]) -> Result<ListSource, Fail> {
     let files = all_files(alloc)?;
-    let failing = Vec::from_slice(alloc, failing)?;
-    Ok(ListSource::new(alloc, files, failing)?)
+    source_of(alloc, files, failing)
 }
 
 fn parse_all(alloc: Global, dir: &StoreDir, texts: &[&[u8]]) -> Result<Vec<StorePath>, Fail> {
@@ -62,26 +70,17 @@ fn parse_all(alloc: Global, dir: &StoreDir, texts: &[&[u8]]) -> Result<Vec<Store
     Ok(paths)
 }
 
-// What loading answers for roots at these paths.
-fn load(
-    alloc: Global,
-    source: &mut ListSource,
-    roots: &[&[u8]],
-) -> Result<Result<Plan, GraphFault>, Fail> {
+// The plan of roots at these paths.
+fn plan_from(alloc: Global, source: &mut ListSource, roots: &[&[u8]]) -> Result<Plan, Fail> {
     let dir = StoreDir::new(alloc, b"/nix/store")?;
     let roots = parse_all(alloc, &dir, roots)?;
-    Ok(Plan::load(alloc, source, &dir, &roots))
-}
-
-// What loading answers for roots among all files.
-fn load_all(alloc: Global, roots: &[&[u8]]) -> Result<Result<Plan, GraphFault>, Fail> {
-    let mut source = all_but(alloc, &[])?;
-    load(alloc, &mut source, roots)
+    Ok(Plan::load(alloc, source, &dir, &roots)?)
 }
 
 // The plan of roots among all files.
 fn plan_of(alloc: Global, roots: &[&[u8]]) -> Result<Plan, Fail> {
-    Ok(load_all(alloc, roots)??)
+    let mut source = all_but(alloc, &[])?;
+    plan_from(alloc, &mut source, roots)
 }
 
 // Roots, the paths of their plan with the numbers of the inputs of each, and the roots' numbers.
@@ -294,28 +293,11 @@ fn fault_rows() -> &'static [FaultRow] {
     &FAULT_ROWS
 }
 
-// Whether loading found the fault with this number at the path.
-fn is_blamed(answer: &Result<Plan, GraphFault>, at: &[u8], number: u8) -> bool {
-    match answer {
-        Err(GraphFault::At(path, fault)) => path.text() == at && fault.number() == number,
-        _ => false,
-    }
-}
-
-// Whether the fault of loading names this path, or no path if this is empty. Faults of outputs are
-// not looked into.
-fn has_named(answer: &Result<Plan, GraphFault>, path: &[u8]) -> bool {
-    match answer {
-        Err(GraphFault::At(_, NodeFault::Text(DrvFault::TextPathMismatch(own)))) => {
-            own.text() == path
-        }
-        _ => path.is_empty(),
-    }
-}
-
+// Whether loading finds the row's fault. What faults of outputs name isn't looked into.
 fn has_fault(alloc: Global, row: &FaultRow) -> Result<bool, Fail> {
-    let answer = load_all(alloc, row.roots)?;
-    Ok(is_blamed(&answer, row.at, row.number) && has_named(&answer, row.named))
+    let told = told_of(alloc, row.roots, row.at, (b"", row.named))?;
+    let is_named = told.is_named || row.named.is_empty();
+    Ok(told.number == row.number && told.is_at && is_named)
 }
 
 #[test]
@@ -339,8 +321,8 @@ static FETCHES: [(u64, &[u8]); 6] = [
 // Whether loading `BOTH` fails at the path, if the fetch with this number fails; once.
 fn is_failed_fetch(alloc: Global, number: u64, path: &[u8]) -> Result<bool, Fail> {
     let mut source = all_but(alloc, &[number])?;
-    let answer = load(alloc, &mut source, &[BOTH])?;
-    Ok(is_blamed(&answer, path, 20) && source.failures() == 1)
+    let told = told_from(alloc, &mut source, &[BOTH], path, (b"", b""))?;
+    Ok(told.number == 20 && told.is_at && source.failures() == 1)
 }
 
 #[test]
@@ -354,11 +336,16 @@ fn each_fetch_that_fails(rt: HostRuntime) -> Result<(), Fail> {
     Ok(())
 }
 
+// How many fetches fail while `BOTH` and `USER` are loaded, if that with this number does.
+fn failures_past(alloc: Global, number: u64) -> Result<u64, Fail> {
+    let mut source = all_but(alloc, &[number])?;
+    drop(plan_from(alloc, &mut source, &[BOTH, USER])?);
+    Ok(source.failures())
+}
+
 #[test]
 fn each_path_is_fetched_once(rt: HostRuntime) -> Result<(), Fail> {
-    let mut source = all_but(rt.alloc(), &[6])?;
-    let answer = load(rt.alloc(), &mut source, &[BOTH, USER])?;
-    assert!(rt; answer.is_ok() && source.failures() == 0);
+    assert!(rt; failures_past(rt.alloc(), 6)? == 0);
     Ok(())
 }
 
@@ -393,16 +380,14 @@ fn link_text(
     let mut digest = [0; 32];
     digest[..4].copy_from_slice(&place.to_be_bytes());
     let output = make_path(alloc, b"source", &digest, dir, b"link")?;
-    let mut text = Vec::new(alloc);
-    for part in [
-        b"Derive([(\"out\",\"".as_slice(),
+    let parts: [&[u8]; 5] = [
+        b"Derive([(\"out\",\"",
         output.text(),
         b"\",\"r:sha256\",\"",
         &digits_of(&digest),
         b"\")],[",
-    ] {
-        text.extend_from_slice(part)?;
-    }
+    ];
+    let mut text = parts.concat(alloc)?;
     add_inputs(&mut text, inputs)?;
     text.extend_from_slice(b"],[],\"s\",\"b\",[],[])")?;
     Ok(text)
@@ -421,66 +406,4 @@ fn add_text(
     let path = text_path(alloc, dir, name, &text, &refs)?;
     push_file(alloc, files, path.text(), text)?;
     Ok(path)
-}
-
-// Adds a user of a derivation, and gives its path.
-fn add_link(
-    alloc: Global,
-    dir: &StoreDir,
-    files: &mut Vec<ListedFile>,
-    place: u32,
-    below: &StorePath,
-) -> Result<StorePath, Fail> {
-    let text = link_text(alloc, dir, place, std::slice::from_ref(below))?;
-    let path = text_path(alloc, dir, b"link.drv", &text, std::slice::from_ref(below))?;
-    push_file(alloc, files, path.text(), text)?;
-    Ok(path)
-}
-
-// Adds a chain of `count` derivations, of which `LEAF` is the first, and gives the path of the
-// last.
-fn add_chain(
-    alloc: Global,
-    dir: &StoreDir,
-    files: &mut Vec<ListedFile>,
-    count: u32,
-) -> Result<StorePath, Fail> {
-    let mut last = parse_path(alloc, dir, LEAF)?;
-    for place in 1..count {
-        last = add_link(alloc, dir, files, place, &last)?;
-    }
-    Ok(last)
-}
-
-// What loading a chain of `count` derivations answers, where the fetches with these numbers fail.
-// `LEAF` has the text `leaf`, if that isn't empty.
-fn load_chain(
-    alloc: Global,
-    count: u32,
-    leaf: &[u8],
-    failing: &[u64],
-) -> Result<Result<Plan, GraphFault>, Fail> {
-    let dir = StoreDir::new(alloc, b"/nix/store")?;
-    let mut files = Vec::new(alloc);
-    if !leaf.is_empty() {
-        push_file(alloc, &mut files, LEAF, Vec::from_slice(alloc, leaf)?)?;
-    }
-    files.append(&mut all_files(alloc)?)?;
-    let last = add_chain(alloc, &dir, &mut files, count)?;
-    let mut source = ListSource::new(alloc, files, Vec::from_slice(alloc, failing)?)?;
-    Ok(Plan::load(alloc, &mut source, &dir, std::slice::from_ref(&last)))
-}
-
-#[test]
-fn longest_chain(rt: HostRuntime) -> Result<(), Fail> {
-    let plan = load_chain(rt.alloc(), 65_536, b"", &[])??;
-    assert!(rt; plan.len() == 65_536 && plan.roots() == [65_535].as_slice());
-    Ok(())
-}
-
-#[test]
-fn chain_that_is_too_long(rt: HostRuntime) -> Result<(), Fail> {
-    let answer = load_chain(rt.alloc(), 65_537, b"", &[])?;
-    assert!(rt; is_blamed(&answer, LEAF, 22));
-    Ok(())
 }

@@ -1,10 +1,9 @@
 //! Tests of the methods and the hashes of fixed outputs: which are accepted and which aren't, and
 //! that the digests of one file by several algorithms have different paths.
+use super::orders::told_of_text;
 use super::output_files::*;
-use super::{add_text, plan_of};
+use super::plan_of;
 use drv_graph::Plan;
-use nix_drv::ListSource;
-use nix_names::StoreDir;
 use std::alloc::{AllocError, Global};
 use std::test::*;
 
@@ -68,31 +67,22 @@ static REFUSED_ROWS: [HashRow; 39] = [
 // The text of a derivation whose output has this method and this hash, and a wrong path.
 fn fixed_text(alloc: Global, row: &HashRow) -> Result<Vec<u8>, AllocError> {
     let hash = vec![in alloc; row.1; row.2]?;
-    let mut text = Vec::new(alloc);
-    for part in [
-        b"Derive([(\"out\",\"/nix/store/r123a5k0knwphqj2cp79ija7kwj69did-some\",\"".as_slice(),
+    let parts: [&[u8]; 5] = [
+        b"Derive([(\"out\",\"/nix/store/r123a5k0knwphqj2cp79ija7kwj69did-some\",\"",
         row.0,
         b"\",\"",
         &hash,
         b"\")],[],[],\"s\",\"b\",[],[])",
-    ] {
-        text.extend_from_slice(part)?;
-    }
-    Ok(text)
+    ];
+    parts.concat(alloc)
 }
 
 // The number of the fault of such a derivation: that of the path, where method and hash are
 // accepted.
 fn number_of(alloc: Global, row: &HashRow) -> Result<u8, Fail> {
-    let dir = StoreDir::new(alloc, b"/nix/store")?;
-    let mut files = Vec::new(alloc);
     let text = fixed_text(alloc, row)?;
-    let root = add_text(alloc, &dir, &mut files, b"some.drv", text)?;
-    let mut source = ListSource::new(alloc, files, Vec::new(alloc))?;
-    match Plan::load(alloc, &mut source, &dir, std::slice::from_ref(&root)) {
-        Ok(_) => Ok(0),
-        Err(fault) => Ok(fault.number()),
-    }
+    let told = told_of_text(alloc, b"some.drv", text, b"")?;
+    Ok(told.number)
 }
 
 fn taken_rows() -> &'static [HashRow] {

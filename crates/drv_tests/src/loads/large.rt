@@ -1,5 +1,5 @@
 //! Tests of large plans, for which memory is granted: many inputs, outputs and steps.
-use super::{add_text, link_text, push_file};
+use super::{add_text, link_text, plan_from, source_of};
 use drv_graph::{Plan, fill_outputs};
 use nix_drv::{Derivation, ListSource, ListedFile, read, write};
 use nix_names::{StoreDir, StorePath};
@@ -32,16 +32,29 @@ fn steps_of(plan: &Plan) -> usize {
     steps
 }
 
-#[test]
-fn plan_of_200_000_steps(rt: HostRuntime) -> Result<(), Fail> {
-    let alloc = rt.alloc();
+// Adds 100 derivations and 2,000 users of them all, and gives the users' paths.
+fn add_layers(
+    alloc: Global,
+    dir: &StoreDir,
+    files: &mut Vec<ListedFile>,
+) -> Result<Vec<StorePath>, Fail> {
+    let leaves = add_users(alloc, dir, files, 0..100, &[])?;
+    add_users(alloc, dir, files, 100..2_100, &leaves)
+}
+
+// The numbers of derivations and of steps in the plan of those users.
+fn sizes_of_layers(alloc: Global) -> Result<(usize, usize), Fail> {
     let dir = StoreDir::new(alloc, b"/nix/store")?;
     let mut files = Vec::new(alloc);
-    let leaves = add_users(alloc, &dir, &mut files, 0..100, &[])?;
-    let users = add_users(alloc, &dir, &mut files, 100..2_100, &leaves)?;
-    let mut source = ListSource::new(alloc, files, Vec::new(alloc))?;
+    let users = add_layers(alloc, &dir, &mut files)?;
+    let mut source = source_of(alloc, files, &[])?;
     let plan = Plan::load(alloc, &mut source, &dir, &users)?;
-    let (len, steps) = (plan.len(), steps_of(&plan));
+    Ok((plan.len(), steps_of(&plan)))
+}
+
+#[test]
+fn plan_of_200_000_steps(rt: HostRuntime) -> Result<(), Fail> {
+    let (len, steps) = sizes_of_layers(rt.alloc())?;
     assert!(rt;
         len == 2_100 && steps == 200_000,
         "got {len} with {steps} steps"
@@ -62,35 +75,61 @@ fn wide_text(alloc: Global, inputs: &[StorePath]) -> Result<Vec<u8>, Fail> {
     Ok(text)
 }
 
-// The wide draft with these files as inputs, filled.
-fn fill_wide(
-    alloc: Global,
-    dir: &StoreDir,
-    files: Vec<ListedFile>,
-    inputs: &[StorePath],
-) -> Result<(Derivation, StorePath), Fail> {
-    let draft = read(alloc, &wide_text(alloc, inputs)?)?;
-    let mut source = ListSource::new(alloc, files, Vec::new(alloc))?;
-    Ok(fill_outputs(alloc, &mut source, dir, b"wide", &draft)?)
+// The file of a derivation.
+fn file_of(alloc: Global, drv: &Derivation, path: &StorePath) -> Result<ListedFile, Fail> {
+    let path = Vec::from_slice(alloc, path.text())?;
+    let bytes = write(alloc, drv)?;
+    Ok(ListedFile { path, bytes })
 }
 
-// The number of derivations in the plan of the wide derivation, and the number of outputs of the
-// last.
-fn wide_plan(alloc: Global) -> Result<(usize, usize), Fail> {
-    let dir = StoreDir::new(alloc, b"/nix/store")?;
+// The file of the wide draft with these inputs, filled.
+fn fill_wide(
+    alloc: Global,
+    source: &mut ListSource,
+    dir: &StoreDir,
+    inputs: &[StorePath],
+) -> Result<ListedFile, Fail> {
+    let draft = read(alloc, &wide_text(alloc, inputs)?)?;
+    let (filled, path) = fill_outputs(alloc, source, dir, b"wide", &draft)?;
+    file_of(alloc, &filled, &path)
+}
+
+// The file of the wide draft with 3,000 inputs, filled.
+fn wide_file(alloc: Global, dir: &StoreDir) -> Result<ListedFile, Fail> {
     let mut files = Vec::new(alloc);
-    let inputs = add_users(alloc, &dir, &mut files, 0..3_000, &[])?;
-    let (filled, path) = fill_wide(alloc, &dir, files, &inputs)?;
-    let mut files = Vec::new(alloc);
-    let _ = add_users(alloc, &dir, &mut files, 0..3_000, &[])?;
-    push_file(alloc, &mut files, path.text(), write(alloc, &filled)?)?;
-    let mut source = ListSource::new(alloc, files, Vec::new(alloc))?;
-    let plan = Plan::load(alloc, &mut source, &dir, std::slice::from_ref(&path))?;
+    let inputs = add_users(alloc, dir, &mut files, 0..3_000, &[])?;
+    let mut source = source_of(alloc, files, &[])?;
+    fill_wide(alloc, &mut source, dir, &inputs)
+}
+
+// The source of the wide derivation and its inputs.
+fn wide_source(alloc: Global, dir: &StoreDir, wide: ListedFile) -> Result<ListSource, Fail> {
+    let mut files = vec![in alloc; wide]?;
+    let _ = add_users(alloc, dir, &mut files, 0..3_000, &[])?;
+    source_of(alloc, files, &[])
+}
+
+// The number of derivations in the plan of a root, and the number of outputs of the last.
+fn sizes_of_plan(
+    alloc: Global,
+    source: &mut ListSource,
+    root: &[u8],
+) -> Result<(usize, usize), Fail> {
+    let plan = plan_from(alloc, source, &[root])?;
     let outputs = match plan.len().checked_sub(1) {
         Some(last) => plan.output_paths(last).len(),
         None => 0,
     };
     Ok((plan.len(), outputs))
+}
+
+// The same for the wide derivation.
+fn wide_plan(alloc: Global) -> Result<(usize, usize), Fail> {
+    let dir = StoreDir::new(alloc, b"/nix/store")?;
+    let wide = wide_file(alloc, &dir)?;
+    let root = Vec::from_slice(alloc, &wide.path)?;
+    let mut source = wide_source(alloc, &dir, wide)?;
+    sizes_of_plan(alloc, &mut source, &root)
 }
 
 #[test]

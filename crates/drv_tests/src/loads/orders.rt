@@ -1,10 +1,11 @@
 //! Tests of the order of faults: derivations and drafts with two faults, of which one is answered.
 use super::files::*;
-use super::{add_text, all_files, is_blamed, load, load_chain, push_file};
-use drv_graph::{GraphFault, Plan, fill_outputs};
-use nix_drv::{ListSource, read};
-use nix_names::{StoreDir, parse_path};
-use std::alloc::Global;
+use super::filling::told_of_filling;
+use super::told::{Blame, told_from};
+use super::{add_text, all_files, push_file, source_of};
+use nix_drv::read;
+use nix_names::StoreDir;
+use std::alloc::{AllocError, Global};
 use std::test::*;
 
 // A derivation with two faults: the name of its file and its text, the number of the answered
@@ -55,36 +56,32 @@ static PAIR_ROWS: [PairRow; 5] = [
     },
 ];
 
-// The number of the fault that is answered for the row's derivation after `LEAF`, and whether the
-// wanted path is blamed.
-fn told_of(alloc: Global, row: &PairRow) -> Result<(u8, bool), Fail> {
+/// What is told of loading `LEAF` and a new derivation, of which a file with this name has the
+/// text. The path that is to be blamed is `at`; an empty one is the derivation's own.
+pub(crate) fn told_of_text(
+    alloc: Global,
+    name: &[u8],
+    text: Vec<u8>,
+    at: &[u8],
+) -> Result<Blame, Fail> {
     let dir = StoreDir::new(alloc, b"/nix/store")?;
     let mut files = all_files(alloc)?;
-    let path = add_text(
-        alloc,
-        &dir,
-        &mut files,
-        row.name,
-        Vec::from_slice(alloc, row.text)?,
-    )?;
-    let wanted = if row.at.is_empty() {
-        path.text()
-    } else {
-        row.at
-    };
-    let roots = vec![in alloc; parse_path(alloc, &dir, LEAF)?, path.copy(alloc)?]?;
-    let mut source = ListSource::new(alloc, files, Vec::new(alloc))?;
-    match Plan::load(alloc, &mut source, &dir, &roots) {
-        Err(GraphFault::At(at, fault)) => Ok((fault.number(), at.text() == wanted)),
-        Err(fault) => Ok((fault.number(), false)),
-        Ok(_) => Ok((0, false)),
-    }
+    let path = add_text(alloc, &dir, &mut files, name, text)?;
+    let mut source = source_of(alloc, files, &[])?;
+    let at = if at.is_empty() { path.text() } else { at };
+    told_from(alloc, &mut source, &[LEAF, path.text()], at, (b"", b""))
+}
+
+fn told_of_row(alloc: Global, row: &PairRow) -> Result<(u8, bool), Fail> {
+    let text = Vec::from_slice(alloc, row.text)?;
+    let told = told_of_text(alloc, row.name, text, row.at)?;
+    Ok((told.number, told.is_at))
 }
 
 #[test]
 fn first_of_two_faults(rt: HostRuntime) -> Result<(), Fail> {
     for row in &PAIR_ROWS {
-        let (number, at_path) = told_of(rt.alloc(), row)?;
+        let (number, at_path) = told_of_row(rt.alloc(), row)?;
         assert!(rt;
             number == row.number && at_path,
             "{}: wanted {}, got {number}, there: {at_path}",
@@ -95,18 +92,27 @@ fn first_of_two_faults(rt: HostRuntime) -> Result<(), Fail> {
     Ok(())
 }
 
-// A fault of a text is answered before its inputs are fetched: this text isn't at its own path, and
-// its input is missing.
-#[test]
-fn text_before_an_input(rt: HostRuntime) -> Result<(), Fail> {
-    let alloc = rt.alloc();
-    let text =
-        b"Derive([],[(\"/nix/store/w2izfm307infjbsm5nrnqlvm5gvqmf3s-gone.drv\",[\"out\"])],[],\"s\",\"b\",[],[])";
+// A text that isn't at its own path, and whose input is missing.
+const MOVED_USER: &[u8] =
+    b"Derive([],[(\"/nix/store/w2izfm307infjbsm5nrnqlvm5gvqmf3s-gone.drv\",[\"out\"])],[],\"s\",\"b\",[],[])";
+
+// The number of the fault that loading finds at `MOVED`, if it finds it there; a file at that path
+// with this text is the only one.
+fn blamed_on_moved(alloc: Global, text: &[u8]) -> Result<Option<u8>, Fail> {
     let mut files = Vec::new(alloc);
     push_file(alloc, &mut files, MOVED, Vec::from_slice(alloc, text)?)?;
-    let mut source = ListSource::new(alloc, files, Vec::new(alloc))?;
-    let answer = load(alloc, &mut source, &[MOVED])?;
-    assert!(rt; is_blamed(&answer, MOVED, 13));
+    let mut source = source_of(alloc, files, &[])?;
+    let told = told_from(alloc, &mut source, &[MOVED], MOVED, (b"", b""))?;
+    if told.is_at {
+        return Ok(Some(told.number));
+    }
+    Ok(None)
+}
+
+// A fault of a text is answered before its inputs are fetched.
+#[test]
+fn text_before_an_input(rt: HostRuntime) -> Result<(), Fail> {
+    assert!(rt; blamed_on_moved(rt.alloc(), MOVED_USER)? == Some(13));
     Ok(())
 }
 
@@ -160,14 +166,9 @@ static DRAFT_ROWS: [DraftRow; 5] = [
 
 // What is answered for a draft with this text: the fault's number, and whether it is an input's.
 fn told_of_draft(alloc: Global, name: &[u8], text: &[u8]) -> Result<(u8, bool), Fail> {
-    let dir = StoreDir::new(alloc, b"/nix/store")?;
     let draft = read(alloc, text)?;
-    let mut source = ListSource::new(alloc, all_files(alloc)?, Vec::new(alloc))?;
-    match fill_outputs(alloc, &mut source, &dir, name, &draft) {
-        Err(GraphFault::At(_, fault)) => Ok((fault.number(), true)),
-        Err(fault) => Ok((fault.number(), false)),
-        Ok(_) => Ok((0, false)),
-    }
+    let told = told_of_filling(alloc, name, &draft, b"")?;
+    Ok((told.number, told.is_of_input))
 }
 
 #[test]
@@ -186,13 +187,16 @@ fn first_of_two_faults_of_a_draft(rt: HostRuntime) -> Result<(), Fail> {
 
 // A draft's text within the limit, which is too long once the output's path is put into it; with
 // these sources, of which one may be outside the folder.
-fn long_text(alloc: Global, sources: &[u8]) -> Result<Vec<u8>, Fail> {
-    let mut text = Vec::from_slice(alloc, b"Derive([(\"out\",\"\",\"\",\"\")],[],[")?;
-    text.extend_from_slice(sources)?;
-    text.extend_from_slice(b"],\"s\",\"")?;
-    text.append(&mut vec![in alloc; b'b'; 4_194_304 - 64]?)?;
-    text.extend_from_slice(b"\",[],[])")?;
-    Ok(text)
+fn long_text(alloc: Global, sources: &[u8]) -> Result<Vec<u8>, AllocError> {
+    let builder = vec![in alloc; b'b'; 4_194_304 - 64]?;
+    let parts: [&[u8]; 5] = [
+        b"Derive([(\"out\",\"\",\"\",\"\")],[],[",
+        sources,
+        b"],\"s\",\"",
+        &builder,
+        b"\",[],[])",
+    ];
+    parts.concat(alloc)
 }
 
 #[test]
@@ -203,19 +207,5 @@ fn long_text_of_a_draft(rt: HostRuntime) -> Result<(), Fail> {
         let (number, _) = told_of_draft(rt.alloc(), b"some", &text)?;
         assert!(rt; number == *wanted, "wanted {wanted}, got {number}");
     }
-    Ok(())
-}
-
-#[test]
-fn a_fetch_that_fails_past_the_limit(rt: HostRuntime) -> Result<(), Fail> {
-    let answer = load_chain(rt.alloc(), 65_537, b"", &[65_536])?;
-    assert!(rt; is_blamed(&answer, LEAF, 20));
-    Ok(())
-}
-
-#[test]
-fn a_text_that_is_none_past_the_limit(rt: HostRuntime) -> Result<(), Fail> {
-    let answer = load_chain(rt.alloc(), 65_537, b"Derive", &[])?;
-    assert!(rt; is_blamed(&answer, LEAF, 22));
     Ok(())
 }

@@ -2,8 +2,9 @@
 use super::files::*;
 use super::nix_files::*;
 use super::output_files::*;
-use super::{is_blamed, load_all, plan_of};
-use drv_graph::{GraphFault, Kind, Method, NodeFault, OutputFault, Plan};
+use super::plan_of;
+use super::told::told_of;
+use drv_graph::{Kind, Method, Plan};
 use nix_names::{Digest, StorePath};
 use std::alloc::Global;
 use std::test::*;
@@ -364,37 +365,13 @@ static OUTPUT_ROWS: [OutputRow; 21] = [
     },
 ];
 
-// Whether a fault names this output and this path; empty ones stand for a fault that names none.
-fn names(fault: &OutputFault, output: &[u8], path: &[u8]) -> bool {
-    match fault {
-        OutputFault::UnknownMethod(name) | OutputFault::EnvMismatch(name) => {
-            name.as_slice() == output && path.is_empty()
-        }
-        OutputFault::UnknownOutput(input, name) => {
-            name.as_slice() == output && input.text() == path
-        }
-        OutputFault::OutputMismatch(name, expected) => {
-            name.as_slice() == output && expected.text() == path
-        }
-        _ => output.is_empty() && path.is_empty(),
-    }
-}
-
-// Whether loading found a fault of outputs that names this output and this path.
-fn is_named(answer: &Result<Plan, GraphFault>, output: &[u8], path: &[u8]) -> bool {
-    match answer {
-        Err(GraphFault::At(_, NodeFault::Outputs(fault))) => names(fault, output, path),
-        _ => false,
-    }
-}
-
 fn output_rows() -> &'static [OutputRow] {
     &OUTPUT_ROWS
 }
 
 fn is_wrong(alloc: Global, row: &OutputRow) -> Result<bool, Fail> {
-    let answer = load_all(alloc, &[row.at])?;
-    Ok(is_blamed(&answer, row.at, row.number) && is_named(&answer, row.output, row.path))
+    let told = told_of(alloc, &[row.at], row.at, (row.output, row.path))?;
+    Ok(told.number == row.number && told.is_at && told.is_named)
 }
 
 #[test]

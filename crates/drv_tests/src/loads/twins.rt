@@ -74,16 +74,16 @@ fn firsts(alloc: Global, plan: &Plan) -> Result<Vec<usize>, AllocError> {
     Ok(firsts)
 }
 
+fn firsts_of(alloc: Global, roots: &[&[u8]]) -> Result<Vec<usize>, Fail> {
+    let plan = plan_of(alloc, roots)?;
+    Ok(firsts(alloc, &plan)?)
+}
+
 #[test]
 fn first_twins(rt: HostRuntime) -> Result<(), Fail> {
     for row in first_rows() {
-        let plan = plan_of(rt.alloc(), row.roots)?;
-        assert_eq!(rt;
-            firsts(rt.alloc(), &plan)?.as_slice(),
-            row.firsts,
-            "{}",
-            row.label
-        );
+        let firsts = firsts_of(rt.alloc(), row.roots)?;
+        assert_eq!(rt; firsts.as_slice(), row.firsts, "{}", row.label);
     }
     Ok(())
 }
