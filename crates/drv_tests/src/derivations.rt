@@ -34,12 +34,18 @@ pub(crate) fn is_written_as(alloc: Global, drv: &Derivation, text: &[u8]) -> boo
     }
 }
 
-/// Whether parts make a derivation with this text.
-pub(crate) fn make_text(alloc: Global, parts: Parts, text: &[u8]) -> bool {
-    match Derivation::new(parts) {
-        Ok(drv) => is_written_as(alloc, &drv, text),
+// Whether an answer is a derivation that has this text.
+fn is_written(alloc: Global, answer: &Result<Derivation, DrvFault>, text: &[u8]) -> bool {
+    match answer {
+        Ok(drv) => is_written_as(alloc, drv, text),
         Err(_) => false,
     }
+}
+
+/// Whether parts make a derivation with this text.
+pub(crate) fn make_text(alloc: Global, parts: Parts, text: &[u8]) -> bool {
+    let answer = Derivation::new(parts);
+    is_written(alloc, &answer, text)
 }
 
 // A text, and what it says: the system, the builder, and the numbers of sources, arguments and
@@ -220,13 +226,19 @@ fn place_rows() -> &'static [PlaceRow] {
     &PLACE_ROWS
 }
 
-// Whether the bytes are refused at this place, for an order or for the syntax.
-fn is_refused_at(alloc: Global, text: &[u8], is_order: bool, place: usize) -> bool {
-    match read(alloc, text) {
-        Err(DrvFault::Syntax(at)) => !is_order && at == place,
-        Err(DrvFault::Order(at)) => is_order && at == place,
+// Whether an answer is a fault at this place, of an order or of the syntax.
+fn is_placed(answer: &Result<Derivation, DrvFault>, is_order: bool, place: usize) -> bool {
+    match answer {
+        Err(DrvFault::Syntax(at)) => !is_order && *at == place,
+        Err(DrvFault::Order(at)) => is_order && *at == place,
         _ => false,
     }
+}
+
+// Whether the bytes are refused at this place, for an order or for the syntax.
+fn is_refused_at(alloc: Global, text: &[u8], is_order: bool, place: usize) -> bool {
+    let answer = read(alloc, text);
+    is_placed(&answer, is_order, place)
 }
 
 #[test]
@@ -250,14 +262,19 @@ fn each_beginning_of_a_draft(rt: HostRuntime) {
     }
 }
 
+// Whether an answer is a derivation that has this text, or a fault at a place of at most 97.
+fn is_written_or_placed(alloc: Global, answer: &Result<Derivation, DrvFault>, text: &[u8]) -> bool {
+    match answer {
+        Err(DrvFault::Syntax(place) | DrvFault::Order(place)) => *place <= 97,
+        _ => is_written(alloc, answer, text),
+    }
+}
+
 // Whether the bytes are a derivation that is written back to the same bytes, or are refused at a
 // place of at most 97.
 fn is_read_or_placed(alloc: Global, text: &[u8]) -> bool {
-    match read(alloc, text) {
-        Ok(drv) => is_written_as(alloc, &drv, text),
-        Err(DrvFault::Syntax(place) | DrvFault::Order(place)) => place <= 97,
-        Err(_) => false,
-    }
+    let answer = read(alloc, text);
+    is_written_or_placed(alloc, &answer, text)
 }
 
 #[test]
@@ -272,10 +289,8 @@ fn each_byte_of_a_draft_replaced(rt: HostRuntime) {
 }
 
 fn is_written_back(alloc: Global, text: &[u8]) -> bool {
-    match read(alloc, text) {
-        Ok(drv) => is_written_as(alloc, &drv, text),
-        Err(_) => false,
-    }
+    let answer = read(alloc, text);
+    is_written(alloc, &answer, text)
 }
 
 #[test]
@@ -298,22 +313,32 @@ fn builder_is_escaped(rt: HostRuntime) -> Result<(), Fail> {
     Ok(())
 }
 
-fn push_entry(alloc: Global, env: &mut Vec<EnvEntry>, key: &[u8]) -> Result<(), AllocError> {
-    let key = Vec::from_slice(alloc, key)?;
-    let value = Vec::new(alloc);
-    env.push(EnvEntry { key, value })?;
-    Ok(())
+// An environment with these keys.
+fn env_of(alloc: Global, keys: &[&[u8]]) -> Result<Vec<EnvEntry>, AllocError> {
+    let mut env = Vec::new(alloc);
+    for key in keys {
+        let key = Vec::from_slice(alloc, key)?;
+        let value = Vec::new(alloc);
+        env.push(EnvEntry { key, value })?;
+    }
+    Ok(env)
+}
+
+fn args_of(alloc: Global, texts: &[&[u8]]) -> Result<Vec<Vec<u8>>, AllocError> {
+    let mut args = Vec::new(alloc);
+    for text in texts {
+        args.push(Vec::from_slice(alloc, text)?)?;
+    }
+    Ok(args)
 }
 
 // Parts with these environment keys and these arguments.
 fn with_texts(alloc: Global, keys: &[&[u8]], args: &[&[u8]]) -> Result<Parts, Fail> {
+    let env = env_of(alloc, keys)?;
+    let args = args_of(alloc, args)?;
     let mut parts = parts_of(alloc, NOTHING)?;
-    for key in keys {
-        push_entry(alloc, &mut parts.env, key)?;
-    }
-    for arg in args {
-        parts.args.push(Vec::from_slice(alloc, arg)?)?;
-    }
+    parts.env = env;
+    parts.args = args;
     Ok(parts)
 }
 

@@ -133,26 +133,23 @@ fn modulo_rows() -> &'static [ModuloRow] {
 }
 
 // Whether a derivation has the row's modulo text.
-fn has_modulo_text(alloc: Global, drv: &Derivation, row: &ModuloRow) -> bool {
+fn has_modulo_text(alloc: Global, drv: &Derivation, row: &ModuloRow) -> Result<bool, Fail> {
     if row.hashes.len() != drv.inputs().len() {
-        return false;
+        return Ok(false);
     }
-    match modulo_text(alloc, drv, row.hashes, row.is_masked) {
-        Ok(text) => text.as_slice() == row.expected,
-        Err(_) => false,
-    }
+    let text = modulo_text(alloc, drv, row.hashes, row.is_masked)?;
+    Ok(text.as_slice() == row.expected)
 }
 
-fn is_as_expected(alloc: Global, row: &ModuloRow) -> bool {
-    match read(alloc, row.text) {
-        Ok(drv) => has_modulo_text(alloc, &drv, row),
-        Err(_) => false,
-    }
+fn is_as_expected(alloc: Global, row: &ModuloRow) -> Result<bool, Fail> {
+    let drv = read(alloc, row.text)?;
+    has_modulo_text(alloc, &drv, row)
 }
 
 #[test]
-fn modulo_texts(rt: HostRuntime) {
+fn modulo_texts(rt: HostRuntime) -> Result<(), Fail> {
     for row in modulo_rows() {
-        assert!(rt; is_as_expected(rt.alloc(), row), "{}", row.label);
+        assert!(rt; is_as_expected(rt.alloc(), row)?, "{}", row.label);
     }
+    Ok(())
 }

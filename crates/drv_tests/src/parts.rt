@@ -1,6 +1,6 @@
 //! Parts taken out of derivations, texts with other inputs, and strings.
 use crate::derivations::{GREET, make_text, parts_of};
-use nix_drv::{Parts, write_string};
+use nix_drv::{Input, write_string};
 use std::alloc::Global;
 use std::test::Fail;
 
@@ -18,20 +18,24 @@ fn parts_make_the_derivation_again(rt: HostRuntime) -> Result<(), Fail> {
     Ok(())
 }
 
-// Whether the parts have the other text: once with the other inputs given beside them, and once
-// with these inputs as their own.
-fn change_text(alloc: Global, mut parts: Parts, other: Parts) -> Result<bool, Fail> {
-    let text = parts.text_with_inputs(alloc, &other.inputs)?;
+fn inputs_of(alloc: Global, text: &[u8]) -> Result<Vec<Input>, Fail> {
+    Ok(parts_of(alloc, text)?.inputs)
+}
+
+// Whether parts have the other text: once with the other inputs given beside them, and once with
+// these inputs as their own.
+fn takes_other_inputs(alloc: Global) -> Result<bool, Fail> {
+    let inputs = inputs_of(alloc, OTHER_INPUT)?;
+    let mut parts = parts_of(alloc, ONE_INPUT)?;
+    let text = parts.text_with_inputs(alloc, &inputs)?;
     let is_text = text.as_slice() == OTHER_INPUT;
-    parts.inputs = other.inputs;
-    Ok(is_text && make_text(alloc, parts, OTHER_INPUT))
+    parts.inputs = inputs;
+    Ok(make_text(alloc, parts, OTHER_INPUT) && is_text)
 }
 
 #[test]
 fn other_inputs_make_another_derivation(rt: HostRuntime) -> Result<(), Fail> {
-    let parts = parts_of(rt.alloc(), ONE_INPUT)?;
-    let other = parts_of(rt.alloc(), OTHER_INPUT)?;
-    assert!(rt; change_text(rt.alloc(), parts, other)?);
+    assert!(rt; takes_other_inputs(rt.alloc())?);
     Ok(())
 }
 

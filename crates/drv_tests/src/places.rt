@@ -45,6 +45,12 @@ static OTHERS: [&[u8]; 8] = [
     b"Derive([(\"dev\",\"/d\",\"\",\"\"),(\"doc\",\"/e\",\"\",\"\"),(\"out\",\"/o\",\"\",\"\")],[(\"/i\",[\"a\"])],[\"/s\"],\"sys\",\"/sh\",[\"z\"],[(\"a\",\"1\"),(\"a b\",\"3\"),(\"out\",\"/o\")])",
 ];
 
+// Whether a copy of the derivation is equal to it.
+fn is_copied(alloc: Global, drv: &Derivation) -> Result<bool, Fail> {
+    let copy = drv.copy(alloc)?;
+    Ok(copy == *drv)
+}
+
 // Whether the text is that of another derivation.
 fn is_other(alloc: Global, drv: &Derivation, text: &[u8]) -> bool {
     match read(alloc, text) {
@@ -56,8 +62,7 @@ fn is_other(alloc: Global, drv: &Derivation, text: &[u8]) -> bool {
 #[test]
 fn one_part_tells_derivations(rt: HostRuntime) -> Result<(), Fail> {
     let drv = read(rt.alloc(), TEXT)?;
-    let copy = drv.copy(rt.alloc())?;
-    assert!(rt; copy == drv, "a copy");
+    assert!(rt; is_copied(rt.alloc(), &drv)?, "a copy");
     for text in &OTHERS {
         assert!(rt; is_other(rt.alloc(), &drv, text));
     }

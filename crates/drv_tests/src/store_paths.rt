@@ -119,14 +119,25 @@ static MADE: [(&[u8], &[u8], &[u8]); 3] = [
     ),
 ];
 
+// Whether the path of this type and name has this text.
+fn is_made(
+    alloc: Global,
+    dir: &StoreDir,
+    kind: &[u8],
+    name: &[u8],
+    text: &[u8],
+) -> Result<bool, NameFault> {
+    let path = make_path(alloc, kind, &nothing(), dir, name)?;
+    Ok(path.text() == text)
+}
+
 #[test]
 fn paths_of_fingerprints(rt: HostRuntime) -> Result<(), Fail> {
     let dir = StoreDir::new(rt.alloc(), b"/nix/store")?;
     for (kind, name, text) in &MADE {
-        let path = make_path(rt.alloc(), kind, &nothing(), &dir, name)?;
-        assert!(rt; path.text() == *text);
+        assert!(rt; is_made(rt.alloc(), &dir, kind, name, text)?);
     }
-    let bad = make_path(rt.alloc(), b"text", &nothing(), &dir, b"..");
+    let bad = is_made(rt.alloc(), &dir, b"text", b"..", b"");
     assert!(rt; bad.err() == Some(NameFault::BadName));
     Ok(())
 }

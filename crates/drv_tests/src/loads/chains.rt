@@ -60,17 +60,17 @@ fn chain_of(
     Ok((source, last))
 }
 
-// The number of derivations in the plan of a chain of `count`, and whether its only root is the
-// last.
-fn plan_of_chain(alloc: Global, count: u32) -> Result<(usize, bool), Fail> {
-    let (mut source, last) = chain_of(alloc, all_files(alloc)?, count, &[])?;
+// The number of derivations in the plan of the longest chain, and whether its only root is the last.
+fn plan_of_longest(alloc: Global) -> Result<(usize, bool), Fail> {
+    let files = all_files(alloc)?;
+    let (mut source, last) = chain_of(alloc, files, 65_536, &[])?;
     let plan = plan_from(alloc, &mut source, &[last.text()])?;
     Ok((plan.len(), plan.roots() == [65_535].as_slice()))
 }
 
 #[test]
 fn longest_chain(rt: HostRuntime) -> Result<(), Fail> {
-    let (len, is_root) = plan_of_chain(rt.alloc(), 65_536)?;
+    let (len, is_root) = plan_of_longest(rt.alloc())?;
     assert!(rt; len == 65_536 && is_root, "{len} derivations");
     Ok(())
 }
