@@ -1,4 +1,6 @@
 //! Derivations at their own paths and at other paths, sources of files, and the numbers of faults.
+ghost use Rattle.nix_names.specs.Rising.{IsRising};
+
 use crate::nix_derivations::derivations;
 use nix_drv::{
     DrvFault, DrvSource, ListSource, ListedFile, MAX_LEN, SourceFault, check_text, text_path,
@@ -29,12 +31,25 @@ fn in_store(alloc: Global, text: &[u8]) -> Result<StorePath, Fail> {
     Ok(parse_path(alloc, &dir, text)?)
 }
 
+// Whether a text under this name, with these references, has this path.
+fn has_text_path(
+    alloc: Global,
+    name: &[u8],
+    text: &[u8],
+    refs: &[StorePath],
+    expected: &[u8],
+) -> Result<bool, Fail>
+    requires { IsRising refs.now }
+{
+    let dir = StoreDir::new(alloc, b"/nix/store")?;
+    let path = text_path(alloc, &dir, name, text, refs)?;
+    Ok(path.text() == expected)
+}
+
 #[test]
 fn text_path_without_references(rt: HostRuntime) -> Result<(), Fail> {
-    let dir = StoreDir::new(rt.alloc(), b"/nix/store")?;
-    let empty = text_path(rt.alloc(), &dir, b"empty", b"", &[])?;
-    let expected = b"/nix/store/wflv0hgb0qb1ddc5nxmsg0y9zjjhfvmh-empty".as_slice();
-    assert!(rt; empty.text() == expected);
+    let expected = b"/nix/store/wflv0hgb0qb1ddc5nxmsg0y9zjjhfvmh-empty";
+    assert!(rt; has_text_path(rt.alloc(), b"empty", b"", &[], expected)?);
     Ok(())
 }
 
@@ -48,10 +63,16 @@ fn two_sources(alloc: Global) -> Result<(StorePath, StorePath), Fail> {
 fn text_path_with_references(rt: HostRuntime) -> Result<(), Fail> {
     let (first, second) = two_sources(rt.alloc())?;
     assert!(rt; first < second);
-    let dir = StoreDir::new(rt.alloc(), b"/nix/store")?;
-    let own = text_path(rt.alloc(), &dir, b"x.drv", TWO_SOURCES, &[first, second])?;
-    let expected = b"/nix/store/w5j4lp0mpmc1qm8yan4ig1ka71pqaj6q-x.drv".as_slice();
-    assert!(rt; own.text() == expected);
+    let expected = b"/nix/store/w5j4lp0mpmc1qm8yan4ig1ka71pqaj6q-x.drv";
+    assert!(rt;
+        has_text_path(
+            rt.alloc(),
+            b"x.drv",
+            TWO_SOURCES,
+            &[first, second],
+            expected
+        )?
+    );
     Ok(())
 }
 
@@ -216,12 +237,20 @@ static LONG_ROWS: [(&[u8], Answer); 4] = [
     ),
 ];
 
+// Whether a check of the bytes has the answer of each row, at its path.
+fn all_answer(alloc: Global, rows: &[(&[u8], Answer)], bytes: &[u8]) -> Result<bool, Fail> {
+    for (path, answer) in rows {
+        if !answers(alloc, path, bytes, answer)? {
+            return Ok(false);
+        }
+    }
+    Ok(true)
+}
+
 #[test]
 fn too_long_text(rt: HostRuntime) -> Result<(), Fail> {
     let long = too_long(rt.alloc())?;
-    for (path, answer) in &LONG_ROWS {
-        assert!(rt; answers(rt.alloc(), path, &long, answer)?);
-    }
+    assert!(rt; all_answer(rt.alloc(), &LONG_ROWS, &long)?);
     Ok(())
 }
 
@@ -239,11 +268,18 @@ const USER_PATH: &[u8] = b"/nix/store/pszp8hiyx2gjz2bjw7jlvm63x58jvx76-user-2.0.
 // That derivation's path once the last name in its argument `cat $a $b $c > $out` is `d`.
 const CHANGED_USER_PATH: &[u8] = b"/nix/store/g8qbdhkq7gg88dvj8xiywj8532yx7hbl-user-2.0.drv";
 
-const MOVED: Answer = Answer {
-    number: 13,
-    place: 0,
-    named: CHANGED_USER_PATH,
-};
+// Paths at which the text with the changed name is checked.
+static CHANGED_ROWS: [(&[u8], Answer); 2] = [
+    (
+        USER_PATH,
+        Answer {
+            number: 13,
+            place: 0,
+            named: CHANGED_USER_PATH,
+        },
+    ),
+    (CHANGED_USER_PATH, SOUND),
+];
 
 // That derivation's text with the changed name.
 fn changed_text(alloc: Global) -> Result<Vec<u8>, Fail> {
@@ -262,8 +298,7 @@ fn changed_text(alloc: Global) -> Result<Vec<u8>, Fail> {
 #[test]
 fn changed_text_old_path(rt: HostRuntime) -> Result<(), Fail> {
     let text = changed_text(rt.alloc())?;
-    assert!(rt; answers(rt.alloc(), USER_PATH, &text, &MOVED)?);
-    assert!(rt; answers(rt.alloc(), CHANGED_USER_PATH, &text, &SOUND)?);
+    assert!(rt; all_answer(rt.alloc(), &CHANGED_ROWS, &text)?);
     Ok(())
 }
 

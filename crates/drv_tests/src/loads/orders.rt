@@ -199,10 +199,12 @@ fn long_text(alloc: Global, sources: &[u8]) -> Result<Vec<u8>, AllocError> {
     parts.concat(alloc)
 }
 
+// The sources of a draft whose text is too long, and the number of the fault.
+static LONG_ROWS: [(&[u8], u8); 2] = [(b"", 12), (b"\"x\"", 16)];
+
 #[test]
 fn long_text_of_a_draft(rt: HostRuntime) -> Result<(), Fail> {
-    let rows: [(&[u8], u8); 2] = [(b"", 12), (b"\"x\"", 16)];
-    for (sources, wanted) in &rows {
+    for (sources, wanted) in &LONG_ROWS {
         let text = long_text(rt.alloc(), sources)?;
         let (number, _) = told_of_draft(rt.alloc(), b"some", &text)?;
         assert!(rt; number == *wanted, "wanted {wanted}, got {number}");
