@@ -51,13 +51,18 @@ fn all_files(alloc: Global) -> Result<Vec<ListedFile>, AllocError> {
 }
 
 // The source of these files, in which the fetches with these numbers fail.
-fn source_of(alloc: Global, files: Vec<ListedFile>, failing: &[u64]) -> Result<ListSource, Fail> {
+fn source_of(
+    alloc: Global,
+    files: Vec<ListedFile>,
+    failing: &[u64],
+) -> Result<Box<ListSource>, Fail> {
     let failing = Vec::from_slice(alloc, failing)?;
-    Ok(ListSource::new(alloc, files, failing)?)
+    let source = ListSource::new(alloc, files, failing)?;
+    Ok(Box::new(alloc, source)?)
 }
 
 // The source of all files, in which the fetches with these numbers fail.
-fn all_but(alloc: Global, failing: &[u64]) -> Result<ListSource, Fail> {
+fn all_but(alloc: Global, failing: &[u64]) -> Result<Box<ListSource>, Fail> {
     let files = all_files(alloc)?;
     source_of(alloc, files, failing)
 }

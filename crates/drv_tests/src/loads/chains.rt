@@ -53,7 +53,7 @@ fn chain_of(
     mut files: Vec<ListedFile>,
     count: u32,
     failing: &[u64],
-) -> Result<(ListSource, StorePath), Fail> {
+) -> Result<(Box<ListSource>, StorePath), Fail> {
     let dir = StoreDir::new(alloc, b"/nix/store")?;
     let last = add_chain(alloc, &dir, &mut files, count)?;
     let source = source_of(alloc, files, failing)?;

@@ -48,7 +48,7 @@ fn sizes_of_layers(alloc: Global) -> Result<(usize, usize), Fail> {
     let mut files = Vec::new(alloc);
     let users = add_layers(alloc, &dir, &mut files)?;
     let mut source = source_of(alloc, files, &[])?;
-    let plan = Plan::load(alloc, &mut source, &dir, &users)?;
+    let plan = Plan::load(alloc, &mut *source, &dir, &users)?;
     Ok((plan.len(), steps_of(&plan)))
 }
 
@@ -103,7 +103,7 @@ fn wide_file(alloc: Global, dir: &StoreDir) -> Result<ListedFile, Fail> {
 }
 
 // The source of the wide derivation and its inputs.
-fn wide_source(alloc: Global, dir: &StoreDir, wide: ListedFile) -> Result<ListSource, Fail> {
+fn wide_source(alloc: Global, dir: &StoreDir, wide: ListedFile) -> Result<Box<ListSource>, Fail> {
     let mut files = vec![in alloc; wide]?;
     let _ = add_users(alloc, dir, &mut files, 0..3_000, &[])?;
     source_of(alloc, files, &[])
