@@ -103,10 +103,7 @@ fn blamed_on_moved(alloc: Global, text: &[u8]) -> Result<Option<u8>, Fail> {
     push_file(alloc, &mut files, MOVED, Vec::from_slice(alloc, text)?)?;
     let mut source = source_of(alloc, files, &[])?;
     let told = told_from(alloc, &mut source, &[MOVED], MOVED, (b"", b""))?;
-    if told.is_at {
-        return Ok(Some(told.number));
-    }
-    Ok(None)
+    Ok(if told.is_at { Some(told.number) } else { None })
 }
 
 // A fault of a text is answered before its inputs are fetched.
