@@ -1,126 +1,112 @@
 //! Files of a store folder: writing and testing them.
 use crate::running::Host;
 use crate::scene::Scene;
-use std::fs;
+use crate::steps::Step;
 use std::fs::Permissions;
 use std::os::unix::fs::PermissionsExt;
 use std::test::Fail;
+use std::{fs, io};
 
-// Each path and each text may have words in angle brackets.
 impl Scene {
-    pub(crate) fn write<R: Host>(&self, rt: &R, file: &str, text: &str) -> Result<bool, Fail> {
-        let file = self.said(rt.alloc(), file)?;
+    // Whether a step that changes a file or looks at one does as it says. The words in its path and
+    // in its text, or in its two paths, are replaced.
+    pub(crate) fn finds<R: Host>(&mut self, rt: &R, step: &Step) -> Result<bool, Fail> {
+        let (path, text) = texts(step);
+        let path = self.said(rt.alloc(), path)?;
         let text = self.said(rt.alloc(), text)?;
-        fs::write(rt, file.as_str(), text.as_bytes())?;
-        Ok(true)
+        self.finds_at(rt, step, path.as_str(), text.as_str())
     }
 
-    pub(crate) fn fill<R: Host>(
-        &self,
+    // The same at this path, with this text.
+    fn finds_at<R: Host>(
+        &mut self,
         rt: &R,
-        file: &str,
-        byte: u8,
-        length: usize,
+        step: &Step,
+        path: &str,
+        text: &str,
     ) -> Result<bool, Fail> {
-        let file = self.said(rt.alloc(), file)?;
-        let bytes = vec![in rt.alloc(); byte; length]?;
-        fs::write(rt, file.as_str(), bytes)?;
-        Ok(true)
-    }
-
-    pub(crate) fn make_folder<R: Host>(&self, rt: &R, path: &str) -> Result<bool, Fail> {
-        let path = self.said(rt.alloc(), path)?;
-        fs::create_dir_all(rt, path.as_str())?;
-        Ok(true)
-    }
-
-    pub(crate) fn set_mode<R: Host>(&self, rt: &R, path: &str, mode: u32) -> Result<bool, Fail> {
-        let path = self.said(rt.alloc(), path)?;
-        fs::set_permissions(rt, path.as_str(), Permissions::from_mode(mode))?;
-        Ok(true)
-    }
-
-    pub(crate) fn link<R: Host>(&self, rt: &R, to: &str, at: &str) -> Result<bool, Fail> {
-        let (to, at) = (self.said(rt.alloc(), to)?, self.said(rt.alloc(), at)?);
-        rt.symlink(to.as_str(), at.as_str())?;
-        Ok(true)
-    }
-
-    pub(crate) fn rename<R: Host>(&self, rt: &R, from: &str, to: &str) -> Result<bool, Fail> {
-        let (from, to) = (self.said(rt.alloc(), from)?, self.said(rt.alloc(), to)?);
-        fs::rename(rt, from.as_str(), to.as_str())?;
-        Ok(true)
-    }
-
-    pub(crate) fn remove<R: Host>(&self, rt: &R, file: &str) -> Result<bool, Fail> {
-        let file = self.said(rt.alloc(), file)?;
-        fs::remove_file(rt, file.as_str())?;
-        Ok(true)
+        match step {
+            Step::Holds(..) => self.holds(rt, path, text),
+            Step::Ends(..) => Ok(fs::read(rt, path)?.ends_with(text.as_bytes())),
+            Step::HasMode(_, mode) => Ok(mode_of(rt, path)? == *mode),
+            Step::IsLink(..) => Ok(fs::symlink_metadata(rt, path)?.is_symlink()),
+            // Even a link that leads nowhere stands.
+            Step::Stands(_, wanted) => Ok(fs::symlink_metadata(rt, path).is_ok() == *wanted),
+            Step::Left(count) => self.left(rt, *count),
+            other => {
+                change(rt, other, path, text)?;
+                Ok(true)
+            }
+        }
     }
 
     // Whether a file has this text.
-    pub(crate) fn holds<R: Host>(&mut self, rt: &R, file: &str, text: &str) -> Result<bool, Fail> {
-        let file = self.said(rt.alloc(), file)?;
-        let text = self.said(rt.alloc(), text)?;
-        let Ok(came) = fs::read(rt, file.as_str()) else {
-            return self.strays(rt.alloc(), text.as_str(), "no file");
+    fn holds<R: Host>(&mut self, rt: &R, file: &str, text: &str) -> Result<bool, Fail> {
+        let Ok(came) = fs::read(rt, file) else {
+            return self.strays(rt.alloc(), text, "no file");
         };
         if came.as_slice() == text.as_bytes() {
             return Ok(true);
         }
         let came = String::from_utf8_lossy(rt.alloc(), &came)?;
-        self.strays(rt.alloc(), text.as_str(), came.as_str())
-    }
-
-    // Whether a file ends with this text.
-    pub(crate) fn ends<R: Host>(&self, rt: &R, file: &str, text: &str) -> Result<bool, Fail> {
-        let file = self.said(rt.alloc(), file)?;
-        let text = self.said(rt.alloc(), text)?;
-        Ok(fs::read(rt, file.as_str())?.ends_with(text.as_bytes()))
-    }
-
-    // Whether a file or folder has these permissions.
-    pub(crate) fn has_mode<R: Host>(&self, rt: &R, path: &str, mode: u32) -> Result<bool, Fail> {
-        let path = self.said(rt.alloc(), path)?;
-        Ok(
-            fs::symlink_metadata(rt, path.as_str())?
-                .permissions()
-                .mode()
-                & 0o777
-                == mode,
-        )
-    }
-
-    // Whether there is a link at a path.
-    pub(crate) fn is_link<R: Host>(&self, rt: &R, path: &str) -> Result<bool, Fail> {
-        let path = self.said(rt.alloc(), path)?;
-        Ok(fs::symlink_metadata(rt, path.as_str())?.is_symlink())
-    }
-
-    // Whether something lies at a path, even a link that leads nowhere.
-    pub(crate) fn stands<R: Host>(&self, rt: &R, path: &str) -> Result<bool, Fail> {
-        let path = self.said(rt.alloc(), path)?;
-        Ok(fs::symlink_metadata(rt, path.as_str()).is_ok())
+        self.strays(rt.alloc(), text, came.as_str())
     }
 
     // Whether the store folder has `wanted` files and folders.
     pub(crate) fn left<R: Host>(&mut self, rt: &R, wanted: usize) -> Result<bool, Fail> {
-        let count = self.count(rt)?;
-        if count == wanted {
-            return Ok(true);
+        let count = count(rt, self.site.folder.as_str())?;
+        if count != wanted {
+            self.stray = format!(in rt.alloc(); "wanted {wanted} files and folders, came {count}")?;
         }
-        let wanted = format!(in rt.alloc(); "{wanted} files and folders")?;
-        let came = format!(in rt.alloc(); "{count}")?;
-        self.strays(rt.alloc(), wanted.as_str(), came.as_str())
+        Ok(count == wanted)
     }
+}
 
-    // How many files and folders the store folder has.
-    fn count<R: Host>(&self, rt: &R) -> Result<usize, Fail> {
-        let mut count = 0usize;
-        for entry in fs::read_dir(rt, self.site.folder.as_str())? {
-            entry?;
-            count = count.saturating_add(1);
-        }
-        Ok(count)
+// The path of a step that changes a file or looks at one, and its text or its second path, if it
+// has one.
+fn texts(step: &Step) -> (&'static str, &'static str) {
+    match step {
+        Step::Write(file, text) => (file, text),
+        Step::Link(to, at) => (to, at),
+        Step::Move(from, to) => (from, to),
+        Step::Holds(file, text) => (file, text),
+        Step::Ends(file, text) => (file, text),
+        Step::Fill(file, _, _) => (file, ""),
+        Step::Folder(path) => (path, ""),
+        Step::Mode(path, _) => (path, ""),
+        Step::Remove(file) => (file, ""),
+        Step::HasMode(path, _) => (path, ""),
+        Step::IsLink(path) => (path, ""),
+        Step::Stands(path, _) => (path, ""),
+        _ => ("", ""),
     }
+}
+
+// Changes a file as a step says.
+fn change<R: Host>(rt: &R, step: &Step, path: &str, text: &str) -> io::Result<()> {
+    match step {
+        Step::Write(..) => fs::write(rt, path, text.as_bytes()),
+        Step::Fill(_, byte, length) => { fs::write(rt, path, vec![in rt.alloc(); *byte; *length]?) }
+        Step::Folder(..) => fs::create_dir_all(rt, path),
+        Step::Mode(_, mode) => fs::set_permissions(rt, path, Permissions::from_mode(*mode)),
+        Step::Link(..) => rt.symlink(path, text),
+        Step::Move(..) => fs::rename(rt, path, text),
+        Step::Remove(..) => fs::remove_file(rt, path),
+        _ => Err(io::Error::other("the step names no file")),
+    }
+}
+
+// The permissions of a file or folder.
+fn mode_of<R: Host>(rt: &R, path: &str) -> io::Result<u32> {
+    Ok(fs::symlink_metadata(rt, path)?.permissions().mode() & 0o777)
+}
+
+// How many files and folders a folder has.
+fn count<R: Host>(rt: &R, folder: &str) -> io::Result<usize> {
+    let mut count = 0usize;
+    for entry in fs::read_dir(rt, folder)? {
+        entry?;
+        count = count.saturating_add(1);
+    }
+    Ok(count)
 }

@@ -99,34 +99,7 @@ impl Scene {
             Step::TextPath(word, name, text) => self.name_text(rt.alloc(), word, name, text),
             Step::OutputPath(word, name, draft) => self.name_output(rt.alloc(), word, name, draft),
             Step::Order(one, other) => self.order(rt.alloc(), one, other),
-            other => self.changes(rt, other),
-        }
-    }
-
-    // The same for a step that changes a file.
-    fn changes<R: Host>(&mut self, rt: &R, step: &Step) -> Result<bool, Fail> {
-        match step {
-            Step::Write(file, text) => self.write(rt, file, text),
-            Step::Fill(file, byte, length) => self.fill(rt, file, *byte, *length),
-            Step::Folder(path) => self.make_folder(rt, path),
-            Step::Mode(path, mode) => self.set_mode(rt, path, *mode),
-            Step::Link(to, at) => self.link(rt, to, at),
-            Step::Move(from, to) => self.rename(rt, from, to),
-            Step::Remove(file) => self.remove(rt, file),
             other => self.finds(rt, other),
-        }
-    }
-
-    // The same for a step that looks at a file.
-    fn finds<R: Host>(&mut self, rt: &R, step: &Step) -> Result<bool, Fail> {
-        match step {
-            Step::Holds(file, text) => self.holds(rt, file, text),
-            Step::Ends(file, text) => self.ends(rt, file, text),
-            Step::HasMode(path, mode) => self.has_mode(rt, path, *mode),
-            Step::IsLink(path) => self.is_link(rt, path),
-            Step::Stands(path, wanted) => Ok(self.stands(rt, path)? == *wanted),
-            Step::Left(count) => self.left(rt, *count),
-            _ => Ok(false),
         }
     }
 

@@ -1,6 +1,7 @@
 //! Store folders in which builders run as processes.
 use crate::running::Host;
 use crate::scene::Scene;
+use crate::steps::Step;
 use drv_graph::Kind;
 use nix_drv::EnvEntry;
 use nix_names::{StoreDir, parse_path};
@@ -140,15 +141,16 @@ impl Scene {
             env,
             outputs: ONE_OUTPUT,
         };
-        self.write(rt, OUT, "kept")?;
-        self.write(rt, BUILD, "kept")?;
+        self.finds(rt, &Step::Write(OUT, "kept"))?;
+        self.finds(rt, &Step::Write(BUILD, "kept"))?;
         let is_refused = self.starts(rt, &call, &Made::Failed(Reason::NoStart))?;
         Ok(is_refused && self.keeps(rt)?)
     }
 
     // Whether what was written to the output and to the build folder stays.
     fn keeps<R: Host>(&mut self, rt: &R) -> Result<bool, Fail> {
-        Ok(self.holds(rt, OUT, "kept")? && self.holds(rt, BUILD, "kept")?)
+        let is_kept = self.finds(rt, &Step::Holds(OUT, "kept"))?;
+        Ok(is_kept && self.finds(rt, &Step::Holds(BUILD, "kept"))?)
     }
 
     // Bytes; if they are a text, each word in it is replaced by its text.
