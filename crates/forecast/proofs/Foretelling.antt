@@ -75,7 +75,7 @@ is_not_open s (inl is) = ap is_open is
 is_not_open s (inr (inl is)) = ap is_open is
 is_not_open s (inr (inr refused)) = ap is_open refused.1
 
--- where none of some closed ones is bad all are good
+-- if no one of some closed states is bad, all are good
 all_unless_bad : (f : ℕ → State) (numbers : List ℕ)
     → ((i : ℕ) → Contains numbers i → IsClosed (f i))
     → find (λ i. is_bad (f i)) numbers ≡ None → list_all (λ i. is_good (f i)) numbers ≡ true

@@ -252,7 +252,7 @@ module _ (run : Run) (opening : List Entry) (sound : IsSound run.graph) (wanted 
   abbrev nodes : List Node
   nodes = run.graph.nodes
 
-  -- an earlier twin is built just where its first twin is marked
+  -- an earlier twin is built exactly if its first twin is marked
   twin_told : list_any (λ t. is_done (state_at prospects t)) (earlier_twins run opening here)
       ≡ slice_index_or built (first_twin_of nodes here) false
   twin_told =

@@ -42,7 +42,7 @@ abbrev pub listed_names : List Name → Bytes
 listed_names [] = []
 listed_names (name ∷ names) = name ++ flat_map (λ other. codes ", " ++ other) names
 
--- whether some names are just the name of the output `out`
+-- whether the only name is that of the output `out`
 abbrev pub are_out_alone : List Name → Bool
 are_out_alone [] = false
 are_out_alone (name ∷ []) = same_bytes name (codes "out")

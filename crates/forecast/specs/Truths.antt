@@ -84,7 +84,7 @@ ReportsComeTrue = (run : Run) (history : History) → HasEnded run history → N
     → (text report : Bytes) → IsForecast run history.opening text → IsReportIn run history report
     → TellTheSame text report
 
--- where no builder failed, all roots are built or reused just where that was foretold
+-- where no builder failed, all roots are built or reused exactly if that was foretold
 abbrev pub WholeComesTrue : Type 0
 WholeComesTrue = (run : Run) (history : History) → HasEnded run history → NoneFailed history
     → list_all (λ root. is_good (state_in run history root)) run.graph.roots

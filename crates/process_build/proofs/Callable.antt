@@ -1,4 +1,4 @@
--- Parts of a job as texts for a process; a job of which one is none can't be called.
+-- Parts of a job as texts for a process; a job with a part that is no such text can't be called.
 use Rattle.std.proofs.Common.{◌≡◌, ◌⊎◌, ◌∙◌, ◌++◌, ◌∷◌, [], ◌+◌, ◌<◌, ℕ, List, ap, get_or, inl, inr}
 use Rattle.std.proofs.Common.{length, map, sym, take}
 use Rattle.std.proofs.lemmas.List.{map-append, map_more}

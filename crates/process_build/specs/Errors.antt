@@ -6,7 +6,7 @@ use Rattle.std.specs.declared.io.ErrorKind.TheVariants as kind
 use Rattle.process_build.specs.declared.failures.Failure.{Failure}
 use Rattle.process_build.specs.declared.failures.Failure.TheVariants.{NoMemory, NotFound, Taken}
 
--- the error is the program's own want of memory, and none of the system's faults
+-- the error is the program's own want of memory, and not a fault of the system
 abbrev pub IsNoMemory : Error → Type 0
 IsNoMemory error = (error_kind error ≡ kind.OutOfMemory) × (raw_os_error error ≡ None)
 

@@ -9,7 +9,7 @@ use std::io::ErrorKind;
 /// What an error of the system means at a path.
 #[derive(Clone, Copy, Debug, PartialEq, Eq)]
 pub enum Failure {
-    /// This program's own want of memory, and none of the system's faults.
+    /// This program's own want of memory, and not a fault of the system.
     NoMemory,
     /// Nothing is found at the path.
     NotFound,

@@ -170,7 +170,7 @@ impl<'a, R: Files + AllocGlobal> Reader<'a, R> {
         Ok(pieces)
     }
 
-    // The next piece of a file, just what one reading gave, without bytes at its end.
+    // The next piece of a file: exactly what one reading gave, and no bytes at its end.
     fn piece<F: Read>(&mut self, file: &mut F) -> Result<Vec<u8>, Reason>
         ensures { IfOk result (λ piece. length piece.items ≤ 65536) }
     {

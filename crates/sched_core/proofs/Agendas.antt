@@ -320,7 +320,7 @@ ring_falls_at tallies agenda d default first waits is =
     low : d < length tallies
     low = search (rules, get_or_from_slice_get, slice_get_within)
 
--- The first so many tallies were looked at, and what can be begun of them is in the ring.
+-- The first d tallies were looked at, and what can be begun of them is in the ring.
 pub record IsOpening (tallies : List Tally) (d : ℕ) (ring : List ℕ) (unsettled : ℕ) : Type 0 where
   pub is : IsAgenda (take d tallies) (record {
     ring = ring;

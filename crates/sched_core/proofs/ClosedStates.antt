@@ -79,8 +79,8 @@ module _ (f g : ℕ → State) (stay : (i : ℕ) → Stays (f i) (g i)) where
       → list_any (λ t. is_done (g t)) numbers ≡ true
   done_stays [] is = absurd (false≢true is)
   done_stays (n ∷ ns) is = ⊎_elim
-      (λ here. or_left _ _
-      ((stay n (done_is_closed _ here)).1 ∙ here))
+      (λ here. or_left (is_done (g n)) (list_any (λ t. is_done (g t)) ns)
+      ((stay n (done_is_closed (f n) here)).1 ∙ here))
       (λ later. or_right (is_done (g n)) (list_any (λ t. is_done (g t)) ns) (done_stays ns later))
       (or_cases (is_done (f n)) (list_any (λ t. is_done (f t)) ns) is)
 
@@ -90,7 +90,7 @@ module _ (f g : ℕ → State) (stay : (i : ℕ) → Stays (f i) (g i)) where
       × (list_any (λ t. is_open (g t)) numbers ≡ false)
   none_stays [] built still = (refl, refl)
   none_stays (n ∷ ns) built still =
-      let one = or_parts _ _ built in
+      let one = or_parts (is_done (f n)) (list_any (λ t. is_done (f t)) ns) built in
       let two = or_parts (is_open (f n)) (list_any (λ t. is_open (f t)) ns) still in
       let here = stay n two.0 in
       let rest = none_stays ns one.1 two.1 in
@@ -157,9 +157,9 @@ table_stays f g stay p s twins inputs =
     others : (t : Standing) → Stays (by_twins f twins (by_hindrance t (by_inputs f inputs)))
         (by_twins g twins (by_hindrance t (by_inputs g inputs)))
     others t =
-        twins_stay _ _
-        _ _
-        _ _
+        twins_stay (list_any (λ u. is_done (f u)) twins) (list_any (λ u. is_open (f u)) twins)
+        (by_hindrance t (by_inputs f inputs)) (list_any (λ u. is_done (g u)) twins)
+        (list_any (λ u. is_open (g u)) twins) (by_hindrance t (by_inputs g inputs))
         (done_stays f g stay twins) (none_stays f g stay twins)
         (hindrance_stays f g stay t inputs)
 
@@ -193,9 +193,9 @@ module _ (rows : Rows) (phase : ℕ → Phase)
       subst (λ p. Stays (state rows d) (by_phase p (by_validity (rows.standing d)
       (by_twins after (rows.twins d) (by_hindrance (rows.standing d)
       (by_inputs after (rows.inputs d))))))) (sym same)
-      (table_stays before after (reads (below_stay _)) _ _
-      _ _))
-      (λ still. open_stays _ _ still)
+      (table_stays before after (reads (below_stay bound)) (rows.phase d) (rows.standing d)
+      (rows.twins d) (rows.inputs d)))
+      (λ still. open_stays (state rows d) (state behind d) still)
       (moves d)
     where
       before : ℕ → State
@@ -238,6 +238,6 @@ pub none_bad : (f : ℕ → State) (numbers : List ℕ)
     → find (λ i. is_bad (f i)) numbers ≡ None
 none_bad f [] good = refl
 none_bad f (i ∷ is) good =
-    let here = good_not_bad _ (good i (Contains-first i is)) in
+    let here = good_not_bad (f i) (good i (Contains-first i is)) in
     let rest = none_bad f is (λ j has. good j (Contains-later i is j has)) in
     rw (here, rest) refl

@@ -11,7 +11,8 @@ use Rattle.sched_core.specs.Tallies.{is_bad_news, is_good_news, news_in, states_
 use Rattle.sched_core.specs.declared.tally.Tally.{Tally}
 use Rattle.sched_core.proofs.KnownNews.{bad_news, good_news}
 
--- so many, up to a place, aren't good, if all from there on aren't; and the first bad of them
+-- Up to a place: `waits` counts the news that aren't good, as if all from there on weren't; `first`
+-- is the place of the first bad one.
 pub record AreCounted (heard : List News) (place waits first : ℕ) : Type 0 where
   pub short : first ≤ length heard
   pub number : waits + place ≡ waiting (take place heard) + length heard

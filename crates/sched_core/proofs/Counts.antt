@@ -4,7 +4,7 @@ use Rattle.std.specs.Prelude.{All, Contains, slice_get}
 use Rattle.std.specs.List.Sorted.{IsStrictlyIncreasing}
 use Rattle.nix_names.proofs.Lists.{All-from_contains, Contains-cons_cases, Contains-first, Contains-later, Contains-nothing}
 use Rattle.sched_core.specs.Agendas.{tally_count}
-use Rattle.sched_core.specs.Counts.{AreSoMany}
+use Rattle.sched_core.specs.Counts.{HasCount}
 use Rattle.sched_core.specs.declared.tally.Tally.{Tally}
 use Rattle.sched_core.proofs.Agendas.{one}
 
@@ -87,16 +87,16 @@ places_rise test from (tally ∷ tallies) = by (test tally) (places_rise test (s
     by true rise = rising_more from (places test (suc from) tallies) above rise
     by false rise = rise
 
--- a count of tallies is how many numbers are such, if those are just the places of the tallies
+-- a count of tallies is the count of a property, if exactly the places of the tallies have it
 pub tallies_counted : (test : Tally → Bool) (tallies : List Tally) (is_such : ℕ → Type 0)
     → ((d : ℕ) (tally : Tally) → slice_get tallies d ≡ Some tally → test tally ≡ true → is_such d)
     → ((d : ℕ) → is_such d
     → (tally : Tally) × (slice_get tallies d ≡ Some tally) × (test tally ≡ true))
-    → AreSoMany is_such (tally_count test tallies)
+    → HasCount is_such (tally_count test tallies)
 tallies_counted test tallies is_such such its = record {
   numbers = places test 0 tallies;
   rising = places_rise test 0 tallies;
-  just = λ d. (
+  exact = λ d. (
     λ has.
         let held = places_hold test 0 _ d has in
         let same : held.0 ≡ d = omega (arith, held.4) in
@@ -110,7 +110,7 @@ tallies_counted test tallies is_such such its = record {
   count_is = places_count test 0 tallies;
 }
 
--- so many are such by another name too
-pub so_many_same : (is_such is_so : ℕ → Type 0) (count : ℕ) → ((d : ℕ) → is_such d → is_so d)
-    → ((d : ℕ) → is_so d → is_such d) → AreSoMany is_such count → AreSoMany is_so count
-so_many_same is_such is_so count to from many = search rules
+-- a property that holds of the same numbers has the same count
+pub same_count : (is_such is_so : ℕ → Type 0) (count : ℕ) → ((d : ℕ) → is_such d → is_so d)
+    → ((d : ℕ) → is_so d → is_such d) → HasCount is_such count → HasCount is_so count
+same_count is_such is_so count to from many = search rules

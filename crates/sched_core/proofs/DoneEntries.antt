@@ -99,7 +99,7 @@ own_fitting entries drv kind infos has_kind own new = record {
 
 -- ---- the entry
 
--- a registration stands in a list just where its path and its record stand beside each other
+-- a list has a registration exactly if it has its path and its record at one place
 beside : (all : List Registration) (path : List ℕ) (info : PathInfo)
     → Contains all (record { path = path; info = info }) ↔
     ((n : ℕ) × (slice_get (paths_registered all) n ≡ Some path)

@@ -78,7 +78,7 @@ record IsLast (test : ℕ → Bool) (n t : ℕ) : Type 0 where
   passes : test t ≡ true
   parts : passing test n ≡ passing test t ++ t ∷ []
 
--- there is none, or there is a last one
+-- no number passes a test, or there is a last one that does
 last_passing : (test : ℕ → Bool) (n : ℕ) → (passing test n ≡ []) ⊎ ((t : ℕ) × IsLast test n t)
 last_passing test zero = inl refl
 last_passing test (suc n) = by (test n) refl (last_passing test n)
@@ -193,7 +193,7 @@ module _ (run : Run) (opening : List Entry) where
     valid = twins_valid;
   }
 
-  -- behind the plan there are none
+  -- what is no derivation of the plan has no earlier twins
   pub twins_past : (d : ℕ) → slice_get run.graph.nodes d ≡ None → earlier_twins run opening d ≡ []
   twins_past d past = twins_are d ∙ passing_none (is_twin d) d (λ t. alone t)
     where

@@ -200,7 +200,7 @@ seeds_left nodes d numbers seeds count left are all behind = by (slice_get nodes
         (omega (arith, all, counts, length-map node.drv.inputs (λ (i : Input). i.path))))
         (behind node is)
 
--- whether just the seeds were there
+-- whether exactly the seeds were there
 pub seeds_told : (nodes : List Node) (d : ℕ) (seeds : List (List ℕ)) (rest : Bor (List (List ℕ)))
     (told : Bool) → IfSome (slice_get nodes d)
     (λ node. IsBehind seeds (seeds_of nodes node.drv) (Some rest))

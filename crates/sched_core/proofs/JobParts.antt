@@ -19,7 +19,7 @@ use Rattle.sched_core.proofs.OwnStandings.{drv_is}
 use Rattle.sched_core.proofs.SeedParts.{read_at, take_next}
 use Rattle.nix_names.proofs.Lists.{element_at}
 
--- The first outputs, so many, with their paths.
+-- The first `count` outputs, with their paths.
 pub record AreMade (outputs : List OutputStruct) (paths : List (List ℕ)) (made : List JobOutput)
     (count : ℕ) : Type 0 where
   pub names : named_texts made ≡ output_texts (take count outputs)

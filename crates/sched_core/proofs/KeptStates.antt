@@ -10,7 +10,7 @@ use Rattle.std.proofs.lemmas.Option.{slice_get_past}
 use Rattle.nix_drv.proofs.Fixed.{eqb_same}
 use Rattle.sched_core.specs.Booking.{IsRunKept, run_over}
 use Rattle.sched_core.specs.Books.{CanBegin, IsRunSettled, IsUnsettled, opened}
-use Rattle.sched_core.specs.Counts.{AreSoMany}
+use Rattle.sched_core.specs.Counts.{HasCount}
 use Rattle.sched_core.specs.Courses.{Course, IsNext, IsOpen, IsSettled, IsUnsettledIn, all_of, awaited_at, course_rows, course_state, listed}
 use Rattle.sched_core.specs.Nearest.{last_alone, nearest}
 use Rattle.sched_core.specs.Reports.{IsReportIn, IsReportOf}
@@ -22,7 +22,7 @@ use Rattle.sched_core.specs.declared.reason.State.{State}
 use Rattle.sched_core.specs.declared.reason.State.TheVariants.{Blocked, Building, Reused}
 use Rattle.sched_core.specs.declared.standing.Standing.{Standing}
 use Rattle.sched_core.specs.declared.standing.Standing.TheVariants.{AllValid, Hindered, Free}
-use Rattle.sched_core.proofs.Counts.{so_many_same}
+use Rattle.sched_core.proofs.Counts.{same_count}
 use Rattle.sched_core.proofs.EarlierTwins.{run_twins, twins_past}
 use Rattle.sched_core.proofs.Histories.{building_from_begun, opening_legal}
 use Rattle.sched_core.proofs.NearestTwins.{all_good, any_twin, first_bad, nearest_told, stands_by, state_is}
@@ -87,10 +87,10 @@ is_next system history course given room kept d can = (
 
 pub unsettled_told : (system : List ℕ) (history : History) (course : Course) (given room : ℕ)
     → IsRunKept system history course given room
-    → (count : ℕ) → AreSoMany (IsUnsettledIn course) count
-    → AreSoMany (IsUnsettled (run_over course system) history) count
+    → (count : ℕ) → HasCount (IsUnsettledIn course) count
+    → HasCount (IsUnsettled (run_over course system) history) count
 unsettled_told system history course given room kept count =
-    so_many_same (IsUnsettledIn course) (IsUnsettled (run_over course system) history) _
+    same_count (IsUnsettledIn course) (IsUnsettled (run_over course system) history) _
     (λ d still. (
       still.0,
       kept.wanted.yes d still.1,

@@ -42,7 +42,7 @@ abbrev pub is_wanted_with : (nodes : List Node) → (wanted : List Bool) → (fi
 is_wanted_with nodes wanted first t = slice_index_or wanted t false
     && (first_twin_of nodes t == first)
 
--- those of the first derivations, so many
+-- those of the first `count` derivations
 abbrev pub wanted_with : (nodes : List Node) → (wanted : List Bool) → (first count : ℕ) → List ℕ
 wanted_with nodes wanted first count = filter (is_wanted_with nodes wanted first)
     (range_with_len 0 count)
@@ -66,14 +66,14 @@ none_with nodes wanted first d is_not = search (rules, wanted_more, nodes, wante
 
 -- ---- what is known on the way
 
--- Of each number, the last wanted one, of so many, that has it as its first twin.
+-- Of each number, the last wanted one of the first `count` that has it as its first twin.
 pub record AreLast (nodes : List Node) (wanted : List Bool) (last : List (Option ℕ)) (count : ℕ)
     : Type 0 where
   pub size : length last ≡ length nodes
   pub each : (first : ℕ) → first < length nodes → listed (slice_index_or last first None)
       ≡ last_alone (wanted_with nodes wanted first count)
 
--- Of the first derivations, so many, the last wanted one before each that has the same first twin.
+-- Of each of the first `count` derivations, the last wanted one before it with the same first twin.
 pub record AreNear (nodes : List Node) (wanted : List Bool) (twins : List (Option ℕ)) (count : ℕ)
     : Type 0 where
   pub size : length twins ≡ count

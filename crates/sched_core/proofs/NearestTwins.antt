@@ -49,7 +49,7 @@ module _ (rows : Rows) where
 
   pub any_read : HaveTwins rows → (test : State → Bool) (d : ℕ)
       → list_any (λ t. test (reads_at (table rows) d t)) (rows.twins d) ≡ any_twin test d
-  any_read twins test d = any_same test (reads_at (table rows) d) (state rows) _
+  any_read twins test d = any_same test (reads_at (table rows) d) (state rows) (rows.twins d)
       (λ t has. read_at d t (twins.first d t has))
 
   state_read : (d : ℕ) → state rows d ≡ stands_by (rows.phase d) (rows.standing d)
@@ -109,23 +109,23 @@ module _ (rows : Rows) (twins : HaveTwins rows) where
   pub ready_ended : (d t : ℕ) → state rows d ≡ Ready → Contains (rows.twins d) t
       → is_bad (state rows t) ≡ true
   ready_ended d t ready has =
-      let facts = ready_by _ _ _
-      _ _
+      let facts = ready_by (rows.phase d) (rows.standing d) (any_twin rows is_done d)
+      (any_twin rows is_open d) (by_first (first_bad rows d) (all_good rows d))
       (sym (state_is rows twins d) ∙ ready) in
       let none_built : any_twin rows is_done t ≡ false =
-      none_from (λ u. is_done (state rows u)) _ (λ u more.
-      none_has (λ v. is_done (state rows v)) _ u facts.none_built
+      none_from (λ u. is_done (state rows u)) (rows.twins t) (λ u more.
+      none_has (λ v. is_done (state rows v)) (rows.twins d) u facts.none_built
       (twins.shared d t u has more)) in
       let not_valid : rows.standing t ≡ AllValid → ⊥ = λ valid.
       let clash : Free ≡ AllValid = sym facts.free ∙ twins.valid d t has valid in absurd cc in
       let same = state_is rows twins t in
       ap is_bad same
-      ∙ bad_by _ _ _
-      _ _ _ not_valid none_built
+      ∙ bad_by (rows.phase t) (rows.standing t) (any_twin rows is_done t)
+      (any_twin rows is_open t) (first_bad rows t) (all_good rows t) not_valid none_built
       (ap is_done (sym same)
-      ∙ none_has (λ u. is_done (state rows u)) _ t facts.none_built has)
+      ∙ none_has (λ u. is_done (state rows u)) (rows.twins d) t facts.none_built has)
       (ap is_open (sym same)
-      ∙ none_has (λ u. is_open (state rows u)) _ t facts.none_open has)
+      ∙ none_has (λ u. is_open (state rows u)) (rows.twins d) t facts.none_open has)
 
   -- behind an event of a derivation that was open, whose earlier twins have ended
   event_ended : (phase : ℕ → Phase) (e : ℕ) → is_open (state rows e) ≡ true
@@ -136,7 +136,7 @@ module _ (rows : Rows) (twins : HaveTwins rows) where
       let before : is_bad (state rows t) ≡ true = ⊎_elim
       (λ same. own t (subst (λ n. Contains (rows.twins n) t) same has))
       (λ apart. ended d t (λ idle. begun (others d apart ∙ idle)) has) (cases_eq d e) in
-      (states_stay _ phase moves t (bad_is_closed _ before)).2 ∙ before
+      (states_stay rows phase moves t (bad_is_closed (state rows t) before)).2 ∙ before
     where
       moves : (d : ℕ) → (phase d ≡ rows.phase d) ⊎ (is_open (state rows d) ≡ true)
       moves d = search (rules, cases_eq)
@@ -157,20 +157,20 @@ legal_ended run _ (legal_begin history e legal within wanted ready) =
     (λ d apart. phase_stays history.events event d
     (ap (λ b. if b then Begun (begins history.events) else Idle)
     (ne_eqb e d (λ same. apart (sym same)))))
-    (λ t has. ready_ended _ (run_twins run history.opening history.events) e t ready has)
-    (legal_ended _ _ legal)
+    (λ t has. ready_ended rows (run_twins run history.opening history.events) e t ready has)
+    (legal_ended run history legal)
 legal_ended run _
     (legal_done history e lease node infos entry legal phase is_node allowed is_entry) =
     let rows = rows_of run history.opening history.events in
     let event = Finish e lease in
     event_ended rows (run_twins run history.opening history.events)
     (phase_of (history.events ++ event ∷ [])) e
-    (ap is_open (building_from_begun _ history e _ phase))
+    (ap is_open (building_from_begun run history e lease phase))
     (λ d apart. phase_stays history.events event d
     (ap (λ b. if b then Ended else Idle) (ne_eqb e d (λ same. apart (sym same)))))
-    (λ t has. legal_ended _ _ legal e t
+    (λ t has. legal_ended run history legal e t
     (λ idle. let clash : Begun lease ≡ Idle = sym phase ∙ idle in absurd cc) has)
-    (legal_ended _ _ legal)
+    (legal_ended run history legal)
 legal_ended run _ (legal_fail history e lease reason legal phase) =
     let rows = rows_of run history.opening history.events in
     let event = Fail e lease reason in
@@ -216,7 +216,7 @@ module _ (rows : Rows) (twins : HaveTwins rows) (ended : HaveEnded rows) where
       → any_twin rows test d ≡ (any_twin rows test t || test (state rows t))
   any_behind test d t parts =
       ap (list_any (λ u. test (state rows u))) parts
-      ∙ list_any-append (λ u. test (state rows u)) _ _
+      ∙ list_any-append (λ u. test (state rows u)) (rows.twins t) (t ∷ [])
       ∙ ap (λ b. any_twin rows test t || b) (alone (test (state rows t)))
     where
       alone : (b : Bool) → (b || false) ≡ b

@@ -36,7 +36,7 @@ told_valid false entries path (there, back) = by (is_valid entries path) refl
         (back (Contains-from_any equal_from_eq _ _ is)))
     by false is = refl
 
--- The first standings, so many.
+-- The first `count` standings.
 pub record AreFirst (system : List ℕ) (entries : List Entry) (nodes : List Node)
     (standings : List Standing) (count : ℕ) : Type 0 where
   pub length_is : length standings ≡ count

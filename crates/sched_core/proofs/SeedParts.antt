@@ -57,7 +57,7 @@ told_named false names name (there, back) = by (list_any (same_bytes name) names
     by true is = absurd (false≢true (back (Contains-from_any equal_from_eq _ _ is)))
     by false is = refl
 
--- the paths of the first outputs, so many, that have one of the names
+-- the paths of those of the first n outputs that have one of the names
 abbrev pub first_named : (names : List (List ℕ)) → List Output → ℕ → List (List ℕ)
 first_named names outputs n = map (λ (o : Output). o.path)
     (filter (λ (o : Output). list_any (same_bytes o.name) names) (take n outputs))
@@ -209,12 +209,12 @@ used_named nodes node numbers place number input used once are at_number at_inpu
     by None is = search (rules, slice_get-map)
     by (Some other) is = search (rules, drv_is)
 
--- the seeds of the sources and the first inputs, so many, of a node
+-- the seeds of the sources and of the first `count` inputs of a node
 abbrev pub first_seeds : (nodes : List Node) → Node → (count : ℕ) → List (List ℕ)
 first_seeds nodes node count = node.drv.sources
     ++ flat_map (named_outputs nodes) (take count node.drv.inputs)
 
--- The seeds of the sources and the first inputs, so many, of the derivation with a number.
+-- The seeds of the sources and of the first `count` inputs of the derivation with a number.
 abbrev pub AreFirstSeeds : (nodes : List Node) → (d : ℕ) → (seeds : List (List ℕ)) → (count : ℕ)
     → Type 0
 AreFirstSeeds nodes d seeds count = (node : Node) → slice_get nodes d ≡ Some node → seeds

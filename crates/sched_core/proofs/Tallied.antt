@@ -10,7 +10,7 @@ use Rattle.nix_names.proofs.Lists.{Contains-nothing}
 use Rattle.drv_graph.specs.Plans.{Graph}
 use Rattle.drv_graph.specs.SoundGraphs.{IsSound}
 use Rattle.sched_core.specs.Agendas.{Agenda, AreOpening, IsAgenda, IsCourse, IsFresh, IsSteady, course_by, is_unsettled, phases_in, standings_in, twins_in, wanted_in}
-use Rattle.sched_core.specs.Counts.{AreSoMany}
+use Rattle.sched_core.specs.Counts.{HasCount}
 use Rattle.sched_core.specs.Courses.{Awaited, Course, IsNext, IsOpen, IsSettled, IsUnsettledIn, all_of, awaited_at, course_rows, course_state, listed}
 use Rattle.sched_core.specs.Coursing.{kept, phase_in}
 use Rattle.sched_core.specs.Nearest.{near_state, near_table}
@@ -172,9 +172,9 @@ module _ (graph : Graph) (tallies : List Tally) (users : List (List Edge)) (agen
 
   -- what the number of unsettled ones says
   pub unsettled_told : (count : ℕ) → count ≡ agenda.unsettled
-      → AreSoMany (IsUnsettledIn course) count
+      → HasCount (IsUnsettledIn course) count
   unsettled_told count count_is =
-      subst (AreSoMany (IsUnsettledIn course))
+      subst (HasCount (IsUnsettledIn course))
       (sym (count_is ∙ is.steady.told.listed.unsettled))
       (tallies_counted is_unsettled _ (IsUnsettledIn course) unsettled_of unsettled_at)
 
@@ -299,7 +299,7 @@ idle_push (t ∷ tallies) tally idle new zero = idle 0
 idle_push (t ∷ tallies) tally idle new (suc e) =
     idle_push tallies tally (λ f. idle (suc f)) new e
 
--- The first so many tallies of a plan on which nothing has begun.
+-- The first d tallies of a plan on which nothing has begun.
 pub record AreOpened (graph : Graph) (standings : List Standing) (wanted : List Bool)
     (twins : List (Option ℕ)) (d : ℕ) (tallies : List Tally) : Type 0 where
   pub count : length tallies ≡ d

@@ -56,7 +56,7 @@ is_among numbers n is = search (rules, one_passes, eqb-true)
 pub is_found : (numbers : List ℕ) (n : ℕ) → Contains numbers n → is_one_of numbers n ≡ true
 is_found numbers n has = search (rules, any_passes, eq-eqb)
 
--- the first numbers, so many
+-- a number below n is among the first n numbers
 pub in_range : (n k : ℕ) → k < n → Contains (range_with_len 0 n) k
 in_range n k low = (
   k,

@@ -30,14 +30,14 @@ take_set [] zero i y low = absurd (omega (arith, low))
 take_set [] (suc n) i y low = refl
 take_set (x ∷ xs) zero i y low = absurd (omega (arith, low))
 take_set (x ∷ xs) (suc n) zero y low = refl
-take_set (x ∷ xs) (suc n) (suc i) y low = ap (λ l. x ∷ l) (take_set _ n i y (omega (arith, low)))
+take_set (x ∷ xs) (suc n) (suc i) y low = ap (λ l. x ∷ l) (take_set xs n i y (omega (arith, low)))
 
 drop_set : {X : Type 0} (xs : List X) (n i : ℕ) (y : X) → i < n → drop n (set xs i y) ≡ drop n xs
 drop_set [] zero i y low = absurd (omega (arith, low))
 drop_set [] (suc n) i y low = refl
 drop_set (x ∷ xs) zero i y low = absurd (omega (arith, low))
 drop_set (x ∷ xs) (suc n) zero y low = refl
-drop_set (x ∷ xs) (suc n) (suc i) y low = drop_set _ n i y (omega (arith, low))
+drop_set (x ∷ xs) (suc n) (suc i) y low = drop_set xs n i y (omega (arith, low))
 
 get_taken : {X : Type 0} (xs : List X) (n i : ℕ) → i < n
     → slice_get (take n xs) i ≡ slice_get xs i
@@ -45,7 +45,7 @@ get_taken [] zero i low = absurd (omega (arith, low))
 get_taken [] (suc n) i low = refl
 get_taken (x ∷ xs) zero i low = absurd (omega (arith, low))
 get_taken (x ∷ xs) (suc n) zero low = refl
-get_taken (x ∷ xs) (suc n) (suc i) low = get_taken _ n i (omega (arith, low))
+get_taken (x ∷ xs) (suc n) (suc i) low = get_taken xs n i (omega (arith, low))
 
 pub get_front : {X : Type 0} (xs ys : List X) (i : ℕ) → i < length xs
     → slice_get (xs ++ ys) i ≡ slice_get xs i
@@ -56,13 +56,13 @@ get_front (x ∷ xs) ys (suc i) low = get_front xs ys i (omega (arith, low))
 length_taken : {X : Type 0} (xs : List X) (n : ℕ) → n ≤ length xs → length (take n xs) ≡ n
 length_taken xs zero low = refl
 length_taken [] (suc n) low = absurd (omega (arith, low))
-length_taken (x ∷ xs) (suc n) low = ap suc (length_taken _ n (omega (arith, low)))
+length_taken (x ∷ xs) (suc n) low = ap suc (length_taken xs n (omega (arith, low)))
 
 taken : {X : Type 0} (xs ys : List X) (n : ℕ) → n ≡ length xs → take n (xs ++ ys) ≡ xs
 taken [] ys zero same = refl
 taken [] ys (suc n) same = absurd (omega (arith, same))
 taken (x ∷ xs) ys zero same = absurd (omega (arith, same))
-taken (x ∷ xs) ys (suc n) same = ap (λ l. x ∷ l) (taken _ _ n (omega (arith, same)))
+taken (x ∷ xs) ys (suc n) same = ap (λ l. x ∷ l) (taken xs ys n (omega (arith, same)))
 
 dropped : {X : Type 0} (xs ys : List X) (n : ℕ) → n ≡ length xs → drop n (xs ++ ys) ≡ ys
 dropped [] ys zero same = refl
@@ -88,23 +88,23 @@ module _ (heard : List News) (place : ℕ) (at : slice_get heard place ≡ Some 
   first-good : position_or_len is_bad_news (set heard place Good)
       ≡ position_or_len is_bad_news heard
   first-good = position_or_len-set is_bad_news heard place Good Open
-      (sym (ap is_bad_news (get_or_from_slice_get heard place _ Open at)))
+      (sym (ap is_bad_news (get_or_from_slice_get heard place Open Open at)))
 
   first-bad : place < position_or_len is_bad_news heard
       → position_or_len is_bad_news (set heard place Bad) ≡ place
-  first-bad sooner = position_or_len_is is_bad_news _ _ _
+  first-bad sooner = position_or_len_is is_bad_news (set heard place Bad) place Open
       (omega (arith, low, length-set heard place Bad))
       (λ k under.
       ap is_bad_news (get_or-set_other heard place k Bad Open (λ same. omega (arith, same, under)))
       ∙ fails_before_first is_bad_news heard k Open (omega (arith, under, sooner)))
-      (λ inside. ap is_bad_news (here_now _))
+      (λ inside. ap is_bad_news (here_now Bad))
 
   first-later : position_or_len is_bad_news heard ≤ place
       → position_or_len is_bad_news (set heard place Bad) ≡ position_or_len is_bad_news heard
   first-later past =
       let first = position_or_len is_bad_news heard in
       let inside : position_or_len is_bad_news heard < length heard = omega (arith, past, low) in
-      let bad = passes_at_first is_bad_news _ _ inside in
+      let bad = passes_at_first is_bad_news heard Open inside in
       let apart : position_or_len is_bad_news heard ≡ place → ⊥ =
       λ same. false≢true (sym (ap is_bad_news (get_or_from_slice_get heard place Open Open at))
       ∙ ap (λ n. is_bad_news (get_or heard n Open)) (sym same) ∙ bad) in
@@ -153,7 +153,7 @@ tally_from_counts awaited heard tally one count inputs waits first failed held i
 -- the element that a slice lends
 pub read_at : (xs : List ℕ) (i : ℕ) (r : Option (Bor ℕ)) → IsItemAt xs i r
     → option_copied r ≡ slice_get xs i
-read_at xs i None lent = sym (slice_get_past _ i lent.3)
+read_at xs i None lent = sym (slice_get_past xs i lent.3)
 read_at xs i (Some x) lent = search (rules, slice_get_read)
 
 -- ---- a tally that is told of an input
@@ -228,7 +228,7 @@ module _ (tally : Tally) (awaited : Awaited) (heard : List News) (place input : 
       (by_all tally.standing tws (by_first (slice_get awaited.inputs tally.first) false))
   told_before = can.is.state
       ∙ ap (λ s. by_phase (phase_in tally.state) (by_all tally.standing tws s))
-      (by_counts _ _ tally (count_of_inputs _ _ can.is.count) can.is.waits
+      (by_counts awaited.inputs ins tally (count_of_inputs awaited heard can.is.count) can.is.waits
       can.is.first
       ∙ ap (by_first (slice_get awaited.inputs tally.first))
       (ne_eqb tally.waits 0 (λ none. omega (arith, none, told_waits))))
@@ -240,15 +240,15 @@ module _ (tally : Tally) (awaited : Awaited) (heard : List News) (place input : 
       (record tally { state = state; waits = tally.waits - 1 })
   told_good good built state is =
       let none : waiting (Good ∷ []) ≡ 0 = refl in
-      rw built (tally_from_counts _ _
-      _ can.is.one (count Good)
+      rw built (tally_from_counts awaited (set heard place Good)
+      (record tally { state = state; waits = tally.waits - 1 }) can.is.one (count Good)
       can.is.inputs
       (omega (arith, number Good, none))
-      (can.is.first ∙ sym (ap (position_or_len is_bad_news) (ins_now _)
-      ∙ first-good ins place unknown)) can.is.failed (held_now _)
+      (can.is.first ∙ sym (ap (position_or_len is_bad_news) (ins_now Good)
+      ∙ first-good ins place unknown)) can.is.failed (held_now Good)
       (is ∙ ap (λ t. by_phase (phase_in state) (by_all tally.standing t
       (by_first (slice_get awaited.inputs tally.first) ((tally.waits - 1) == 0))))
-      (sym (tws_now _))))
+      (sym (tws_now Good))))
 
   pub told_bad : (good : Bool) → good ≡ false → place < tally.first → (state : State)
       → state ≡ by_phase (phase_in state)
@@ -257,15 +257,15 @@ module _ (tally : Tally) (awaited : Awaited) (heard : List News) (place input : 
       (record tally { state = state; first = place; failed = Some input })
   told_bad good failed sooner state is =
       let one : waiting (Bad ∷ []) ≡ 1 = refl in
-      rw failed (tally_from_counts _ _
-      _ can.is.one (count Bad)
+      rw failed (tally_from_counts awaited (set heard place Bad)
+      (record tally { state = state; first = place; failed = Some input }) can.is.one (count Bad)
       can.is.inputs
       (omega (arith, number Bad, one))
-      (sym (ap (position_or_len is_bad_news) (ins_now _)
+      (sym (ap (position_or_len is_bad_news) (ins_now Bad)
       ∙ first-bad ins place unknown (omega (arith, sooner, can.is.first))))
-      (sym input_is) (held_now _)
+      (sym input_is) (held_now Bad)
       (is ∙ ap (λ t. by_phase (phase_in state)
-      (by_all tally.standing t (by_first (Some input) false))) (sym (tws_now _))
+      (by_all tally.standing t (by_first (Some input) false))) (sym (tws_now Bad))
       ∙ ap (λ s. by_phase (phase_in state)
       (by_all tally.standing (of_twins awaited (set heard place Bad)) s))
       (sym (ap (λ o. by_first o (tally.waits == 0)) input_is
@@ -319,9 +319,9 @@ module _ (tally : Tally) (awaited : Awaited) (heard : List News) (twin : ℕ)
   released_before = can.is.state
       ∙ ap (λ t. by_phase (phase_in tally.state) (by_all tally.standing t
       (by_news awaited.inputs (of_inputs awaited heard)))) (drop_more heard n Open twin_within
-      ∙ ap (λ x. x ∷ behind) (get_or_from_slice_get _ n _ _ unknown_twin))
+      ∙ ap (λ x. x ∷ behind) (get_or_from_slice_get heard n Open Open unknown_twin))
       ∙ ap (λ s. by_phase (phase_in tally.state) (by_all tally.standing (Open ∷ behind) s))
-      (by_counts _ (of_inputs awaited heard) tally
+      (by_counts awaited.inputs (of_inputs awaited heard) tally
       (count_of_inputs awaited heard can.is.count) can.is.waits can.is.first)
 
   pub released_is : (good : Bool) (state : State)
@@ -330,9 +330,9 @@ module _ (tally : Tally) (awaited : Awaited) (heard : List News) (twin : ℕ)
       (record tally { state = state; held = false })
   released_is good state is =
       subst (λ l. IsTally awaited l (record tally { state = state; held = false }))
-      (sym (told_now _))
-      (tally_from_counts _ _
-      _ can.is.one
+      (sym (told_now (news_by good)))
+      (tally_from_counts awaited (set heard n (news_by good))
+      (record tally { state = state; held = false }) can.is.one
       (length-set heard n (news_by good) ∙ can.is.count) can.is.inputs
       (can.is.waits ∙ sym (ap waiting same))
       (can.is.first ∙ sym (ap (position_or_len is_bad_news) same)) can.is.failed
@@ -340,10 +340,10 @@ module _ (tally : Tally) (awaited : Awaited) (heard : List News) (twin : ℕ)
       (is ∙ ap (λ t. by_phase (phase_in state) (by_all tally.standing t by_own)) (sym front)))
     where
       same : of_inputs awaited (set heard n (news_by good)) ≡ of_inputs awaited heard
-      same = take-set _ n _
+      same = take-set heard n (news_by good)
 
       front : of_twins awaited (set heard n (news_by good)) ≡ news_by good ∷ behind
-      front = drop-set _ n _ twin_within
+      front = drop-set heard n (news_by good) twin_within
 
       ended : (good : Bool) → is_held (news_by good ∷ behind) ≡ false
       ended true = refl
@@ -356,15 +356,15 @@ module _ (tally : Tally) (awaited : Awaited) (heard : List News) (twin : ℕ)
   pub released_good : (good : Bool) → good ≡ true → tally.state ≡ Blocked
       → IsTally awaited (slice_set heard tally.inputs (news_by good))
       (record tally { state = Reused; held = false })
-  released_good good built blocked = released_is _ _
+  released_good good built blocked = released_is good Reused
       (sym (ap (λ b. if b then Reused else by_hindrance tally.standing by_own) built)
-      ∙ released_now _ _ _ _ (blocked_before blocked))
+      ∙ released_now tally.standing behind by_own good (blocked_before blocked))
 
   pub released_bad : (good : Bool) (state : State) → good ≡ false → tally.state ≡ Blocked
       → state ≡ by_hindrance tally.standing (by_first tally.failed (tally.waits == 0))
       → IsTally awaited (slice_set heard tally.inputs (news_by good))
       (record tally { state = state; held = false })
-  released_bad good state failed blocked own = released_is _ _
+  released_bad good state failed blocked own = released_is good state
       (same ∙ sym (ap (λ p. by_phase p (by_all tally.standing (news_by good ∷ behind) by_own))
       (ap phase_in same ∙ rests)))
     where
@@ -408,13 +408,14 @@ module _ (standing : Standing) (wanted : Bool) (twin : Option ℕ) (inputs : Lis
   long = length-map inputs (λ i. news_of (state_of i))
 
   counts : (waits ≡ waiting known) × (first ≡ position_or_len is_bad_news known)
-  counts = all_counted _ _ _ _ (omega (arith, long, past)) (omega (arith, long, within)) are
+  counts = all_counted known place waits first (omega (arith, long, past))
+      (omega (arith, long, within)) are
 
   front : of_inputs awaited_here (known ++ unheard) ≡ known
-  front = taken _ _ _ (sym long)
+  front = taken known unheard (length inputs) (sym long)
 
   back : of_twins awaited_here (known ++ unheard) ≡ unheard
-  back = dropped _ _ _ (sym long)
+  back = dropped known unheard (length inputs) (sym long)
 
   idle : phase_in state ≡ Idle
   idle = search (rules, opening_is_idle)
@@ -442,14 +443,24 @@ module _ (standing : Standing) (wanted : Bool) (twin : Option ℕ) (inputs : Lis
     held = held;
   })
   counted_tally =
-      tally_from_counts _ _ _ (at_most_one _)
+      tally_from_counts awaited_here (known ++ unheard) (record {
+        standing = standing;
+        wanted = wanted;
+        twin = twin;
+        state = state;
+        inputs = length inputs;
+        waits = waits;
+        first = first;
+        failed = slice_get inputs first;
+        held = held;
+      }) (at_most_one twin)
       (length-append known unheard ∙ ap (λ k. k + length unheard) long
       ∙ ap (λ k. length inputs + k) (length-map (listed twin) (λ t. Open))
       ∙ sym (length-append inputs (listed twin)))
       refl (counts.0 ∙ sym (ap waiting front))
       (counts.1 ∙ sym (ap (position_or_len is_bad_news) front))
       refl (says ∙ sym (ap is_held back))
-      (is ∙ by_twin _ _ says ∙ ap (λ t. by_all standing t own) (sym back)
+      (is ∙ by_twin twin held says ∙ ap (λ t. by_all standing t own) (sym back)
       ∙ ap (λ p. by_phase p (by_all standing (of_twins awaited_here (known ++ unheard)) own))
       (sym idle))
 
@@ -464,7 +475,7 @@ hears_all awaited state_of heard tally is all = record {
     ap (λ l. get_or l place Open) all
         ∙ get_or-map (λ i. news_of (state_of i)) (all_of awaited) place 0 Open
         (slice_get_within (all_of awaited) place one at)
-        ∙ ap (λ i. news_of (state_of i)) (get_or_from_slice_get _ place one 0 at),
+        ∙ ap (λ i. news_of (state_of i)) (get_or_from_slice_get (all_of awaited) place one 0 at),
     refl,
   );
 }
@@ -526,9 +537,9 @@ module _ (inputs : List ℕ) (t : ℕ) (state_of : ℕ → State) (tally : Tally
 
   pub hears_open : is_open (state_of t) ≡ true
       → Hears with_twin state_of (λ place. 0) tally
-  hears_open still = hears_all _ state_of _ _ is
-      (ap (λ n. news_in state_of inputs ++ n ∷ []) (news_open _ still)
-      ∙ news_push state_of _ t)
+  hears_open still = hears_all with_twin state_of opened tally is
+      (ap (λ n. news_in state_of inputs ++ n ∷ []) (news_open (state_of t) still)
+      ∙ news_push state_of inputs t)
 
   pub hears_released : (good : Bool) (result : Tally) → good ≡ is_good (state_of t)
       → is_open (state_of t) ≡ false
@@ -537,12 +548,12 @@ module _ (inputs : List ℕ) (t : ℕ) (state_of : ℕ → State) (tally : Tally
       → IsTally awaited (slice_set heard tally.inputs (news_by good)) result)
       → Hears with_twin state_of (λ place. 0) result
   hears_released good result says closed told =
-      hears_all _ state_of _ _
+      hears_all with_twin state_of (set opened tally.inputs (news_by good)) result
       (told with_twin opened t can_release)
-      (set_last _ _ _ _ at_end
+      (set_last (news_in state_of inputs) Open (news_by good) tally.inputs at_end
       ∙ ap (λ n. news_in state_of inputs ++ n ∷ [])
-      (ap news_by says ∙ news_closed _ closed)
-      ∙ news_push state_of _ t)
+      (ap news_by says ∙ news_closed (state_of t) closed)
+      ∙ news_push state_of inputs t)
 
 -- one that waits for its inputs alone
 pub hears_inputs : (inputs : List ℕ) (state_of : ℕ → State) (tally : Tally)

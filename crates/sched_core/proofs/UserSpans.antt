@@ -79,7 +79,7 @@ adds_more user k seen i count old mid new size at others prior = record {
 
 -- ---- the edges of the first users
 
--- The edges to the first users, so many, by input.
+-- The edges to the first `done` users, by input.
 pub record AreOfFirst (inputs : ℕ → List ℕ) (count done : ℕ) (rows : ℕ → List Edge) : Type 0 where
   pub each : (input user place : ℕ) → input < count
       → times user place (rows input)

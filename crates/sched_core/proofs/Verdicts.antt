@@ -18,7 +18,7 @@ use Rattle.sched_core.specs.declared.reason.Reason.{Reason}
 use Rattle.sched_core.specs.declared.reason.Reason.TheVariants.{ExitStatus, NoStart, MissingOutput, NotFlatFile, HashMismatch, OutputCycle, TooLarge, ReadFault, OutOfMemory, Killed}
 use Rattle.sched_core.specs.Verdicts.{AreRecords, IsCyclic, IsExamining, IsFaulty, IsFirstFault, IsRecordAt, IsRecordOf, IsTaken, AreOutputsThere, IsTreeFault, IsVerdict, algorithm_for, digest_of, outputs_of, tree_at}
 
--- What is known where the first outputs, so many, were looked at: nothing is missing there.
+-- What is known once the first `count` outputs were looked at: none of them is missing.
 abbrev pub ThereSoFar : Answer → ℕ → Type 0
 ThereSoFar answer count = (n : ℕ) → n < count → tree_at answer n ≡ None → ⊥
 
@@ -27,7 +27,7 @@ pub one_tree : (answer : Answer) (n : ℕ) (a b : Tree) → tree_at answer n ≡
     ≡ Some b → a ≡ b
 one_tree answer n a b at at' = search rules
 
--- None of the first outputs, so many, is faulty.
+-- None of the first `count` outputs is faulty.
 abbrev pub SoundSoFar : Job → Answer → ℕ → Type 0
 SoundSoFar job answer count =
     (n : ℕ) (why : Reason) → n < count → IsFaulty job answer why n → ⊥
@@ -55,7 +55,7 @@ pub taken_at : (job : Job) (answer : Answer) (n : ℕ) (tree : Tree) → IsTaken
     → (why : Reason) → IsTreeFault job.kind tree why → ⊥
 taken_at job answer n tree taken below at why fault = taken.1 n why below (tree, at, fault)
 
--- Records of the first outputs, so many.
+-- Records of the first `count` outputs.
 pub record RecordsSoFar (algorithm : Algorithm) (permitted : List (List ℕ)) (answer : Answer)
     (infos : List PathInfo) (count : ℕ) : Type 0 where
   pub as_many : length infos ≡ count

@@ -22,7 +22,7 @@ use Rattle.nix_names.proofs.Lists.{Contains-nothing, either_side}
 
 -- ---- the test of what is wanted
 
--- what is wanted over so many users is wanted over more
+-- what is wanted over n users is wanted over m users, if m is no less
 grows : (n m : ℕ) (run : Run) (opening : List Entry) (d : ℕ) → n ≤ m
     → is_wanted_over n run opening d ≡ true → is_wanted_over m run opening d ≡ true
 unfolding is_wanted_over

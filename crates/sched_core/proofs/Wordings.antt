@@ -15,7 +15,7 @@ pub found_again : {A B : Type 0} (f : A → B) (xs : List A) (n : ℕ) (x : A) �
     → slice_get (map f xs) n ≡ Some (f x)
 found_again f xs n x at = search (rules, slice_get-map)
 
--- past the end there is none
+-- a mapped list has no element past its end
 pub none_mapped : {A B : Type 0} (f : A → B) (xs : List A) (ys : List B) (n : ℕ) → length xs ≤ n
     → map f xs ≡ ys → slice_get ys n ≡ None
 none_mapped f xs ys n past all = search (rules, slice_get_past, length-map)

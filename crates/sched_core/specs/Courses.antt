@@ -23,7 +23,7 @@ pub record Course : Type 0 where
   pub twins : List (Option ℕ)
   pub phases : List Phase
 
--- the list of a number, or the empty list where there is none
+-- the list of a number, or the empty list if there is no number
 abbrev pub listed : Option ℕ → List ℕ
 listed (Some n) = n ∷ []
 listed None = []

@@ -8,7 +8,7 @@ use Rattle.nix_names.specs.Bytes.{Path}
 use Rattle.valid_table.specs.PathInfos.{PathInfo}
 use Rattle.sched_core.specs.Walking.{IsLinked}
 
--- The keys are just these paths, each once.
+-- The keys are exactly these paths, each once.
 pub record AreEachOnce (paths keys : List Path) : Type 0 where
   pub distinct : IsDistinct (pointwise nat_eq) keys
   pub same : (path : Path) → Contains keys path ↔ Contains paths path

@@ -28,7 +28,7 @@ part edges span = take (span.end - span.start) (drop span.start edges)
 abbrev pub parts : List Span → List Edge → List (List Edge)
 parts spans edges = map (part edges) spans
 
--- the span with this number; an empty one where there is none
+-- the span with this number, or an empty one if there is no such span
 abbrev pub span_at : List Span → ℕ → Span
 span_at spans n = slice_index_or spans n (record { start = 0; end = 0 })
 

@@ -124,7 +124,7 @@ IsCyclic outputs infos =
     × LeadsBy (OutputRefersTo outputs infos) a b there
     × LeadsBy (OutputRefersTo outputs infos) b a back
 
--- *Verdict* on an answer: the records of the outputs, or the first reason why there are none
+-- *Verdict* on an answer: the records of the outputs, or the first reason why it has no records
 abbrev pub IsVerdict : Job → (permitted : List Path) → Answer → Result (List PathInfo) Reason
     → Type 0
 IsVerdict job permitted answer (Ok infos) =

@@ -2,7 +2,7 @@
 ghost use Rattle.std.specs.Prelude.{◌≡◌, ◌<◌, ◌%◌, ◌^◌, ◌↔◌, ◌⊎◌, ◌++◌, ℕ, [], IfErr, IfOk, IsTrue, MatchOption, OnErr, OnOk, length, take, ⊤};
 ghost use Rattle.valid_table.specs.Valid.{IsJournal};
 ghost use Rattle.sched_core.specs.Books.{ArePermittedPaths, AreSeedsValid, BuildsOver, CanBegin, IsBeginning, IsBooksLease, IsFailing, IsFinishFault, IsFinishing, IsRunSettled, IsSameRun, IsUnsettled, MayAllRefer, opened};
-ghost use Rattle.sched_core.specs.Counts.{AreSoMany};
+ghost use Rattle.sched_core.specs.Counts.{HasCount};
 ghost use Rattle.sched_core.specs.Legal.{IsLegal};
 ghost use Rattle.sched_core.specs.Reports.{IsReportIn};
 ghost use Rattle.sched_core.specs.Runs.{state_in};
@@ -25,7 +25,7 @@ use valid_table::{Journal, Outlet};
 /// registered goes. A contract sees the run, its history, and the entries that the outlet shows and
 /// those that wait there. A book is ended by `close`.
 ///
-/// In each book the history is legal, the entries are a journal, and the outlet holds just the
+/// In each book the history is legal, the entries are a journal, and the outlet holds exactly the
 /// entries; `journal` and `events` say so.
 #[derive(Debug)]
 pub struct Book<O: Outlet> {
@@ -116,7 +116,7 @@ impl<O: Outlet> Book<O> {
         Ok(Some(Lease::new(job, number, self.outlet.tell())))
     }
 
-    /// Ends a lease by registering what was built, with just these records, by an entry that waits
+    /// Ends a lease by registering what was built, with these records, by an entry that waits
     /// in the outlet. Each reference in them must be permitted to the lease's job behind the
     /// journal's entries, if the lease is the book's.
     ///
@@ -237,7 +237,7 @@ impl<O: Outlet> Book<O> {
 
     /// How many wanted derivations are blocked, ready or building. Goes over none of them.
     pub fn unsettled(&self) -> usize
-        ensures { AreSoMany (IsUnsettled self.now.run self.now.history) result }
+        ensures { HasCount (IsUnsettled self.now.run self.now.history) result }
     {
         self.progress.unsettled()
     }

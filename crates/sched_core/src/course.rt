@@ -2,7 +2,7 @@
 ghost use Rattle.std.specs.Prelude.{◌≡◌, ◌<◌, ◌↔◌, ℕ, All, IfErr, IfOk, IsTrue, MatchOption, None, length, slice_set};
 ghost use Rattle.std.specs.List.{slice_index_or};
 ghost use Rattle.sched_core.specs.Agendas.{AreOpening, wanted_in};
-ghost use Rattle.sched_core.specs.Counts.{AreSoMany};
+ghost use Rattle.sched_core.specs.Counts.{HasCount};
 ghost use Rattle.sched_core.specs.Courses.{HasBegun, IsNext, IsSettled, IsUnsettledIn, course_state, listed};
 ghost use Rattle.sched_core.specs.Coursing.{phase_in};
 ghost use Rattle.sched_core.specs.States.{Begun, Broken, Ended, Idle};
@@ -147,7 +147,7 @@ impl Course {
 
     // How many wanted derivations are Blocked, Ready or Building.
     pub(crate) fn unsettled(&self) -> usize
-        ensures { AreSoMany (IsUnsettledIn self.now) result }
+        ensures { HasCount (IsUnsettledIn self.now) result }
     {
         self.agenda.unsettled()
     }

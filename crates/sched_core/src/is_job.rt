@@ -74,7 +74,7 @@ fn same_entry(left: &EnvEntry, right: &EnvEntry) -> bool
     left.key == right.key && left.value == right.value
 }
 
-// Whether just these outputs are to be made, at these paths.
+// Whether exactly these outputs are to be made, at these paths.
 fn makes(outputs: &[Output], paths: &[StorePath], made: &[JobOutput]) -> bool
     requires { length paths.now ≡ length outputs.now }
     ensures { IsTrue result ↔ MakesAt outputs.now paths.now made.now }

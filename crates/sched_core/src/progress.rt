@@ -4,7 +4,7 @@ ghost use Rattle.valid_table.specs.Entries.{registered_by};
 ghost use Rattle.valid_table.specs.PathInfos.{PathInfo};
 ghost use Rattle.valid_table.specs.Valid.{HasDrvPath, IsJournal};
 ghost use Rattle.sched_core.specs.Books.{ArePermittedPaths, CanBegin, IsBooksLease, IsDone, IsRunSettled, IsUnsettled, opened};
-ghost use Rattle.sched_core.specs.Counts.{AreSoMany};
+ghost use Rattle.sched_core.specs.Counts.{HasCount};
 ghost use Rattle.sched_core.specs.Dones.{IsDoneEntry, IsDoneFault};
 ghost use Rattle.sched_core.specs.Jobs.{IsJob};
 ghost use Rattle.sched_core.specs.Legal.{IsLegal, begins, begun, ended, failed};
@@ -157,7 +157,7 @@ impl Progress {
 
     // How many wanted derivations are Blocked, Ready or Building.
     pub(crate) fn unsettled(&self) -> usize
-        ensures { AreSoMany (IsUnsettled self.now.run self.now.history) result }
+        ensures { HasCount (IsUnsettled self.now.run self.now.history) result }
     {
         self.course.unsettled()
     }

@@ -99,7 +99,7 @@ right_stands = search (rules, other_path, files_differ, right_found)
 
 -- ---- plan order
 
--- of nodes without inputs just the roots are reached
+-- nodes without inputs reach no other nodes
 module _ (nodes : List Node) (alone : (n : Node) → Contains nodes n → inputs_of n.drv ≡ []) where
   uses_none : (from next : List ℕ) → Uses nodes from next → ⊥
   uses_none from next uses = search (rules, Contains-nothing)

@@ -86,7 +86,7 @@ module _ (may : Job → Result Answer Reason → Type 0) (run : Run) (history ot
 
 -- ---- one turn after another
 
--- The derivations below a number had their turns, and have events just where they have some here.
+-- The derivations below a number had their turns, and have events exactly if they have some here.
 record IsThread (may : Job → Result Answer Reason → Type 0) (run : Run) (history : History)
     (count : ℕ) : Type 0 where
   other : History

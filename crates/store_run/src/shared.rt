@@ -4,7 +4,7 @@ ghost use Rattle.valid_table.specs.declared.entry.Entry.{Entry};
 ghost use Rattle.valid_view.specs.declared.fault.ViewFault.{ViewFault};
 ghost use Rattle.valid_view.specs.declared.fault.ViewFault.TheVariants.{NoView as ViewIsGone};
 ghost use Rattle.sched_core.specs.Books.{IsBooksLease, IsUnsettled};
-ghost use Rattle.sched_core.specs.Counts.{AreSoMany};
+ghost use Rattle.sched_core.specs.Counts.{HasCount};
 ghost use Rattle.sched_core.specs.declared.reason.Reason.TheVariants.{OutOfMemory};
 ghost use Rattle.store_run.specs.Builders.{IsAnswered, MayComeTo};
 ghost use Rattle.store_run.specs.Finding.{HasCaughtUp, IsToldOfSeeds, MayBeFound};
@@ -58,7 +58,7 @@ impl<O: Outlet, B: Build> Shared<O, B> {
         ensures step { IsStep self.old self.new result.step }
         ensures told { IfGiven result.step (IsToldOfSeeds O.names) }
         ensures wake { IsWake self.new result.step result.wake }
-        ensures unsettled { AreSoMany (IsUnsettled self.new.book.run self.new.book.history)
+        ensures unsettled { HasCount (IsUnsettled self.new.book.run self.new.book.history)
             result.unsettled }
     {
         let step = self.step();

@@ -22,7 +22,7 @@ text_refused request gave journal before Unwritable h = absurd h
 text_refused request gave journal before NoMemory h = h
 text_refused request gave journal before stop h = (refl, h)
 
--- a folder that is none ends the run before a file is opened
+-- a bad store folder ends the run before a file is opened
 pub folder_refused : (request : AddTextRequest) (gave journal : FileBytes)
     (before : Option (List ℕ)) (stop : Stop)
     → IsStoreDirOf request.store_dir (Err stop)

@@ -26,7 +26,7 @@ use Rattle.subcommands.specs.declared.stop.Stop.TheVariants.{BadStoreDir, Unread
 use Rattle.subcommands.specs.declared.stop.Stop.TheVariants.{BadName, JournalUnreadable, BadJournal}
 use Rattle.subcommands.specs.declared.stop.Stop.TheVariants.{NoMemory}
 
--- what a file gave: its bytes, or why there are none
+-- what a file gave: its bytes, or why it gave no bytes
 abbrev pub FileBytes : Type 0
 FileBytes = Result Bytes FileFault
 

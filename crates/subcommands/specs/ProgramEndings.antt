@@ -31,7 +31,7 @@ Stream = Option Bytes × Option Bytes
 abbrev pub IsUntouched : Stream → Type 0
 IsUntouched stream = stream.1 ≡ stream.0
 
--- How `check` ends: with its lines; or with the reason why there are none, and nothing printed,
+-- How `check` ends: with its lines; or with the reason why it has no lines, and nothing printed,
 -- unless standard output refused the lines.
 abbrev pub CheckEnds : CheckRequest → Stream → Result Status Stop → Type 0
 CheckEnds request out (Ok status) =

@@ -60,7 +60,7 @@ fn chain_of(
     Ok((source, last))
 }
 
-// The number of derivations in the plan of the longest chain, and whether its only root is the last.
+// How many derivations the plan of the longest chain has, and whether its only root is the last.
 fn plan_of_longest(alloc: Global) -> Result<(usize, bool), Fail> {
     let files = all_files(alloc)?;
     let (mut source, last) = chain_of(alloc, files, 65_536, &[])?;

@@ -1,4 +1,5 @@
-use Rattle.std.proofs.Common.{◌<◌, None, length, arith, subst, rules}
+use Rattle.std.proofs.Common.{◌∙◌, ◌<◌, None, ap, length, arith, subst, sym}
+use Rattle.std.specs.Prelude.{All}
 use Rattle.std.specs.List.{slice_index_or}
 use Rattle.sched_core.specs.Courses.{listed}
 use Rattle.sched_core.specs.Coursing.{kept}
@@ -7,17 +8,20 @@ use Rattle.sched_core.proofs.Tallied.{opened_all, opened_more}
 use Rattle.sched_core.proofs.course.tallies_of.Goals as goal
 
 pub tally_of-tally-requires-clause-twin : goal.tally_of-tally-requires-clause-twin
-tally_of-tally-requires-clause-twin c = search rules
+tally_of-tally-requires-clause-twin c =
+    subst (λ n. All (λ t. t < n) (listed (slice_index_or c.args.twins.now c.loop-d.d None)))
+    (sym (ap length c.deref.ensures.value ∙ c.loop-d.invariant.count))
+    (c.requires.smaller c.loop-d.d)
 
 pub loop-d-preserved : goal.loop-d-preserved
 loop-d-preserved c =
     let low : c.loop-d.d < length c.args.plan.now.nodes =
     omega (arith, c.loop-d-test.true, c.len-d-end.ensures.value) in
-    opened_more _ _ _ _
-    c.len-d-end.ensures.sound c.requires.smaller _
-    _ _ _
-    _
-    _ _ _ (omega (arith, low, c.requires.standings))
+    opened_more c.args.plan.now c.args.standings.now c.args.wanted.now c.args.twins.now
+    c.len-d-end.ensures.sound c.requires.smaller c.loop-d.d
+    c.loop-d.tallies.items c.push.new.self.items c.tally_of-tally.result
+    c.inputs_of-inputs.result.now
+    _ _ None (omega (arith, low, c.requires.standings))
     (omega (arith, low, c.requires.wanted)) (omega (arith, low, c.requires.twins))
     c.tally_of-tally.ensures.standing
     c.tally_of-tally.ensures.wanted c.tally_of-tally.ensures.twin c.inputs_of-inputs.ensures.numbers
@@ -31,4 +35,9 @@ loop-d-preserved c =
     c.tally_of-tally.ensures.idle c.in_ok-push.ensures.items c.loop-d.invariant
 
 pub returns-clause-ok : goal.returns-clause-ok
-returns-clause-ok c = search (rules, opened_all)
+returns-clause-ok c =
+    opened_all c.args.plan.now c.args.standings.now c.args.wanted.now c.args.twins.now
+    c.len-d-end.ensures.sound c.requires.smaller c.loop-d.d
+    c.loop-d.tallies.items
+    (omega (arith, c.loop-d-test.false, c.loop-d.auto.d-end, c.len-d-end.ensures.value))
+    c.requires.standings c.requires.wanted c.requires.twins c.loop-d.invariant

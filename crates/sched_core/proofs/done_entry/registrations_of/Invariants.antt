@@ -1,4 +1,4 @@
--- The first so many paths stand there with their records.
+-- The first n paths stand there with their records.
 use Rattle.std.proofs.Common.{◌≡◌, take}
 use Rattle.valid_table.specs.Entries.{paths_registered}
 use Rattle.sched_core.specs.Dones.{infos_of}

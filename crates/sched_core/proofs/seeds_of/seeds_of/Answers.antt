@@ -4,16 +4,18 @@ use Rattle.sched_core.proofs.seeds_of.seeds_of.Goals as goal
 
 pub loop-place-preserved : goal.loop-place-preserved
 loop-place-preserved c =
-    let within = input_within _ _ _ _ _ c.requires
+    let nodes = c.args.plan.now.nodes in
+    let numbers = c.inputs-inputs.result.now in
+    let within = input_within nodes c.args.d c.drv.result.now numbers c.loop-place.place c.requires
     c.drv.ensures c.inputs-inputs.ensures.numbers c.loop-place-test.true in
-    input_added _ _ _ _ _ _ _
-    _ _ c.inputs-inputs.ensures.sound.distinct
+    input_added nodes c.args.d c.drv.result.now c.drv-used.result.now numbers c.loop-place.place _
+    c.loop-place.seeds.items _ c.inputs-inputs.ensures.sound.distinct
     c.drv.ensures c.inputs-inputs.ensures.numbers
-    (slice_get-get_or _ _ _ c.loop-place-test.true) c.drv-used.ensures
+    (slice_get-get_or numbers c.loop-place.place _ c.loop-place-test.true) c.drv-used.ensures
     within c.in_ok-add_used.ensures c.loop-place.invariant
 
 pub returns : goal.returns
 returns c =
-    all_seeds _ _ _ _
-    _ c.inputs-inputs.ensures.numbers c.loop-place-test.false
+    all_seeds c.args.plan.now.nodes c.args.d c.inputs-inputs.result.now c.loop-place.seeds.items
+    c.loop-place.place c.inputs-inputs.ensures.numbers c.loop-place-test.false
     c.loop-place.invariant

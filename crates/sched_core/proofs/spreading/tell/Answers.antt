@@ -1,4 +1,4 @@
-use Rattle.std.proofs.Common.{◌≡◌, ◌∙◌, ◌<◌, ℕ, List, None, ap, sym, subst, false, get_or, rules}
+use Rattle.std.proofs.Common.{◌≡◌, ◌∙◌, ◌<◌, ℕ, List, None, ap, sym, subst, false, get_or}
 use Rattle.std.proofs.lemmas.List.{length-set}
 use Rattle.sched_core.specs.Agendas.{noted}
 use Rattle.sched_core.specs.States.{is_good}
@@ -34,20 +34,38 @@ tally_at tallies d = get_or tallies d no_tally
 
 pub told-after-requires : goal.told-after-requires
 told-after-requires c =
-    can_tell _ _ c.loop-edge.tallies _ _ c.loop-edge.edge-index no_edge no_tally
+    can_tell _ _ c.loop-edge.tallies _ c.args.ended c.loop-edge.edge-index no_edge no_tally
     c.of-edges.result.now
     (rw c.loop-edge.invariant.count c.requires.within)
     c.of-edges.ensures c.loop-edge-test.true
     (c.loop-edge.invariant.told c.requires.told.0 c.requires.told.1)
 
 pub note-requires-clause-room : goal.note-requires-clause-room
-note-requires-clause-room c = search (rules, told_room)
+note-requires-clause-room c =
+    told_room _ _ c.loop-edge.tallies _ c.args.ended c.loop-edge.edge-index no_edge no_tally
+    c.of-edges.result.now
+    (rw c.loop-edge.invariant.count c.requires.within)
+    c.of-edges.ensures c.loop-edge-test.true
+    (c.loop-edge.invariant.told c.requires.told.0 c.requires.told.1) c.told-after.result
+    c.told-after.ensures.turns c.told-after.ensures.same
 
 pub note-requires-clause-space : goal.note-requires-clause-space
-note-requires-clause-space c = search (rules, told_space)
+note-requires-clause-space c =
+    told_space _ _ c.loop-edge.tallies _ c.args.ended c.loop-edge.edge-index no_edge no_tally
+    c.of-edges.result.now
+    (rw c.loop-edge.invariant.count c.requires.within)
+    c.of-edges.ensures c.loop-edge-test.true
+    (c.loop-edge.invariant.told c.requires.told.0 c.requires.told.1) c.told-after.result
+    c.told-after.ensures.turns c.told-after.ensures.same
 
 pub note-requires-clause-unsettled : goal.note-requires-clause-unsettled
-note-requires-clause-unsettled c = search (rules, told_settles)
+note-requires-clause-unsettled c =
+    told_settles _ _ c.loop-edge.tallies _ c.args.ended c.loop-edge.edge-index no_edge no_tally
+    c.of-edges.result.now
+    (rw c.loop-edge.invariant.count c.requires.within)
+    c.of-edges.ensures c.loop-edge-test.true
+    (c.loop-edge.invariant.told c.requires.told.0 c.requires.told.1) c.told-after.result
+    c.told-after.ensures.turns c.told-after.ensures.same
 
 pub loop-edge-preserved : goal.loop-edge-preserved
 loop-edge-preserved c =
@@ -66,21 +84,21 @@ loop-edge-preserved c =
           no_edge no_tally c.of-edges.result.now low c.of-edges.ensures c.loop-edge-test.true
           is after c.told-after.ensures.turns c.told-after.ensures.same));
       told = λ awaited start. rw now
-          (told_user _ _ _ _ _ _ no_edge
+          (told_user _ _ c.loop-edge.tallies _ c.args.ended c.loop-edge.edge-index no_edge
           no_tally c.of-edges.result.now low c.of-edges.ensures c.loop-edge-test.true
-          (c.loop-edge.invariant.told awaited start) _ c.told-after.ensures.turns
-          c.told-after.ensures.same _ c.loop-edge.invariant.good
+          (c.loop-edge.invariant.told awaited start) after c.told-after.ensures.turns
+          c.told-after.ensures.same c.serves-good.result c.loop-edge.invariant.good
           c.told-after.ensures.is);
-      same = same_then _ _ _ c.loop-edge.invariant.same
-          (told_same _ _ _ _ c.args.ended c.loop-edge.edge-index no_edge
+      same = same_then c.args.tallies.now c.loop-edge.tallies _ c.loop-edge.invariant.same
+          (told_same _ _ c.loop-edge.tallies _ c.args.ended c.loop-edge.edge-index no_edge
           no_tally c.of-edges.result.now low c.of-edges.ensures c.loop-edge-test.true is after
           c.told-after.ensures.turns c.told-after.ensures.same);
       measure = rw now
-          (told_measure _ _ _ _ c.args.ended c.loop-edge.edge-index no_edge
+          (told_measure _ _ c.loop-edge.tallies _ c.args.ended c.loop-edge.edge-index no_edge
           no_tally c.of-edges.result.now low c.of-edges.ensures c.loop-edge-test.true is after
           c.told-after.ensures.turns c.told-after.ensures.same ∙ c.loop-edge.invariant.measure);
       ahead = rw now
-          (told_edges _ _ _ _ c.args.ended c.loop-edge.edge-index no_edge
+          (told_edges _ _ c.loop-edge.tallies _ c.args.ended c.loop-edge.edge-index no_edge
           no_tally c.of-edges.result.now low c.of-edges.ensures c.loop-edge-test.true is after
           c.told-after.ensures.turns c.told-after.ensures.same ∙ c.loop-edge.invariant.ahead);
     }

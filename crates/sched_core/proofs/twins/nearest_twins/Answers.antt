@@ -10,9 +10,9 @@ use Rattle.sched_core.proofs.twins.nearest_twins.Goals.{then-wanted-d, else-want
 
 pub loop-d-init : goal.loop-d-init
 loop-d-init c = record {
-  last = none_last _ _ _ _
+  last = none_last c.args.plan.now.nodes c.args.wanted.now c.in_ok-last.last.items c.len.result
       c.len.ensures.value (c.in_ok-last.ensures.items_if_clones_equal (λ y is. search rules));
-  near = none_near _ _ _
+  near = none_near c.args.plan.now.nodes c.args.wanted.now c.in_ok-twins.twins.items
       c.in_ok-twins.ensures.items;
 }
 
@@ -27,7 +27,7 @@ loop-d-preserved c =
     omega (arith, c.first_twin-first.ensures.within, low, c.loop-d.invariant.last.size) in
     let twin = c.index.result.now in
     let read : twin ≡ slice_index_or last (first_twin_of nodes d) None =
-    sym (read_is _ _ _ _ first_low c.index.ensures)
+    sym (read_is last c.first_twin-first.result twin None first_low c.index.ensures)
     ∙ ap (λ n. slice_index_or last n None) c.first_twin-first.ensures.value in
     record {
       last = elim c.if-wanted-d.branch [
@@ -35,22 +35,23 @@ loop-d-preserved c =
             subst (λ (v : Vec (Option ℕ)). AreLast nodes wanted v.items (d + 1)) (sym w.last-is)
             (subst (λ n. AreLast nodes wanted (set last n (Some d)) (d + 1))
             (sym c.first_twin-first.ensures.value)
-            (last_wanted _ _ _ d low w.if-wanted-d.true c.loop-d.invariant.last))
+            (last_wanted nodes wanted last d low w.if-wanted-d.true c.loop-d.invariant.last))
         | else-wanted-d w ↦
             subst (λ (v : Vec (Option ℕ)). AreLast nodes wanted v.items (d + 1)) (sym w.last-is)
-            (last_unwanted _ _ _ d w.if-wanted-d.false c.loop-d.invariant.last)
+            (last_unwanted nodes wanted last d w.if-wanted-d.false c.loop-d.invariant.last)
       ];
       near = subst (λ l. AreNear nodes wanted l (d + 1)) (sym c.in_ok-push.ensures.items)
-          (near_more _ _ _ _ d _ low read
+          (near_more nodes wanted last c.loop-d.twins.items d twin low read
           c.loop-d.invariant.last c.loop-d.invariant.near);
     }
 
 pub returns-clause-ok : goal.returns-clause-ok
 returns-clause-ok c =
-    nearest_are _ _ _ c.len.ensures.sound
+    nearest_are c.args.plan.now c.args.wanted.now c.loop-d.twins.items c.len.ensures.sound
     (subst (AreNear c.args.plan.now.nodes c.args.wanted.now c.loop-d.twins.items)
     (omega (arith, c.loop-d-test.false, c.loop-d.auto.d-end, c.len-d-end.ensures.value))
     c.loop-d.invariant.near)
 
 pub returns-clause-smaller : goal.returns-clause-smaller
-returns-clause-smaller c = search (rules, near_smaller)
+returns-clause-smaller c = near_smaller c.args.plan.now.nodes c.args.wanted.now
+    c.loop-d.twins.items c.loop-d.d c.loop-d.invariant.near

@@ -1,4 +1,4 @@
--- The spans so far lie one behind the other, up to so many places.
+-- The spans so far lie one behind the other, and end at the sum of their sizes.
 use Rattle.std.proofs.Common.{◌≡◌, get_or, length, sum, take}
 use Rattle.std.specs.Prelude.{All}
 use Rattle.sched_core.specs.UserSpans.{HaveRoom}

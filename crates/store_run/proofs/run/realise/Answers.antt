@@ -1,4 +1,4 @@
-use Rattle.std.proofs.Common.{vec_len, rules}
+use Rattle.std.proofs.Common.{◌∙◌, ◌≤◌, subst, sym, vec_len}
 use Rattle.store_run.specs.Builders.{answered_opening}
 use Rattle.store_run.specs.Workers.{AreWorkers}
 use Rattle.store_run.proofs.RunEndings.{are_workers, was_cut_off, went_to_its_end}
@@ -11,10 +11,16 @@ run_book-requires-after_bounds g c κs within =
 
 -- there is a right number of workers
 workers : (g : Over) (c : goal.After-run_book g) → AreWorkers (vec_len c.args.builders)
-workers g c = search (rules, are_workers)
+workers g c =
+    are_workers (vec_len c.args.builders) (sym c.is_empty.ensures ∙ c.if-is_empty.false)
+    (subst (λ n. n ≤ 64) c.len.ensures c.if-len-gt-MOST_WORKERS.false)
 
 pub returns-clause-ok : goal.returns-clause-ok
-returns-clause-ok g c = search (rules, went_to_its_end, workers)
+returns-clause-ok g c =
+    went_to_its_end g.B.Build.may c.args.plan.now c.args.system.now c.args.journal.now.entries
+    (vec_len c.args.builders) (workers g c) c.run_book.result c.run_book.ensures
 
 pub returns-clause-err : goal.returns-clause-err
-returns-clause-err g c = was_cut_off g.B.Build.may _ _ _ _ (workers g c) _ c.run_book.ensures
+returns-clause-err g c =
+    was_cut_off g.B.Build.may c.args.plan.now c.args.system.now c.args.journal.now.entries
+    (vec_len c.args.builders) (workers g c) c.run_book.result c.run_book.ensures

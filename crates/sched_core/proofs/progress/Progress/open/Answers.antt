@@ -20,9 +20,9 @@ open-requires-clause-wanted c =
 pub invariant_of-result : goal.invariant_of-result
 invariant_of-result c =
     let same = c.entries-opening.ensures.value in (
-      opening_kept _ _ _ _ _ _ _
-          _ _
-          _
+      opening_kept _ _ _ c.args.journal.entries _ c.in_ok-course.course c.args.plan
+          c.in_ok-standings.standings.items c.in_ok-wanted.wanted.items
+          c.in_ok-twins.twins.items
           (rw (← same) c.entries-opening.ensures.is_journal) (ap length same)
           c.in_ok-events.ensures.items
           (rw (← c.deref.ensures.value) c.in_ok-standings.ensures.ok)

@@ -1,4 +1,4 @@
-use Rattle.std.proofs.Common.{subst, rules}
+use Rattle.std.proofs.Common.{subst}
 use Rattle.std.specs.Prelude.{OnOk, Result}
 use Rattle.valid_view.specs.declared.fault.ViewFault.{ViewFault}
 use Rattle.store_run.specs.Finding.{HasCaughtUp, MayBeFound}
@@ -9,10 +9,11 @@ pub note-requires-after_bounds : goal.note-requires-after_bounds
 note-requires-after_bounds g c κs within =
     let stays = subst (λ (up : Result (Unit {0}) ViewFault). OnOk up
     (HasCaughtUp c.requires.0 c.args.self.now.book c.args.lease.job)) c.in-Ok.is c.requires.2 in
-    examined_comes g.B.Build.may _ c.args.self.now.book.history.entries _
-    _
+    examined_comes g.B.Build.may _ c.args.self.now.book.history.entries _ _
     (subst (MayBeFound g.B.Build.may c.requires.0 c.args.lease.job) c.in-Examined.is c.requires.1)
     (stays c.args.lease.number)
 
 pub fail-requires-after_bounds : goal.fail-requires-after_bounds
-fail-requires-after_bounds g c κs within = search (rules, unanswered_comes)
+fail-requires-after_bounds g c κs within =
+    unanswered_comes _ _ c.args.self.now.book.history.entries _ _
+    (subst (MayBeFound g.B.Build.may c.requires.0 c.args.lease.job) c.in-Unanswered.is c.requires.1)

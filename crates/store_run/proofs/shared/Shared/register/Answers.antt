@@ -1,4 +1,4 @@
-use Rattle.std.proofs.Common.{Ok, subst, sym, rules}
+use Rattle.std.proofs.Common.{Ok, subst, sym}
 use Rattle.sched_core.specs.Books.{IsBooksLease, Leased, Ledger}
 use Rattle.sched_core.specs.declared.reason.Reason.TheVariants.{OutOfMemory}
 use Rattle.store_run.specs.Builders.{MayComeTo}
@@ -17,7 +17,13 @@ finish-requires-after_bounds g c κs within = λ lease.
     (came lease)
 
 pub invariant_of-self : goal.invariant_of-self
-invariant_of-self g c = search (rules, after_finishing)
+invariant_of-self g c =
+    let came = subst (λ (s : Share). IsBooksLease s.book.run s.book.history c.args.lease.job
+    c.args.lease.number
+    → MayComeTo g.B.Build.may s.book.history.entries c.args.lease.job (Ok c.args.checked))
+    (sym c.self.view_is) c.requires in
+    after_finishing g.B.Build.may c.self.inside.book c.finish.new.self _ _ _ c.self.invariant came
+    c.in-Ok.ensures.ok
 
 pub returns-in-Err-NoMemory-default-default : goal.returns-in-Err-NoMemory-default-default
 returns-in-Err-NoMemory-default-default g c =
