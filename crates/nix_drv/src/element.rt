@@ -1,6 +1,6 @@
 //! The lists of a derivation, and what their elements have in common.
 
-ghost use Rattle.std.specs.Prelude.{◌≡◌, ◌++◌, IfOk, OnOk, map, option_map};
+ghost use Rattle.std.specs.Prelude.{◌≡◌, ◌++◌, IfOk, OnOk, length, map, option_map, vec_capacity};
 ghost use Rattle.nix_drv.specs.Grammar.{Grammar, Value, Free, Many, text, IsClear};
 ghost use Rattle.nix_drv.specs.Order.{key as key_of, breaks as breaks_of};
 ghost use Rattle.nix_drv.specs.Listings.{sign_at, list_read, list_text, others_text, order_of};
@@ -162,13 +162,14 @@ fn write_others<T: Element>(others: &[T], out: &mut Vec<u8>) -> Result<(), Alloc
     Ok(())
 }
 
-// A list of copies of the elements.
+// A list of copies of the elements, with room for these alone.
 pub(crate) fn copy_list<T: Element + Drop>(alloc: Global, items: &[T]) -> Result<Vec<T>, AllocError>
-    ensures { IfOk result (λ copies. map T.value copies.items ≡ map T.value items.now) }
+    ensures value { IfOk result (λ copies. map T.value copies.items ≡ map T.value items.now) }
+    ensures room { IfOk result (λ copies. vec_capacity copies ≡ length items.now) }
 {
     let mut copies = Vec::with_capacity(alloc, items.len())?;
     'items: for item in items {
-        copies.push(item.copy(alloc)?)?;
+        copies.push_reserved(item.copy(alloc)?);
     }
     Ok(copies)
 }

@@ -44,9 +44,9 @@ impl Model for ListSource {
 }
 
 impl ListSource {
-    /// The source with these files. The fetches with these numbers, counted from 0, fail. IsFetched
-    /// `NoMemory` where memory is refused, and no other fault. Costs one entry of a hash table for
-    /// each file.
+    /// The source with these files. The fetches with these numbers, counted from 0, fail. Fails
+    /// with `NoMemory` where memory is refused, and with no other fault. Costs one entry of a hash
+    /// table for each file.
     pub fn new(
         alloc: Global,
         files: Vec<ListedFile>,

@@ -1,5 +1,5 @@
 -- The bytes of a store path are ASCII, so it is text.
-use Rattle.std.proofs.Common.{◌≡◌, ◌<◌, ◌==◌, ℕ, Bool, true, List, [], ◌∷◌, ◌++◌, All, arith, rules}
+use Rattle.std.proofs.Common.{◌≡◌, ◌<◌, ◌==◌, ℕ, Bool, true, List, [], ◌∷◌, ◌++◌, All, arith, rules, map, reverse}
 use Rattle.std.proofs.Common.{nat_lt, refl, sym, subst, IsTrue, codes, inl, inr}
 use Rattle.std.specs.Char.{is_ascii_alphanumeric}
 use Rattle.std.specs.List.{list_all, list_any, flat_map}
@@ -9,9 +9,11 @@ use Rattle.std.proofs.lemmas.Bool.Decides.{nat_tests}
 use Rattle.std.proofs.lemmas.List.Elements.{All-append, All-cons, All-nil, All-head, All-tail}
 use Rattle.std.proofs.lemmas.Str.{IsUtf8-from_ascii}
 use Rattle.std.proofs.lemmas.Str.Ascii.{IsAscii-from_all}
-use Rattle.nix_names.specs.Base32.{alphabet, is_digit}
+use Rattle.nix_names.specs.Base32.{StandsFor, alphabet, digit_char, is_digit}
 use Rattle.nix_names.specs.Names.{IsStoreDir, is_component, is_name, is_name_char}
 use Rattle.nix_names.specs.StorePaths.{IsStorePath, is_hash_part, path_text}
+use Rattle.nix_names.proofs.Base32Chars.{digit_char_ascii}
+use Rattle.nix_names.proofs.Base32Reading.{All-reverse}
 
 -- a byte is ASCII
 abbrev IsAsciiByte : ℕ → Type 0
@@ -101,3 +103,20 @@ path_is_text path is =
     (All-cons IsAsciiByte 47 _ (omega arith) base) in
     let ascii = subst (All IsAsciiByte) (sym parts.parts) whole in
     IsUtf8-from_ascii path (IsAscii-from_all path ascii)
+
+-- digits' characters are ASCII
+chars_are_ascii : (digits : List ℕ) → All (λ d. d < 32) digits
+    → All IsAsciiByte (map digit_char digits)
+chars_are_ascii [] below = All-nil IsAsciiByte
+chars_are_ascii (d ∷ ds) below =
+    let Is : ℕ → Type 0 = λ x. x < 32 in
+    All-cons IsAsciiByte (digit_char d) (map digit_char ds)
+    (digit_char_ascii d (All-head Is d ds below)) (chars_are_ascii ds (All-tail Is d ds below))
+
+-- a base-32 text is text
+pub stands_is_text : (text bytes : List ℕ) → StandsFor text bytes → IsUtf8 text
+stands_is_text text bytes stands =
+    let below = All-reverse (λ d. d < 32) stands.digits stands.below in
+    let each = chars_are_ascii (reverse stands.digits) below in
+    let ascii = subst (All IsAsciiByte) (sym stands.spelled) each in
+    IsUtf8-from_ascii text (IsAscii-from_all text ascii)

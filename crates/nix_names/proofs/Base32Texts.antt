@@ -1,14 +1,11 @@
 -- The base-32 text of bytes, character by character.
 use Rattle.std.proofs.Common.{◌≡◌, ◌+◌, ◌-◌, ◌/◌, ◌%◌, ◌^◌, ◌<◌, ℕ, List, [], ◌∷◌, ◌++◌, length, get_or, take, ap, ◌∙◌, arith, rules}
 use Rattle.std.specs.Prelude.{reverse}
-use lib.Utf8.{encode}
 use Rattle.std.specs.List.{All}
-use Rattle.std.proofs.lemmas.Str.{encode_ascii}
 use Rattle.std.proofs.lemmas.List.{get_or-map, get_or-reverse, length-map, length-reverse, take_more}
 use Rattle.nix_names.specs.Base32.{number, digits_of, digit_char, text_len, base32, StandsFor}
 use Rattle.nix_names.proofs.Base32Digits.{length_digits_of, digits_of_at, digits_of_below, number_digits_of, number_below}
 use Rattle.nix_names.proofs.Base32Bits.{digits_hold_bytes}
-use Rattle.nix_names.proofs.Base32Chars.{digit_char_ascii}
 
 pub length_base32 : (bytes : List ℕ) → length (base32 bytes) ≡ text_len (length bytes)
 unfolding base32
@@ -40,9 +37,9 @@ base32_more bytes i h =
 pub base32_push : (bytes before after : List ℕ) (i len digit ch : ℕ) → i < len → len
     ≡ text_len (length bytes) → before ≡ take i (base32 bytes) → digit
     ≡ number 256 bytes / 32 ^ (len - 1 - i) % 32 → ch ≡ digit_char digit → after ≡ before
-    ++ encode ch → after ≡ take (i + 1) (base32 bytes)
+    ++ ch ∷ [] → after ≡ take (i + 1) (base32 bytes)
 base32_push bytes before after i len digit ch h long first is_digit is_ch pushed =
-    search (rules, digit_char_ascii, base32_more, encode_ascii)
+    search (rules, base32_more)
 
 -- the base-32 text of bytes stands for them
 pub base32_stands : (bytes : List ℕ) → All (λ b. b < 256) bytes → StandsFor (base32 bytes) bytes

@@ -4,7 +4,7 @@
 //! n bytes are one number, in which byte i weighs 256 to the power i. Its text has `ceil(8n / 5)`
 //! digits of `0123456789abcdfghijklmnpqrsvwxyz`, the most significant first. The code reads each
 //! digit's five bits, and each byte's eight, where they lie.
-ghost use Rattle.std.specs.Prelude.{◌≡◌, ◌==◌, ◌/◌, ◌%◌, ◌^◌, ◌<◌, ◌≤◌, length, map, reverse, slice_index, string_bytes, IfOk, IfErr, not};
+ghost use Rattle.std.specs.Prelude.{◌≡◌, ◌==◌, ◌/◌, ◌%◌, ◌^◌, ◌<◌, ◌≤◌, length, map, reverse, slice_index, string_bytes, string_capacity, vec_capacity, IfOk, IfErr, not};
 ghost use Rattle.nix_names.specs.Base32.{alphabet, base32, base32_fault, StandsFor, number, digits_of, text_len, text_number, digit_char, digit_of, is_digit};
 ghost use Rattle.nix_names.specs.Answers.{Answers};
 ghost use Rattle.std.specs.List.{AllPass, position};
@@ -20,25 +20,31 @@ const DIGIT_BITS: &[u32; 8] = &[0, 0x03ff_0000, 0, 0x07cf_7fde, 0, 0, 0, 0];
 
 /// The base-32 text of bytes: `ceil(8n / 5)` characters for n bytes.
 ///
-/// Fails with `NoMemory` alone. Costs one allocation of the text's length, and one step for each
-/// character.
+/// Fails with `NoMemory` alone. Costs one allocation of the text's length, and two passes over it.
+#[tactic(auto, using(crate::proofs::AsciiPaths::stands_is_text))]
 pub fn to_base32(alloc: Global, bytes: &[u8]) -> Result<String, NameFault>
     ensures text { IfOk result (λ t. string_bytes t ≡ base32 bytes.now) }
     ensures stands { IfOk result (λ t. StandsFor (string_bytes t) bytes.now) }
+    ensures room { IfOk result (λ t. string_capacity t ≡ length (string_bytes t)) }
     ensures only { IfErr result (λ e. e ≡ NameFault.NoMemory) }
 {
-    Ok(base32_text(alloc, bytes)?)
+    match String::from_utf8(base32_text(alloc, bytes)?) {
+        Ok(text) => Ok(text),
+        // Each digit is an ASCII character.
+        Err(_) => unreachable!(),
+    }
 }
 
-// The base-32 text of bytes.
-pub fn base32_text(alloc: Global, bytes: &[u8]) -> Result<String, AllocError>
-    ensures text { IfOk result (λ t. string_bytes t ≡ base32 bytes.now) }
-    ensures stands { IfOk result (λ t. StandsFor (string_bytes t) bytes.now) }
+// The bytes of the base-32 text of bytes, in one allocation of their number.
+pub(crate) fn base32_text(alloc: Global, bytes: &[u8]) -> Result<Vec<u8>, AllocError>
+    ensures text { IfOk result (λ t. t.items ≡ base32 bytes.now) }
+    ensures stands { IfOk result (λ t. StandsFor t.items bytes.now) }
+    ensures room { IfOk result (λ t. vec_capacity t ≡ length t.items) }
 {
     let len = text_len(bytes.len());
-    let mut text = String::with_capacity(alloc, len)?;
+    let mut text = Vec::with_capacity(alloc, len)?;
     for i in 0..len {
-        text.push(digit_char(digit_at(bytes, len - 1 - i)))?;
+        text.push_reserved(digit_char(digit_at(bytes, len - 1 - i)));
     }
     Ok(text)
 }
@@ -51,8 +57,9 @@ pub fn base32_text(alloc: Global, bytes: &[u8]) -> Result<String, AllocError>
 /// text. `NoMemory` comes only where no other fault does. Costs one allocation of `n` bytes, and a
 /// few steps for each character.
 pub fn from_base32(alloc: Global, text: &[u8], n: usize) -> Result<Vec<u8>, NameFault>
-    ensures { Answers (base32_fault text.now n) result (λ bytes.
+    ensures value { Answers (base32_fault text.now n) result (λ bytes.
         (length bytes.items ≡ n) × StandsFor text.now bytes.items) }
+    ensures room { IfOk result (λ bytes. vec_capacity bytes ≡ n) }
 {
     if let Some(fault) = fault_of(text, n) {
         return Err(fault);
@@ -89,11 +96,12 @@ fn first_bad(text: &[u8]) -> Option<usize>
 fn bytes_of(alloc: Global, text: &[u8], n: usize) -> Result<Vec<u8>, AllocError>
     requires digits { AllPass is_digit text.now }
     requires within { n ≤ length text.now }
-    ensures { IfOk result (λ bytes. bytes.items ≡ digits_of 256 n (text_number text.now)) }
+    ensures value { IfOk result (λ bytes. bytes.items ≡ digits_of 256 n (text_number text.now)) }
+    ensures room { IfOk result (λ bytes. vec_capacity bytes ≡ n) }
 {
     let mut bytes = Vec::with_capacity(alloc, n)?;
     for at in 0..n {
-        bytes.push(byte_of(text, at))?;
+        bytes.push_reserved(byte_of(text, at));
     }
     Ok(bytes)
 }
@@ -107,11 +115,11 @@ fn text_len(n: usize) -> usize
 }
 
 // The character of a digit below 32.
-fn digit_char(digit: u8) -> char
+fn digit_char(digit: u8) -> u8
     requires { digit < 32 }
     ensures { result ≡ digit_char digit }
 {
-    char::from(ALPHABET[digit as usize])
+    ALPHABET[digit as usize]
 }
 
 // The digit at `place`, counted from the least significant; eight digits are five bytes.
@@ -171,9 +179,9 @@ fn digit_of(character: u8) -> u8
     }
 }
 
-/// Whether a character is one of the alphabet. Costs the look-up of one bit, with no branch on the
-/// character.
-pub fn is_digit(character: u8) -> bool
+// Whether a character is one of the alphabet. Costs the look-up of one bit, with no branch on the
+// character.
+pub(crate) fn is_digit(character: u8) -> bool
     ensures { result ≡ is_digit character }
 {
     (DIGIT_BITS[character as usize / 32] >> (character % 32)) % 2 == 1

@@ -56,7 +56,7 @@ pub fn make_named_path(
 {
     let digest = fingerprint_digest(kind, inner, dir.text(), name);
     let hash = base32_text(alloc, &fold20(&digest))?;
-    join_path(alloc, dir, hash.as_bytes(), name)
+    join_path(alloc, dir, &hash, name)
 }
 
 // The SHA-256 of the fingerprint of a type, an inner digest, a folder and a name.

@@ -25,7 +25,7 @@ pub fn is_drv_name(name: &[u8]) -> bool
 
 // Whether some bytes are one component of a store folder.
 #[tactic(auto, unfolding(crate::specs::Names::is_component))]
-pub fn is_component(part: &[u8]) -> bool
+pub(crate) fn is_component(part: &[u8]) -> bool
     ensures { result ≡ is_component part.now }
 {
     1 <= part.len() && are_name_chars(part) && part != b".".as_slice() && part != b"..".as_slice()

@@ -1,5 +1,5 @@
 //! Store paths: parsed, lent, copied, compared.
-ghost use Rattle.std.specs.Prelude.{◌≡◌, ◌⊎◌, ◌↔◌, IfOk, IfErr, OnOk, IsTrue, nat_eq, ◌&&◌, ◌+◌, ◌^◌, ◌<◌, ◌≤◌, ◌++◌, ◌∷◌, [], codes, drop, length, take, MatchResult, Some, None};
+ghost use Rattle.std.specs.Prelude.{◌≡◌, ◌⊎◌, ◌↔◌, IfOk, IfErr, OnOk, IsTrue, nat_eq, ◌&&◌, ◌+◌, ◌^◌, ◌<◌, ◌≤◌, ◌++◌, ◌∷◌, [], codes, drop, length, take, vec_len, vec_capacity, MatchResult, Some, None};
 ghost use Rattle.std.specs.List.{list_all, starts_with};
 ghost use Rattle.nix_names.specs.Base32.{is_digit};
 ghost use Rattle.std.specs.Cmp.{partial_equiv_from_equiv, partial_order_from_own_ties};
@@ -217,7 +217,7 @@ fn key_of(text: &[u8]) -> u64
 }
 
 // The path of the folder with this hash part and name.
-pub fn join_path(
+pub(crate) fn join_path(
     alloc: Global,
     dir: &StoreDir,
     hash: &[u8],
@@ -234,22 +234,29 @@ pub fn join_path(
 // The text of the path of a folder with this hash part and name.
 fn join_text(alloc: Global, dir: &[u8], hash: &[u8], name: &[u8]) -> Result<Vec<u8>, AllocError>
     requires { length dir.now + length hash.now + length name.now < 2 ^ 63 }
-    ensures { IfOk result (λ text. text.items ≡ path_text dir.now hash.now name.now) }
+    ensures value { IfOk result (λ text. text.items ≡ path_text dir.now hash.now name.now) }
+    ensures room { IfOk result (λ text. vec_capacity text ≡ length text.items) }
 {
     let mut text = Vec::with_capacity(alloc, dir.len() + 1 + hash.len() + 1 + name.len())?;
-    text.extend_from_slice(dir)?;
-    text.extend_from_slice(b"/")?;
-    add_base(hash, name, &mut text)?;
+    add_reserved(dir, &mut text);
+    text.push_reserved(b'/');
+    add_reserved(hash, &mut text);
+    text.push_reserved(b'-');
+    add_reserved(name, &mut text);
     Ok(text)
 }
 
-// Adds a base name: a hash part, a dash and a name.
-fn add_base(hash: &[u8], name: &[u8], text: &mut Vec<u8>) -> Result<(), AllocError>
-    ensures { OnOk result (text.new.items ≡ text.old.items ++ hash.now ++ 45 ∷ name.now) }
+// Adds bytes for which there is room. `extend_from_slice` does not say that the room stays as it
+// was.
+fn add_reserved(bytes: &[u8], text: &mut Vec<u8>)
+    requires { vec_len text.old + length bytes.now ≤ vec_capacity text.old }
+    ensures items { text.new.items ≡ text.old.items ++ bytes.now }
+    ensures len { vec_len text.new ≡ vec_len text.old + length bytes.now }
+    ensures room { vec_capacity text.new ≡ vec_capacity text.old }
 {
-    text.extend_from_slice(hash)?;
-    text.extend_from_slice(b"-")?;
-    text.extend_from_slice(name)
+    for byte in bytes {
+        text.push_reserved(*byte);
+    }
 }
 
 // Where the base name begins, behind the last slash.

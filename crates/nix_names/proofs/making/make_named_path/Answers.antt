@@ -8,7 +8,7 @@ use Rattle.nix_names.proofs.making.make_named_path.Goals as goal
 
 pub join_path-requires-clause-is_hash : goal.join_path-requires-clause-is_hash
 join_path-requires-clause-is_hash c =
-    let spelled = c.as_bytes.ensures.value ∙ c.in_ok-hash.ensures.text ∙ ap base32 c.fold20.ensures
+    let spelled = c.deref.ensures.value ∙ c.in_ok-hash.ensures.text ∙ ap base32 c.fold20.ensures
     in
     ap is_hash_part spelled ∙ hash_part_of_fold _
 
@@ -19,5 +19,5 @@ returns c =
     c.text.ensures.value in
     IfOk-weaker c.join_path.result _ _
     (λ path joined. made_path _ _ _ _ path _ _ _ joined
-    (c.as_bytes.ensures.value ∙ c.in_ok-hash.ensures.text) c.fold20.ensures digest_is)
+    (c.deref.ensures.value ∙ c.in_ok-hash.ensures.text) c.fold20.ensures digest_is)
     c.join_path.ensures

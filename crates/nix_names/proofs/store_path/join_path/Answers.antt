@@ -16,5 +16,5 @@ keyed_path-requires c =
     let dir = c.text.ensures in
     stored c.args.dir.now (path_text c.args.dir.now c.args.hash.now c.args.name.now) _ dir.is_dir
     (path_of_parts _ _ _ c.requires.is_hash c.requires.named)
-    (c.in_ok-text.ensures
+    (c.in_ok-text.ensures.value
     ∙ ap (λ d. path_text d c.args.hash.now c.args.name.now) dir.value)
