@@ -1,5 +1,5 @@
 //! The paths that a derivation's outputs must have.
-ghost use Rattle.std.specs.Prelude.{◌≡◌, ◌++◌, All, IsTrue, length, map, codes, IfOk};
+ghost use Rattle.std.specs.Prelude.{◌≡◌, ◌++◌, All, IsTrue, length, map, codes, vec_capacity, IfOk};
 ghost use Rattle.sha2.specs.Sha256.{sha256};
 ghost use Rattle.nix_names.specs.Names.{is_name};
 ghost use Rattle.nix_names.specs.StorePaths.{store_path};
@@ -58,7 +58,7 @@ fn masked_digest(
     Ok(Sha256::digest(&text))
 }
 
-// The paths of input-addressed outputs with this inner digest.
+// The paths of input-addressed outputs with this inner digest, with room for these alone.
 fn output_paths(
     alloc: Global,
     dir: &StoreDir,
@@ -67,12 +67,13 @@ fn output_paths(
     inner: &[u8; 32],
 ) -> Result<Vec<StorePath>, AllocError>
     requires { All (IsWellNamed name.now) (map output_of outputs.now) }
-    ensures { IfOk result (λ paths. paths.items
+    ensures value { IfOk result (λ paths. paths.items
         ≡ map (output_path dir.now name.now inner.now) (map output_of outputs.now)) }
+    ensures room { IfOk result (λ paths. vec_capacity paths ≡ length outputs.now) }
 {
     let mut paths = Vec::with_capacity(alloc, outputs.len())?;
     for output in outputs {
-        paths.push(addressed_path(alloc, dir, name, &output.name, inner)?)?;
+        paths.push_reserved(addressed_path(alloc, dir, name, &output.name, inner)?);
     }
     Ok(paths)
 }

@@ -1,5 +1,5 @@
 //! What a walk over derivations found so far, and how it leaves one of them.
-ghost use Rattle.std.specs.Prelude.{◌≡◌, ◌++◌, ◌∷◌, [], ◌<◌, All, Contains, IfErr, IfOk, OnOk, None, Some, length};
+ghost use Rattle.std.specs.Prelude.{◌≡◌, ◌++◌, ◌∷◌, [], ◌<◌, All, Contains, IfErr, IfOk, OnOk, None, Some, length, vec_capacity};
 ghost use Rattle.std.specs.List.{AllZip};
 ghost use Rattle.indexmap.specs.IndexMap.{keys};
 ghost use Rattle.nix_names.specs.StorePaths.{IsPathOf};
@@ -109,7 +109,7 @@ fn output_fault_at(path: StorePath, fault: OutputFault) -> GraphFault
     }
 }
 
-// The derivations with these numbers, as inputs of another one.
+// The derivations with these numbers, as inputs of another one, with room for these alone.
 pub(crate) fn used_inputs<'a>(
     alloc: Global,
     kept: &'a [PlanNode],
@@ -117,16 +117,17 @@ pub(crate) fn used_inputs<'a>(
 ) -> Result<Vec<UsedInput<'a>>, GraphFault>
     requires { All (λ number. number < length kept.now) numbers.now }
     ensures ok { IfOk result (λ used. AllZip (IsUsed kept.now) numbers.now used.items) }
+    ensures room { IfOk result (λ used. vec_capacity used ≡ length numbers.now) }
     ensures err { IfErr result (λ fault. fault ≡ GraphFault.NoMemory) }
 {
     let mut used = Vec::with_capacity(alloc, numbers.len())?;
     for number in numbers {
         let node = &kept[*number];
-        used.push(UsedInput {
+        used.push_reserved(UsedInput {
             path: &node.path,
             drv: &node.drv,
             hash: node.hash,
-        })?;
+        });
     }
     Ok(used)
 }

@@ -1,6 +1,6 @@
 //! The texts behind modulo hashes: a derivation's text in which each input's path is replaced by
 //! its modulo hash, with or without the paths of the outputs.
-ghost use Rattle.std.specs.Prelude.{◌≡◌, ◌++◌, ◌∷◌, [], length, map, IfOk, IfErr, OnOk};
+ghost use Rattle.std.specs.Prelude.{◌≡◌, ◌++◌, ◌∷◌, [], ◌+◌, ◌<◌, ◌≤◌, length, map, vec_capacity, vec_len, IfOk, IfErr, OnOk};
 ghost use Rattle.std.specs.Cmp.Lexicographic.{slice_cmp};
 ghost use Rattle.std.specs.List.{AllZip};
 ghost use Rattle.std.specs.List.Sorted.{IsSorted};
@@ -62,16 +62,18 @@ fn masked_text(alloc: Global, drv: &Derivation, inputs: &[Input]) -> Result<Vec<
     masked(alloc, drv)?.text_with_inputs(alloc, inputs)
 }
 
-// Input derivations whose paths are replaced by their hashes, in hex digits.
+// Input derivations whose paths are replaced by their hashes, in hex digits, with room for these
+// alone.
 fn replaced(alloc: Global, inputs: &[Input], hashes: &[[u8; 32]]) -> Result<Vec<Input>, AllocError>
     requires { length hashes.now ≡ length inputs.now }
-    ensures { IfOk result (λ placed. map input_of placed.items
+    ensures value { IfOk result (λ placed. map input_of placed.items
         ≡ replaced (map input_of inputs.now) hashes.now) }
+    ensures room { IfOk result (λ placed. vec_capacity placed ≡ length inputs.now) }
 {
     let mut placed = Vec::with_capacity(alloc, inputs.len())?;
     for (place, input) in inputs.iter().enumerate() {
         let hash = hashes[place];
-        placed.push(with_hash(alloc, input, &hash)?)?;
+        placed.push_reserved(with_hash(alloc, input, &hash)?);
     }
     Ok(placed)
 }
@@ -96,13 +98,14 @@ fn digits_of(hash: &[u8; 32]) -> [u8; 64]
     digits
 }
 
-// A copy of the names.
+// A copy of the names, with room for these alone.
 fn copy_names(alloc: Global, names: &[Vec<u8>]) -> Result<Vec<Vec<u8>>, AllocError>
-    ensures { IfOk result (λ copy. map bytes_of copy.items ≡ map bytes_of names.now) }
+    ensures value { IfOk result (λ copy. map bytes_of copy.items ≡ map bytes_of names.now) }
+    ensures room { IfOk result (λ copy. vec_capacity copy ≡ length names.now) }
 {
     let mut copy = Vec::with_capacity(alloc, names.len())?;
     for name in names {
-        copy.push(Vec::from_slice(alloc, name)?)?;
+        copy.push_reserved(Vec::from_slice(alloc, name)?);
     }
     Ok(copy)
 }
@@ -119,11 +122,13 @@ fn united(alloc: Global, mut inputs: Vec<Input>) -> Result<Vec<Input>, AllocErro
     Ok(gathered)
 }
 
-// Inputs that are sorted by path, those of one path as one, with the names of all.
+// Inputs that are sorted by path, those of one path as one, with the names of all. There is room for
+// as many as there were.
 fn gather(alloc: Global, inputs: Vec<Input>) -> Result<Vec<Input>, AllocError>
     requires { IsSorted (slice_cmp nat_cmp) (map path_of inputs.items) }
-    ensures { IfOk result
+    ensures value { IfOk result
         (λ gathered. IsGathered (map input_of inputs.items) (map input_of gathered.items)) }
+    ensures room { IfOk result (λ gathered. vec_capacity gathered ≡ length inputs.items) }
 {
     let mut gathered = Vec::with_capacity(alloc, inputs.len())?;
     for input in inputs {
@@ -132,27 +137,24 @@ fn gather(alloc: Global, inputs: Vec<Input>) -> Result<Vec<Input>, AllocError>
     Ok(gathered)
 }
 
-// Adds an input after others; its names go to the last of them where that has its path.
+// Adds an input after others, for which there is room; its names go to the last of them where that
+// has its path.
 fn add_input(gathered: &mut Vec<Input>, mut input: Input) -> Result<(), AllocError>
-    ensures { OnOk result
+    requires { vec_len gathered.old < vec_capacity gathered.old }
+    ensures value { OnOk result
         (IsAdded (map input_of gathered.old.items) (input_of input)
         (map input_of gathered.new.items)) }
+    ensures len { vec_len gathered.new ≤ vec_len gathered.old + 1 }
+    ensures room { vec_capacity gathered.new ≡ vec_capacity gathered.old }
 {
     let Some(last) = gathered.last_mut() else {
-        gathered.push(input)?;
+        gathered.push_reserved(input);
         return Ok(());
     };
     if last.path == input.path {
         return last.names.append(&mut input.names);
     }
-    push_input(gathered, input)
-}
-
-// Adds an input after others.
-fn push_input(gathered: &mut Vec<Input>, input: Input) -> Result<(), AllocError>
-    ensures { OnOk result (gathered.new.items ≡ gathered.old.items ++ input ∷ []) }
-{
-    gathered.push(input)?;
+    gathered.push_reserved(input);
     Ok(())
 }
 

@@ -1,5 +1,5 @@
 //! A derivation of a plan, and what is kept beside it.
-ghost use Rattle.std.specs.Prelude.{◌≡◌, IfErr, IfOk};
+ghost use Rattle.std.specs.Prelude.{◌≡◌, length, vec_capacity, IfErr, IfOk};
 ghost use Rattle.std.specs.Cmp.Lexicographic.{pointwise};
 ghost use Rattle.std.specs.List.{AllZip};
 ghost use Rattle.drv_graph.specs.Equality.{same_node};
@@ -98,14 +98,15 @@ pub(crate) fn same_nodes(a: &[PlanNode], b: &[PlanNode]) -> bool
     a == b
 }
 
-// Copies of the derivations.
+// Copies of the derivations, with room for these alone.
 pub(crate) fn copy_nodes(alloc: Global, nodes: &[PlanNode]) -> Result<Vec<PlanNode>, GraphFault>
     ensures ok { IfOk result (λ copies. AllZip IsSameNode nodes.now copies.items) }
+    ensures room { IfOk result (λ copies. vec_capacity copies ≡ length nodes.now) }
     ensures err { IfErr result (λ fault. fault ≡ GraphFault.NoMemory) }
 {
     let mut copies = Vec::with_capacity(alloc, nodes.len())?;
     for node in nodes {
-        copies.push(node.copy(alloc)?)?;
+        copies.push_reserved(node.copy(alloc)?);
     }
     Ok(copies)
 }

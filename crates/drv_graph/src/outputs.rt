@@ -1,5 +1,5 @@
 //! The first fault of a derivation's outputs, and its modulo hash.
-ghost use Rattle.std.specs.Prelude.{◌≡◌, ◌↔◌, map, All, IsTrue, IfOk, IfErr, OnOk};
+ghost use Rattle.std.specs.Prelude.{◌≡◌, ◌↔◌, length, map, vec_capacity, All, IsTrue, IfOk, IfErr, OnOk};
 ghost use Rattle.sha2.specs.Sha256.{sha256};
 ghost use Rattle.nix_names.specs.Names.{is_name};
 ghost use Rattle.nix_drv.specs.Parts.{bytes_of, input_of, output_of, path_of};
@@ -68,14 +68,15 @@ pub(crate) fn expected_outputs(
     Ok((kind, paths))
 }
 
-// The modulo hashes of inputs.
+// The modulo hashes of inputs, with room for these alone.
 fn hashes(alloc: Global, used: &[UsedInput]) -> Result<Vec<[u8; 32]>, AllocError>
-    ensures { IfOk result (λ hashes. hashes.items ≡ hashes_of used.now) }
+    ensures value { IfOk result (λ hashes. hashes.items ≡ hashes_of used.now) }
+    ensures room { IfOk result (λ hashes. vec_capacity hashes ≡ length used.now) }
 {
     let mut hashes = Vec::with_capacity(alloc, used.len())?;
     for input in used {
         let hash = input.hash;
-        hashes.push(hash)?;
+        hashes.push_reserved(hash);
     }
     Ok(hashes)
 }

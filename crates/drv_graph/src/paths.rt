@@ -1,5 +1,5 @@
 //! Store paths: parsed where they were checked before, and copied.
-ghost use Rattle.std.specs.Prelude.{◌≡◌, All, IfErr, IfOk, map, take};
+ghost use Rattle.std.specs.Prelude.{◌≡◌, All, IfErr, IfOk, length, map, take, vec_capacity};
 ghost use Rattle.nix_names.specs.Bytes.{Path};
 ghost use Rattle.nix_names.specs.StorePaths.{IsPathOf};
 ghost use Rattle.nix_drv.specs.Parts.{bytes_of, path_of};
@@ -58,7 +58,7 @@ impl NamesPath for Vec<u8> {
     }
 }
 
-// The paths of the folder that some values name.
+// The paths of the folder that some values name, with room for these alone.
 pub(crate) fn known_paths<T: NamesPath>(
     alloc: Global,
     dir: &StoreDir,
@@ -66,23 +66,25 @@ pub(crate) fn known_paths<T: NamesPath>(
 ) -> Result<Vec<StorePath>, GraphFault>
     requires { All (IsPathOf dir.now) (map T.spelled named.now) }
     ensures ok { IfOk result (λ paths. paths.items ≡ map T.spelled named.now) }
+    ensures room { IfOk result (λ paths. vec_capacity paths ≡ length named.now) }
     ensures err { IfErr result (λ fault. fault ≡ GraphFault.NoMemory) }
 {
     let mut paths = Vec::with_capacity(alloc, named.len())?;
     for one in named {
-        paths.push(known_path(alloc, dir, one.spelled())?)?;
+        paths.push_reserved(known_path(alloc, dir, one.spelled())?);
     }
     Ok(paths)
 }
 
-// Copies of the paths.
+// Copies of the paths, with room for these alone. Each shares its text.
 pub(crate) fn copy_paths(alloc: Global, paths: &[StorePath]) -> Result<Vec<StorePath>, GraphFault>
     ensures ok { IfOk result (λ copies. copies.items ≡ paths.now) }
+    ensures room { IfOk result (λ copies. vec_capacity copies ≡ length paths.now) }
     ensures err { IfErr result (λ fault. fault ≡ GraphFault.NoMemory) }
 {
     let mut copies = Vec::with_capacity(alloc, paths.len())?;
     for path in paths {
-        copies.push(path.copy(alloc)?)?;
+        copies.push_reserved(path.copy(alloc)?);
     }
     Ok(copies)
 }

@@ -12,4 +12,4 @@ returns-in_ok-inner-in-Addressed c =
     paths.items)) (sym c.in-Addressed.is)
     (addressed_from _ _ _ _
     _ _ _
-    c.in_ok-inner-in-Addressed.ensures c.outputs.ensures c.output_paths.ensures)
+    c.in_ok-inner-in-Addressed.ensures c.outputs.ensures c.output_paths.ensures.value)

@@ -9,26 +9,29 @@ use Rattle.drv_graph.proofs.modulo.replaced.Goals as goal
 
 pub loop-place-preserved : goal.loop-place-preserved
 loop-place-preserved c =
-    let below : c.loop-place.place < length c.args.hashes.now = omega arith in
-    took_more _ _
-    _
-    _ _
-    (replaced_at (map input_of c.args.inputs.now) c.args.hashes.now c.loop-place.place
-    _ _
-    (seen_at input_of _ _ _ c.loop-place-test.true
-    c.index-inputs-place.is) (slice_get-get_or _ _ [] below))
-    c.loop-place.invariant
-    (ap (map input_of) c.in_ok-push.ensures.items
-    ∙ map-append input_of _ (c.in_ok-with_hash.field-0 ∷ [])
-    ∙ ap (λ (i : Input). map input_of c.loop-place.placed.items ++ i ∷ [])
-    (input_parts c.in_ok-with_hash.field-0 _ _
-    c.in_ok-with_hash.ensures.path c.in_ok-with_hash.ensures.names))
+    let below : c.loop-place.place < length c.args.hashes.now = omega arith in record {
+      first = took_more _ _
+          _
+          _ _
+          (replaced_at (map input_of c.args.inputs.now) c.args.hashes.now c.loop-place.place
+          _ _
+          (seen_at input_of _ _ _ c.loop-place-test.true
+          c.index-inputs-place.is) (slice_get-get_or _ _ [] below))
+          c.loop-place.invariant.first
+          (ap (map input_of) c.push_reserved.ensures.items
+          ∙ map-append input_of _ (c.in_ok-with_hash.field-0 ∷ [])
+          ∙ ap (λ (i : Input). map input_of c.loop-place.placed.items ++ i ∷ [])
+          (input_parts c.in_ok-with_hash.field-0 _ _
+          c.in_ok-with_hash.ensures.path c.in_ok-with_hash.ensures.names));
+      count = omega arith;
+      room = c.push_reserved.ensures.capacity ∙ c.loop-place.invariant.room;
+    }
 
-pub returns : goal.returns
-returns c =
+pub returns-clause-value : goal.returns-clause-value
+returns-clause-value c =
     took_all _ _ _
     (omega (
       arith,
       replaced_length (map input_of c.args.inputs.now) c.args.hashes.now,
       length-map c.args.inputs.now input_of,
-    )) c.loop-place.invariant
+    )) c.loop-place.invariant.first

@@ -9,7 +9,7 @@ use Rattle.drv_graph.proofs.modulo.text_by_hashes.Goals as goal
 
 pub returns-then-mask : goal.returns-then-mask
 returns-then-mask c =
-    let given = c.in_ok-replaced.ensures ∙ ap
+    let given = c.in_ok-replaced.ensures.value ∙ ap
     (λ (inputs : List Input). replaced inputs c.args.hashes.now) c.inputs.ensures in
     text_from _ _ _ _
     _ _
@@ -22,7 +22,7 @@ returns-then-mask c =
 
 pub returns : goal.returns
 returns c =
-    let given = c.in_ok-replaced.ensures ∙ ap
+    let given = c.in_ok-replaced.ensures.value ∙ ap
     (λ (inputs : List Input). replaced inputs c.args.hashes.now) c.inputs.ensures in
     text_from _ _ _ _
     _ _

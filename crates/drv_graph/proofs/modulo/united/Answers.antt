@@ -28,6 +28,6 @@ returns c =
     (united_from _ _
     _
     (gathered_moved _ _ _ (IsPermutation-map input_of _ _ c.sort_unstable_by.ensures.permutation)
-    c.in_ok-gathered.ensures)
+    c.in_ok-gathered.ensures.value)
     (subst (λ (items : List Input). AllZip IsNameSorted (map input_of items) (map input_of sorted))
     c.deref_mut.ensures.value c.sort_names.ensures))

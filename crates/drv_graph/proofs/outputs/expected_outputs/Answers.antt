@@ -29,7 +29,7 @@ returns-in_err-check_values c =
     let expected : AreExpected c.args.dir.now c.args.name.now c.in_ok-kind.kind c.args.drv.now
     (hashes_of c.args.used.now) c.as_slice.result.now =
     subst (λ (hs : List (List ℕ)). AreExpected c.args.dir.now c.args.name.now c.in_ok-kind.kind
-    c.args.drv.now hs c.as_slice.result.now) (c.deref.ensures.value ∙ c.in_ok-hashes.ensures)
+    c.args.drv.now hs c.as_slice.result.now) (c.deref.ensures.value ∙ c.in_ok-hashes.ensures.value)
     (subst (λ (ps : List (List ℕ)). AreExpected c.args.dir.now c.args.name.now c.in_ok-kind.kind
     c.args.drv.now c.deref.result.now ps) (sym c.as_slice.ensures.value) c.in_ok-paths.ensures)
     in
@@ -45,7 +45,7 @@ returns c =
     (hashes_of _) _ =
     subst (λ (hs : List (List ℕ)). AreExpected c.args.dir.now c.args.name.now c.in_ok-kind.kind
     c.args.drv.now hs c.in_ok-paths.paths.items)
-    (c.deref.ensures.value ∙ c.in_ok-hashes.ensures) c.in_ok-paths.ensures in
+    (c.deref.ensures.value ∙ c.in_ok-hashes.ensures.value) c.in_ok-paths.ensures in
     let slice : AreExpected c.args.dir.now c.args.name.now c.in_ok-kind.kind c.args.drv.now
     (hashes_of _) _ =
     subst (λ (ps : List (List ℕ)). AreExpected c.args.dir.now c.args.name.now c.in_ok-kind.kind
