@@ -1,22 +1,15 @@
 -- What `specs/Trees` measures of a folder, over the list of its entries.
-use Rattle.std.proofs.Common.{◌≡◌, ◌∙◌, ℕ, ◌+◌, ◌≤◌, ◌<◌, max, List, [], ◌∷◌, ◌++◌, length, drop, get_or, refl, ap, arith, rules}
+use Rattle.std.proofs.Common.{◌≡◌, ◌∙◌, ℕ, ◌+◌, ◌≤◌, ◌<◌, max, List, [], ◌∷◌, length, drop, get_or, refl, ap, arith, rules}
 use Rattle.std.proofs.lemmas.List.{drop_more}
+use Rattle.ref_scan.specs.Walk.{count_below, pieces_below}
 use Rattle.ref_scan.specs.Trees.{pieces, pieces_among, depth_of, depth_among, entry_count, entry_count_among, file_bytes, file_bytes_among}
 use Rattle.ref_scan.specs.declared.tree.Tree.{Tree, File, Pieces, Dir, Dir', Row_of-Member, end_of-Member, more_of-Member, items-the_row-Member}
 use Rattle.ref_scan.specs.declared.tree.Tree.TheBlock.{hidden-the_row-Member-0, items_hidden-the_row-Member-0}
 use Rattle.ref_scan.specs.declared.tree.Member.{Member}
 
-abbrev pub pieces_below : List Member → List (List ℕ)
-pieces_below [] = []
-pieces_below (e ∷ es) = e.name.items ∷ (pieces e.tree ++ pieces_below es)
-
 abbrev pub depth_below : List Member → ℕ
 depth_below [] = 0
 depth_below (e ∷ es) = max (depth_of e.tree) (depth_below es)
-
-abbrev pub count_below : List Member → ℕ
-count_below [] = 0
-count_below (e ∷ es) = 1 + entry_count e.tree + count_below es
 
 abbrev pub bytes_below : List Member → ℕ
 bytes_below [] = 0

@@ -10,5 +10,6 @@ pub mod Scanning
 pub mod Seams
 pub mod Searching
 pub mod Uniqueness
+pub mod Walking
 pub mod Walks
 pub mod Windows

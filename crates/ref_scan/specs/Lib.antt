@@ -9,3 +9,4 @@ pub mod Marks
 pub mod Places
 pub mod Room
 pub mod Scanned
+pub mod Walk

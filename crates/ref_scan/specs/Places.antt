@@ -1,7 +1,9 @@
 -- The hash parts that are sought, their keys, and the sieve that tells most other windows apart.
-use Rattle.std.specs.Prelude.{◌≡◌, ℕ, ◌+◌, ◌-◌, ◌*◌, ◌/◌, ◌%◌, ◌^◌, ◌<◌, ◌⊎◌, ◌≢◌, Bool, false, List, [], length, map, take, drop, bit_and, slice_index, Option, Some, None, All, Contains, IsTrue, if◌then◌else◌}
+use Rattle.std.specs.Prelude.{◌≡◌, ℕ, ◌+◌, ◌-◌, ◌*◌, ◌/◌, ◌%◌, ◌^◌, ◌<◌, ◌≤◌, ◌⊎◌, ◌≢◌, max, min, Bool, true, false, List, [], length, map, take, drop, bit_and, slice_index, Option, Some, None, All, Contains, IsTrue, if◌then◌else◌}
 use Rattle.std.specs.Int.{from_be_bytes, from_le_bytes, to_be_bytes, w32, w64}
+use Rattle.std.specs.Int.{IsPowerOfTwo}
 use Rattle.std.specs.List.{slice_index_or}
+use Rattle.nix_names.specs.Base32.{is_digit}
 use Rattle.nix_names.specs.Bytes.{Bytes, Path}
 use Rattle.nix_names.specs.Rising.{IsRising}
 use Rattle.nix_names.specs.StorePaths.{hash_part_of, is_hash_part}
@@ -36,10 +38,25 @@ slot_of slots first = bit_and (mixed (word_of first) / 2 ^ 44) (slots - 1)
 abbrev pub tag_of : (first : Bytes) → ℕ
 tag_of first = slice_index first 3
 
+-- the slots that a sieve for this many parts wants: 16 for each, at least 16 and at most 2^20
+abbrev pub slots_wanted : (parts : ℕ) → ℕ
+slots_wanted parts = max 16 (min (parts * 16) (2 ^ 20))
+
+-- A sieve for this many parts has the least power of two that is no less than what it wants.
+pub record IsSlotCount (parts slots : ℕ) : Type 0 where
+  pub power : IsPowerOfTwo slots
+  pub enough : slots_wanted parts ≤ slots
+  pub least : slots / 2 < slots_wanted parts
+
 -- a slot lets parts with this tag through: it holds the tag, or 255, which lets every part through;
 -- 0 lets none through
 abbrev pub LetsThrough : (held tag : ℕ) → Type 0
 LetsThrough held tag = ((held ≡ tag) × (held ≢ 0)) ⊎ (held ≡ 255)
+
+-- the bytes from one place to another are base-32 digits
+abbrev pub AreDigits : (bytes : Bytes) → (from to : ℕ) → Type 0
+AreDigits bytes from to =
+    (k : ℕ) → from ≤ k → k < to → is_digit (slice_index bytes k) ≡ true
 
 -- Hash parts that rise strictly.
 pub record AreHashParts (parts : List Bytes) : Type 0 where

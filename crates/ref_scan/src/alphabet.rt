@@ -1,6 +1,7 @@
 //! The base-32 alphabet, as bytes are tested against it.
-ghost use Rattle.std.specs.Prelude.{◌≡◌, ◌<◌, ◌≤◌, IfSome, slice_index, false};
+ghost use Rattle.std.specs.Prelude.{◌≡◌, ◌<◌, ◌≤◌, ◌+◌, MatchOption, slice_index, false};
 ghost use Rattle.nix_names.specs.Base32.{is_digit};
+ghost use Rattle.ref_scan.specs.Places.{AreDigits};
 
 const N: bool = false;
 
@@ -30,8 +31,9 @@ pub(crate) fn is_digit(byte: u8) -> bool
 #[inline(always)]
 pub(crate) fn last_foreign(window: &[u8; 32], from: usize) -> Option<usize>
     requires { from ≤ 32 }
-    ensures { IfSome result
-        (λ place. (place < 32) × (is_digit (slice_index window.now place) ≡ false)) }
+    ensures { MatchOption result (AreDigits window.now from 32) (λ place. (from ≤ place)
+        × (place < 32) × (is_digit (slice_index window.now place) ≡ false)
+        × AreDigits window.now (place + 1) 32) }
 {
     let mut place = 32;
     while place > from {

@@ -1,8 +1,8 @@
 //! Which hash part a window of 32 bytes is, told at once for any window.
-ghost use Rattle.std.specs.Prelude.{◌≡◌, ◌⊎◌, ◌<◌, [], ℕ, All, IfOk, IsTrue, false, length, map, take};
+ghost use Rattle.std.specs.Prelude.{◌≡◌, ◌≢◌, ◌↔◌, ◌⊎◌, ◌<◌, [], ℕ, All, IfOk, IsTrue, false, length, map, take, vec_capacity};
 ghost use Rattle.nix_names.specs.Keys.{key_of};
 ghost use Rattle.nix_names.specs.StorePaths.{IsStorePath, hash_part_of, is_hash_part};
-ghost use Rattle.ref_scan.specs.Places.{ArePartsOf, IsPlaceOfPart, IsSieve, LetsThrough, NumbersRise, key_of_part, mixed, slot_of, tag_of, word_of};
+ghost use Rattle.ref_scan.specs.Places.{ArePartsOf, IsPlaceOfPart, IsSieve, IsSlotCount, LetsThrough, NumbersRise, key_of_part, mixed, slot_of, tag_of, word_of};
 
 use nix_names::StorePath;
 use std::alloc::{AllocError, Global};
@@ -162,11 +162,12 @@ impl Index {
 
 // The same paths once more.
 fn copies(alloc: Global, paths: &[StorePath]) -> Result<Vec<StorePath>, AllocError>
-    ensures { IfOk result (λ copies. copies.items ≡ paths.now) }
+    ensures items { IfOk result (λ copies. copies.items ≡ paths.now) }
+    ensures room { IfOk result (λ copies. vec_capacity copies ≡ length paths.now) }
 {
     let mut copies = Vec::with_capacity(alloc, paths.len())?;
     for path in paths {
-        copies.push(path.copy(alloc)?)?;
+        copies.push_reserved(path.copy(alloc)?);
     }
     Ok(copies)
 }
@@ -175,17 +176,18 @@ fn copies(alloc: Global, paths: &[StorePath]) -> Result<Vec<StorePath>, AllocErr
 fn keys_of(alloc: Global, paths: &[StorePath]) -> Result<Vec<u64>, AllocError>
     ensures keys { IfOk result (λ keys. keys.items ≡ map key_of paths.now) }
     ensures are_paths { IfOk result (λ _. All IsStorePath paths.now) }
+    ensures room { IfOk result (λ keys. vec_capacity keys ≡ length paths.now) }
 {
     let mut keys = Vec::with_capacity(alloc, paths.len())?;
     for path in paths {
-        keys.push(path.key())?;
+        keys.push_reserved(path.key());
     }
     Ok(keys)
 }
 
 // Whether each key is below the next one.
 fn are_rising(keys: &[u64]) -> bool
-    ensures { IsTrue result → NumbersRise keys.now }
+    ensures { IsTrue result ↔ NumbersRise keys.now }
 {
     for place in 1..keys.len() {
         if keys[place] <= keys[place - 1] {
@@ -195,9 +197,10 @@ fn are_rising(keys: &[u64]) -> bool
     true
 }
 
-// The hash parts of the paths, strictly rising.
+// The hash parts of the paths, strictly rising. Where some are equal, room is left over.
 fn sorted_parts(alloc: Global, paths: &[StorePath]) -> Result<Vec<[u8; 32]>, AllocError>
-    ensures { IfOk result (λ parts. ArePartsOf paths.now parts.items false) }
+    ensures parts { IfOk result (λ parts. ArePartsOf paths.now parts.items false) }
+    ensures room { IfOk result (λ parts. vec_capacity parts ≡ length paths.now) }
 {
     let mut parts = parts_of(alloc, paths)?;
     parts.sort_unstable();
@@ -210,21 +213,23 @@ fn parts_of(alloc: Global, paths: &[StorePath]) -> Result<Vec<[u8; 32]>, AllocEr
     ensures value { IfOk result (λ parts. parts.items ≡ map hash_part_of paths.now) }
     ensures are_parts { IfOk result
         (λ parts. All (λ part. IsTrue (is_hash_part part)) parts.items) }
+    ensures room { IfOk result (λ parts. vec_capacity parts ≡ length paths.now) }
 {
     let mut parts = Vec::with_capacity(alloc, paths.len())?;
     for path in paths {
-        parts.push(part_of(path))?;
+        parts.push_reserved(part_of(path));
     }
     Ok(parts)
 }
 
 // The key of each part.
 fn keys_of_parts(alloc: Global, parts: &[[u8; 32]]) -> Result<Vec<u64>, AllocError>
-    ensures { IfOk result (λ keys. keys.items ≡ map key_of_part parts.now) }
+    ensures items { IfOk result (λ keys. keys.items ≡ map key_of_part parts.now) }
+    ensures room { IfOk result (λ keys. vec_capacity keys ≡ length parts.now) }
 {
     let mut keys = Vec::with_capacity(alloc, parts.len())?;
     for part in parts {
-        keys.push(key_of(part))?;
+        keys.push_reserved(key_of(part));
     }
     Ok(keys)
 }
@@ -247,6 +252,8 @@ fn sieve_of(alloc: Global, keys: &[u64]) -> Result<Vec<u8>, AllocError>
 fn both(held: u8, tag: u8) -> u8
     ensures new { LetsThrough result tag }
     ensures old { (other : ℕ) → LetsThrough held other → LetsThrough result other }
+    ensures alone { tag ≢ 0 → ((held ≡ 0) ⊎ (held ≡ tag)) → result ≡ tag }
+    ensures several { ((tag ≡ 0) ⊎ ((held ≢ 0) × (held ≢ tag))) → result ≡ 255 }
 {
     if tag != NONE && (held == NONE || held == tag) {
         tag
@@ -257,7 +264,7 @@ fn both(held: u8, tag: u8) -> u8
 
 // How many slots a sieve for this many parts has.
 fn slot_count(parts: usize) -> usize
-    ensures { 0 < result }
+    ensures { IsSlotCount parts result }
 {
     parts
         .saturating_mul(SLOTS_A_PART)

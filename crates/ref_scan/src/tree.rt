@@ -12,7 +12,8 @@ pub const MAX_ENTRIES: usize = 65_536;
 /// The most bytes of an output's files together.
 pub const MAX_FILE_BYTES: usize = 67_108_864;
 
-/// A file, or a folder with all that is in it.
+/// A file, or a folder with all that is in it. Dropping a tree recurses, once for each level, and
+/// so does `{:?}`.
 #[derive(Debug, Drop)]
 #[cycle(tree)]
 pub enum Tree {
@@ -44,7 +45,8 @@ struct Room {
 impl Tree {
     /// Whether the tree is within the limits of an output: at most 32 levels (a file and an empty
     /// folder have one), 65,536 entries (the named members of folders at any depth, without the
-    /// root) and 67,108,864 bytes of files. Takes no memory, and looks at no level past the limit.
+    /// root) and 67,108,864 bytes of files. Takes no memory. Looks at no level past the limit, so it
+    /// recurses 32 levels at most and returns for a tree of any depth.
     pub fn fits(&self) -> bool
         ensures { IsTrue result ↔ Fits self.now }
     {

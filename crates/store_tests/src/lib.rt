@@ -11,6 +11,7 @@
 //! | `path_lists` | sorting of outputs, and unions of lists of paths |
 //! | `outlets` | the plain outlet |
 //! | `scans`, `random_scans` | which paths a tree refers to, and the limits of an output |
+//! | `large_scans` | a deep tree, and many permitted paths whose keys rise |
 //! | `many_paths` | as many entries, outputs, roots and permitted paths as in a large store |
 //! | `fault_words` | the number and the words of each fault |
 //! | `paths` | paths and journals for the tests |
@@ -26,6 +27,8 @@ mod journal_digests;
 mod journal_texts;
 #[cfg(test)]
 mod journals;
+#[cfg(test)]
+mod large_scans;
 #[cfg(test)]
 mod many_paths;
 #[cfg(test)]

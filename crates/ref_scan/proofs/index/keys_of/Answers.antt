@@ -14,10 +14,11 @@ loop-path-preserved c =
     let held = c.loop-path.invariant in
     let taken = taken_more paths i path (omega arith) c.path-item.is in
     record {
-      value = c.in_ok-push.ensures.items ∙ ap (λ ks. ks ++ c.key.result ∷ []) held.value
+      value = c.push_reserved.ensures.items ∙ ap (λ ks. ks ++ c.key.result ∷ []) held.value
           ∙ ap (λ k. map key_of (take i paths) ++ k ∷ []) c.key.ensures.value
           ∙ sym (map-append key_of (take i paths) (path ∷ []))
           ∙ ap (map key_of) (sym taken);
       are_paths = rw taken
           (All-push IsStorePath (take i paths) path held.are_paths c.key.ensures.is_path);
+      capacity = c.push_reserved.ensures.capacity ∙ held.capacity;
     }

@@ -1,4 +1,4 @@
-use Rattle.std.proofs.Common.{◌≡◌, map, take}
+use Rattle.std.proofs.Common.{◌≡◌, length, map, take, vec_capacity}
 use Rattle.std.specs.Prelude.{All}
 use Rattle.nix_names.specs.Keys.{key_of}
 use Rattle.nix_names.specs.StorePaths.{IsStorePath}
@@ -8,4 +8,5 @@ abbrev pub invariant-loop-path : goal.invariant-loop-path
 invariant-loop-path l = record {
   value : l.keys.items ≡ map key_of (take l.path-index l.paths);
   are_paths : All IsStorePath (take l.path-index l.paths);
+  capacity : vec_capacity l.keys ≡ length l.paths;
 }

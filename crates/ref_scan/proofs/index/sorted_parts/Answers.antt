@@ -4,8 +4,8 @@ use Rattle.ref_scan.specs.Places.{ArePartsOf}
 use Rattle.ref_scan.proofs.Indexing.{parts_sorted}
 use Rattle.ref_scan.proofs.index.sorted_parts.Goals as goal
 
-pub returns : goal.returns
-returns c =
+pub returns-clause-parts : goal.returns-clause-parts
+returns-clause-parts c =
     subst (λ parts. ArePartsOf c.args.paths.now parts false)
     (sym (dedup_is _ _ _ c.dedup.ensures.filtered))
     (parts_sorted c.args.paths.now c.in_ok-parts.parts.items _ c.in_ok-parts.ensures.value

@@ -8,8 +8,8 @@ use Rattle.ref_scan.proofs.references.scan.Goals as goal
 
 pub found-requires : goal.found-requires
 found-requires c =
-    rw (ap (λ m. m.permitted) c.feed_tree.ensures ∙ c.in_ok-marks.ensures.permitted)
-    c.requires.rising
+    rw (ap (λ m. m.permitted) c.in_ok-feed_tree.ensures ∙ c.in_ok-marks.ensures.permitted)
+    c.requires
 
 pub returns : goal.returns
 returns c =
@@ -17,7 +17,7 @@ returns c =
     let permitted = c.args.permitted.now in
     let marks = c.in_ok-marks.marks in
     let fed : c.feed_tree.new.marks
-    ≡ sought_of permitted marks.parts marks.in_order (pieces tree) [] = c.feed_tree.ensures
+    ≡ sought_of permitted marks.parts marks.in_order (pieces tree) [] = c.in_ok-feed_tree.ensures
     ∙ ap (λ l. sought_of marks.permitted marks.parts marks.in_order (l ++ pieces tree) [])
     c.in_ok-marks.ensures.fed.0
     ∙ ap (λ ps. sought_of ps marks.parts marks.in_order (pieces tree) [])

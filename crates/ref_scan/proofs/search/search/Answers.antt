@@ -13,13 +13,13 @@ loop-window-preserved-in-Some-last_foreign c =
     let left = ap length (take_rest bytes start) in
     let held = c.loop-window.invariant in
     record {
-      inside = omega (arith, c.in-Some.ensures.cases.enough, length-drop start bytes, foreign.0);
+      inside = omega (arith, c.in-Some.ensures.cases.enough, length-drop start bytes, foreign.1);
       known = omega arith;
       so_far =
           searching_past c.args.index.now.parts c.args.met.now c.loop-window.met bytes start place
-          c.requires.are_parts.each held.so_far foreign.0
-          (foreign_at bytes c.in-Some.window.now start place c.in-Some.ensures.cases.same foreign.0
-          foreign.1);
+          c.requires.are_parts.each held.so_far foreign.1
+          (foreign_at bytes c.in-Some.window.now start place c.in-Some.ensures.cases.same foreign.1
+          foreign.2);
     }
 
 pub loop-window-preserved : goal.loop-window-preserved
