@@ -1,5 +1,5 @@
 //! Entries of a journal: paths that were added, and outputs that were built.
-ghost use Rattle.std.specs.Prelude.{◌≡◌, ◌≢◌, ◌<◌, ◌↔◌, [], List, IfOk, IfErr, IsOk, IsTrue, MatchOption, None, Some, length, slice_get};
+ghost use Rattle.std.specs.Prelude.{◌≡◌, ◌≢◌, ◌<◌, ◌↔◌, [], List, IfOk, IfErr, IsOk, IsTrue, MatchOption, None, Some, length, slice_get, vec_capacity};
 ghost use Rattle.nix_names.specs.Rising.{IsRising};
 ghost use Rattle.valid_table.specs.Entries.{IsSortedOf, paths_registered, registered_by};
 ghost use Rattle.valid_table.specs.Kept.{digest_known, references_known};
@@ -222,10 +222,7 @@ impl Outputs {
     pub fn copy(&self, alloc: Global) -> Result<Outputs, AllocError>
         ensures ok { IfOk result (λ o. o ≡ self.now) }
     {
-        let mut registrations = Vec::with_capacity(alloc, self.registrations.len())?;
-        for registration in &self.registrations {
-            registrations.push(registration.copy(alloc)?)?;
-        }
+        let registrations = copy_registrations(alloc, &self.registrations)?;
         Ok(Outputs { registrations })
     }
 }
@@ -288,4 +285,31 @@ fn is_rising(registrations: &[Registration]) -> bool
         }
     }
     true
+}
+
+// The same registrations again.
+fn copy_registrations(
+    alloc: Global,
+    registrations: &[Registration],
+) -> Result<Vec<Registration>, AllocError>
+    ensures items { IfOk result (λ copied. copied.items ≡ registrations.now) }
+    ensures room { IfOk result (λ copied. vec_capacity copied ≡ length registrations.now) }
+{
+    let mut copied = Vec::with_capacity(alloc, registrations.len())?;
+    for registration in registrations {
+        copied.push_reserved(registration.copy(alloc)?);
+    }
+    Ok(copied)
+}
+
+// The same entries again.
+pub(crate) fn copy_entries(alloc: Global, entries: &[Entry]) -> Result<Vec<Entry>, AllocError>
+    ensures items { IfOk result (λ copied. copied.items ≡ entries.now) }
+    ensures room { IfOk result (λ copied. vec_capacity copied ≡ length entries.now) }
+{
+    let mut copied = Vec::with_capacity(alloc, entries.len())?;
+    for entry in entries {
+        copied.push_reserved(entry.copy(alloc)?);
+    }
+    Ok(copied)
 }

@@ -1,5 +1,5 @@
 //! Journals: entries in their order, each reference registered, no path twice.
-ghost use Rattle.std.specs.Prelude.{◌≡◌, ◌≤◌, ◌+◌, ◌↔◌, ◌++◌, [], ◌∷◌, All, IfOk, IfErr, IsTrue, MatchOption, OnOk, length};
+ghost use Rattle.std.specs.Prelude.{◌≡◌, ◌≤◌, ◌+◌, ◌↔◌, ◌++◌, [], ◌∷◌, All, IfOk, IfErr, IsTrue, MatchOption, OnErr, OnOk, length};
 ghost use Rattle.nix_names.specs.StorePaths.{IsDrvPath};
 ghost use Rattle.valid_table.specs.Adding.{AreClosed, AreNew, IsAdding};
 ghost use Rattle.valid_table.specs.Entries.{registered, registered_by};
@@ -9,7 +9,7 @@ ghost use Rattle.valid_table.specs.Valid.{HasDrvPath, IsJournal, IsValid};
 ghost use Rattle.valid_table.specs.declared.entry.Entry.TheVariants.{Add, Done};
 
 use crate::checking::check_entries;
-use crate::entry::{Entry, Outputs, Record, Registration};
+use crate::entry::{Entry, Outputs, Record, Registration, copy_entries};
 use crate::fault::TableFault;
 use crate::obstacle::fault_of;
 use crate::table::Table;
@@ -100,6 +100,7 @@ impl Journal {
         ensures adding { IsAdding self.old.entries self.new.entries
             (Add (record { path = path; info = info })) result }
         ensures room { self.old.room ≤ self.new.room + 1 }
+        ensures kept { OnErr result (self.old.room ≤ self.new.room) }
     {
         self.add_entry(Entry::Add(Registration { path, info }))
     }
@@ -114,6 +115,7 @@ impl Journal {
         requires { IsDrvPath deriver }
         ensures adding { IsAdding self.old.entries self.new.entries (Done deriver outputs) result }
         ensures room { self.old.room ≤ self.new.room + length outputs }
+        ensures kept { OnErr result (self.old.room ≤ self.new.room) }
     {
         self.add_entry(Entry::Done(deriver, outputs))
     }
@@ -166,6 +168,7 @@ impl Journal {
         requires { HasDrvPath entry }
         ensures adding { IsAdding self.old.entries self.new.entries entry result }
         ensures room { self.old.room ≤ self.new.room + length (registered_by entry) }
+        ensures kept { OnErr result (self.old.room ≤ self.new.room) }
     {
         let alloc = *self.entries.allocator();
         if let Some(blame) = self.table.blame(&entry) {
@@ -177,16 +180,4 @@ impl Journal {
         self.push_reserved(entry, copy);
         Ok(())
     }
-}
-
-// The same entries again.
-fn copy_entries(alloc: Global, entries: &[Entry]) -> Result<Vec<Entry>, TableFault>
-    ensures ok { IfOk result (λ copied. copied.items ≡ entries.now) }
-    ensures err { IfErr result (λ e. e ≡ TableFault.NoMemory) }
-{
-    let mut copied = Vec::with_capacity(alloc, entries.len())?;
-    for entry in entries {
-        copied.push(entry.copy(alloc)?)?;
-    }
-    Ok(copied)
 }

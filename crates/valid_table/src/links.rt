@@ -1,5 +1,5 @@
 //! The references of a table's rows by the numbers of their rows.
-ghost use Rattle.std.specs.Prelude.{◌≡◌, ◌≤◌, ◌<◌, ◌+◌, [], IfSome, length};
+ghost use Rattle.std.specs.Prelude.{◌≡◌, ◌≤◌, ◌<◌, ◌+◌, [], IfSome, length, vec_capacity};
 ghost use Rattle.valid_table.specs.Closing.{path_at};
 ghost use Rattle.valid_table.specs.Linking.{AreLinked, AreRowsOf, start_of};
 ghost use Rattle.valid_table.specs.PathInfos.{PathInfo};
@@ -102,13 +102,14 @@ fn reference_rows(
     rows: &IndexMap<StorePath, Record>,
     paths: &[StorePath],
 ) -> Option<Vec<u32>>
-    ensures { IfSome result
+    ensures rows { IfSome result
         (λ numbers. AreRowsOf (registrations_of rows.now.entries) paths.now numbers.items) }
+    ensures room { IfSome result (λ numbers. vec_capacity numbers ≡ length paths.now) }
 {
     let mut numbers = Vec::with_capacity(alloc, paths.len()).ok()?;
     for path in paths {
         let row = row_of(rows, path)?;
-        numbers.push(u32::try_from(row).ok()?).ok()?;
+        numbers.push_reserved(u32::try_from(row).ok()?);
     }
     Some(numbers)
 }

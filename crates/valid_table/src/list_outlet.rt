@@ -1,7 +1,7 @@
 //! The plain outlet: a list of entries in memory.
 ghost use Rattle.std.specs.Prelude.{◌≡◌, ◌++◌, [], IfErr, IfOk, IsOk, OnErr, OnOk};
 
-use crate::entry::Entry;
+use crate::entry::{Entry, copy_entries};
 use crate::fault::OutletFault;
 use crate::journal::Journal;
 use crate::outlet::Outlet;
@@ -39,10 +39,7 @@ impl ListOutlet {
         ensures pending { IfOk result (λ outlet. outlet.pending ≡ []) }
         ensures err { IfErr result (λ e. e ≡ OutletFault.NoMemory) }
     {
-        let mut entries = Vec::with_capacity(alloc, journal.entries().len())?;
-        for entry in journal.entries() {
-            entries.push(entry.copy(alloc)?)?;
-        }
+        let entries = copy_entries(alloc, journal.entries())?;
         let shown = entries.len();
         Ok(ListOutlet { entries, shown })
     }

@@ -1,5 +1,5 @@
 //! Rising lists of paths, put together.
-ghost use Rattle.std.specs.Prelude.{◌≡◌, [], IfOk, MatchOption};
+ghost use Rattle.std.specs.Prelude.{◌≡◌, ◌+◌, [], IfOk, MatchOption, length, vec_capacity};
 ghost use Rattle.nix_names.specs.Rising.{IsRising};
 ghost use Rattle.valid_table.specs.Merging.{IsLeastHead};
 ghost use Rattle.valid_table.specs.Unions.{IsUnion};
@@ -9,7 +9,7 @@ use std::alloc::{AllocError, Global};
 use std::cmp::Ordering;
 
 /// The union of two strictly rising lists of paths: each path of either, strictly rising. Want of
-/// memory is its only fault. Costs one pass over both.
+/// memory is its only fault. Costs one pass over both, and takes room for the paths of both.
 pub fn union(
     alloc: Global,
     left: &[StorePath],
@@ -18,12 +18,14 @@ pub fn union(
     requires left { IsRising left.now }
     requires right { IsRising right.now }
     ensures ok { IfOk result (λ paths. IsUnion left.now right.now paths.items) }
+    ensures room { IfOk result
+        (λ paths. vec_capacity paths ≡ length left.now + length right.now) }
 {
     let mut paths = Vec::with_capacity(alloc, left.len() + right.len())?;
     let mut more = left;
     let mut others = right;
     'paths: while let Some((path, behind, beside)) = least(more, others) {
-        paths.push(path.copy(alloc)?)?;
+        paths.push_reserved(path.copy(alloc)?);
         more = behind;
         others = beside;
     }

@@ -1,5 +1,5 @@
 //! Reading a journal's text.
-ghost use Rattle.std.specs.Prelude.{◌≡◌, ◌≢◌, ◌↔◌, [], IfErr, IfOk, IsErrOf, IsTrue, MatchOption, None, ℕ};
+ghost use Rattle.std.specs.Prelude.{◌≡◌, ◌≢◌, ◌↔◌, [], IfErr, IfOk, IsErrOf, IsTrue, MatchOption, None, ℕ, vec_capacity};
 ghost use Rattle.std.specs.List.{last_or};
 ghost use Rattle.std.specs.Option.{option_copied};
 ghost use Rattle.nix_names.specs.Names.{IsStoreDir};
@@ -54,12 +54,12 @@ impl Journal {
     }
 }
 
-/// Why a reader stopped.
+// Why a reader stopped.
 #[derive(Debug, Drop)]
 pub(crate) enum Stop {
-    /// Memory was refused.
+    // Memory was refused.
     NoMemory,
-    /// A line is bad. This is the number of bytes from the beginning of that line on.
+    // A line is bad. This is the number of bytes from the beginning of that line on.
     Left(usize),
 }
 
@@ -83,7 +83,7 @@ impl<T: Drop> From<AllocFailed<T>> for Stop {
     }
 }
 
-/// Whether a path is greater than the one before it, if any.
+// Whether a path is greater than the one before it, if any.
 fn is_above(before: Option<&StorePath>, path: &StorePath) -> bool
     ensures { IsTrue result ↔ IsAbove (option_copied before.entry) path.now }
 {
@@ -93,7 +93,7 @@ fn is_above(before: Option<&StorePath>, path: &StorePath) -> bool
     }
 }
 
-/// The references at the head of the bytes, and the bytes behind their lines.
+// The references at the head of the bytes, and the bytes behind their lines.
 fn references_of<'a>(
     alloc: Global,
     dir: &StoreDir,
@@ -117,8 +117,8 @@ fn references_of<'a>(
     Ok((references, rest))
 }
 
-/// The record with a digest and with the references at the head of the bytes, and the bytes behind
-/// their lines.
+// The record with a digest and with the references at the head of the bytes, and the bytes behind
+// their lines.
 fn record_of<'a>(
     alloc: Global,
     dir: &StoreDir,
@@ -135,8 +135,8 @@ fn record_of<'a>(
     Ok((info, rest))
 }
 
-/// The path, greater than the one before it, and the digest at the head of the bytes, and the bytes
-/// behind their line. None where no such line is there.
+// The path, greater than the one before it, and the digest at the head of the bytes, and the bytes
+// behind their line. None where no such line is there.
 fn fields_above<'a>(
     alloc: Global,
     dir: &StoreDir,
@@ -160,9 +160,9 @@ fn fields_above<'a>(
     }
 }
 
-/// The registration at the head of the bytes, by a line with this letter, and the bytes behind its
-/// references. None where no such line begins there. The path has to be greater than the one before
-/// it.
+// The registration at the head of the bytes, by a line with this letter, and the bytes behind its
+// references. None where no such line begins there. The path has to be greater than the one before
+// it.
 fn registration_of<'a>(
     alloc: Global,
     dir: &StoreDir,
@@ -189,7 +189,7 @@ fn registration_of<'a>(
     Ok(Some((Registration { path, info }, rest)))
 }
 
-/// The path of the last registration.
+// The path of the last registration.
 fn last_path(registrations: &[Registration]) -> Option<&StorePath>
     ensures { option_copied result ≡ last_or None (paths_registered registrations.now) }
 {
@@ -199,7 +199,7 @@ fn last_path(registrations: &[Registration]) -> Option<&StorePath>
     }
 }
 
-/// The outputs at the head of the bytes, and the bytes behind their lines.
+// The outputs at the head of the bytes, and the bytes behind their lines.
 fn outputs_of<'a>(
     alloc: Global,
     dir: &StoreDir,
@@ -223,8 +223,8 @@ fn outputs_of<'a>(
     }
 }
 
-/// The entry of a built derivation at the head of the bytes, and the bytes behind its lines. None
-/// where no deriver's line begins there.
+// The entry of a built derivation at the head of the bytes, and the bytes behind its lines. None
+// where no deriver's line begins there.
 fn done_of<'a>(
     alloc: Global,
     dir: &StoreDir,
@@ -249,7 +249,7 @@ fn done_of<'a>(
     Ok(Some((Entry::Done(deriver, Outputs::new(outputs)), rest)))
 }
 
-/// The entry at the head of the bytes, and the bytes behind its lines.
+// The entry at the head of the bytes, and the bytes behind its lines.
 fn entry_of<'a>(
     alloc: Global,
     dir: &StoreDir,
@@ -272,13 +272,14 @@ fn entry_of<'a>(
     }
 }
 
-/// The entries whose text the bytes are.
+// The entries whose text the bytes are.
 pub(crate) fn entries_of(alloc: Global, dir: &StoreDir, bytes: &[u8]) -> Result<Vec<Entry>, Stop>
     ensures is_dir { IsStoreDir dir.now }
     ensures ok { IfOk result (λ entries. IsJournalText dir.now entries.items bytes.now) }
     ensures left { IfErr result (StopsWhere (StopsInText dir.now bytes.now)) }
     ensures memory { IsErrOf result Stop.NoMemory
         → (version : AVersion) × BeginsVersion version bytes.now }
+    ensures room { IfOk result (λ entries. bytes.now ≡ [] → vec_capacity entries ≡ 0) }
 {
     // Its contract says that the text is a folder's: without spaces and newlines.
     let _ = dir.text();

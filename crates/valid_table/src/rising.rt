@@ -1,5 +1,5 @@
 //! The paths of rows that were found, in rising order.
-ghost use Rattle.std.specs.Prelude.{◌≡◌, ◌<◌, ◌++◌, ◌⊎◌, [], ℕ, All, IfErr, IfOk, IsTrue, OnOk, length, map, nat_eq, nat_lt, not};
+ghost use Rattle.std.specs.Prelude.{◌≡◌, ◌<◌, ◌≤◌, ◌/◌, ◌++◌, ◌⊎◌, [], ℕ, All, IfErr, IfOk, IsTrue, OnOk, length, map, nat_eq, nat_lt, not, vec_capacity};
 ghost use Rattle.std.specs.Cmp.Lexicographic.{slice_cmp};
 ghost use Rattle.std.specs.List.{filter, list_any};
 ghost use Rattle.std.specs.List.Sorted.{IsPermutation, IsSorted};
@@ -76,7 +76,10 @@ fn keyed_rows(
 
 // The ordered rows that a closure passes over: all of them, or none where few rows were found.
 fn swept<'a>(order: &'a Order, found: &Found) -> &'a [(u64, usize)]
-    ensures { (result.now ≡ []) ⊎ (result.now ≡ order.now.keyed.items) }
+    ensures either { (result.now ≡ []) ⊎ (result.now ≡ order.now.keyed.items) }
+    ensures few { length found.now.rows < length order.now.keyed.items / 16 → result.now ≡ [] }
+    ensures many { length order.now.keyed.items / 16 ≤ length found.now.rows
+        → result.now ≡ order.now.keyed.items }
 {
     if found.rows().len() < order.keyed.len() / SWEEP {
         &[]
@@ -137,12 +140,13 @@ fn copied_paths(
     requires { All (λ k. k.1 < length (registrations_of rows.now.entries)) keyed.now }
     ensures paths { IfOk result (λ paths. paths.items
         ≡ paths_at (registrations_of rows.now.entries) (map (λ k. k.1) keyed.now)) }
+    ensures room { IfOk result (λ paths. vec_capacity paths ≡ length keyed.now) }
     ensures err { IfErr result (λ e. e ≡ TableFault.NoMemory) }
 {
     let texts = rows.keys();
     let mut paths = Vec::with_capacity(alloc, keyed.len())?;
     for row in keyed {
-        paths.push(texts[row.1].copy(alloc)?)?;
+        paths.push_reserved(texts[row.1].copy(alloc)?);
     }
     Ok(paths)
 }

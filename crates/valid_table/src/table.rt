@@ -1,5 +1,5 @@
 //! The table of valid paths.
-ghost use Rattle.std.specs.Prelude.{◌≡◌, ◌≤◌, ◌+◌, ◌++◌, ◌↔◌, [], IfErr, IfOk, IsOk, IsTrue, MatchOption, OnOk, length};
+ghost use Rattle.std.specs.Prelude.{◌≡◌, ◌≤◌, ◌+◌, ◌++◌, ◌↔◌, [], IfErr, IfOk, IsOk, IsTrue, MatchOption, OnErr, OnOk, length};
 ghost use Rattle.valid_table.specs.Adding.{AreClosed, AreNew, IsObstacle, IsRegistering};
 ghost use Rattle.valid_table.specs.Blames.{IsBlamed};
 ghost use Rattle.valid_table.specs.Closure.{IsClosing};
@@ -158,6 +158,7 @@ impl Table {
         ensures registering { IsRegistering self.old.registrations self.new.registrations entry.now
             result }
         ensures room { self.old.room ≤ self.new.room + length (registered_by entry.now) }
+        ensures kept { OnErr result (self.old.room ≤ self.new.room) }
     {
         let alloc = *self.rows.allocator();
         if let Some(blame) = self.blame(entry) {

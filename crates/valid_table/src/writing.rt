@@ -23,7 +23,7 @@ impl Journal {
     }
 }
 
-/// The text of the entries.
+// The text of the entries.
 #[tactic(auto, unfolding(crate::specs::Texts::text))]
 pub(crate) fn write_text(alloc: Global, entries: &[Entry]) -> Result<Vec<u8>, TableFault>
     ensures ok { IfOk result (λ bytes. bytes.items ≡ text Version.Two entries.now) }
@@ -36,7 +36,7 @@ pub(crate) fn write_text(alloc: Global, entries: &[Entry]) -> Result<Vec<u8>, Ta
     Ok(out)
 }
 
-/// Adds an entry's lines.
+// Adds an entry's lines.
 fn write_entry(entry: &Entry, out: &mut Vec<u8>) -> Result<(), AllocError>
     ensures { OnOk result
         (out.new.items ≡ out.old.items ++ lines_text Version.Two (entry_lines entry.now)) }
@@ -53,7 +53,7 @@ fn write_entry(entry: &Entry, out: &mut Vec<u8>) -> Result<(), AllocError>
     }
 }
 
-/// Adds the lines of a path that is registered, the first of them with this letter.
+// Adds the lines of a path that is registered, the first of them with this letter.
 fn write_registration(
     letter: u8,
     registration: &Registration,
@@ -69,7 +69,7 @@ fn write_registration(
     Ok(())
 }
 
-/// Adds the line with this letter, the path that is registered and its digest.
+// Adds the line with this letter, the path that is registered and its digest.
 fn write_fields(
     letter: u8,
     registration: &Registration,
@@ -88,7 +88,7 @@ fn write_fields(
     out.extend_from_slice(b"\n")
 }
 
-/// Adds a line with this letter and a path.
+// Adds a line with this letter and a path.
 fn write_path(letter: u8, path: &StorePath, out: &mut Vec<u8>) -> Result<(), AllocError>
     ensures { OnOk result (out.new.items ≡ out.old.items ++ path_line letter path.now) }
 {
@@ -97,7 +97,7 @@ fn write_path(letter: u8, path: &StorePath, out: &mut Vec<u8>) -> Result<(), All
     out.extend_from_slice(b"\n")
 }
 
-/// Adds a digest's text.
+// Adds a digest's text.
 fn write_digest(digest: Option<Digest>, out: &mut Vec<u8>) -> Result<(), AllocError>
     ensures { OnOk result (out.new.items ≡ out.old.items ++ digest_text Version.Two digest) }
 {

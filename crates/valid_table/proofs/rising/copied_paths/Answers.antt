@@ -1,4 +1,4 @@
-use Rattle.std.proofs.Common.{◌≡◌, Some, arith, get_or, map, ℕ}
+use Rattle.std.proofs.Common.{◌≡◌, ◌∙◌, Some, arith, get_or, map, ℕ}
 use Rattle.std.specs.List.{slice_get}
 use Rattle.std.proofs.lemmas.List.{get_or-map, length-map}
 use Rattle.valid_table.specs.Entries.{paths_registered}
@@ -22,8 +22,13 @@ loop-row-preserved c =
       ← c.keys-texts.ensures.rest,
     )
     c.index.ensures in
-    paths_more _ _ i _ _
-    _
-    (omega (arith, c.loop-row-test.true, length-map keyed (λ (k : ℕ × ℕ). k.1)))
-    c.loop-row.invariant at
-    (rw c.in_ok-copy.ensures.same at c.in_ok-push.ensures.items)
+    let held = c.loop-row.invariant in
+    record {
+      paths = paths_more _ _ i _ _
+          _
+          (omega (arith, c.loop-row-test.true, length-map keyed (λ (k : ℕ × ℕ). k.1)))
+          held.paths at
+          (rw c.in_ok-copy.ensures.same at c.push_reserved.ensures.items);
+      count = omega (arith, held.count, c.push_reserved.ensures.len);
+      room = c.push_reserved.ensures.capacity ∙ held.room;
+    }

@@ -13,7 +13,7 @@ push_late-requires-clause-keys c =
     (λ (k : ℕ × ℕ). (k.0 ≡ 0) ⊎ (IsKey (folder_of registrations) (path_at registrations k.1) k.0))
     (λ (k : ℕ × ℕ). list_any (nat_eq k.1) c.args.found.now.rows)
     _ _ _
-    _ c.swept-ordered.ensures c.in_ok-keyed.ensures.items
+    _ c.swept-ordered.ensures.either c.in_ok-keyed.ensures.items
     c.in_ok-push_found.ensures c.requires.keys
 
 pub returns-clause-rows : goal.returns-clause-rows
@@ -22,7 +22,7 @@ returns-clause-rows c =
     let ordered = c.swept-ordered.result.now in
     chosen_rows _ _ _
     _
-    (swept_first _ _ _ c.swept-ordered.ensures c.requires.first)
+    (swept_first _ _ _ c.swept-ordered.ensures.either c.requires.first)
     c.requires.rows
     (regrouped_is found ordered _ _
     _ c.in_ok-keyed.ensures.items
@@ -35,7 +35,7 @@ returns-clause-same c =
     let found = c.args.found.now.rows in
     let ordered = c.swept-ordered.result.now in
     chosen_same _ _ _ _
-    (swept_first _ _ _ c.swept-ordered.ensures c.requires.first)
+    (swept_first _ _ _ c.swept-ordered.ensures.either c.requires.first)
     (regrouped_is found ordered _ _
     _ c.in_ok-keyed.ensures.items
     (behind_added (λ row. list_any (nat_eq row) found) _ _

@@ -42,4 +42,4 @@ returns-clause-linked c =
     c.requires.next
     (row_registers _ _ _ c.requires.within c.index.ensures))
     (subst (λ (paths : List (List ℕ)). AreRowsOf registrations paths more)
-    c.references.ensures.value c.in_ok-numbers.ensures))
+    c.references.ensures.value c.in_ok-numbers.ensures.rows))
