@@ -122,7 +122,8 @@ fn written<J: Naming + Send, R: Wait + Print>(
     ends(rt, "open");
     match view {
         Ok((writer, readers)) => Ok(Some(closes_written(rt, alloc, writer, readers)?)),
-        Err(OutletFault::NoMemory | OutletFault::NoView) => Ok(None),
+        Err(OpenFault::NoMemory) => Ok(None),
+        Err(fault) => Err(fault.into()),
     }
 }
 
@@ -214,12 +215,12 @@ fn fault_of<J: Naming>(reader: &mut ViewReader<J>, path: &StorePath) -> u8 {
 }
 
 // What a view of three entries tells, and the fault of a look after it was closed, between two
-// printed lines. A new name is made between these lines too.
+// printed lines. A new name is made between these lines too, and want of memory numbered.
 fn view_told<J: Naming + Send, R: Wait + Print>(
     rt: &R,
     alloc: Global,
     name: Name,
-) -> Result<([u64; 2], u8), Fail>
+) -> Result<([u64; 2], [u8; 2]), Fail>
     requires { name ≡ J.book }
 {
     let z = path(alloc, Z)?;
@@ -228,14 +229,14 @@ fn view_told<J: Naming + Send, R: Wait + Print>(
     let _name = Name::new();
     let told = told(&writer, &mut readers[0], &z);
     writer.close();
-    let fault = fault_of(&mut readers[0], &z);
+    let faults = [fault_of(&mut readers[0], &z), OpenFault::NoMemory.number()];
     ends(rt, "valid_view");
-    Ok((told, fault))
+    Ok((told, faults))
 }
 
 #[test]
 fn without_memory(rt: HostRuntime) -> Result<(), Fail> {
     let told = view_told::<Brand, _>(&rt, rt.alloc(), Name::new())?;
-    assert_eq!(rt; told, ([3, 3], 40));
+    assert_eq!(rt; told, ([3, 3], [40, 9]));
     Ok(())
 }

@@ -10,4 +10,4 @@ pub reached : {A : Type 0} (answer : Result A ViewFault) (fact : Type 0) → IfG
 reached (Ok a) fact is = tt
 reached (Err (NotValid path)) fact is = tt
 reached (Err NoMemory) fact is = tt
-reached (Err NoView) fact is = absurd is
+reached (Err (NoView why)) fact is = absurd is

@@ -20,12 +20,12 @@ pub record Knowing : Type 0 where
 
 -- a fact holds where the view was reached: each answer but `NoView` is by the list that was seen
 abbrev pub WhereSeen : {A : Type 0} → Result A ViewFault → Type 0 → Type 0
-WhereSeen (Err NoView) fact = Unit {0}
+WhereSeen (Err (NoView why)) fact = Unit {0}
 WhereSeen answer fact = fact
 
 -- a fact holds where the view was not reached
 abbrev pub IfGone : {A : Type 0} → Result A ViewFault → Type 0 → Type 0
-IfGone (Err NoView) fact = fact
+IfGone (Err (NoView why)) fact = fact
 IfGone answer fact = Unit {0}
 
 -- Why a reader can't reach the view: nothing new was seen, since the writer is gone; or the list
@@ -38,7 +38,7 @@ abbrev pub IsLook : List Registration → Path → Result Seen ViewFault → Typ
 IsLook registrations path (Ok Absent) = IsNotValid registrations path
 IsLook registrations path (Ok (Valid digest)) =
     (info : PathInfo) × Registers registrations path info × (digest ≡ info.digest)
-IsLook registrations path (Err NoView) = Unit {0}
+IsLook registrations path (Err (NoView why)) = Unit {0}
 IsLook registrations path (Err other) = ⊥
 
 -- what is answered where the closure of some roots is asked for: *Closure*
@@ -49,4 +49,4 @@ IsViewClosing registrations roots (Ok all) = All (IsValid registrations) roots
 IsViewClosing registrations roots (Err (NotValid path)) =
     IsFirst (IsValid registrations) (IsNotValid registrations) roots path
 IsViewClosing registrations roots (Err NoMemory) = Unit {0}
-IsViewClosing registrations roots (Err NoView) = Unit {0}
+IsViewClosing registrations roots (Err (NoView why)) = Unit {0}

@@ -5,10 +5,18 @@ use Rattle.valid_table.specs.declared.entry.Entry.{Entry}
 use Rattle.valid_table.specs.declared.fault.OutletFault.{OutletFault}
 use Rattle.valid_table.specs.declared.fault.OutletFault.TheVariants as fault
 use Rattle.valid_view.specs.Beginnings.{Hinders}
+use Rattle.valid_view.specs.declared.refusal.OpenFault.{OpenFault}
+use Rattle.valid_view.specs.declared.refusal.OpenFault.TheVariants as opening
 use Rattle.valid_view.specs.declared.refusal.Refusal.{Refusal}
 use Rattle.valid_view.specs.declared.refusal.Refusal.TheVariants.{NoMemory, Hindered, NoPlace}
 
--- the fault that is answered for a refusal
+-- the fault that is answered for a refusal where a view was to be opened
+abbrev pub opened_as : Refusal → OpenFault
+opened_as NoMemory = opening.NoMemory
+opened_as (Hindered found) = opening.NoView (record { refusal = Hindered found })
+opened_as (NoPlace place) = opening.NoView (record { refusal = NoPlace place })
+
+-- the fault that is answered for a refusal where entries were to be shown
 abbrev pub told_as : Refusal → OutletFault
 told_as NoMemory = fault.NoMemory
 told_as (Hindered found) = fault.NoView

@@ -2,6 +2,7 @@
 ghost use Rattle.std.specs.Prelude.{◌≡◌};
 ghost use Rattle.valid_view.specs.Faults.{number_of};
 
+use crate::sight::Unreached;
 use nix_names::StorePath;
 use thiserror::Error;
 
@@ -14,9 +15,10 @@ pub enum ViewFault {
     /// This path, of which the closure was asked, is not valid by the list that was seen.
     #[error("a path is not valid")]
     NotValid(StorePath),
-    /// The view cannot be reached: its writer is gone.
+    /// The view cannot be reached: its writer is gone. Only a reader that was refused makes this
+    /// fault.
     #[error("the published list cannot be reached")]
-    NoView,
+    NoView(Unreached),
 }
 
 impl ViewFault {
@@ -27,7 +29,7 @@ impl ViewFault {
         match self {
             ViewFault::NoMemory => 9,
             ViewFault::NotValid(_) => 34,
-            ViewFault::NoView => 40,
+            ViewFault::NoView(_) => 40,
         }
     }
 }

@@ -6,7 +6,7 @@ ghost use Rattle.valid_table.specs.Valid.{references_of};
 ghost use Rattle.valid_view.specs.Feeding.{Takes, known_of, pending_of};
 ghost use Rattle.valid_view.specs.Refusals.{IsShowRefused};
 
-use crate::front::{Front, Head};
+use crate::front::{Front, Head, Known};
 use crate::line::{Line, Returned};
 use crate::name::Naming;
 use crate::refusal::Refusal;
@@ -22,7 +22,7 @@ use valid_table::{Entry, OutletFault};
 pub(crate) struct Feed<J: Naming> {
     line: Line<J>,
     // The beginning of the one list that ends with all that is in it.
-    front: Front<J>,
+    front: Known<J>,
     // The last entry of that list, if it was not handed over yet.
     held: Option<Op>,
     // Entries that are not in the list yet.
@@ -50,7 +50,7 @@ impl<J: Naming> Feed<J> {
     // A feed over the writer's end, where all that is in the list is shown.
     pub(crate) fn over(
         line: Line<J>,
-        front: Front<J>,
+        front: Known<J>,
         head: Head<J>,
         queue: VecDeque<Entry>,
     ) -> Feed<J>
@@ -71,7 +71,7 @@ impl<J: Naming> Feed<J> {
         }
     }
 
-    // The list that is shown, as a beginning of the one list.
+    // The list that is shown.
     pub(crate) fn front(&self) -> Front<J>
         ensures { result ≡ self.now.shown }
     {
@@ -127,8 +127,10 @@ impl<J: Naming> Feed<J> {
         line.close(rt)
     }
 
-    // Shows the entries that were handed over.
+    // Shows the entries that were handed over, of which there are some. No other function but `close`
+    // waits for readers.
     fn show<R: Wait>(&mut self, rt: &R) -> Result<(), AllocError>
+        requires some { self.old.handed ≡ [] → ⊥ }
         ensures held { self.new.held ≡ self.old.held }
         ensures queue { self.new.queue ≡ self.old.queue }
         ensures ok { OnOk result

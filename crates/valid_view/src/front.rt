@@ -1,9 +1,10 @@
-//! Beginnings of the one list of which every shown list is a beginning.
+//! Lists that were shown, and the one list of which each of them is a beginning.
 ghost use Rattle.std.specs.Prelude.{◌≡◌, ◌⊎◌, ◌++◌, ◌∷◌, [], length, MatchResult};
 ghost use mathlib.Core.List.{IsPrefix};
 ghost use Rattle.valid_view.specs.Beginnings.{Hinders, head_of};
 ghost use Rattle.valid_view.specs.Shown.{IsShowable, MayFollow};
 
+use crate::display::Displayed;
 use crate::law::{Add, Law, Nothing};
 use crate::name::Naming;
 use logbook::{Offer, Seen, Word};
@@ -30,15 +31,75 @@ impl<J: Naming> Head<J> {
     }
 }
 
-/// A beginning of the list with this name. A contract sees its entries. Takes no memory, and has
-/// the size of one number.
+/// A list that was shown under this name. It is a beginning of the one list with the name. A
+/// contract sees its entries. Takes no memory, and has the size of one number.
 #[derive(Drop)]
 pub struct Front<J: Naming> {
+    all: Known<J>,
+}
+
+impl<J: Naming> Model for Front<J> {
+    ghost use Rattle.std.specs.Prelude.{List};
+    ghost use Rattle.valid_table.specs.declared.entry.Entry.{Entry};
+
+    ghost Value = { List Entry };
+
+    ghost view = { λ f. f.all };
+
+    ghost invariant = { λ f. J.Showing.shown J.book f.all };
+}
+
+impl<J: Naming> Front<J> {
+    // A list that was shown.
+    pub(crate) fn over(list: Displayed) -> Front<J>
+        requires { list.book ≡ J.book }
+        ensures { result ≡ list.entries }
+    {
+        J::show(&list);
+        Front {
+            all: Known::over(list.front()),
+        }
+    }
+
+    /// How many entries it has.
+    pub fn len(&self) -> u64
+        ensures length { result ≡ length self.now }
+        ensures showable { IsShowable self.now }
+        ensures shown { J.Showing.shown J.book self.now }
+    {
+        self.all.len()
+    }
+
+    /// The same again.
+    pub fn again(&self) -> Front<J>
+        ensures { result ≡ self.now }
+    {
+        Front {
+            all: self.all.again(),
+        }
+    }
+
+    /// The longer of two lists, which begins with the other. A proof learns from it that one of two
+    /// lists that were shown under one name begins with the other.
+    pub fn longer(&self, other: &Front<J>) -> Front<J>
+        ensures this { IsPrefix self.now result }
+        ensures that { IsPrefix other.now result }
+        ensures one { (result ≡ self.now) ⊎ (result ≡ other.now) }
+    {
+        Front {
+            all: self.all.longer(&other.all),
+        }
+    }
+}
+
+// A beginning of the list with this name, shown or not. A contract sees its entries.
+#[derive(Drop)]
+pub(crate) struct Known<J: Naming> {
     all: Beginning,
     of: PhantomData<J>,
 }
 
-impl<J: Naming> Model for Front<J> {
+impl<J: Naming> Model for Known<J> {
     ghost use Rattle.std.specs.Prelude.{◌≡◌, List};
     ghost use Rattle.valid_table.specs.declared.entry.Entry.{Entry};
 
@@ -49,22 +110,22 @@ impl<J: Naming> Model for Front<J> {
     ghost invariant = { λ f. f.all.book ≡ J.book };
 }
 
-impl<J: Naming> Front<J> {
+impl<J: Naming> Known<J> {
     // The beginning without entries.
-    pub(crate) fn first(seen: Seen<Entry, u64, Law>) -> Front<J>
+    pub(crate) fn first(seen: Seen<Entry, u64, Law>) -> Known<J>
         requires book { seen.book ≡ J.book }
         requires empty { seen.log ≡ [] }
         ensures { result ≡ [] }
     {
-        Front::over(Beginning { count: 0, seen })
+        Known::over(Beginning::first(seen))
     }
 
     // The beginning of the list with this name.
-    pub(crate) fn over(all: Beginning) -> Front<J>
+    pub(crate) fn over(all: Beginning) -> Known<J>
         requires { all.book ≡ J.book }
         ensures { result ≡ all.entries }
     {
-        Front {
+        Known {
             all,
             of: PhantomData,
         }
@@ -78,29 +139,28 @@ impl<J: Naming> Front<J> {
         self.all.again()
     }
 
-    /// How many entries it has.
-    pub fn len(&self) -> u64
+    // How many entries it has.
+    pub(crate) fn len(&self) -> u64
         ensures length { result ≡ length self.now }
         ensures showable { IsShowable self.now }
     {
         self.all.len()
     }
 
-    /// The same again.
-    pub fn again(&self) -> Front<J>
+    // The same again.
+    pub(crate) fn again(&self) -> Known<J>
         ensures { result ≡ self.now }
     {
-        Front::over(self.all.again())
+        Known::over(self.all.again())
     }
 
-    /// The longer of two beginnings, which begins with the other. A proof learns from it that one
-    /// of two beginnings of one list begins with the other.
-    pub fn longer(&self, other: &Front<J>) -> Front<J>
+    // The longer of two beginnings, which begins with the other.
+    pub(crate) fn longer(&self, other: &Known<J>) -> Known<J>
         ensures this { IsPrefix self.now result }
         ensures that { IsPrefix other.now result }
         ensures one { (result ≡ self.now) ⊎ (result ≡ other.now) }
     {
-        Front::over(self.all.longer(&other.all))
+        Known::over(self.all.longer(&other.all))
     }
 
     // Adds an entry to the list. Where that went on already, or is full, nothing changes, and it
@@ -134,6 +194,15 @@ impl Model for Beginning {
 }
 
 impl Beginning {
+    // The beginning without entries.
+    pub(crate) fn first(seen: Seen<Entry, u64, Law>) -> Beginning
+        requires { seen.log ≡ [] }
+        ensures book { result.book ≡ seen.book }
+        ensures entries { result.entries ≡ [] }
+    {
+        Beginning { count: 0, seen }
+    }
+
     // The same again.
     pub(crate) fn again(&self) -> Beginning
         ensures { result ≡ self.now }

@@ -4,7 +4,8 @@
 //! |---|---|
 //! | `name` | the name of the one list |
 //! | `law` | the rule of the one list |
-//! | `front` | beginnings of the one list |
+//! | `display` | that a list was shown |
+//! | `front` | lists that were shown, and beginnings of the one list |
 //! | `shelf`, `rule` | what is shown, and the rule for it |
 //! | `line`, `feed` | the writer's end, under the rule, and the entries that wait before it |
 //! | `writer`, `opening` | the writer, and how a view is opened |
@@ -15,6 +16,7 @@
 //! | `laws` | laws over the definitions that contracts cite |
 #![tactic(auto)]
 
+mod display;
 mod fault;
 mod feed;
 mod front;
@@ -32,11 +34,14 @@ mod sight;
 mod tells;
 mod writer;
 
+pub use display::{Displayed, Showing};
 pub use fault::ViewFault;
 pub use front::Front;
 pub use name::{Name, Naming};
 pub use opening::open;
 pub use reader::ViewReader;
+pub use refusal::{OpenFault, Unopened};
 pub use seen::Seen;
+pub use sight::Unreached;
 pub use tells::Tells;
 pub use writer::ViewWriter;

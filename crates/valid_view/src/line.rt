@@ -2,6 +2,7 @@
 ghost use Rattle.std.specs.Prelude.{◌≡◌, ◌<◌, ◌≤◌, ◌++◌, ◌↔◌, [], ◌∷◌, MatchResult, IfOk, IsTrue, OnErr, OnOk};
 ghost use Rattle.valid_view.specs.Shelves.{IsShelf};
 
+use crate::display::Displayed;
 use crate::front::Front;
 use crate::name::Naming;
 use crate::rule::{Glimpse, Published, Sees};
@@ -19,6 +20,10 @@ pub(crate) struct Returned {
     pub op: Op,
     pub error: AllocError,
 }
+
+// That there is no place for a reader: what the factory of readers answered.
+#[derive(Drop)]
+pub(crate) struct NoPlace(AllocError);
 
 // The writer. A contract sees the entries that are shown, and those that were handed over and not
 // shown yet.
@@ -61,21 +66,22 @@ impl<J: Naming> Line<J> {
         Ok(Line { writer })
     }
 
-    // A new reader, which has seen the list without entries. `AllocError` where each place is in
-    // use.
-    pub(crate) fn reader(&self, none: &Front<J>) -> Result<Sight<J>, AllocError>
+    // A new reader, which has seen the list without entries. `NoPlace` where each place is in use.
+    pub(crate) fn reader(&self, none: &Front<J>) -> Result<Sight<J>, NoPlace>
         requires { none.now ≡ [] }
         ensures { IfOk result (λ sight. sight ≡ []) }
     {
-        let reader = self.writer.factory().reader()?;
-        Ok(Sight::over(reader, none.again()))
+        match self.writer.factory().reader() {
+            Ok(reader) => Ok(Sight::over(reader, none.again())),
+            Err(error) => Err(NoPlace(error)),
+        }
     }
 
-    // The list that is shown, as a beginning of the one list.
+    // The list that is shown.
     pub(crate) fn front(&self) -> Front<J>
         ensures { result ≡ self.now.shown }
     {
-        Front::over(self.writer.published().front.again())
+        Front::over(Displayed::of_writer(&self.writer))
     }
 
     // Whether all entries that were handed over are shown.
@@ -123,6 +129,6 @@ impl<J: Naming> Line<J> {
         ensures { result ≡ self.shown }
     {
         let Line { writer } = self;
-        Front::over(writer.take(rt).front.again())
+        Front::over(Displayed::at_end(writer, rt))
     }
 }

@@ -1,15 +1,16 @@
 //! The name of the list of which a view shows beginnings.
 ghost use Rattle.std.specs.Prelude.{◌≡◌, []};
 
-use crate::front::{Front, Head};
+use crate::display::{Displayed, Showing};
+use crate::front::{Front, Head, Known};
 use crate::law::Law;
 use logbook::{Seen, Start, Word};
 use std::marker::{Brand, Model};
 use valid_table::Entry;
 
-/// The name of a list, as a type. The writer and the readers of one view, and all beginnings that
-/// they hand on, have one name.
-pub trait Naming {
+/// The name of a list, as a type. The writer and the readers of one view, and all lists that they
+/// hand on, have one name. A contract says by `Showing` that a list was shown under the name.
+pub trait Naming: Showing {
     ghost use Rattle.logbook.specs.Pages.{Book};
 
     // The list, as the proofs know it.
@@ -50,12 +51,15 @@ impl Name {
         }
     }
 
-    // The right to extend the list, and the list's beginning without entries. Both name the list.
-    pub(crate) fn open<J: Naming>(self) -> (Head<J>, Front<J>)
+    // The right to extend the list, and twice the list's beginning without entries: to extend it,
+    // and as a list that counts as shown. All of them name the list.
+    pub(crate) fn open<J: Naming>(self) -> (Head<J>, Known<J>, Front<J>)
         requires { self ≡ J.book }
-        ensures { result.1 ≡ [] }
+        ensures known { result.1 ≡ [] }
+        ensures shown { result.2 ≡ [] }
     {
         let Name { head, seen } = self;
-        (Head::over(head), Front::first(seen))
+        let none = Front::over(Displayed::none(seen.again()));
+        (Head::over(head), Known::first(seen), none)
     }
 }

@@ -1,22 +1,22 @@
 //! How a view is opened.
-ghost use Rattle.std.specs.Prelude.{◌≡◌, ◌≤◌, [], All, IfOk, MatchResult, length};
+ghost use Rattle.std.specs.Prelude.{◌≡◌, ◌≤◌, [], All, IfOk, MatchResult, length, vec_capacity};
 ghost use Rattle.valid_table.specs.Entries.{registered};
 ghost use Rattle.valid_table.specs.Valid.{IsJournal};
 ghost use Rattle.valid_view.specs.Beginnings.{Hinders};
 ghost use Rattle.valid_view.specs.Feeding.{pending_of};
 
 use crate::feed::Feed;
-use crate::front::{Beginning, Front, Head};
+use crate::front::{Beginning, Front, Head, Known};
 use crate::line::Line;
 use crate::name::{Name, Naming};
 use crate::reader::ViewReader;
-use crate::refusal::Refusal;
+use crate::refusal::{OpenFault, Refusal};
 use crate::shelf::Shelf;
 use crate::writer::ViewWriter;
 use std::alloc::Global;
 use std::collections::VecDeque;
 use std::sync::Wait;
-use valid_table::{Entry, Journal, OutletFault, Table, TableFault};
+use valid_table::{Entry, Journal, Table, TableFault};
 
 /// Opens a view that shows a journal's entries, with 1 to 64 readers, each of which was told of
 /// these entries. `NoMemory` where memory is refused, `NoView` where there is no place for a
@@ -27,19 +27,26 @@ pub fn open<J: Naming, R: Wait + Drop>(
     name: Name,
     journal: &Journal,
     readers: usize,
-) -> Result<(ViewWriter<J, R>, Vec<ViewReader<J>>), OutletFault>
+) -> Result<(ViewWriter<J, R>, Vec<ViewReader<J>>), OpenFault>
     requires name { name ≡ J.book }
     requires readers { (1 ≤ readers) × (readers ≤ 64) }
     ensures shown { IfOk result (λ view. view.0.shown ≡ journal.now.entries) }
+    ensures was_shown { IfOk result (λ view. J.Showing.shown J.book view.0.shown) }
     ensures pending { IfOk result (λ view. view.0.pending ≡ []) }
     ensures readers { IfOk result (λ view. length view.1.items ≡ readers) }
+    ensures room { IfOk result (λ view. vec_capacity view.1 ≡ readers) }
     ensures told { IfOk result
         (λ view. All (λ reader. reader.told ≡ journal.now.entries) view.1.items) }
     ensures seen { IfOk result (λ view. All (λ reader. reader.seen ≡ []) view.1.items) }
 {
     match opened(alloc, &rt, name, journal, readers) {
-        Ok((feed, readers)) => Ok((ViewWriter::over(feed, rt), readers)),
-        Err(refusal) => Err(refusal.fault()),
+        Ok((feed, readers)) => {
+            let writer = ViewWriter::over(feed, rt);
+            // Its contract says that the list was shown.
+            let _ = writer.tell();
+            Ok((writer, readers))
+        }
+        Err(refusal) => Err(refusal.open_fault()),
     }
 }
 
@@ -56,17 +63,17 @@ fn opened<J: Naming, R: Wait>(
     ensures shown { IfOk result (λ view. view.0.shown ≡ journal.now.entries) }
     ensures pending { IfOk result (λ view. pending_of view.0 ≡ []) }
     ensures readers { IfOk result (λ view. length view.1.items ≡ readers) }
+    ensures room { IfOk result (λ view. vec_capacity view.1 ≡ readers) }
     ensures told { IfOk result
         (λ view. All (λ reader. reader.told ≡ journal.now.entries) view.1.items) }
     ensures seen { IfOk result (λ view. All (λ reader. reader.seen ≡ []) view.1.items) }
 {
-    let (head, none) = name.open::<J>();
-    let mut front = none.again();
+    let (head, mut front, none) = name.open::<J>();
     fill(&mut front, &head, journal.entries())?;
     let first = shelf(alloc, journal, &front)?;
     let second = shelf(alloc, journal, &front)?;
     let line = Line::open(alloc, first, second, readers)?;
-    match made_readers(alloc, &line, &none, &front, readers) {
+    match made_readers(alloc, &line, &none, readers) {
         Ok(readers) => {
             let feed = Feed::over(line, front, head, VecDeque::new(alloc));
             Ok((feed, readers))
@@ -79,7 +86,7 @@ fn opened<J: Naming, R: Wait>(
 }
 
 // Puts a journal's entries into a list that has none.
-fn fill<J: Naming>(front: &mut Front<J>, head: &Head<J>, entries: &[Entry]) -> Result<(), Beginning>
+fn fill<J: Naming>(front: &mut Known<J>, head: &Head<J>, entries: &[Entry]) -> Result<(), Beginning>
     requires empty { front.old ≡ [] }
     requires journal { IsJournal entries.now }
     ensures { MatchResult result (λ _. front.new ≡ entries.now) (Hinders J.book front.new) }
@@ -91,7 +98,7 @@ fn fill<J: Naming>(front: &mut Front<J>, head: &Head<J>, entries: &[Entry]) -> R
 }
 
 // One of the two tables of a view.
-fn shelf<J: Naming>(alloc: Global, journal: &Journal, front: &Front<J>) -> Result<Shelf, Refusal>
+fn shelf<J: Naming>(alloc: Global, journal: &Journal, front: &Known<J>) -> Result<Shelf, Refusal>
     requires { front.now ≡ journal.now.entries }
     ensures table { IfOk result
         (λ shelf. shelf.registrations ≡ registered journal.now.entries) }
@@ -109,18 +116,19 @@ fn shelf<J: Naming>(alloc: Global, journal: &Journal, front: &Front<J>) -> Resul
     })
 }
 
-// The readers of a view, which have seen the list without entries, and were told of another.
+// The readers of a view, which have seen the list without entries, and were told of the one that
+// is shown.
 fn made_readers<J: Naming>(
     alloc: Global,
     line: &Line<J>,
     none: &Front<J>,
-    front: &Front<J>,
     count: usize,
 ) -> Result<Vec<ViewReader<J>>, Refusal>
     requires { none.now ≡ [] }
     ensures count { IfOk result (λ readers. length readers.items ≡ count) }
+    ensures room { IfOk result (λ readers. vec_capacity readers ≡ count) }
     ensures told { IfOk result
-        (λ readers. All (λ reader. reader.told ≡ front.now) readers.items) }
+        (λ readers. All (λ reader. reader.told ≡ line.now.shown) readers.items) }
     ensures seen { IfOk result (λ readers. All (λ reader. reader.seen ≡ []) readers.items) }
 {
     let mut readers = Vec::with_capacity(alloc, count)?;
@@ -129,7 +137,7 @@ fn made_readers<J: Naming>(
             Ok(sight) => sight,
             Err(error) => return Err(Refusal::NoPlace(error)),
         };
-        readers.push(ViewReader::over(sight, front.again()))?;
+        readers.push_reserved(ViewReader::over(sight, line.front()));
     }
     Ok(readers)
 }

@@ -45,9 +45,13 @@ impl<J: Naming> ViewReader<J> {
     /// The list that was shown when the reader last asked. That answer holds by this list. A proof
     /// compares it by `Front::longer` with a list that the writer told of or another reader saw.
     pub fn seen(&self) -> &Front<J>
-        ensures { result.now ≡ self.now.seen }
+        ensures is { result.now ≡ self.now.seen }
+        ensures shown { J.Showing.shown J.book self.now.seen }
     {
-        self.sight.seen()
+        let seen = self.sight.seen();
+        // Its contract says that the list was shown.
+        let _ = seen.len();
+        seen
     }
 
     /// Learns of a list that the writer of the view told of: from now on the reader sees no shorter
@@ -57,8 +61,11 @@ impl<J: Naming> ViewReader<J> {
         ensures kept { IsPrefix self.old.told self.new.told }
         ensures told { IsPrefix told self.new.told }
         ensures one { (self.new.told ≡ self.old.told) ⊎ (self.new.told ≡ told) }
+        ensures shown { J.Showing.shown J.book self.new.told }
     {
         self.told = self.told.longer(&told);
+        // Its contract says that the list was shown.
+        let _ = self.told.len();
     }
 
     /// Whether a path is valid by the list that is shown now, and its digest. Answers `NoView`
@@ -70,9 +77,13 @@ impl<J: Naming> ViewReader<J> {
         ensures known { WhereSeen result
             (IsPrefix self.old.told self.new.seen × IsShowable self.new.seen) }
         ensures gone { IfGone result (IsUnreached self.old.seen self.old.told self.new.seen) }
+        ensures shown { J.Showing.shown J.book self.new.seen }
         ensures answer { IsLook (registered self.new.seen) path.now result }
     {
-        replace_with(&mut self.sight, (&self.told, path), look)
+        let answer = replace_with(&mut self.sight, (&self.told, path), look);
+        // Its contract says that the list was shown.
+        let _ = self.seen();
+        answer
     }
 
     /// The closure of the roots by the list that is shown now: the roots and all paths that they
@@ -89,9 +100,13 @@ impl<J: Naming> ViewReader<J> {
         ensures known { WhereSeen result
             (IsPrefix self.old.told self.new.seen × IsShowable self.new.seen) }
         ensures gone { IfGone result (IsUnreached self.old.seen self.old.told self.new.seen) }
+        ensures shown { J.Showing.shown J.book self.new.seen }
         ensures answer { IsViewClosing (registered self.new.seen) roots.now result }
     {
-        replace_with(&mut self.sight, (&self.told, alloc, roots), closure)
+        let answer = replace_with(&mut self.sight, (&self.told, alloc, roots), closure);
+        // Its contract says that the list was shown.
+        let _ = self.seen();
+        answer
     }
 }
 
@@ -111,7 +126,7 @@ fn look<J: Naming>(
             let answer = seen_in(glance.table(), asked.1);
             (glance.leave(), Ok(answer))
         }
-        Err(sight) => (sight, Err(ViewFault::NoView)),
+        Err((sight, why)) => (sight, Err(ViewFault::NoView(why))),
     }
 }
 
@@ -131,7 +146,7 @@ fn closure<J: Naming>(
             let answer = closure_in(asked.1, glance.table(), asked.2);
             (glance.leave(), answer)
         }
-        Err(sight) => (sight, Err(ViewFault::NoView)),
+        Err((sight, why)) => (sight, Err(ViewFault::NoView(why))),
     }
 }
 

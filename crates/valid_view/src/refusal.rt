@@ -1,10 +1,51 @@
 //! Why a view could not be opened, or could not show what waits.
 ghost use Rattle.std.specs.Prelude.{◌≡◌};
-ghost use Rattle.valid_view.specs.Refusals.{told_as};
+ghost use Rattle.valid_view.specs.Faults.{open_number_of};
+ghost use Rattle.valid_view.specs.Refusals.{opened_as, told_as};
 
 use crate::front::Beginning;
+use crate::line::NoPlace;
 use std::alloc::{AllocError, AllocFailed};
+use std::fmt;
+use std::fmt::{Debug, Formatter};
+use thiserror::Error;
 use valid_table::OutletFault;
+
+/// Why a view could not be opened.
+#[derive(Debug, Drop, Error)]
+pub enum OpenFault {
+    /// Memory was refused.
+    #[error("memory was refused")]
+    NoMemory,
+    /// There is no view, since there is no place for a reader. Only what refused it makes this
+    /// fault.
+    #[error("the view could not be opened")]
+    NoView(Unopened),
+}
+
+/// Why there is no view: what refused it. Only a refusal makes one.
+#[derive(Drop)]
+pub struct Unopened {
+    refusal: Refusal,
+}
+
+impl Debug for Unopened {
+    fn fmt<W: fmt::Write>(&self, f: &mut Formatter<W>) -> fmt::Result {
+        f.debug_struct("Unopened").finish_non_exhaustive()
+    }
+}
+
+impl OpenFault {
+    /// The fault's number in the table of faults.
+    pub fn number(&self) -> u8
+        ensures { result ≡ open_number_of self.now }
+    {
+        match self {
+            OpenFault::NoMemory => 9,
+            OpenFault::NoView(_) => 40,
+        }
+    }
+}
 
 // Why a view could not be opened, or could not show what waits. What a case carries shows why it is
 // answered as `NoView`.
@@ -14,12 +55,22 @@ pub(crate) enum Refusal {
     NoMemory,
     // The one list is longer than what was known of it, or is full. This is the list.
     Hindered(Beginning),
-    // There is no place for a reader. This is the error that says so.
-    NoPlace(AllocError),
+    // There is no place for a reader.
+    NoPlace(NoPlace),
 }
 
 impl Refusal {
-    // The fault that is answered.
+    // The fault that is answered where a view was to be opened.
+    pub(crate) fn open_fault(self) -> OpenFault
+        ensures { result ≡ opened_as self }
+    {
+        match self {
+            Refusal::NoMemory => OpenFault::NoMemory,
+            refusal => OpenFault::NoView(Unopened { refusal }),
+        }
+    }
+
+    // The fault that is answered where entries were to be shown.
     pub(crate) fn fault(self) -> OutletFault
         ensures { result ≡ told_as self }
     {

@@ -6,6 +6,7 @@ ghost use Rattle.valid_table.specs.Entries.{registered};
 ghost use Rattle.valid_view.specs.Answers.{IsUnreached};
 ghost use Rattle.valid_view.specs.Shown.{IsShowable};
 
+use crate::display::Displayed;
 use crate::front::Front;
 use crate::name::Naming;
 use crate::rule::{Glimpse, Published, Sees};
@@ -13,6 +14,10 @@ use crate::shelf::Shelf;
 use left_right::reader::{Reader, Reading};
 use std::marker::Model;
 use valid_table::Table;
+
+/// That a reader did not reach its view. Only a reader that was refused makes one.
+#[derive(Clone, Copy, Debug, PartialEq, Eq)]
+pub struct Unreached(());
 
 // A reader that reads nothing now. A contract sees the list that was shown to it last.
 #[derive(Drop)]
@@ -71,21 +76,21 @@ impl<J: Naming> Sight<J> {
 
     // Begins to read the list that is shown. The reader comes back where the writer is gone, or
     // where the list does not begin with the one that it was told of, which never happens.
-    pub(crate) fn enter(self, told: &Front<J>) -> Result<Glance<J>, Sight<J>>
-        ensures later { MatchResult result (IsPrefix self) (IsPrefix self) }
+    pub(crate) fn enter(self, told: &Front<J>) -> Result<Glance<J>, (Sight<J>, Unreached)>
+        ensures later { MatchResult result (IsPrefix self) (λ back. IsPrefix self back.0) }
         ensures told { IfOk result (IsPrefix told.now) }
         ensures showable { IfOk result IsShowable }
-        ensures gone { IfErr result (IsUnreached self told.now) }
+        ensures gone { IfErr result (λ back. IsUnreached self told.now back.0) }
     {
         let Sight { reader, seen } = self;
         let reading = match reader.enter_as::<Sees<J>>() {
             Ok(reading) => reading,
-            Err(reader) => return Err(Sight { reader, seen }),
+            Err(reader) => return Err((Sight { reader, seen }, Unreached(()))),
         };
-        let shown = Front::<J>::over(reading.get().front.again());
+        let shown = Front::<J>::over(Displayed::of_reading(&reading));
         let glance = Glance { reading, shown };
         if glance.shown.len() < told.len() {
-            return Err(glance.leave());
+            return Err((glance.leave(), Unreached(())));
         }
         // Its contract says that the shorter begins the longer.
         let _longer = glance.shown.longer(told);

@@ -1,5 +1,5 @@
 //! The writer of a view: an outlet whose list readers see without a lock.
-ghost use Rattle.std.specs.Prelude.{◌≡◌, ◌++◌, [], ◌∷◌, All, IfErr, OnErr, OnOk};
+ghost use Rattle.std.specs.Prelude.{◌≡◌, ◌++◌, [], ◌∷◌, All, IfErr, IsOk, OnErr, OnOk};
 ghost use Rattle.valid_table.specs.Adding.{IsNew, IsValidWith};
 ghost use Rattle.valid_table.specs.Entries.{registered_by};
 ghost use Rattle.valid_table.specs.Valid.{references_of};
@@ -53,12 +53,30 @@ impl<J: Naming, R> ViewWriter<J, R> {
         self.feed.append(entry)
     }
 
-    /// The list that is shown, as a beginning of the list with this name. Never waits, and takes no
-    /// memory.
+    /// The list that is shown. Never waits, and takes no memory.
     pub fn tell(&self) -> Front<J>
-        ensures { result ≡ self.now.shown }
+        ensures is { result ≡ self.now.shown }
+        ensures shown { J.Showing.shown J.book self.now.shown }
     {
-        self.feed.front()
+        let front = self.feed.front();
+        // Its contract says that the list was shown.
+        let _ = front.len();
+        front
+    }
+}
+
+impl<J: Naming, R: Wait + Drop> ViewWriter<J, R> {
+    /// Ends the view, and gives the list that was shown last: readers are answered `NoView` from
+    /// now on, and entries that wait are not shown. Waits for readers that still read.
+    pub fn close(self) -> Front<J>
+        ensures is { result ≡ self.shown }
+        ensures shown { J.Showing.shown J.book self.shown }
+    {
+        let ViewWriter { feed, rt } = self;
+        let shown = feed.close(&rt);
+        // Its contract says that the list was shown.
+        let _ = shown.len();
+        shown
     }
 }
 
@@ -79,8 +97,18 @@ impl<J: Naming + Send, R: Wait + Drop> Outlet for ViewWriter<J, R> {
     /// that still read the list before the last one. Where no entry waits it does nothing, and does
     /// not wait. `NoMemory` where memory is refused; `NoView` where someone else made the one list
     /// longer, which nobody can.
-    fn publish(&mut self) -> Result<(), OutletFault> {
-        match self.feed.publish(&self.rt) {
+    fn publish(&mut self) -> Result<(), OutletFault>
+        ensures idle { self.old.pending ≡ [] → IsOk result }
+        ensures ok { OnOk result
+            ((self.new.shown ≡ self.old.shown ++ self.old.pending) × (self.new.pending ≡ [])) }
+        ensures err { OnErr result
+            ((self.new.shown ≡ self.old.shown) × (self.new.pending ≡ self.old.pending)) }
+        ensures shown { J.Showing.shown J.book self.new.shown }
+    {
+        let answer = self.feed.publish(&self.rt);
+        // Its contract says that the list was shown.
+        let _ = self.feed.front().len();
+        match answer {
             Ok(()) => Ok(()),
             Err(refusal) => Err(refusal.fault()),
         }
@@ -93,7 +121,6 @@ impl<J: Naming + Send, R: Wait + Drop> Outlet for ViewWriter<J, R> {
     /// Ends the view: readers are answered `NoView` from now on, and entries that wait are not
     /// shown. Waits for readers that still read.
     fn close(self) {
-        let ViewWriter { feed, rt } = self;
-        let _shown = feed.close(&rt);
+        let _shown = ViewWriter::close(self);
     }
 }

@@ -106,7 +106,7 @@ fn with_end<J: Naming>(
     reader: &mut ViewReader<J>,
     path: &StorePath,
 ) -> Result<([Seen; 4], bool), Fail> {
-    let is_gone = matches!(reader.look(path), Err(ViewFault::NoView));
+    let is_gone = matches!(reader.look(path), Err(ViewFault::NoView(_)));
     Ok((answers?, is_gone))
 }
 

@@ -1,4 +1,4 @@
-use Rattle.std.proofs.Common.{◌≡◌, ◌∙◌, [], ◌∷◌, arith, length-append}
+use Rattle.std.proofs.Common.{◌≡◌, ◌∙◌, [], ◌∷◌, All, arith, length-append, ap, length, subst, sym}
 use Rattle.std.proofs.lemmas.List.Elements.{All-push}
 use Rattle.valid_view.specs.Answers.{Knowing}
 use Rattle.valid_view.proofs.opening.made_readers.Goals as goal
@@ -7,10 +7,13 @@ pub loop-preserved : goal.loop-preserved
 loop-preserved g c =
     let readers = c.loop.readers.items in
     let reader : Knowing = c.over.result in
-    rw c.in_ok-push.ensures.items (
-      omega (arith, length-append readers (reader ∷ []), c.loop.invariant.0),
-      All-push (λ (r : Knowing). r.told ≡ c.args.front.now) readers reader c.loop.invariant.1
-          (c.over.ensures.told ∙ c.again.ensures),
-      All-push (λ (r : Knowing). r.seen ≡ []) readers reader c.loop.invariant.2
-          (c.over.ensures.seen ∙ c.in-Ok.ensures),
+    let items = c.push_reserved.ensures.items in (
+      omega (arith, length-append readers (reader ∷ []), c.loop.invariant.0, ap length items),
+      c.push_reserved.ensures.capacity ∙ c.loop.invariant.1,
+      subst (All (λ (r : Knowing). r.told ≡ c.args.line.now.shown)) (sym items)
+          (All-push (λ (r : Knowing). r.told ≡ c.args.line.now.shown) readers reader
+          c.loop.invariant.2 (c.over.ensures.told ∙ c.front.ensures)),
+      subst (All (λ (r : Knowing). r.seen ≡ [])) (sym items)
+          (All-push (λ (r : Knowing). r.seen ≡ []) readers reader c.loop.invariant.3
+          (c.over.ensures.seen ∙ c.in-Ok.ensures)),
     )

@@ -1,9 +1,10 @@
--- So many readers were made. Each was told of the list, and has seen the one without entries.
-use Rattle.std.proofs.Common.{◌≡◌, [], All, length}
+-- So many readers were made, in the room for all. Each was told of the list that is shown, and has
+-- seen the one without entries.
+use Rattle.std.proofs.Common.{◌≡◌, [], All, length, vec_capacity}
 use Rattle.valid_view.specs.Answers.{Knowing}
 use Rattle.valid_view.proofs.opening.made_readers.Given as goal
 
 abbrev pub invariant-loop : goal.invariant-loop
-invariant-loop g l = (length l.readers.items ≡ l.counter)
-    × All (λ (reader : Knowing). reader.told ≡ l.front) l.readers.items
+invariant-loop g l = (length l.readers.items ≡ l.counter) × (vec_capacity l.readers ≡ l.count)
+    × All (λ (reader : Knowing). reader.told ≡ l.line.shown) l.readers.items
     × All (λ (reader : Knowing). reader.seen ≡ []) l.readers.items

@@ -1,0 +1,107 @@
+//! Lists that are shown, as what shows them tells.
+ghost use Rattle.std.specs.Prelude.{◌≡◌, []};
+
+use crate::front::Beginning;
+use crate::law::Law;
+use crate::name::Naming;
+use crate::rule::{Glimpse, Published};
+use crate::shelf::{Op, Shelf};
+use left_right::reader::Reading;
+use left_right::writer::Writer;
+use logbook::Seen;
+use std::marker::{Brand, Model};
+use std::sync::Wait;
+use valid_table::Entry;
+
+/// Which lists were shown. A name brings the predicate, and code that is generic in the name can
+/// make it true by `show` alone.
+pub trait Showing {
+    ghost use Rattle.std.specs.Prelude.{List};
+    ghost use Rattle.logbook.specs.Pages.{Book};
+    ghost use Rattle.valid_table.specs.declared.entry.Entry.{Entry};
+
+    // Whether a list of entries was shown as a beginning of the list with this name.
+    ghost shown: { Book → List Entry → Type 0 };
+
+    /// Takes note of a list that was shown.
+    fn show(list: &Displayed)
+        ensures { shown list.now.book list.now.entries };
+}
+
+impl Showing for Brand {
+    ghost use Rattle.std.specs.Prelude.{⊤};
+
+    ghost shown = { λ book entries. ⊤ };
+
+    fn show(_list: &Displayed) {}
+}
+
+/// A list that was shown. Only what shows lists makes one: a writer's end, of the list that it
+/// shows, and a reader that reads, of the list that it reads. The list without entries, with which
+/// each list begins, counts as shown.
+#[derive(Drop)]
+pub struct Displayed {
+    front: Beginning,
+}
+
+impl Model for Displayed {
+    ghost use Rattle.valid_view.specs.Beginnings.{Begun};
+
+    ghost Value = { Begun };
+
+    ghost view = { λ d. d.front };
+}
+
+impl Displayed {
+    // The list without entries.
+    pub(crate) fn none(seen: Seen<Entry, u64, Law>) -> Displayed
+        requires { seen.log ≡ [] }
+        ensures book { result.book ≡ seen.book }
+        ensures entries { result.entries ≡ [] }
+    {
+        Displayed {
+            front: Beginning::first(seen),
+        }
+    }
+
+    // The list that a writer shows.
+    pub(crate) fn of_writer<J: Naming>(
+        writer: &Writer<Shelf, Op, Glimpse, Published<J>>,
+    ) -> Displayed
+        ensures { result ≡ writer.now.desk.shown.value.front }
+    {
+        Displayed {
+            front: writer.published().front.again(),
+        }
+    }
+
+    // The list that a writer showed last. Ends the writer. May wait for readers.
+    pub(crate) fn at_end<J: Naming, R: Wait>(
+        writer: Writer<Shelf, Op, Glimpse, Published<J>>,
+        rt: &R,
+    ) -> Displayed
+        ensures { result ≡ writer.desk.shown.value.front }
+    {
+        Displayed {
+            front: writer.take(rt).front.again(),
+        }
+    }
+
+    // The list that a reader reads.
+    pub(crate) fn of_reading<J: Naming>(
+        reading: &Reading<Shelf, Glimpse, Published<J>>,
+    ) -> Displayed
+        ensures { result ≡ reading.now.part.value.front }
+    {
+        Displayed {
+            front: reading.get().front.again(),
+        }
+    }
+
+    // The list, as a beginning of the one list.
+    pub(crate) fn front(&self) -> Beginning
+        ensures { result ≡ self.now }
+    {
+        self.front.again()
+    }
+}
