@@ -1,5 +1,5 @@
 //! What is foretold of all derivations of a plan.
-ghost use Rattle.std.specs.Prelude.{◌≡◌, ◌<◌, All, IfErr, IfOk, List, length, slice_get};
+ghost use Rattle.std.specs.Prelude.{◌≡◌, ◌<◌, All, IfErr, IfOk, List, length, slice_get, vec_capacity};
 ghost use Rattle.valid_table.specs.declared.entry.Entry.{Entry};
 ghost use Rattle.sched_core.specs.Courses.{AreStandings, AreWanted};
 ghost use Rattle.sched_core.specs.Runs.{Run, inputs_at};
@@ -25,6 +25,7 @@ pub(crate) fn prospects_of(
         → AreStandings run.system opening plan.now.nodes standings.now
         → AreWanted run opening wanted.now → AreForetold run opening prospects.items) }
     ensures count { IfOk result (λ prospects. length prospects.items ≡ length plan.now.nodes) }
+    ensures room { IfOk result (λ prospects. vec_capacity prospects ≡ length plan.now.nodes) }
     ensures err { IfErr result (λ fault. fault ≡ NoMemory) }
 {
     // Of each first twin, whether one of its wanted twins up to here is built.
@@ -37,7 +38,7 @@ pub(crate) fn prospects_of(
         if wanted[d] && prospect.is_build() {
             built[first] = true;
         }
-        prospects.push(prospect)?;
+        prospects.push_reserved(prospect);
     }
     Ok(prospects)
 }

@@ -1,5 +1,5 @@
 -- What is kept of a run, and that it is kept behind each event.
-use Rattle.std.proofs.Common.{◌≡◌, ℕ, ◌+◌, ◌*◌, ◌<◌, ◌≤◌, Bool, true, false, List, [], ◌∷◌, ◌++◌, length, Option, refl, sym, ap, ◌∙◌, subst, arith, take, rules}
+use Rattle.std.proofs.Common.{◌≡◌, ℕ, suc, ◌+◌, ◌*◌, ◌<◌, ◌≤◌, Bool, true, false, List, [], ◌∷◌, ◌++◌, length, Option, refl, sym, ap, ◌∙◌, subst, arith, take, rules}
 use Rattle.std.specs.Prelude.{◌==◌, if◌then◌else◌, slice_set}
 use Rattle.std.specs.List.{slice_index_or, sum_by}
 use Rattle.std.proofs.Math.Dec.{eqb}
@@ -52,9 +52,9 @@ phases_set phases events d event p within before own last e =
 
 room_set : (phases : List Phase) (events : List Event) (d room : ℕ) (event : Event) (p : Phase) → d
     < length phases
-    → events_left p + 1 ≤ events_left (slice_index_or phases d Idle) → length events
-    + sum_by events_left phases ≤ room
-    → length (events ++ event ∷ []) + sum_by events_left (slice_set phases d p) ≤ room
+    → events_left p + 1 ≡ events_left (slice_index_or phases d Idle) → length events
+    + sum_by events_left phases ≡ room
+    → length (events ++ event ∷ []) + sum_by events_left (slice_set phases d p) ≡ room
 room_set phases events d room event p within less fits = search (rules, sum_by-set, length_push)
 
 -- what is kept behind one event more
@@ -64,7 +64,7 @@ behind_event : (system : List ℕ) (before after : History) (course : Course) (g
     → after.opening ≡ before.opening → after.events ≡ before.events ++ event ∷ [] → more
     ≡ begins after.events
     → ((e : ℕ) → phase_by event e ≡ (if d == e then p else Idle)) → ((q : Phase) → later q p ≡ p)
-    → d < length course.phases → events_left p + 1 ≤ events_left (phase_of before.events d)
+    → d < length course.phases → events_left p + 1 ≡ events_left (phase_of before.events d)
     → IsRunKept system after (record course { phases = slice_set course.phases d p }) more room
 behind_event system before after course given more room d event p kept legal opening events counted
     own last within less =
@@ -82,10 +82,10 @@ behind_event system before after course given more room d event p kept legal ope
           ∙ sym (ap (λ es. phase_of es e) events);
       given_is = counted;
       has_room =
-          subst (λ es. length es + sum_by events_left (slice_set course.phases d p) ≤ room)
+          subst (λ es. length es + sum_by events_left (slice_set course.phases d p) ≡ room)
           (sym events)
           (room_set _ _ d _ _ p within
-          (subst (λ q. events_left p + 1 ≤ events_left q) (sym (kept.phases d)) less)
+          (subst (λ q. events_left p + 1 ≡ events_left q) (sym (kept.phases d)) less)
           kept.has_room);
     }
 
@@ -209,16 +209,14 @@ room_to_end system history course given room kept d lease is =
 
 -- ---- the opening
 
-room_of_idle : (phases : List Phase) → sum_by events_left phases ≤ 2 * length phases
-room_of_idle [] = omega arith
-room_of_idle (p ∷ ps) = let rest = room_of_idle ps in let own = at_most p
-    in omega (arith, sum_by-cons events_left p ps)
-  where
-    at_most : (p : Phase) → events_left p ≤ 2
-    at_most Idle = omega arith
-    at_most (Begun lease) = omega arith
-    at_most Ended = omega arith
-    at_most (Broken reason) = omega arith
+-- derivations that have not begun may have two events each
+room_of_idle : (phases : List Phase) → ((d : ℕ) → slice_index_or phases d Idle ≡ Idle)
+    → sum_by events_left phases ≡ 2 * length phases
+room_of_idle [] idle = refl
+room_of_idle (p ∷ ps) idle =
+    let rest = room_of_idle ps (λ d. idle (suc d)) in
+    let own : events_left p ≡ 2 = ap events_left (idle 0) in
+    omega (arith, rest, own, sum_by-cons events_left p ps)
 
 -- of each derivation it is said whether it is wanted
 pub wanted_count : (run : Run) (entries : List Entry) (standings : List Standing)
@@ -239,7 +237,7 @@ pub opening_kept : (system : List ℕ) (opening room : ℕ) (entries : List Entr
     → course.graph ≡ graph → course.standings ≡ standings → course.wanted ≡ wanted
     → course.twins ≡ twins
     → length course.phases ≡ length graph.nodes
-    → ((d : ℕ) → slice_index_or course.phases d Idle ≡ Idle) → 2 * length standings ≤ room
+    → ((d : ℕ) → slice_index_or course.phases d Idle ≡ Idle) → 2 * length standings ≡ room
     → IsRunKept system (history_of opening entries events) course 0 room
 opening_kept system opening room entries events course graph standings wanted twins journal counted
     none stand want near is_graph is_standings is_wanted is_twins count idle room_is =
@@ -258,5 +256,5 @@ opening_kept system opening room entries events course graph standings wanted tw
       count = rw is_graph count;
       phases = idle;
       given_is = refl;
-      has_room = omega (arith, room_of_idle course.phases, count, stand.count, room_is);
+      has_room = omega (arith, room_of_idle course.phases idle, count, stand.count, room_is);
     })

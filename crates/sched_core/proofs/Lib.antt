@@ -38,7 +38,6 @@ pub mod Seeds
 pub mod SharedOutputs
 pub mod StateLaws
 pub mod Tabled
-pub mod TakenTrees
 pub mod Tallied
 pub mod Telling
 pub mod Tests

@@ -35,7 +35,7 @@ history_of opening entries events = record {
 }
 
 -- What is kept of a run: a legal history, the course of its derivations, how many have begun, and
--- room for all events that may come.
+-- room for exactly the events that may come.
 pub record IsRunKept (system : Bytes) (history : History) (course : Course) (given room : ℕ)
     : Type 0 where
   pub legal : IsLegal (run_over course system) history
@@ -45,4 +45,4 @@ pub record IsRunKept (system : Bytes) (history : History) (course : Course) (giv
   pub count : length course.phases ≡ length course.graph.nodes
   pub phases : (d : ℕ) → slice_index_or course.phases d Idle ≡ phase_of history.events d
   pub given_is : given ≡ begins history.events
-  pub has_room : length history.events + sum_by events_left course.phases ≤ room
+  pub has_room : length history.events + sum_by events_left course.phases ≡ room

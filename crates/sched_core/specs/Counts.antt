@@ -2,7 +2,8 @@
 use Rattle.std.specs.Prelude.{◌≡◌, ◌↔◌, ℕ, List, length, Contains}
 use Rattle.std.specs.List.Sorted.{IsStrictlyIncreasing}
 
--- A property holds of exactly `count` numbers, which a strictly rising list of that length holds.
+-- A property holds of exactly `count` numbers: a strictly rising list of that length has exactly
+-- these.
 pub record HasCount (is_such : ℕ → Type 0) (count : ℕ) : Type 0 where
   pub numbers : List ℕ
   pub rising : IsStrictlyIncreasing numbers

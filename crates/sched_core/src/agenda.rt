@@ -42,6 +42,8 @@ impl Agenda {
         ensures is { IfOk result (λ agenda. IsAgenda tallies.now agenda) }
         ensures fresh { IfOk result (λ agenda. IsFresh tallies.now agenda) }
         ensures none { IfOk result (λ agenda. agenda.work ≡ []) }
+        ensures room { IfOk result (λ agenda. agenda.room ≡ length tallies.now) }
+        ensures space { IfOk result (λ agenda. agenda.space ≡ length tallies.now) }
     {
         let mut ring = HeapCircularBuffer::with_capacity(alloc, tallies.len())?;
         let work = HeapCircularBuffer::with_capacity(alloc, tallies.len())?;

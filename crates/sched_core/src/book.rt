@@ -243,10 +243,11 @@ impl<O: Outlet> Book<O> {
     }
 
     /// How much work it was to find the states of derivations: one for each state that an event
-    /// worked out, and one for each time that it followed the edge from an input to a user. That is
-    /// one for each event, and two for each edge from a derivation that ended since the book
-    /// opened. In a run it is at most twice its derivations and twice the pairs of a derivation and
-    /// a place of its text at which an input stands.
+    /// worked out, and one for each edge that it followed, from a derivation to one that waits for
+    /// it as for an input, or as for the nearest of its earlier twins. That is one for each event,
+    /// and two for each edge from a derivation that ended since the book opened. In a run it is at
+    /// most twice its derivations, twice the pairs of a derivation and a place of its text at which
+    /// an input stands, and twice the derivations that have an earlier twin.
     pub fn steps(&self) -> u64
         ensures { result ≡ steps_in self.now.run self.now.history % 2 ^ 64 }
     {

@@ -1,5 +1,5 @@
 //! The state of each derivation of a plan.
-ghost use Rattle.std.specs.Prelude.{◌≡◌, ◌<◌, ◌↔◌, ℕ, All, IfErr, IfOk, IsTrue, MatchOption, None, length, slice_set};
+ghost use Rattle.std.specs.Prelude.{◌≡◌, ◌<◌, ◌↔◌, ℕ, All, IfErr, IfOk, IsTrue, MatchOption, None, length, slice_set, vec_capacity};
 ghost use Rattle.std.specs.List.{slice_index_or};
 ghost use Rattle.sched_core.specs.Agendas.{AreOpening, wanted_in};
 ghost use Rattle.sched_core.specs.Counts.{HasCount};
@@ -194,13 +194,14 @@ fn tallies_of(
     requires smaller { (d : ℕ) → All (λ t. t < d) (listed (slice_index_or twins.now d None)) }
     ensures ok { IfOk result
         (λ tallies. AreOpening plan.now standings.now wanted.now twins.now tallies.items) }
+    ensures room { IfOk result (λ tallies. vec_capacity tallies ≡ length plan.now.nodes) }
     ensures err { IfErr result (λ fault. fault ≡ NoMemory) }
 {
     let mut tallies = Vec::with_capacity(alloc, plan.len())?;
     for d in 0..plan.len() {
         let inputs = inputs_of(plan, d);
         let tally = tally_of(standings[d], wanted[d], twins[d], inputs, &tallies);
-        tallies.push(tally)?;
+        tallies.push_reserved(tally);
     }
     Ok(tallies)
 }

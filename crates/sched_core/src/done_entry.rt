@@ -1,5 +1,5 @@
 //! The entry of a derivation that was built.
-ghost use Rattle.std.specs.Prelude.{◌≡◌, ◌<◌, ◌↔◌, All, IfErr, IfOk, IsTrue, length, map};
+ghost use Rattle.std.specs.Prelude.{◌≡◌, ◌<◌, ◌↔◌, All, IfErr, IfOk, IsTrue, length, map, vec_capacity};
 ghost use Rattle.valid_table.specs.Entries.{paths_registered, registered};
 ghost use Rattle.valid_table.specs.PathInfos.{PathInfo};
 ghost use Rattle.valid_table.specs.Valid.{HasDrvPath, IsNotValid};
@@ -90,10 +90,11 @@ fn registrations_of(
     requires { length records.now ≡ length paths.now }
     ensures paths { IfOk result (λ all. paths_registered all.items ≡ paths.now) }
     ensures infos { IfOk result (λ all. infos_of all.items ≡ records.now) }
+    ensures room { IfOk result (λ all. vec_capacity all ≡ length paths.now) }
 {
     let mut registrations = Vec::with_capacity(alloc, paths.len())?;
     for n in 0..paths.len() {
-        registrations.push(registration_of(alloc, &paths[n], &records[n])?)?;
+        registrations.push_reserved(registration_of(alloc, &paths[n], &records[n])?);
     }
     Ok(registrations)
 }

@@ -1,5 +1,5 @@
 //! The job of a derivation of a plan.
-ghost use Rattle.std.specs.Prelude.{◌≡◌, ◌<◌, IfErr, IfOk, length, map};
+ghost use Rattle.std.specs.Prelude.{◌≡◌, ◌<◌, IfErr, IfOk, length, map, vec_capacity};
 ghost use Rattle.sched_core.specs.Jobs.{IsJob};
 ghost use Rattle.sched_core.specs.Seeding.{named_texts, output_texts};
 ghost use Rattle.sched_core.specs.declared.job.JobOutput.{JobOutput};
@@ -48,12 +48,13 @@ fn outputs_of(
     requires { length paths.now ≡ length outputs.now }
     ensures names { IfOk result (λ made. named_texts made.items ≡ output_texts outputs.now) }
     ensures paths { IfOk result (λ made. map (λ (o : JobOutput). o.path) made.items ≡ paths.now) }
+    ensures room { IfOk result (λ made. vec_capacity made ≡ length paths.now) }
 {
     let mut made = Vec::with_capacity(alloc, paths.len())?;
     for n in 0..paths.len() {
         let name = Vec::from_slice(alloc, &outputs[n].name)?;
         let path = paths[n].copy(alloc)?;
-        made.push(JobOutput { name, path })?;
+        made.push_reserved(JobOutput { name, path });
     }
     Ok(made)
 }

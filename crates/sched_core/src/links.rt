@@ -1,5 +1,5 @@
 //! The links among outputs, by numbers.
-ghost use Rattle.std.specs.Prelude.{◌≡◌, IfOk, MatchOption, OnOk, Contains, Some, length, nat_eq, slice_get, take};
+ghost use Rattle.std.specs.Prelude.{◌≡◌, IfOk, MatchOption, OnOk, Contains, Some, length, nat_eq, slice_get, take, vec_capacity};
 ghost use Rattle.std.specs.Cmp.Lexicographic.{pointwise};
 ghost use Rattle.std.specs.List.{IsDistinct};
 ghost use Rattle.sched_core.specs.Linking.{AddsLinks, AreEachOnce, HaveLinks, HaveNoLinks};
@@ -60,10 +60,11 @@ fn each_once(alloc: Global, outputs: &[StorePath]) -> Result<IndexSet<StorePath>
 fn no_links(alloc: Global, count: usize) -> Result<Vec<Vec<usize>>, AllocError>
     ensures count { IfOk result (λ links. length links.items ≡ count) }
     ensures none { IfOk result (λ links. HaveNoLinks links.items) }
+    ensures room { IfOk result (λ links. vec_capacity links ≡ count) }
 {
     let mut links = Vec::with_capacity(alloc, count)?;
     for _ in 0..count {
-        links.push(Vec::new(alloc))?;
+        links.push_reserved(Vec::new(alloc));
     }
     Ok(links)
 }

@@ -1,5 +1,5 @@
 //! The derivations of a plan of which a text tells, by path.
-ghost use Rattle.std.specs.Prelude.{◌≡◌, IfOk, length};
+ghost use Rattle.std.specs.Prelude.{◌≡◌, IfOk, length, vec_capacity};
 ghost use Rattle.drv_graph.specs.SoundGraphs.{IsSound};
 ghost use Rattle.sched_core.specs.Listing.{AreListed, AreWithin, IsMarked, listed_behind, numbers_of};
 ghost use Rattle.sched_core.specs.Reports.{AreByPath};
@@ -68,12 +68,13 @@ fn keyed_of<'a>(alloc: Global, plan: &'a Plan, marks: &[bool]) -> Result<Vec<Key
 
 // The derivations without their keys, in their order.
 fn listed_of<'a>(alloc: Global, keyed: &[Keyed<'a>]) -> Result<Vec<Listed<'a>>, AllocError>
-    ensures { IfOk result (λ listed. listed.items ≡ listed_behind keyed.now) }
+    ensures listed { IfOk result (λ listed. listed.items ≡ listed_behind keyed.now) }
+    ensures room { IfOk result (λ listed. vec_capacity listed ≡ length keyed.now) }
 {
     let mut listed = Vec::with_capacity(alloc, keyed.len())?;
     for one in keyed {
         let Listed { path, number } = one.listed;
-        listed.push(Listed { path, number })?;
+        listed.push_reserved(Listed { path, number });
     }
     Ok(listed)
 }

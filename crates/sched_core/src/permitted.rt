@@ -1,5 +1,5 @@
 //! The paths to which outputs may refer.
-ghost use Rattle.std.specs.Prelude.{◌≡◌, All, IfErr, IfOk};
+ghost use Rattle.std.specs.Prelude.{◌≡◌, All, IfErr, IfOk, length, vec_capacity};
 ghost use Rattle.nix_names.specs.Rising.{IsRising};
 ghost use Rattle.valid_table.specs.Closing.{HaveSame};
 ghost use Rattle.valid_table.specs.Closure.{IsClosure};
@@ -59,10 +59,11 @@ pub(crate) fn closure_of(
 fn sorted_outputs(alloc: Global, job: &Job) -> Result<Vec<StorePath>, AllocError>
     ensures rising { IfOk result (λ sorted. IsRising sorted.items) }
     ensures same { IfOk result (λ sorted. HaveSame sorted.items (outputs_of job.now)) }
+    ensures room { IfOk result (λ sorted. vec_capacity sorted ≡ length (outputs_of job.now)) }
 {
     let mut sorted = Vec::with_capacity(alloc, job.outputs.len())?;
     for output in &job.outputs {
-        sorted.push(output.path.copy(alloc)?)?;
+        sorted.push_reserved(output.path.copy(alloc)?);
     }
     sorted.sort_unstable();
     sorted.dedup();

@@ -1,5 +1,5 @@
 //! The standings of a plan's derivations, before anything is begun.
-ghost use Rattle.std.specs.Prelude.{◌≡◌, ◌<◌, IfErr, IfOk, IfSome, codes, length, not, slice_get};
+ghost use Rattle.std.specs.Prelude.{◌≡◌, ◌<◌, IfErr, IfOk, IfSome, codes, length, not, slice_get, vec_capacity};
 ghost use Rattle.std.specs.List.{list_all, list_any, position};
 ghost use Rattle.nix_names.specs.Names.{same_bytes};
 ghost use Rattle.sched_core.specs.Courses.{AreStandings};
@@ -26,11 +26,12 @@ pub fn standings_of(
 ) -> Result<Vec<Standing>, BookFault>
     ensures ok { IfOk result
         (λ standings. AreStandings system.now journal.now.entries plan.now.nodes standings.items) }
+    ensures room { IfOk result (λ standings. vec_capacity standings ≡ length plan.now.nodes) }
     ensures err { IfErr result (λ fault. fault ≡ BookFault.NoMemory) }
 {
     let mut standings = Vec::with_capacity(alloc, plan.len())?;
     for d in 0..plan.len() {
-        standings.push(standing_of(plan, d, journal, system))?;
+        standings.push_reserved(standing_of(plan, d, journal, system));
     }
     Ok(standings)
 }

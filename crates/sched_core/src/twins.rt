@@ -1,5 +1,5 @@
 //! The nearest earlier twins of a plan's derivations.
-ghost use Rattle.std.specs.Prelude.{◌≡◌, ◌<◌, ◌≤◌, ℕ, All, IfErr, IfOk, List, None, length};
+ghost use Rattle.std.specs.Prelude.{◌≡◌, ◌<◌, ◌≤◌, ℕ, All, IfErr, IfOk, List, None, length, vec_capacity};
 ghost use Rattle.std.specs.List.{slice_index_or};
 ghost use Rattle.drv_graph.specs.SoundGraphs.{IsSound};
 ghost use Rattle.valid_table.specs.declared.entry.Entry.{Entry};
@@ -24,6 +24,7 @@ pub(crate) fn nearest_twins(
     ensures count { IfOk result (λ twins. length twins.items ≡ length plan.now.nodes) }
     ensures smaller { IfOk result
         (λ twins. (d : ℕ) → All (λ t. t < d) (listed (slice_index_or twins.items d None))) }
+    ensures room { IfOk result (λ twins. vec_capacity twins ≡ length plan.now.nodes) }
     ensures err { IfErr result (λ fault. fault ≡ BookFault.NoMemory) }
 {
     // Of each first twin, the last wanted one so far.
@@ -31,7 +32,7 @@ pub(crate) fn nearest_twins(
     let mut twins = Vec::with_capacity(alloc, plan.len())?;
     for d in 0..plan.len() {
         let first = plan.first_twin(d);
-        twins.push(last[first])?;
+        twins.push_reserved(last[first]);
         if wanted[d] {
             last[first] = Some(d);
         }

@@ -1,5 +1,5 @@
 //! Reverse edges: from each derivation of a plan to those that wait for it.
-ghost use Rattle.std.specs.Prelude.{◌≡◌, ◌<◌, ◌+◌, ◌++◌, ◌^◌, ℕ, [], ◌∷◌, All, IfOk, List, None, length, slice_index};
+ghost use Rattle.std.specs.Prelude.{◌≡◌, ◌<◌, ◌+◌, ◌++◌, ◌^◌, ℕ, [], ◌∷◌, All, IfOk, List, None, length, slice_index, vec_capacity};
 ghost use Rattle.std.specs.List.{slice_index_or, sum};
 ghost use Rattle.sched_core.specs.Courses.{all_of, awaited_at, listed};
 ghost use Rattle.sched_core.specs.Steps.{total};
@@ -152,14 +152,15 @@ fn empty_spans(alloc: Global, counts: &[usize]) -> Result<Vec<Span>, AllocError>
         spans.items) }
     ensures room { IfOk result (λ spans. HaveRoom spans.items (sum counts.now)
         (λ n. slice_index counts.now n)) }
+    ensures exact { IfOk result (λ spans. vec_capacity spans ≡ length counts.now) }
 {
     let mut spans = Vec::with_capacity(alloc, counts.len())?;
     let mut places: usize = 0;
     for &count in counts {
-        spans.push(Span {
+        spans.push_reserved(Span {
             start: places,
             end: places,
-        })?;
+        });
         places += count;
     }
     Ok(spans)

@@ -1,5 +1,5 @@
 //! The verdict on what a builder left behind.
-ghost use Rattle.std.specs.Prelude.{◌≡◌, ◌↔◌, ℕ, List, Ok, Err, pos, Some, IfOk, IfErr, IsTrue, MatchResult, OnOk, length, map};
+ghost use Rattle.std.specs.Prelude.{◌≡◌, ◌↔◌, ℕ, List, Ok, Err, pos, Some, IfOk, IfErr, IsTrue, MatchResult, OnOk, length, map, vec_capacity};
 ghost use Rattle.nix_names.specs.Rising.{IsRising};
 ghost use Rattle.sched_core.specs.declared.job.JobOutput.{JobOutput};
 ghost use Rattle.sched_core.specs.Verdicts.{AreRecords, IsCyclic, IsExamining, IsRecordOf, IsTaken, AreOutputsThere, IsTreeFault, IsVerdict, algorithm_for, digest_of, outputs_of};
@@ -59,11 +59,13 @@ fn refer_in_cycle(alloc: Global, job: &Job, records: &[Record]) -> Result<bool, 
 
 // The outputs' paths, in their order.
 fn paths_of(alloc: Global, outputs: &[JobOutput]) -> Result<Vec<StorePath>, AllocError>
-    ensures { IfOk result (λ paths. paths.items ≡ map (λ (o : JobOutput). o.path) outputs.now) }
+    ensures paths { IfOk result
+        (λ paths. paths.items ≡ map (λ (o : JobOutput). o.path) outputs.now) }
+    ensures room { IfOk result (λ paths. vec_capacity paths ≡ length outputs.now) }
 {
     let mut paths = Vec::with_capacity(alloc, outputs.len())?;
     for output in outputs {
-        paths.push(output.path.copy(alloc)?)?;
+        paths.push_reserved(output.path.copy(alloc)?);
     }
     Ok(paths)
 }
@@ -141,6 +143,8 @@ fn records_of(
     requires taken { IsTaken job.now answer.now }
     ensures records { IfOk result
         (λ records. AreRecords job.now permitted.now answer.now records.items) }
+    ensures room { IfOk result
+        (λ records. vec_capacity records ≡ length job.now.outputs.items) }
     ensures err { IfErr result (λ why. why ≡ OutOfMemory) }
 {
     let mut records = Vec::with_capacity(alloc, job.outputs.len())?;
@@ -148,7 +152,7 @@ fn records_of(
         let Some(tree) = answer.tree_at(n) else {
             unreachable!()
         };
-        records.push(record_of(alloc, &job.kind, permitted, tree)?)?;
+        records.push_reserved(record_of(alloc, &job.kind, permitted, tree)?);
     }
     Ok(records)
 }

@@ -12,6 +12,7 @@ use Rattle.forecast.proofs.prospects.prospects_of.Goals as goal
 pub loop-d-init : goal.loop-d-init
 loop-d-init c = record {
   count = ap length c.in_ok-prospects.ensures.items;
+  room = c.in_ok-prospects.ensures.exact ∙ c.len-2.ensures.value;
   built = none_built _ _ _ _ _ c.len.ensures.value
       (c.in_ok-built.ensures.items_if_clones_equal (λ y is. search rules))
       c.in_ok-prospects.ensures.items;
@@ -32,14 +33,15 @@ loop-d-preserved c =
     record {
       count = omega (
         arith,
-        ap length c.in_ok-push.ensures.items,
+        ap length c.push_reserved.ensures.items,
         length_push c.loop-d.prospects.items p,
       );
+      room = c.push_reserved.ensures.capacity ∙ had.room;
       built = elim c.if-wanted-d.branch [
         | then-wanted-d+then-is_build w ↦
             marked_next _ _ _ _ _ _ d _ p had.count low
             c.first_twin-first.ensures.value w.if-wanted-d.true
-            (sym w.is_build.ensures ∙ w.if-is_build.true) c.in_ok-push.ensures.items
+            (sym w.is_build.ensures ∙ w.if-is_build.true) c.push_reserved.ensures.items
             (ap (λ (v : Vec Bool). v.items) w.built-is) had.built
         | else-wanted-d w ↦
             kept_next _ _ _ _ _ _ d p had.count
@@ -48,7 +50,7 @@ loop-d-preserved c =
                   λ is done. false≢true (sym (sym u.is_build.ensures ∙ u.if-is_build.false) ∙ done)
               | else-wanted-d-via-else-wanted-d u ↦
                   λ is done. false≢true (sym u.if-wanted-d.false ∙ is)
-            ]) c.in_ok-push.ensures.items (ap (λ (v : Vec Bool). v.items) w.built-is) had.built
+            ]) c.push_reserved.ensures.items (ap (λ (v : Vec Bool). v.items) w.built-is) had.built
       ];
       first = first_next _ _ _ _ _ _ d p (get_or standings d AllValid) c.index.result.now _
           c.len-d-end.ensures.sound had.count low
@@ -58,7 +60,7 @@ loop-d-preserved c =
           ∙ ap (λ n. slice_index_or built n false) c.first_twin-first.ensures.value)
           c.inputs_of-inputs.ensures.numbers
           (rw c.deref.ensures.value at c.prospect_of-prospect.ensures)
-          c.in_ok-push.ensures.items had.built had.first;
+          c.push_reserved.ensures.items had.built had.first;
     }
 
 pub returns-clause-ok : goal.returns-clause-ok

@@ -4,9 +4,10 @@ use Rattle.sched_core.proofs.links.no_links.Goals as goal
 
 pub loop-preserved : goal.loop-preserved
 loop-preserved c = record {
-  count = ap length c.in_ok-push.ensures.items
+  count = ap length c.push_reserved.ensures.items
       ∙ length-append c.loop.links.items (c.new.result ∷ [])
       ∙ ap (λ n. n + 1) c.loop.invariant.count;
   none = no_links_more _ _ _ c.loop.invariant.none
-      c.new.ensures.items c.in_ok-push.ensures.items;
+      c.new.ensures.items c.push_reserved.ensures.items;
+  room = c.push_reserved.ensures.capacity ∙ c.loop.invariant.room;
 }

@@ -1,5 +1,5 @@
--- So many lists stand there, without links.
-use Rattle.std.proofs.Common.{◌≡◌, length}
+-- So many lists stand there, without links, and there is room for all.
+use Rattle.std.proofs.Common.{◌≡◌, length, vec_capacity}
 use Rattle.sched_core.specs.Linking.{HaveNoLinks}
 use Rattle.sched_core.proofs.links.no_links.Given as goal
 
@@ -7,4 +7,5 @@ abbrev pub invariant-loop : goal.invariant-loop
 invariant-loop l = record {
   count : length l.links.items ≡ l.counter;
   none : HaveNoLinks l.links.items;
+  room : vec_capacity l.links ≡ l.count;
 }

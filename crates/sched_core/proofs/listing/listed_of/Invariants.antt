@@ -1,7 +1,11 @@
-use Rattle.std.proofs.Common.{◌≡◌, take}
+use Rattle.std.proofs.Common.{◌≡◌, length, take, vec_capacity}
 use Rattle.sched_core.specs.Listing.{listed_behind}
 use Rattle.sched_core.proofs.listing.listed_of.Given as goal
 
--- those so far are listed
+-- those so far are listed, and there is room for all
 abbrev pub invariant-loop-one : goal.invariant-loop-one
-invariant-loop-one l = l.listed.items ≡ listed_behind (take l.one-index l.keyed)
+invariant-loop-one l = record {
+  count : length l.listed.items ≡ l.one-index;
+  listed : l.listed.items ≡ listed_behind (take l.one-index l.keyed);
+  room : vec_capacity l.listed ≡ length l.keyed;
+}

@@ -17,7 +17,7 @@ returns-clause-by_path c =
     keyed_by_path _
     (IsMarked c.args.marks.now (length c.args.plan.now.nodes)) _ _ _ _
     c.in_ok-keyed.ensures c.sort_unstable_by_key.ensures.permutation
-    (c.in_ok-listed.ensures ∙ ap listed_behind c.deref.ensures.value)
+    (c.in_ok-listed.ensures.listed ∙ ap listed_behind c.deref.ensures.value)
     c.sort_unstable_by.ensures.permutation sorted
 
 pub returns-clause-within : goal.returns-clause-within
@@ -30,5 +30,5 @@ returns-clause-within c =
     (keyed_by_path _
     (IsMarked c.args.marks.now (length c.args.plan.now.nodes)) _ _ _ _
     c.in_ok-keyed.ensures c.sort_unstable_by_key.ensures.permutation
-    (c.in_ok-listed.ensures ∙ ap listed_behind c.deref.ensures.value)
+    (c.in_ok-listed.ensures.listed ∙ ap listed_behind c.deref.ensures.value)
     c.sort_unstable_by.ensures.permutation sorted)

@@ -15,7 +15,7 @@ returns-clause-rising c =
 
 pub returns-clause-same : goal.returns-clause-same
 returns-clause-same c =
-    let all : c.loop-output.sorted.items ≡ outputs_of c.args.job.now = c.loop-output.invariant
+    let all : c.loop-output.sorted.items ≡ outputs_of c.args.job.now = c.loop-output.invariant.paths
     ∙ ap (map (λ (o : JobOutput). o.path))
     (take_all c.loop-output.output-index c.args.job.now.outputs.items
     (rw (← c.deref-output-items.ensures.value) c.loop-output-test.false)) in

@@ -14,6 +14,7 @@ loop-d-init c = record {
       c.len.ensures.value (c.in_ok-last.ensures.items_if_clones_equal (λ y is. search rules));
   near = none_near c.args.plan.now.nodes c.args.wanted.now c.in_ok-twins.twins.items
       c.in_ok-twins.ensures.items;
+  room = c.in_ok-twins.ensures.exact ∙ c.len-2.ensures.value;
 }
 
 pub loop-d-preserved : goal.loop-d-preserved
@@ -40,9 +41,10 @@ loop-d-preserved c =
             subst (λ (v : Vec (Option ℕ)). AreLast nodes wanted v.items (d + 1)) (sym w.last-is)
             (last_unwanted nodes wanted last d w.if-wanted-d.false c.loop-d.invariant.last)
       ];
-      near = subst (λ l. AreNear nodes wanted l (d + 1)) (sym c.in_ok-push.ensures.items)
+      near = subst (λ l. AreNear nodes wanted l (d + 1)) (sym c.push_reserved.ensures.items)
           (near_more nodes wanted last c.loop-d.twins.items d twin low read
           c.loop-d.invariant.last c.loop-d.invariant.near);
+      room = c.push_reserved.ensures.capacity ∙ c.loop-d.invariant.room;
     }
 
 pub returns-clause-ok : goal.returns-clause-ok

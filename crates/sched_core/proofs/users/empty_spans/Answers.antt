@@ -14,7 +14,7 @@ loop-count-preserved c =
     let k = c.loop-count.count-index in
     let spans = c.loop-count.spans.items in
     let places = c.loop-count.places in
-    let pushed = c.in_ok-push.ensures.items in
+    let pushed = c.push_reserved.ensures.items in
     record {
       size = ap length pushed ∙ length_push _ _ ∙ ap (λ n. n + 1) c.loop-count.invariant.size;
       places = omega (
@@ -30,6 +30,7 @@ loop-count-preserved c =
           (subst (λ n. HaveRoom (spans ++ record { start = places; end = places } ∷ [])
           (places + get_or counts n 0) (λ n. get_or counts n 0)) c.loop-count.invariant.size
           (room_pushed _ _ (λ n. get_or counts n 0) c.loop-count.invariant.room));
+      exact = c.push_reserved.ensures.capacity ∙ c.loop-count.invariant.exact;
     }
 
 pub returns-clause-room : goal.returns-clause-room

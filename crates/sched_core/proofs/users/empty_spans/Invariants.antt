@@ -1,5 +1,5 @@
 -- The spans so far lie one behind the other, and end at the sum of their sizes.
-use Rattle.std.proofs.Common.{◌≡◌, get_or, length, sum, take}
+use Rattle.std.proofs.Common.{◌≡◌, get_or, length, sum, take, vec_capacity}
 use Rattle.std.specs.Prelude.{All}
 use Rattle.sched_core.specs.UserSpans.{HaveRoom}
 use Rattle.sched_core.specs.declared.users.Span.{Span}
@@ -11,4 +11,5 @@ invariant-loop-count l = record {
   places : l.places ≡ sum (take l.count-index l.counts);
   empty : All (λ (span : Span). span.start ≡ span.end) l.spans.items;
   room : HaveRoom l.spans.items l.places (λ n. get_or l.counts n 0);
+  exact : vec_capacity l.spans ≡ length l.counts;
 }

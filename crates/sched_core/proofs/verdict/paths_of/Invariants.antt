@@ -1,8 +1,11 @@
--- The paths of the outputs so far stand there.
-use Rattle.std.proofs.Common.{◌≡◌, map, take}
+-- The paths of the outputs so far stand there, and there is room for all.
+use Rattle.std.proofs.Common.{◌≡◌, length, map, take, vec_capacity}
 use Rattle.sched_core.specs.declared.job.JobOutput.{JobOutput}
 use Rattle.sched_core.proofs.verdict.paths_of.Given as goal
 
 abbrev pub invariant-loop-output : goal.invariant-loop-output
-invariant-loop-output l = l.paths.items ≡ map (λ (o : JobOutput). o.path)
-    (take l.output-index l.outputs)
+invariant-loop-output l = record {
+  count : length l.paths.items ≡ l.output-index;
+  paths : l.paths.items ≡ map (λ (o : JobOutput). o.path) (take l.output-index l.outputs);
+  room : vec_capacity l.paths ≡ length l.outputs;
+}

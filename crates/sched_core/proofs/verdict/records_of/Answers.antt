@@ -1,4 +1,4 @@
-use Rattle.std.proofs.Common.{arith}
+use Rattle.std.proofs.Common.{◌∙◌, arith}
 use Rattle.sched_core.specs.Verdicts.{algorithm_for}
 use Rattle.sched_core.proofs.Verdicts.{are_records, records_more, taken_at}
 use Rattle.sched_core.proofs.verdict.records_of.Goals as goal
@@ -14,15 +14,18 @@ record_of-requires-clause-taken c = taken_at c.args.job.now c.args.answer.now c.
 
 pub loop-n-preserved : goal.loop-n-preserved
 loop-n-preserved c =
-    records_more (algorithm_for c.args.job.now.kind) c.args.permitted.now c.args.answer.now
-    c.loop-n.records.items
-    c.push.new.self.items c.loop-n.n c.in-Some.tree.now _
-    c.loop-n.invariant c.in-Some.ensures c.in_ok-record_of.ensures.record
-    c.in_ok-push.ensures.items
+    record {
+      records = records_more (algorithm_for c.args.job.now.kind) c.args.permitted.now c.args.answer.now
+          c.loop-n.records.items
+          c.push_reserved.new.self.items c.loop-n.n c.in-Some.tree.now _
+          c.loop-n.invariant.records c.in-Some.ensures c.in_ok-record_of.ensures.record
+          c.push_reserved.ensures.items;
+      room = c.push_reserved.ensures.capacity ∙ c.loop-n.invariant.room;
+    }
 
 pub returns-clause-records : goal.returns-clause-records
 returns-clause-records c =
     are_records c.args.job.now c.args.permitted.now c.args.answer.now c.loop-n.records.items
     c.loop-n.n
     (omega (arith, c.loop-n-test.false, c.len-n-end.ensures, c.loop-n.auto.n-end))
-    c.loop-n.invariant
+    c.loop-n.invariant.records

@@ -34,6 +34,6 @@ invariant_of-result c =
           c.in_ok-course.ensures.wanted c.in_ok-course.ensures.twins
           c.in_ok-course.ensures.phases
           c.in_ok-course.ensures.idle
-          (omega (arith, c.in_ok-events.ensures.capacity, c.len.ensures)),
+          (omega (arith, c.in_ok-events.ensures.exact, c.len.ensures)),
       omega (arith, ap length same),
     )
