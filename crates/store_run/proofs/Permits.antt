@@ -1,7 +1,6 @@
 -- What is permitted to a job by lists of entries that go on from one list.
 use Rattle.std.proofs.Common.{◌≡◌, ◌↔◌, inl, inr, ℕ, List, [], ◌∷◌, ◌++◌, All, None, Result, Ok, Err, refl, subst, sym, rules}
-use Rattle.std.specs.Prelude.{IsTrue, slice_get}
-use Rattle.std.specs.Result.{is_ok}
+use Rattle.std.specs.Prelude.{IfOk, OnOk, slice_get}
 use Rattle.std.proofs.lemmas.List.Elements.{All-contains}
 use mathlib.Core.List.{IsPrefix}
 use Rattle.nix_names.proofs.Lists.{Contains-nothing}
@@ -12,10 +11,7 @@ use Rattle.valid_table.specs.Valid.{IsJournal, IsOnce, IsValid}
 use Rattle.valid_table.specs.declared.entry.Entry.{Entry}
 use Rattle.valid_table.specs.declared.entry.Registration.{Registration}
 use Rattle.valid_table.proofs.JournalLists.{closed_references_valid, registered-append, valid_more}
-use Rattle.valid_view.specs.Answers.{WhereSeen}
 use Rattle.valid_view.specs.Shown.{IsShowable}
-use Rattle.valid_view.specs.declared.fault.ViewFault.{ViewFault}
-use Rattle.valid_view.specs.declared.seen.Seen.{Seen}
 use Rattle.valid_view.proofs.Showable.{showable_front}
 use Rattle.sched_core.specs.Books.{ArePermittedPaths, AreSeedsValid}
 use Rattle.sched_core.specs.Legal.{MayRefer}
@@ -101,11 +97,17 @@ pub none_first : (paths : List (List ℕ)) → slice_get paths 0 ≡ None → pa
 none_first [] none = refl
 none_first (path ∷ paths) none = absurd cc
 
--- what is known of an answer that was given
-pub where_answered : {Fact : Type 0} (answer : Result Seen ViewFault) → IsTrue (is_ok answer)
-    → WhereSeen answer Fact → Fact
-where_answered (Ok seen) given fact = fact
-where_answered (Err fault) given fact = absurd cc
+-- what follows where a call answers well
+pub where_ok : {A E Fact Other : Type 0} (answer : Result A E) → OnOk answer Fact
+    → (Fact → Other) → OnOk answer Other
+where_ok (Ok seen) fact follows = follows fact
+where_ok (Err fault) fact follows = tt
+
+-- what follows of a good answer
+pub of_ok : {A E : Type 0} {Fact Other : A → Type 0} (answer : Result A E) → IfOk answer Fact
+    → ((x : A) → Fact x → Other x) → IfOk answer Other
+of_ok (Ok x) fact follows = follows x fact
+of_ok (Err fault) fact follows = tt
 
 -- the entries of a journal may be shown
 pub journal_showable : (entries : List Entry) → IsJournal entries → IsShowable entries

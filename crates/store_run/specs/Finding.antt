@@ -5,14 +5,18 @@ use Rattle.nix_names.specs.Bytes.{Path}
 use Rattle.valid_table.specs.PathInfos.{PathInfo}
 use Rattle.valid_table.specs.declared.entry.Entry.{Entry}
 use Rattle.valid_view.specs.Shown.{IsShowable}
+use Rattle.valid_view.specs.declared.fault.ViewFault.{ViewFault}
+use Rattle.valid_view.specs.declared.fault.ViewFault.TheVariants as view
 use Rattle.sched_core.specs.Books.{ArePermittedPaths, AreSeedsValid, IsBooksLease, Leased, Ledger}
+use Rattle.sched_core.specs.declared.fault.BookFault.{BookFault}
+use Rattle.sched_core.specs.declared.fault.BookFault.TheVariants.{NoMemory, NoView}
 use Rattle.sched_core.specs.declared.job.Answer.{Answer}
 use Rattle.sched_core.specs.declared.job.Job.{Job}
 use Rattle.sched_core.specs.declared.reason.Reason.{Reason}
 use Rattle.sched_core.specs.declared.reason.Reason.TheVariants.{OutOfMemory}
 use Rattle.store_run.specs.Builders.{IsOutcomeVerdict}
 use Rattle.store_run.specs.declared.found.Found.{Found}
-use Rattle.store_run.specs.declared.found.Found.TheVariants.{Examined, Unanswered, NoMemory, NoView}
+use Rattle.store_run.specs.declared.found.Found.TheVariants.{Examined, Unanswered, Refused}
 
 -- a lease was told of a list by which all that its job is built from is valid
 abbrev pub IsToldOfSeeds : {Told : Type 0} → (names : Told → List Entry → Type 0) → Leased Told
@@ -28,18 +32,25 @@ pub record IsSeenVerdict (seen : List Entry) (job : Job) (answer : Answer)
   pub seeds : AreSeedsValid seen job
   pub is : IsOutcomeVerdict seen job (Ok answer) verdict
 
--- there is no verdict: memory was refused, or the view is gone
-abbrev pub IsUnseen : Found → Type 0
+-- a refusal of memory, or of a view that is gone
+abbrev pub IsUnseen : BookFault → Type 0
 IsUnseen NoMemory = Unit {0}
 IsUnseen NoView = Unit {0}
 IsUnseen other = ⊥
 
+-- a refusal of a reader, as a book tells it
+abbrev pub IsToldAs : ViewFault → BookFault → Type 0
+IsToldAs view.NoMemory fault = fault ≡ NoMemory
+IsToldAs (view.NoView why) fault = fault ≡ NoView
+IsToldAs (view.NotValid path) fault = ⊥
+
 -- What is found of an outcome by a list: of an answer, its verdict, for which memory may be
--- refused, or that there is no verdict; of any other outcome, the reason why there is no answer.
+-- refused, or why that could not be had; of any other outcome, the reason why there is no answer.
 abbrev pub IsFoundBy : (seen : List Entry) → Job → Result Answer Reason → Found → Type 0
 IsFoundBy seen job (Ok answer) (Examined verdict) = (verdict ≡ Err OutOfMemory)
     ⊎ IsSeenVerdict seen job answer verdict
-IsFoundBy seen job (Ok answer) other = IsUnseen other
+IsFoundBy seen job (Ok answer) (Refused fault) = IsUnseen fault
+IsFoundBy seen job (Ok answer) (Unanswered why) = ⊥
 IsFoundBy seen job (Err reason) (Unanswered why) = why ≡ reason
 IsFoundBy seen job (Err reason) other = ⊥
 

@@ -10,5 +10,6 @@ pub mod Scheduling
 pub mod TwinExample
 pub mod Workers
 -- What only private contracts and proofs cite.
+pub mod Ending
 pub mod Finding
 pub mod Sharing

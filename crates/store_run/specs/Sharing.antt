@@ -7,7 +7,6 @@ use Rattle.sched_core.specs.declared.fault.BookFault.TheVariants.{NoMemory, NoVi
 use Rattle.sched_core.specs.declared.job.Job.{Job}
 use Rattle.sched_core.specs.declared.reason.Reason.{Reason}
 use Rattle.sched_core.specs.declared.reason.Reason.TheVariants.{OutOfMemory}
-use Rattle.valid_view.specs.declared.fault.ViewFault.{ViewFault}
 use Rattle.store_run.specs.declared.found.Found.{Found}
 use Rattle.store_run.specs.declared.found.Found.TheVariants as found
 use Rattle.store_run.specs.declared.found.LeaseEnd.{LeaseEnd}
@@ -107,10 +106,10 @@ pub record IsUnlawful (before after : Share) (job : Job) (number : ℕ) (infos :
       job.derivation infos
   pub stopping : IsStopping before after NotLawful
 
--- A lease was given up, since there is no verdict that can be used: the view is gone.
-pub record IsGone (before after : Share) (end : LeaseEnd) : Type 0 where
-  pub is : end ≡ Stopped NoView
-  pub stopping : IsStopping before after NoView
+-- A lease was given up for a refusal, since there is no verdict that can be used.
+pub record IsGivenUp (before after : Share) (refusal : BookFault) (end : LeaseEnd) : Type 0 where
+  pub is : end ≡ Stopped refusal
+  pub stopping : IsStopping before after refusal
 
 -- A lease's outputs were registered with these records.
 pub record IsBuilt (before after : Share) (job : Job) (number : ℕ) (infos : List PathInfo)
@@ -161,16 +160,17 @@ IsNotingVerdict before after job number (Err reason) end =
     IsNoting before after job number reason end
 
 -- How a lease ends, by what was found of its job and by whether the reader caught up with the book.
--- A verdict is noted where the reader caught up. Where the view is gone, the run stops for that
--- cause, if nothing stopped it before.
+-- A verdict is noted where the reader caught up. Where the view was refused, to the verdict or to
+-- the reader, the run stops for that refusal, if nothing stopped it before.
 abbrev pub IsEnding : {A : Type 0} → (before after : Share) → Job → (number : ℕ) → Found
-    → (caught_up : Result A ViewFault) → LeaseEnd → Type 0
+    → (caught_up : Result A BookFault) → LeaseEnd → Type 0
 IsEnding before after job number (found.Examined verdict) (Ok up) end =
     IsNotingVerdict before after job number verdict end
-IsEnding before after job number (found.Examined verdict) (Err fault) end =
-    IsGone before after end
+IsEnding before after job number (found.Examined verdict) (Err refusal) end =
+    IsGivenUp before after refusal end
 IsEnding before after job number (found.Unanswered reason) caught_up end =
     IsNoting before after job number reason end
-IsEnding before after job number found.NoMemory caught_up end =
+IsEnding before after job number (found.Refused NoMemory) caught_up end =
     IsNoting before after job number OutOfMemory end
-IsEnding before after job number found.NoView caught_up end = IsGone before after end
+IsEnding before after job number (found.Refused refusal) caught_up end =
+    IsGivenUp before after refusal end

@@ -4,7 +4,7 @@ ghost use Rattle.store_run.specs.Numbers.{fault_number_of};
 
 use std::alloc::AllocError;
 use thiserror::Error;
-use valid_table::OutletFault;
+use valid_view::OpenFault;
 
 /// Why a run ends without a settled book.
 #[derive(Clone, Copy, Debug, PartialEq, Eq, Error)]
@@ -51,15 +51,15 @@ impl From<AllocError> for RunFault {
     }
 }
 
-impl From<OutletFault> for RunFault {
-    ghost use Rattle.store_run.specs.Realising.{fault_of_outlet};
+impl From<OpenFault> for RunFault {
+    ghost use Rattle.store_run.specs.Realising.{fault_of_opening};
 
-    ghost from_gives = { λ outlet fault. fault ≡ fault_of_outlet outlet };
+    ghost from_gives = { λ opening fault. fault ≡ fault_of_opening opening };
 
-    fn from(fault: OutletFault) -> Self {
+    fn from(fault: OpenFault) -> Self {
         match fault {
-            OutletFault::NoMemory => RunFault::NoMemory,
-            OutletFault::NoView => RunFault::NoView,
+            OpenFault::NoMemory => RunFault::NoMemory,
+            OpenFault::NoView(_) => RunFault::NoView,
         }
     }
 }

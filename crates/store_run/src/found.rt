@@ -1,5 +1,6 @@
 //! What a worker finds of the job of its lease, and how the lease ends.
 
+use crate::refusal::Refusal;
 use sched_core::{BookFault, Checked, Reason};
 
 /// What a worker found of the job of its lease.
@@ -9,10 +10,8 @@ pub enum Found {
     Examined(Result<Checked, Reason>),
     /// The builder's reason why there is no answer.
     Unanswered(Reason),
-    /// Memory was refused to the worker.
-    NoMemory,
-    /// The view is gone.
-    NoView,
+    /// What was refused to the worker, so that there is no verdict: memory, or the view.
+    Refused(Refusal),
 }
 
 /// How a lease ended.

@@ -6,6 +6,8 @@
 //! | `shared` | what the workers of a run share: the book, and why the run stops |
 //! | `turn` | what a worker is to do next, and whom it wakes |
 //! | `verdict` | the verdict on a job's outcome, by the list that a reader sees |
+//! | `refusal` | refusals of a reader and of a book, as values that only their calls make |
+//! | `monitor` | a lock and a condition, whose calls a test can hear |
 //! | `locked` | the shared book behind a lock, on which workers wait |
 //! | `worker` | what one worker does |
 //! | `run` | a run, from a plan and a journal to a settled book |
@@ -19,6 +21,8 @@ mod found;
 pub mod laws;
 mod lent;
 mod locked;
+mod monitor;
+mod refusal;
 mod run;
 mod shared;
 mod turn;
@@ -27,5 +31,6 @@ mod worker;
 
 pub use fault::RunFault;
 pub use locked::Locked;
+pub use monitor::{Listen, LockCall};
 pub use run::{Ended, realise};
-pub use worker::work;
+pub use worker::{work, work_heard};

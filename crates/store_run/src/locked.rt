@@ -5,10 +5,10 @@ ghost use Rattle.store_run.specs.Finding.{IsToldOfSeeds, MayBeFound};
 ghost use Rattle.store_run.specs.Sharing.{IfGiven};
 
 use crate::found::{Found, LeaseEnd};
+use crate::monitor::{Listen, Monitor};
 use crate::shared::Shared;
-use crate::turn::{Step, Turn, Wake};
+use crate::turn::{Step, Turn};
 use sched_core::{Book, BookFault, Build, Lease};
-use std::sync::{Condvar, Mutex, Wait};
 use valid_table::Outlet;
 use valid_view::{Naming, Tells, ViewReader};
 
@@ -16,8 +16,7 @@ use valid_view::{Naming, Tells, ViewReader};
 /// lock is free, the book's history is legal, its tables agree with it, and what became of each
 /// derivation is a verdict on what a builder of this type may give.
 pub struct Locked<O: Outlet, B: Build> {
-    shared: Mutex<Shared<O, B>>,
-    changed: Condvar,
+    shared: Monitor<Shared<O, B>>,
 }
 
 impl<O: Outlet, B: Build> Locked<O, B> {
@@ -26,33 +25,32 @@ impl<O: Outlet, B: Build> Locked<O, B> {
         requires { IsAnswered B.may book.run book.history }
     {
         Locked {
-            shared: Mutex::new(Shared::new(book)),
-            changed: Condvar::new(),
+            shared: Monitor::new(Shared::new(book)),
         }
     }
 
     // Waits for a lease of a ready derivation. Gives the lease and how many wanted derivations are
     // unsettled then; none where the run ends. Wakes the workers that its turn names.
-    pub(crate) fn take<R: Wait>(&self, rt: &R) -> Option<(Lease<O::Told>, usize)>
+    pub(crate) fn take<R: Listen>(&self, rt: &R) -> Option<(Lease<O::Told>, usize)>
         ensures { IfSome result (λ taken. IsToldOfSeeds O.names taken.0) }
     {
-        let mut shared = self.shared.lock(rt);
+        let mut held = self.shared.lock(rt);
         for _ in rt.forever() {
             let Turn {
                 step,
                 wake,
                 unsettled,
-            } = shared.turn();
+            } = held.value().turn();
             let taken = match step {
                 Step::Build(lease) => Some((lease, unsettled)),
                 Step::End => None,
                 Step::Wait => {
-                    shared = self.changed.wait(rt, shared);
+                    held = self.shared.wait(held);
                     continue;
                 }
             };
-            drop(shared);
-            self.wake(wake);
+            drop(held);
+            self.shared.wake(rt, wake);
             return taken;
         }
         unreachable!()
@@ -60,8 +58,9 @@ impl<O: Outlet, B: Build> Locked<O, B> {
 
     // Ends a lease by what was found of its job by the list that the reader saw, and takes a turn,
     // in one hold of the lock. Then wakes the workers that the turn names. Waits for nothing but
-    // the lock.
-    pub(crate) fn end<R: Wait, J: Naming>(
+    // the lock. In the hold the reader looks once; no closure is computed, and what was built is
+    // not read.
+    pub(crate) fn end<R: Listen, J: Naming>(
         &self,
         rt: &R,
         reader: &mut ViewReader<J>,
@@ -73,11 +72,13 @@ impl<O: Outlet, B: Build> Locked<O, B> {
         requires { MayBeFound B.may reader.old.seen lease.job found }
         ensures { IfGiven result.1.step (IsToldOfSeeds O.names) }
     {
-        let mut shared = self.shared.lock(rt);
-        let end = shared.end(reader, lease, found);
+        let mut held = self.shared.lock(rt);
+        let shared = held.value();
+        let caught_up = shared.catch_up(reader, lease.job());
+        let end = shared.end(lease, found, caught_up);
         let turn = shared.turn();
-        drop(shared);
-        self.wake(turn.wake);
+        drop(held);
+        self.shared.wake(rt, turn.wake);
         (end, turn)
     }
 
@@ -85,19 +86,12 @@ impl<O: Outlet, B: Build> Locked<O, B> {
     pub fn into_parts(self) -> (Book<O>, Option<BookFault>)
         ensures { IsAnswered B.may result.0.run result.0.history }
     {
-        let Locked {
-            shared,
-            changed: _changed,
-        } = self;
-        shared.into_inner().into_parts()
+        self.into_shared().into_parts()
     }
 
-    // Wakes nobody, one of the waiting workers, or all of them.
-    fn wake(&self, whom: Wake) {
-        match whom {
-            Wake::Nobody => {}
-            Wake::One => self.changed.notify_one(),
-            Wake::All => self.changed.notify_all(),
-        }
+    // What the workers shared.
+    pub(crate) fn into_shared(self) -> Shared<O, B> {
+        let Locked { shared } = self;
+        shared.into_inner()
     }
 }

@@ -1,15 +1,17 @@
 //! A run: from a plan and a journal to a settled book.
-ghost use Rattle.std.specs.Prelude.{◌≡◌, ◌⊎◌, IfErr, IfOk, vec_len};
+ghost use Rattle.std.specs.Prelude.{◌≡◌, ◌⊎◌, ◌++◌, Err, IfErr, IfOk, MatchResult, vec_len};
 ghost use Rattle.sched_core.specs.Books.{opened};
 ghost use Rattle.sched_core.specs.Legal.{IsLegal};
 ghost use Rattle.store_run.specs.Builders.{IsAnswered};
-ghost use Rattle.store_run.specs.Realising.{IsOverLent, IsRealised, IsRun, IsRunEnd, IsRunFault};
+ghost use Rattle.store_run.specs.Ending.{IsHandedOut, IsRunEnd, fault_of_stop};
+ghost use Rattle.store_run.specs.Realising.{IsOverLent, IsRealised, IsRunFault, fault_of_opening};
 ghost use Rattle.store_run.specs.Workers.{AreWorkers};
 ghost use Rattle.store_run.specs.declared.fault.RunFault.TheVariants.{NoMemory, NoView};
 
 use crate::fault::RunFault;
 use crate::lent::is_over;
 use crate::locked::Locked;
+use crate::shared::Shared;
 use crate::worker::work;
 use drv_graph::{GraphFault, Plan};
 use sched_core::{Book, BookFault, Build, Watch};
@@ -18,7 +20,7 @@ use std::sync::Wait;
 use std::thread;
 use std::thread::Threads;
 use valid_table::{Journal, Outlet, TableFault};
-use valid_view::{Name, Naming, Tells, ViewReader, ViewWriter};
+use valid_view::{Name, Naming, OpenFault, Tells, ViewReader, ViewWriter};
 
 // The greatest number of workers.
 const MOST_WORKERS: usize = 64;
@@ -69,11 +71,12 @@ pub fn realise<
         Ok(opened) => opened,
         Err(fault) => return Err((fault, None)),
     };
-    run_book(rt, alloc, book, readers, builders, plan, system, journal)
+    let shared = run_book(rt, alloc, book, readers, builders);
+    handed_out(ending(shared, plan, system, journal))
 }
 
 // A book over the lent plan, system and entries, in which nothing began, and `count` readers of its
-// outlet.
+// outlet, which is a view.
 fn opened_over<'a, J: Naming + Send, R: Wait>(
     rt: &'a R,
     alloc: Global,
@@ -90,9 +93,31 @@ fn opened_over<'a, J: Naming + Send, R: Wait>(
     ensures opened { IfOk result (λ pair. pair.0.history ≡ opened journal.now.entries) }
     ensures err { IfErr result (λ fault. (fault ≡ NoMemory) ⊎ (fault ≡ NoView)) }
 {
-    let (plan, copy, system) = copied(alloc, plan, journal, system)?;
-    let (outlet, readers) = valid_view::open::<J, &R>(alloc, rt, name, journal, count)?;
-    match Book::open(alloc, plan, copy, system, outlet) {
+    let copies = copied(alloc, plan, journal, system)?;
+    book_over(
+        alloc,
+        copies,
+        valid_view::open::<J, &R>(alloc, rt, name, journal, count),
+    )
+}
+
+// A book over these copies, in which nothing began, and the readers of its outlet, by what opening
+// the view gave. Where the view was opened memory alone can be refused.
+fn book_over<O: Outlet, J: Naming>(
+    alloc: Global,
+    copies: (Plan, Journal, Vec<u8>),
+    view: Result<(O, Vec<ViewReader<J>>), OpenFault>,
+) -> Result<(Book<O>, Vec<ViewReader<J>>), RunFault>
+    requires { IfOk view (λ pair. O.shown pair.0 ++ O.pending pair.0 ≡ copies.1.entries) }
+    ensures over { IfOk result
+        (λ pair. IsOverLent copies.0 copies.2.items copies.1.entries pair.0) }
+    ensures opened { IfOk result (λ pair. pair.0.history ≡ opened copies.1.entries) }
+    ensures err { MatchResult view (λ pair. IfErr result (λ fault. fault ≡ NoMemory))
+        (λ opening. result ≡ Err (fault_of_opening opening)) }
+{
+    let (plan, journal, system) = copies;
+    let (outlet, readers) = view?;
+    match Book::open(alloc, plan, journal, system, outlet) {
         Ok(book) => Ok((book, readers)),
         Err(BookFault::NoMemory) => Err(RunFault::NoMemory),
         Err(_) => unreachable!(),
@@ -125,30 +150,25 @@ fn copied(
     Ok((plan, journal, Vec::from_slice(alloc, system)?))
 }
 
-// Lets the builders work over a book until all workers have ended. The book that they left, and
-// what stopped them, decide how the run ends.
+// Lets the builders work over a book until all workers have ended. Gives what they shared: the book
+// that they left, and what stopped them.
 fn run_book<R, J, O, B>(
     rt: &R,
     alloc: Global,
     book: Book<O>,
     readers: Vec<ViewReader<J>>,
     builders: Vec<B>,
-    plan: &Plan,
-    system: &[u8],
-    journal: &Journal,
-) -> Result<Book<O>, (RunFault, Option<Book<O>>)>
+) -> Shared<O, B>
 where
     R: Threads + Wait + Sync,
     J: Naming + Send + Sync,
     O: Tells<J> + Send,
     B: Build + Watch + Send + Drop,
     requires { IsAnswered B.may book.run book.history }
-    ensures { IsRun B.may plan.now system.now journal.now.entries result }
 {
     let locked = Locked::new(book);
     run_workers(rt, alloc, &locked, builders, readers);
-    let (book, stop) = locked.into_parts();
-    ending(book, stop, plan, system, journal)
+    locked.into_shared()
 }
 
 // Lets each builder work in a thread of its own, with a reader of its own, until all threads have
@@ -173,29 +193,52 @@ where
     });
 }
 
-// How a run ends whose workers have ended, by the book that they left and what stopped it, if
-// anything did. A book that isn't over the lent plan, system and entries is not given. A settled
-// book is given without a fault, whatever stopped the run. An unsettled book is given with a fault.
-fn ending<O: Outlet>(
-    book: Book<O>,
-    stop: Option<BookFault>,
+// How a run ends whose workers have ended, by what they shared. The book is given in any case. A
+// fault comes with a book that isn't over the lent plan, system and entries, and with one that isn't
+// settled. A settled book is given without a fault, whatever stopped the run.
+fn ending<O: Outlet, B: Build>(
+    shared: Shared<O, B>,
     plan: &Plan,
     system: &[u8],
     journal: &Journal,
-) -> Result<Book<O>, (RunFault, Option<Book<O>>)>
-    ensures end { IsRunEnd plan.now system.now journal.now.entries book stop result }
-    ensures legal { IsLegal book.run book.history }
+) -> Result<Book<O>, (RunFault, Book<O>)>
+    ensures end { IsRunEnd plan.now system.now journal.now.entries shared result }
+    ensures legal { IsLegal shared.book.run shared.book.history }
+    ensures answered { IsAnswered B.may shared.book.run shared.book.history }
 {
+    let (book, stop) = shared.into_parts();
     if !is_over(&book, plan, system, journal) {
-        book.close();
-        return Err((RunFault::ForeignPlan, None));
+        return Err((RunFault::ForeignPlan, book));
     }
     if book.settled() {
         return Ok(book);
     }
-    let fault = match stop {
+    Err((fault_by(stop), book))
+}
+
+// By which fault a run ends whose book isn't settled, by what stopped the run, if anything did.
+fn fault_by(stop: Option<BookFault>) -> RunFault
+    ensures { result ≡ fault_of_stop stop }
+{
+    match stop {
         Some(BookFault::NoMemory) => RunFault::NoMemory,
         _ => RunFault::ThreadFault,
-    };
-    Err((fault, Some(book)))
+    }
+}
+
+// What a run hands out, by how it ended: its book, with the fault if there is one. A book that isn't
+// over the lent plan, system and entries is closed.
+fn handed_out<O: Outlet>(
+    ended: Result<Book<O>, (RunFault, Book<O>)>,
+) -> Result<Book<O>, (RunFault, Option<Book<O>>)>
+    ensures { IsHandedOut ended result }
+{
+    match ended {
+        Ok(book) => Ok(book),
+        Err((RunFault::ForeignPlan, book)) => {
+            book.close();
+            Err((RunFault::ForeignPlan, None))
+        }
+        Err((fault, book)) => Err((fault, Some(book))),
+    }
 }

@@ -1,10 +1,9 @@
 //! What the workers of a run share.
-ghost use Rattle.std.specs.Prelude.{◌≡◌, ◌⊎◌, ℕ, Err, IfErr, List, None, Ok, OnOk, Result, ⊤};
+ghost use Rattle.std.specs.Prelude.{◌≡◌, ◌⊎◌, Err, IfErr, List, None, Ok, OnOk};
 ghost use Rattle.valid_table.specs.declared.entry.Entry.{Entry};
-ghost use Rattle.valid_view.specs.declared.fault.ViewFault.{ViewFault};
-ghost use Rattle.valid_view.specs.declared.fault.ViewFault.TheVariants.{NoView as ViewIsGone};
 ghost use Rattle.sched_core.specs.Books.{IsBooksLease, IsUnsettled};
 ghost use Rattle.sched_core.specs.Counts.{HasCount};
+ghost use Rattle.sched_core.specs.declared.fault.BookFault.TheVariants.{NoView};
 ghost use Rattle.sched_core.specs.declared.reason.Reason.TheVariants.{OutOfMemory};
 ghost use Rattle.store_run.specs.Builders.{IsAnswered, MayComeTo};
 ghost use Rattle.store_run.specs.Finding.{HasCaughtUp, IsToldOfSeeds, MayBeFound};
@@ -12,17 +11,17 @@ ghost use Rattle.store_run.specs.Sharing.{IfGiven, IsEnding, IsNoting, IsNotingV
 ghost use Rattle.store_run.specs.declared.found.LeaseEnd.TheVariants.{Stopped};
 
 use crate::found::{Found, LeaseEnd};
+use crate::refusal::{Refusal, fail, finish, look, next};
 use crate::turn::{Step, Turn, Wake};
 use sched_core::{Book, BookFault, Build, Checked, Job, Lease, Reason};
 use std::marker::{Model, PhantomData};
 use valid_table::Outlet;
-use valid_view::{Naming, Tells, ViewFault, ViewReader};
+use valid_view::{Naming, Tells, ViewReader};
 
-/// The book of a run and why the run stops, once a call of the book was refused. A contract sees
-/// both. What became of each derivation is a verdict on what a builder may give.
+/// The book of a run and why the run stops, once a call was refused. A contract sees both. What became of each derivation is a verdict on what a builder may give.
 pub struct Shared<O: Outlet, B: Build> {
     book: Book<O>,
-    stop: Option<BookFault>,
+    stop: Option<Refusal>,
     of: PhantomData<B>,
 }
 
@@ -75,23 +74,49 @@ impl<O: Outlet, B: Build> Shared<O, B> {
         }
     }
 
-    /// Ends a lease by what was found of its job by the list that the reader saw. Has the reader
-    /// catch up with the book first. Costs one look of the reader and what `Book::finish` costs; no
-    /// closure is computed, and what was built is not read.
-    pub fn end<J: Naming>(
-        &mut self,
-        reader: &mut ViewReader<J>,
-        lease: Lease<O::Told>,
-        found: Found,
-    ) -> LeaseEnd
+    /// Has a reader see the list that the outlet shows. Then the paths that were permitted to a job
+    /// of the book's by the list that the reader saw before are permitted behind the book's
+    /// entries. Refused where the view is gone. Costs one look.
+    pub fn catch_up<J: Naming>(&self, reader: &mut ViewReader<J>, job: &Job) -> Result<(), Refusal>
     where
         O: Tells<J>,
-        requires { MayBeFound B.may reader.old.seen lease.job found }
-        ensures { (caught_up : Result ⊤ ViewFault)
-            × IsEnding self.old self.new lease.job lease.number found caught_up result }
+        ensures ok { OnOk result (HasCaughtUp reader.old.seen self.now.book job.now) }
+        ensures err { IfErr result (λ fault. fault ≡ NoView) }
     {
-        let caught_up = catch_up::<J, O>(&self.book, reader, lease.job());
-        self.end_by(lease, found, caught_up)
+        let Some(seed) = job.seeds.first() else {
+            // Nothing leads anywhere from no seeds, whatever is valid.
+            return Ok(());
+        };
+        reader.learn(O::front(self.book.tell()));
+        look(reader, seed)
+    }
+
+    /// Ends a lease by what was found of its job, and by whether the reader then caught up with the
+    /// book. Registers what was built, or notes why the build failed; where memory is refused, the
+    /// derivation failed for that reason. A lease is given up, which stops the run, where it isn't
+    /// the book's, where its derivation may not be registered with these records, and where its
+    /// verdict can't be used since the view is gone. Costs what `Book::finish` costs.
+    pub fn end(
+        &mut self,
+        lease: Lease<O::Told>,
+        found: Found,
+        caught_up: Result<(), Refusal>,
+    ) -> LeaseEnd
+        requires { (seen : List Entry) × MayBeFound B.may seen lease.job found
+            × OnOk caught_up (HasCaughtUp seen self.old.book lease.job) }
+        ensures { IsEnding self.old self.new lease.job lease.number found caught_up result }
+    {
+        match found {
+            Found::Examined(verdict) => match caught_up {
+                Ok(()) => self.note(lease, verdict),
+                Err(refusal) => self.give_up(lease, refusal),
+            },
+            Found::Unanswered(reason) => self.fail(lease, reason),
+            Found::Refused(refusal) => match refusal.fault() {
+                BookFault::NoMemory => self.fail(lease, Reason::OutOfMemory),
+                _ => self.give_up(lease, refusal),
+            },
+        }
     }
 
     /// The book, and why the run stopped, if it did.
@@ -101,11 +126,14 @@ impl<O: Outlet, B: Build> Shared<O, B> {
         ensures answered { IsAnswered B.may result.0.run result.0.history }
     {
         let Shared { book, stop, of: _ } = self;
-        (book, stop)
+        match stop {
+            Some(refusal) => (book, Some(refusal.fault())),
+            None => (book, None),
+        }
     }
 
     // The next step of a worker: `End` where the run stops or the book is settled, else a lease if
-    // a derivation is ready, and else `Wait`. A fault of the book stops the run.
+    // a derivation is ready, and else `Wait`. A refusal of the book stops the run.
     fn step(&mut self) -> Step<O::Told>
         ensures step { IsStep self.old self.new result }
         ensures told { IfGiven result (IsToldOfSeeds O.names) }
@@ -113,39 +141,13 @@ impl<O: Outlet, B: Build> Shared<O, B> {
         if self.stop.is_some() || self.book.settled() {
             return Step::End;
         }
-        match self.book.next() {
+        match next(&mut self.book) {
             Ok(Some(lease)) => Step::Build(lease),
             Ok(None) => Step::Wait,
-            Err(fault) => {
-                self.stop = Some(fault);
+            Err(refusal) => {
+                self.stop = Some(refusal);
                 Step::End
             }
-        }
-    }
-
-    // Ends a lease by what was found of its job, and by whether the reader then caught up with the
-    // book. Registers what was built, or notes why the build failed; where memory is refused, the
-    // derivation failed for that reason. A lease is given up, which stops the run, where it isn't
-    // the book's, where its derivation may not be registered with these records, and where its
-    // verdict can't be used since the view is gone.
-    fn end_by(
-        &mut self,
-        lease: Lease<O::Told>,
-        found: Found,
-        caught_up: Result<(), ViewFault>,
-    ) -> LeaseEnd
-        requires { (seen : List Entry) × MayBeFound B.may seen lease.job found
-            × OnOk caught_up (HasCaughtUp seen self.old.book lease.job) }
-        ensures { IsEnding self.old self.new lease.job lease.number found caught_up result }
-    {
-        match found {
-            Found::Examined(verdict) => match caught_up {
-                Ok(()) => self.note(lease, verdict),
-                Err(_) => self.give_up(lease, BookFault::NoView),
-            },
-            Found::Unanswered(reason) => self.fail(lease, reason),
-            Found::NoMemory => self.fail(lease, Reason::OutOfMemory),
-            Found::NoView => self.give_up(lease, BookFault::NoView),
         }
     }
 
@@ -168,10 +170,12 @@ impl<O: Outlet, B: Build> Shared<O, B> {
             → MayComeTo B.may self.old.book.history.entries lease.job (Ok checked) }
         ensures { IsLeaseRegistering self.old self.new lease.job lease.number checked result }
     {
-        match self.book.finish(lease, checked) {
+        match finish(&mut self.book, lease, checked) {
             Ok(()) => LeaseEnd::Registered,
-            Err((BookFault::NoMemory, lease, _checked)) => self.fail(lease, Reason::OutOfMemory),
-            Err((fault, lease, _checked)) => self.give_up(lease, fault),
+            Err((refusal, lease, _checked)) => match refusal.fault() {
+                BookFault::NoMemory => self.fail(lease, Reason::OutOfMemory),
+                _ => self.give_up(lease, refusal),
+            },
         }
     }
 
@@ -182,41 +186,22 @@ impl<O: Outlet, B: Build> Shared<O, B> {
             → MayComeTo B.may self.old.book.history.entries lease.job (Err reason)) }
         ensures { IsNoting self.old self.new lease.job lease.number reason result }
     {
-        match self.book.fail(lease, reason) {
+        match fail(&mut self.book, lease, reason) {
             Ok(()) => LeaseEnd::Failed(reason),
-            Err(lease) => self.give_up(lease, BookFault::ForeignLease),
+            Err((refusal, lease)) => self.give_up(lease, refusal),
         }
     }
 
-    // Gives a lease up, and stops the run for this fault, if nothing stopped it before.
-    fn give_up(&mut self, lease: Lease<O::Told>, fault: BookFault) -> LeaseEnd
-        ensures stopping { IsStopping self.old self.new fault }
-        ensures end { result ≡ Stopped fault }
+    // Gives a lease up, and stops the run for this refusal, if nothing stopped it before.
+    fn give_up(&mut self, lease: Lease<O::Told>, refusal: Refusal) -> LeaseEnd
+        ensures stopping { IsStopping self.old self.new refusal }
+        ensures end { result ≡ Stopped refusal }
     {
         lease.give_up();
+        let fault = refusal.fault();
         if self.stop.is_none() {
-            self.stop = Some(fault);
+            self.stop = Some(refusal);
         }
         LeaseEnd::Stopped(fault)
     }
-}
-
-// Has a reader see the list that the outlet shows. Then the paths that were permitted to the job of
-// a lease by the list that the reader saw before are permitted behind the book's entries. `NoView`,
-// the only fault, where the view is gone.
-fn catch_up<J: Naming, O: Tells<J>>(
-    book: &Book<O>,
-    reader: &mut ViewReader<J>,
-    job: &Job,
-) -> Result<(), ViewFault>
-    ensures ok { OnOk result (HasCaughtUp reader.old.seen book.now job.now) }
-    ensures err { IfErr result (λ fault. fault ≡ ViewIsGone) }
-{
-    let Some(seed) = job.seeds.first() else {
-        // Nothing leads anywhere from no seeds, whatever is valid.
-        return Ok(());
-    };
-    reader.learn(O::front(book.tell()));
-    reader.look(seed)?;
-    Ok(())
 }

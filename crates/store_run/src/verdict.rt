@@ -1,14 +1,15 @@
 //! What a worker finds of the outcome of a job, without a lock, by the list that its reader sees.
-ghost use Rattle.std.specs.Prelude.{◌≡◌, IfErr, IfOk};
+ghost use Rattle.std.specs.Prelude.{◌≡◌, IfErr, IfOk, OnOk};
 ghost use Rattle.valid_view.specs.Shown.{IsShowable};
 ghost use Rattle.sched_core.specs.Books.{ArePermittedPaths, AreSeedsValid};
 ghost use Rattle.store_run.specs.Finding.{IsFoundBy, IsToldOfSeeds, IsUnseen};
 
 use crate::found::Found;
+use crate::refusal::{Refusal, closure, permitted_beside};
 use nix_names::StorePath;
-use sched_core::{Answer, BookFault, Job, Lease, Reason, examine, permitted_beside};
+use sched_core::{Answer, Job, Lease, Reason, examine};
 use std::alloc::Global;
-use valid_view::{Naming, Tells, ViewFault, ViewReader};
+use valid_view::{Naming, Tells, ViewReader};
 
 /// Has a reader learn what a lease was told. Then all that the lease's job is built from is valid
 /// in each list that the reader sees from now on.
@@ -26,8 +27,7 @@ pub fn learn<J: Naming, O: Tells<J>>(reader: &mut ViewReader<J>, lease: &mut Lea
 
 /// What is found of a job's outcome: the builder's reason why there is no answer, or the verdict on
 /// the answer by the paths that are permitted to the job in the list that the reader sees.
-/// `NoMemory` in place of a verdict where memory was refused, and `NoView` where the view is gone.
-/// Costs the closure of the job's seeds and one pass over what the builder left; takes no lock.
+/// In place of a verdict the refusal of the reader, or of memory. Costs the closure of the job's seeds and one pass over what the builder left; takes no lock.
 pub fn verdict<J: Naming>(
     alloc: Global,
     reader: &mut ViewReader<J>,
@@ -43,33 +43,24 @@ pub fn verdict<J: Naming>(
     };
     match permitted(alloc, reader, job) {
         Ok(permitted) => Found::Examined(examine(alloc, job, &permitted, answer)),
-        Err(unseen) => unseen,
+        Err(refusal) => Found::Refused(refusal),
     }
 }
 
-// The paths to which the outputs of a job may refer, by the list that the reader sees; or that
-// memory was refused, or that the view is gone.
+// The paths to which the outputs of a job may refer, by the list that the reader sees; or what was
+// refused, memory or the view.
 fn permitted<J: Naming>(
     alloc: Global,
     reader: &mut ViewReader<J>,
     job: &Job,
-) -> Result<Vec<StorePath>, Found>
+) -> Result<Vec<StorePath>, Refusal>
     requires { AreSeedsValid reader.old.told job.now }
-    ensures showable { IfOk result (λ paths. IsShowable reader.new.seen) }
-    ensures seeds { IfOk result (λ paths. AreSeedsValid reader.new.seen job.now) }
+    ensures showable { OnOk result (IsShowable reader.new.seen) }
+    ensures seeds { OnOk result (AreSeedsValid reader.new.seen job.now) }
     ensures permitted { IfOk result
         (λ paths. ArePermittedPaths reader.new.seen job.now paths.items) }
     ensures err { IfErr result IsUnseen }
 {
-    let reached = match reader.closure(alloc, &job.seeds) {
-        Ok(reached) => reached,
-        Err(ViewFault::NotValid(_)) => unreachable!(),
-        Err(ViewFault::NoMemory) => return Err(Found::NoMemory),
-        Err(ViewFault::NoView) => return Err(Found::NoView),
-    };
-    match permitted_beside(alloc, reached, job) {
-        Ok(paths) => Ok(paths),
-        Err(BookFault::NoMemory) => Err(Found::NoMemory),
-        Err(_) => unreachable!(),
-    }
+    let reached = closure(alloc, reader, job)?;
+    permitted_beside(alloc, reached, job)
 }

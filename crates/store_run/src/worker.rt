@@ -4,6 +4,7 @@ ghost use Rattle.store_run.specs.Finding.{IsToldOfSeeds};
 
 use crate::found::LeaseEnd;
 use crate::locked::Locked;
+use crate::monitor::{Deaf, Listen};
 use crate::turn::{Step, Turn};
 use crate::verdict::{learn, verdict};
 use sched_core::{Build, Lease, Watch};
@@ -18,6 +19,17 @@ use valid_view::{Naming, Tells, ViewReader};
 /// each lease that was taken and of each that has ended, also without the lock; the other workers
 /// that can go on were woken before.
 pub fn work<R: Wait, J: Naming, O: Tells<J>, B: Build + Watch>(
+    rt: &R,
+    alloc: Global,
+    locked: &Locked<O, B>,
+    reader: ViewReader<J>,
+    builder: &B,
+) {
+    work_heard(&Deaf::over(rt), alloc, locked, reader, builder);
+}
+
+/// Does what `work` does; the handle hears of each call of the lock.
+pub fn work_heard<R: Listen, J: Naming, O: Tells<J>, B: Build + Watch>(
     rt: &R,
     alloc: Global,
     locked: &Locked<O, B>,
@@ -39,7 +51,7 @@ pub fn work<R: Wait, J: Naming, O: Tells<J>, B: Build + Watch>(
 
 // Builds the job of a lease, and ends the lease. Gives the next lease, and how many wanted
 // derivations were unsettled when it was taken; none where the run ends.
-fn build<R: Wait, J: Naming, O: Tells<J>, B: Build + Watch>(
+fn build<R: Listen, J: Naming, O: Tells<J>, B: Build + Watch>(
     rt: &R,
     alloc: Global,
     locked: &Locked<O, B>,

@@ -12,5 +12,5 @@ invariant_of-self g c =
     ⊎ (IsBooksLease s.book.run s.book.history c.args.lease.job c.args.lease.number
     → MayComeTo g.B.Build.may s.book.history.entries c.args.lease.job (Err c.args.reason)))
     (sym c.self.view_is) c.requires in
-    after_failing g.B.Build.may c.self.inside.book c.fail.new.self _ _ _ c.self.invariant why
+    after_failing g.B.Build.may c.self.inside.book c.fail.new.book _ _ _ c.self.invariant why
     c.in-Ok.ensures.ok

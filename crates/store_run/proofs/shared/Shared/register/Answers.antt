@@ -1,4 +1,4 @@
-use Rattle.std.proofs.Common.{Ok, subst, sym}
+use Rattle.std.proofs.Common.{◌∙◌, Ok, subst, sym}
 use Rattle.sched_core.specs.Books.{IsBooksLease, Leased, Ledger}
 use Rattle.sched_core.specs.declared.reason.Reason.TheVariants.{OutOfMemory}
 use Rattle.store_run.specs.Builders.{MayComeTo}
@@ -22,22 +22,22 @@ invariant_of-self g c =
     c.args.lease.number
     → MayComeTo g.B.Build.may s.book.history.entries c.args.lease.job (Ok c.args.checked))
     (sym c.self.view_is) c.requires in
-    after_finishing g.B.Build.may c.self.inside.book c.finish.new.self _ _ _ c.self.invariant came
+    after_finishing g.B.Build.may c.self.inside.book c.finish.new.book _ _ _ c.self.invariant came
     c.in-Ok.ensures.ok
 
-pub returns-in-Err-NoMemory-default-default : goal.returns-in-Err-NoMemory-default-default
-returns-in-Err-NoMemory-default-default g c =
-    let e = c.in-Err-NoMemory-default-default in
+pub returns-in-NoMemory : goal.returns-in-NoMemory
+returns-in-NoMemory g c =
+    let e = c.in-Err in
     let job = c.args.lease.job in
     let number = c.args.lease.number in
     let before : Share = record { book = c.self.inside.book; stop = c.self.inside.stop } in
     let wanting : IsWanting before job number c.args.checked =
-    rw e.field-0-0-is at e.ensures.fault in
+    rw (sym c.fault.ensures ∙ c.in-NoMemory.is) at e.ensures.fault in
     let noted : IsNoting before c.fail.new.self job number OutOfMemory c.fail.result =
     subst (λ (b : Ledger). IsNoting (record { book = b; stop = c.self.inside.stop })
     c.fail.new.self job number OutOfMemory c.fail.result) e.ensures.same
     (subst (λ (l : Leased _). IsNoting
-    (record { book = c.finish.new.self; stop = c.self.inside.stop }) c.fail.new.self l.job l.number
+    (record { book = c.finish.new.book; stop = c.self.inside.stop }) c.fail.new.self l.job l.number
     OutOfMemory c.fail.result) e.ensures.back.0 c.fail.ensures) in
     subst (λ (s : Share). IsLeaseRegistering s c.fail.new.self job number c.args.checked
     c.fail.result)

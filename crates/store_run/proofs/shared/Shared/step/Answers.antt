@@ -19,12 +19,12 @@ none_where (Some x) found is missing = absurd cc
 
 pub returns-in-Err-clause-step : goal.returns-in-Err-clause-step
 returns-in-Err-clause-step g c =
-    let after : Share = record { book = c.next.new.self; stop = Some c.in-Err.fault } in
+    let after : Share = record { book = c.next.new.book; stop = Some c.in-Err.refusal } in
     subst (λ (s : Share). IsOver s after ⊎ IsRefused s after) c.self.view_is (inr (record {
       runs = none_where _ c.is_some.result c.is_some.ensures c.if-is_some.false;
       can = c.in-Err.ensures.some;
       same = c.in-Err.ensures.same;
-      fault = c.in-Err.fault;
+      fault = c.in-Err.refusal;
       is_fault = c.in-Err.ensures.err;
       stops = refl;
     }))

@@ -1,6 +1,6 @@
 use Rattle.std.proofs.Common.{IfSome}
 use Rattle.store_run.specs.Finding.{IsToldOfSeeds}
-use Rattle.store_run.proofs.worker.work.Given as goal
+use Rattle.store_run.proofs.worker.work_heard.Given as goal
 
 abbrev pub invariant-loop : goal.invariant-loop
 invariant-loop g l =

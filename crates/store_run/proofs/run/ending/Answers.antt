@@ -1,0 +1,19 @@
+use Rattle.std.proofs.Common.{◌∙◌, ap, inr, subst, sym, true≢false}
+use Rattle.store_run.specs.Ending.{IsUnfinished, fault_of_stop}
+use Rattle.store_run.proofs.run.ending.Goals as goal
+
+pub returns-clause-end : goal.returns-clause-end
+returns-clause-end g c =
+    let plan = c.args.plan.now in
+    let system = c.args.system.now in
+    let opening = c.args.journal.now.entries in
+    let unfinished : IsUnfinished plan system opening c.into_parts-book.result.0 = record {
+      over = c.is_over.ensures.over.0 c.if-not-is_over.false;
+      unsettled = λ is. true≢false (sym (c.settled.ensures.1 is) ∙ c.if-settled.false);
+    } in (
+      c.into_parts-book.ensures.book,
+      inr (
+        c.fault_by.ensures ∙ ap fault_of_stop c.into_parts-book.ensures.stop,
+        subst (IsUnfinished plan system opening) c.into_parts-book.ensures.book unfinished,
+      ),
+    )

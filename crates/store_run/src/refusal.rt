@@ -1,0 +1,170 @@
+//! Calls of a reader and of a book, whose refusals are values that only these calls make.
+ghost use Rattle.std.specs.Prelude.{◌≡◌, ◌⊎◌, ℕ, IfErr, IfOk, MatchOption, OnErr, OnOk, ⊤};
+ghost use mathlib.Core.List.{IsPrefix};
+ghost use Rattle.valid_table.specs.Closure.{IsClosure};
+ghost use Rattle.valid_table.specs.Entries.{registered};
+ghost use Rattle.valid_view.specs.Shown.{IsShowable};
+ghost use Rattle.valid_view.specs.declared.fault.ViewFault.TheVariants.{NotValid};
+ghost use Rattle.sched_core.specs.Books.{AreSeedsValid, CanBegin, IsBeginning, IsBooksLease, IsFailing, IsFinishFault, IsFinishing, IsSameRun, MayAllRefer};
+ghost use Rattle.sched_core.specs.Verdicts.{outputs_of};
+ghost use Rattle.sched_core.specs.declared.fault.BookFault.TheVariants.{ForeignLease, NoMemory, NoView};
+ghost use Rattle.valid_table.specs.Unions.{IsUnion};
+ghost use Rattle.nix_names.specs.Bytes.{Path};
+ghost use Rattle.nix_names.specs.Rising.{IsRising};
+ghost use Rattle.store_run.specs.Finding.{IsToldAs, IsUnseen};
+
+use nix_names::StorePath;
+use sched_core::{Book, BookFault, Checked, Job, Lease, Reason};
+use std::alloc::Global;
+use std::marker::Model;
+use valid_table::Outlet;
+use valid_view::{Naming, ViewFault, ViewReader};
+
+/// Evidence that a call of a reader or of a book was refused. A contract sees the fault that the
+/// call answered. Only the calls of this module make one.
+#[derive(Debug, Drop)]
+pub struct Refusal {
+    fault: BookFault,
+}
+
+impl Model for Refusal {
+    ghost use Rattle.sched_core.specs.declared.fault.BookFault.{BookFault};
+
+    ghost Value = { BookFault };
+
+    ghost view = { λ r. r.fault };
+}
+
+impl Refusal {
+    /// The fault that was answered.
+    pub fn fault(&self) -> BookFault
+        ensures { result ≡ self.now }
+    {
+        self.fault
+    }
+}
+
+/// The closure of what a job is built from, by the list that the reader sees. All of it is valid by
+/// each list that the reader may see. Refused where memory is, or where the view is gone.
+pub fn closure<J: Naming>(
+    alloc: Global,
+    reader: &mut ViewReader<J>,
+    job: &Job,
+) -> Result<Vec<StorePath>, Refusal>
+    requires { AreSeedsValid reader.old.told job.now }
+    ensures showable { OnOk result (IsShowable reader.new.seen) }
+    ensures seeds { OnOk result (AreSeedsValid reader.new.seen job.now) }
+    ensures closure { IfOk result
+        (λ reached. IsClosure (registered reader.new.seen) job.now.seeds.items reached.items) }
+    ensures err { IfErr result IsUnseen }
+{
+    match reader.closure(alloc, &job.seeds) {
+        Ok(reached) => Ok(reached),
+        Err(fault) => Err(of_reader(fault)),
+    }
+}
+
+/// Has a reader look at a path, whatever it finds. Refused where the view is gone.
+pub fn look<J: Naming>(reader: &mut ViewReader<J>, path: &StorePath) -> Result<(), Refusal>
+    ensures later { IsPrefix reader.old.seen reader.new.seen }
+    ensures known { OnOk result
+        (IsPrefix reader.old.told reader.new.seen × IsShowable reader.new.seen) }
+    ensures err { IfErr result (λ fault. fault ≡ NoView) }
+{
+    match reader.look(path) {
+        Ok(_) => Ok(()),
+        Err(fault) => Err(of_reader(fault)),
+    }
+}
+
+/// What `permitted_beside` gives. Refused where memory is.
+pub fn permitted_beside(
+    alloc: Global,
+    reached: Vec<StorePath>,
+    job: &Job,
+) -> Result<Vec<StorePath>, Refusal>
+    requires { IsRising reached.items }
+    ensures ok { IfOk result (λ paths. IsUnion reached.items (outputs_of job.now) paths.items) }
+    ensures err { IfErr result (λ fault. fault ≡ NoMemory) }
+{
+    match sched_core::permitted_beside(alloc, reached, job) {
+        Ok(paths) => Ok(paths),
+        Err(fault) => Err(Refusal { fault }),
+    }
+}
+
+/// Does what `Book::next` does.
+pub fn next<O: Outlet>(book: &mut Book<O>) -> Result<Option<Lease<O::Told>>, Refusal>
+    ensures none { IfOk result
+        (λ next. MatchOption next ((book.new ≡ book.old)
+        × ((d : ℕ) → CanBegin book.old.run book.old.history d → ⊥))
+        (λ lease. IsBeginning book.old book.new lease.job lease.number)) }
+    ensures told { IfOk result
+        (λ next. MatchOption next ⊤
+        (λ lease. MatchOption lease.told ⊥ (λ told. O.names told book.old.history.entries))) }
+    ensures seeds { IfOk result
+        (λ next. MatchOption next ⊤
+        (λ lease. AreSeedsValid book.old.history.entries lease.job)) }
+    ensures same { OnErr result (IsSameRun book.old book.new) }
+    ensures some { OnErr result ((d : ℕ) × CanBegin book.old.run book.old.history d) }
+    ensures err { IfErr result (λ fault. (fault ≡ NoMemory) ⊎ (fault ≡ NoView)) }
+{
+    match book.next() {
+        Ok(next) => Ok(next),
+        Err(fault) => Err(Refusal { fault }),
+    }
+}
+
+/// Does what `Book::finish` does.
+pub fn finish<O: Outlet>(
+    book: &mut Book<O>,
+    lease: Lease<O::Told>,
+    checked: Checked,
+) -> Result<(), (Refusal, Lease<O::Told>, Checked)>
+    requires { IsBooksLease book.old.run book.old.history lease.job lease.number
+        → MayAllRefer book.old.history.entries lease.job checked }
+    ensures ok { OnOk result (IsFinishing book.old book.new lease.job lease.number checked) }
+    ensures fault { IfErr result
+        (λ e. IsFinishFault book.old lease.job lease.number checked e.0) }
+    ensures back { IfErr result (λ e. (e.1 ≡ lease) × (e.2 ≡ checked)) }
+    ensures same { OnErr result (book.new ≡ book.old) }
+{
+    match book.finish(lease, checked) {
+        Ok(()) => Ok(()),
+        Err((fault, lease, checked)) => Err((Refusal { fault }, lease, checked)),
+    }
+}
+
+/// Does what `Book::fail` does, whose only fault is `ForeignLease`.
+pub fn fail<O: Outlet>(
+    book: &mut Book<O>,
+    lease: Lease<O::Told>,
+    reason: Reason,
+) -> Result<(), (Refusal, Lease<O::Told>)>
+    ensures ok { OnOk result (IsFailing book.old book.new lease.job lease.number reason) }
+    ensures foreign { OnErr result
+        (IsBooksLease book.old.run book.old.history lease.job lease.number → ⊥) }
+    ensures err { IfErr result (λ e. (e.0 ≡ ForeignLease) × (e.1 ≡ lease)) }
+    ensures same { OnErr result (book.new ≡ book.old) }
+{
+    match book.fail(lease, reason) {
+        Ok(()) => Ok(()),
+        Err(lease) => {
+            let fault = BookFault::ForeignLease;
+            Err((Refusal { fault }, lease))
+        }
+    }
+}
+
+// A reader's refusal, as a book tells it.
+fn of_reader(fault: ViewFault) -> Refusal
+    requires { (path : Path) → fault ≡ NotValid path → ⊥ }
+    ensures { IsToldAs fault result }
+{
+    let fault = match fault {
+        ViewFault::NoMemory => BookFault::NoMemory,
+        ViewFault::NoView(_) => BookFault::NoView,
+        ViewFault::NotValid(_) => unreachable!(),
+    };
+    Refusal { fault }
+}
