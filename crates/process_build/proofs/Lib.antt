@@ -1,3 +1,4 @@
 pub mod BuilderCalls
 pub mod Callable
+pub mod FileReads
 pub mod Tallies

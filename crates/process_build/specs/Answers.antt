@@ -1,21 +1,45 @@
 -- What is answered when a builder has ended, and what may be a part of its outputs.
-use Rattle.std.specs.Prelude.{◌≡◌, ◌≢◌, [], Option, Some, None, Result, Ok, Err, length, pos}
+use Rattle.std.specs.Prelude.{◌≡◌, ◌≢◌, ◌⊎◌, [], Option, Some, None, Result, Ok, Err, length, pos}
 use Rattle.std.specs.Fs.{IsDir, IsFile}
+use Rattle.std.specs.Process.{exit_code}
 use Rattle.std.specs.declared.fs.FileType.{FileType}
 use Rattle.std.specs.declared.io.Error.{Error}
 use Rattle.process_build.specs.Errors.{IsNoMemory, IsNotFound}
+use Rattle.process_build.specs.declared.ended.Left.{Left}
 use Rattle.process_build.specs.declared.reading.Node.{Node}
 use Rattle.process_build.specs.declared.reading.Node.TheVariants.{File, Folder}
 use Rattle.sched_core.specs.declared.job.Answer.{Answer}
 use Rattle.sched_core.specs.declared.job.Job.{Job}
 use Rattle.sched_core.specs.declared.reason.Reason.{Reason}
-use Rattle.sched_core.specs.declared.reason.Reason.TheVariants.{OutOfMemory, ReadFault}
+use Rattle.sched_core.specs.declared.reason.Reason.TheVariants.{NoStart, OutOfMemory, ReadFault, TooLarge}
+
+-- the answer of what a builder left behind: the exit status of its process, and what lies at the
+-- outputs' paths
+abbrev pub answer_of : Left → Answer
+answer_of left = record { status = exit_code left.ended.status; trees = left.trees }
+
+-- why there is no room for a builder
+abbrev pub IsRoomFault : Reason → Type 0
+IsRoomFault reason = (reason ≡ OutOfMemory) ⊎ (reason ≡ NoStart)
+
+-- why a builder doesn't start, or why it can't be waited for
+abbrev pub IsRunFault : Reason → Type 0
+IsRunFault reason = (reason ≡ OutOfMemory) ⊎ (reason ≡ NoStart) ⊎ (reason ≡ ReadFault)
+
+-- why outputs can't be read
+abbrev pub IsReadingFault : Reason → Type 0
+IsReadingFault reason = (reason ≡ OutOfMemory) ⊎ (reason ≡ ReadFault) ⊎ (reason ≡ TooLarge)
 
 -- An answer to a job: where the exit status is 0, a tree or none for each output; else no entry at
 -- all.
 pub record IsAnswerOf (job : Job) (answer : Answer) : Type 0 where
   pub of_good : answer.status ≡ Some (pos 0) → length answer.trees.items ≡ length job.outputs.items
   pub of_bad : answer.status ≢ Some (pos 0) → answer.trees.items ≡ []
+
+-- the outcomes of a job that a process builds: an answer, or one of three reasons
+abbrev pub MayEnd : Job → Result Answer Reason → Type 0
+MayEnd job (Ok answer) = IsAnswerOf job answer
+MayEnd job (Err reason) = (reason ≡ NoStart) ⊎ (reason ≡ ReadFault) ⊎ (reason ≡ TooLarge)
 
 -- the part of an output that lies at a path: a file or a folder; anything else is a read fault
 abbrev pub IsNodeAt : FileType → Result Node Reason → Type 0

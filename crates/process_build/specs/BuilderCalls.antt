@@ -2,7 +2,8 @@
 use Rattle.std.specs.Prelude.{◌≡◌, ◌≢◌, List, [], ◌∷◌, ◌++◌, IsUtf8, Option, None, Some, true}
 use Rattle.std.specs.Prelude.{All, false, ◌==◌, bytes_eq, codes, fold, if◌then◌else◌, map, option_map}
 use Rattle.std.specs.List.{list_any}
-use Rattle.std.specs.Process.{clears_env, command_args, command_dir, command_program, command_var}
+use Rattle.std.specs.Process.{clears_env, command_arg0, command_args, command_dir}
+use Rattle.std.specs.Process.{command_program, command_var}
 use Rattle.std.specs.declared.alloc.Global.{Global}
 use Rattle.std.specs.declared.process.command.Command.{Command}
 use Rattle.nix_names.specs.Bytes.{Bytes, Dir, Name}
@@ -74,11 +75,12 @@ abbrev pub program_of : (builder : Bytes) → Bytes
 program_of builder =
     if list_any (λ b. b == 47) builder then builder else codes "./" ++ builder
 
--- The command runs a program with these arguments in a folder, and these entries are its whole
--- environment.
-pub record Runs (program : Bytes) (args : List Bytes) (entries : List EnvEntry)
+-- The command runs a builder with these arguments in a folder. The builder is told its own text as
+-- its name, and these entries are its whole environment.
+pub record Runs (builder : Bytes) (args : List Bytes) (entries : List EnvEntry)
     (folder : Bytes) (command : Command Global) : Type 0 where
-  pub is_program : command_program command ≡ program
+  pub is_program : command_program command ≡ program_of builder
+  pub is_named : command_arg0 command ≡ Some builder
   pub is_called : command_args command ≡ args
   pub is_cleared : clears_env command ≡ true
   pub is_set : (key : Name) →

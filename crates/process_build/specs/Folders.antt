@@ -1,7 +1,9 @@
 -- The program's own files and folders in a store folder, and what lies at a path. Their names begin
 -- with a dot, so that they are no store paths' names.
 use Rattle.std.specs.Prelude.{◌≡◌, ℕ, Bool, true, false, List, [], ◌∷◌, ◌++◌, codes, decimal, map}
-use Rattle.std.specs.Prelude.{Result, Ok, Err}
+use Rattle.std.specs.Prelude.{◌⊎◌, Result, Ok, Err, string_bytes}
+use Rattle.std.specs.declared.alloc.Global.{Global}
+use Rattle.std.specs.declared.string.String.{String}
 use Rattle.std.specs.declared.io.Error.{Error}
 use Rattle.nix_names.specs.Bytes.{Bytes, Dir}
 use Rattle.process_build.specs.Errors.{IsFailure, IsNotFound}
@@ -16,6 +18,15 @@ build_folder_of store_dir number = store_dir ++ codes "/.build-" ++ decimal numb
 -- the path to which something is moved that is not removed at once
 abbrev pub aside_of : (store_dir : Dir) → (number : ℕ) → Bytes
 aside_of store_dir number = store_dir ++ codes "/.nix_realise-left-" ++ decimal number
+
+-- the path is one to which something is moved
+abbrev pub IsAside : (store_dir : Dir) → String Global → Type 0
+IsAside store_dir path = (number : ℕ) × (string_bytes path ≡ aside_of store_dir number)
+
+-- the paths that are noted stay, and at most one such path is added
+abbrev pub NotesAside : (store_dir : Dir) → (old new : List (String Global)) → Type 0
+NotesAside store_dir old new =
+    (new ≡ old) ⊎ ((path : String Global) × IsAside store_dir path × (new ≡ old ++ path ∷ []))
 
 -- the paths that are cleared before a job's builder runs, in this order: those of its outputs, and
 -- its build folder

@@ -1,7 +1,8 @@
 -- What public contracts cite, and what that rests on.
+pub mod Errors
 pub mod Progress
 -- What only private contracts and proofs cite.
 pub mod Answers
 pub mod BuilderCalls
-pub mod Errors
+pub mod Contents
 pub mod Folders

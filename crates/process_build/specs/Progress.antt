@@ -1,5 +1,5 @@
 -- What the line of progress shows of the calls that it heard (this product's own, `FORMATS.md`).
-use Rattle.std.specs.Prelude.{◌≡◌, ℕ, ◌+◌, ◌-◌, ◌^◌, ◌≤◌, Bool, true, false, not, min, List, ◌∷◌, ◌++◌, All, Contains, IfOk, Result, Ok, Err, codes, count_by, decimal, map, string_bytes, suc, zero}
+use Rattle.std.specs.Prelude.{◌≡◌, ℕ, ◌+◌, ◌-◌, ◌^◌, ◌≤◌, Bool, true, false, not, min, List, [], ◌∷◌, ◌++◌, All, Contains, IfOk, Option, Some, None, Result, Ok, Err, codes, count_by, decimal, map, string_bytes, suc, zero}
 use Rattle.std.specs.declared.alloc.AllocError.{AllocError}
 use Rattle.std.specs.declared.alloc.Global.{Global}
 use Rattle.std.specs.declared.string.String.{String}
@@ -7,6 +7,7 @@ use Rattle.std.specs.List.Sorted.{IsPermutation}
 use Rattle.nix_names.specs.Bytes.{Bytes}
 use Rattle.process_build.specs.declared.tally.Numbers.{Numbers}
 use Rattle.process_build.specs.declared.tally.Tally.{Tally}
+use Rattle.process_build.specs.declared.told.Told.{Told}
 
 -- a call that the line hears: a job began, or a job ended, well or not; with the number of
 -- derivations that were unsettled then
@@ -71,10 +72,6 @@ pub record IsTallyOf (calls : List Heard) (tally : Tally) : Type 0 where
   pub all : IsAllOf calls tally.all
   pub unsettled : IsUnsettledOf calls tally.unsettled
 
--- the tally counts some calls
-abbrev pub IsHeard : Tally → Type 0
-IsHeard tally = (calls : List Heard) × IsTallyOf calls tally
-
 -- The numbers of these calls. Running are the jobs that began, less those that ended. Waiting are
 -- the unsettled derivations, less the running jobs. A difference is never below 0.
 pub record AreNumbersOf (calls : List Heard) (numbers : Numbers) : Type 0 where
@@ -84,6 +81,15 @@ pub record AreNumbersOf (calls : List Heard) (numbers : Numbers) : Type 0 where
   pub waiting : (unsettled : ℕ) × IsUnsettledOf calls unsettled
       × (numbers.waiting ≡ unsettled - numbers.running)
   pub all : IsAllOf calls numbers.all
+
+-- what was told last is the numbers of these calls; before any call nothing was told
+abbrev pub IsToldLast : List Heard → Option Told → Type 0
+IsToldLast calls None = calls ≡ []
+IsToldLast calls (Some told) = AreNumbersOf calls told.numbers
+
+-- the tally counts some calls, and what was told last is their numbers
+abbrev pub IsHeardAndTold : Tally → Option Told → Type 0
+IsHeardAndTold tally told = (calls : List Heard) × IsTallyOf calls tally × IsToldLast calls told
 
 -- the bytes that erase the line
 abbrev pub no_line : Bytes
@@ -105,11 +111,10 @@ shown_text zero line = no_line
 shown_text (suc running) (Ok line) = string_bytes line
 shown_text (suc running) (Err error) = no_line
 
--- the text is what is written for these calls
-abbrev pub IsShown : List Heard → (text : Bytes) → Type 0
-IsShown calls text =
-    (numbers : Numbers) × AreNumbersOf calls numbers × (line : Result (String Global) AllocError)
-    × IfOk line (λ l. string_bytes l ≡ line_of numbers)
+-- the text is what is written for these numbers
+abbrev pub IsShown : Numbers → (text : Bytes) → Type 0
+IsShown numbers text =
+    (line : Result (String Global) AllocError) × IfOk line (λ l. string_bytes l ≡ line_of numbers)
     × (text ≡ shown_text numbers.running line)
 
 -- the running, built and failed jobs add up to the jobs that began

@@ -6,18 +6,21 @@
 //! | `processes` | a builder that runs a job's program as a process |
 //! | `call` | the texts of a job that a process is started with |
 //! | `environment` | the environment that a builder finds |
+//! | `ended` | how a builder ended, which nothing but waiting for it tells |
 //! | `start` | a builder that is started and waited for |
 //! | `folders` | the store folder, the build folder of a lease, and what is cleared for it |
 //! | `removal` | what lies at a path of the store folder, taken away |
 //! | `reading` | what lies at the outputs' paths, read within the limits of an output |
 //! | `failures`, `reasons` | what an error of the system means at a path, and for a build |
 //! | `progress` | the line of progress |
+//! | `told` | what the line's terminal was told last |
 //! | `tally` | the numbers of that line, and its text |
 //! | `laws` | what holds of these numbers, over the definitions |
 #![tactic(auto)]
 
 mod builders;
 mod call;
+mod ended;
 mod environment;
 mod failures;
 mod folders;
@@ -29,6 +32,7 @@ mod reasons;
 mod removal;
 mod start;
 mod tally;
+mod told;
 
 pub use builders::Builders;
 pub use failures::Failure;

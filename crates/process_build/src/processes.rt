@@ -1,9 +1,10 @@
 //! A builder that runs a job's program as a process.
-ghost use Rattle.std.specs.Prelude.{IfOk};
-ghost use Rattle.process_build.specs.Answers.{IsAnswerOf};
+ghost use Rattle.std.specs.Prelude.{◌⊎◌, IfErr, IfOk};
+ghost use Rattle.process_build.specs.Answers.{answer_of, IsAnswerOf, IsReadingFault, IsRoomFault, IsRunFault};
 
 use crate::builders::Builders;
 use crate::call::Call;
+use crate::ended::Left;
 use crate::folders::BuildFolder;
 use crate::reading::read_outputs;
 use crate::reasons::{no_room, no_start};
@@ -73,8 +74,10 @@ impl<'a, R: Files + AllocGlobal + Sync, P: Processes + Sync> Builders for ByProc
 }
 
 impl<R: Files + AllocGlobal, P: Processes> Build for ProcessBuild<'_, R, P> {
-    // Nothing is promised of what a builder does.
-    ghost may = { λ _ _. Unit {0} };
+    ghost use Rattle.process_build.specs.Answers.{MayEnd};
+
+    // No more is promised of what a builder does.
+    ghost may = { MayEnd };
 
     /// Builds a job. `NoStart` where it has a text that no process can be started with, which
     /// leaves all files as they are, or where making room for the builder or its start fails.
@@ -85,11 +88,11 @@ impl<R: Files + AllocGlobal, P: Processes> Build for ProcessBuild<'_, R, P> {
         let call = Call::of(alloc, job)?;
         let folder = BuildFolder::new(alloc, self.store_dir.as_str(), number)?;
         let mut clearing = Clearing::new(self.rt, self.store_dir.as_str());
-        let answer = self.build(&folder, &call, job, &mut clearing);
+        let left = self.build(&folder, &call, job, &mut clearing);
         // The answer stands, whether the folder can be removed or not.
         let _ = clearing.clear(folder.path());
         clearing.finish();
-        answer
+        Ok(left?.answer())
     }
 }
 
@@ -108,17 +111,18 @@ impl<R: Files + AllocGlobal, P: Processes> ProcessBuild<'_, R, P> {
         call: &Call<'_>,
         job: &Job,
         clearing: &mut Clearing<'_, R>,
-    ) -> Result<Answer, Reason>
-        ensures { IfOk result (IsAnswerOf job.now) }
+    ) -> Result<Left, Reason>
+        ensures good { IfOk result (λ left. IsAnswerOf job.now (answer_of left)) }
+        ensures bad { IfErr result (λ reason. IsRunFault reason ⊎ IsReadingFault reason) }
     {
         self.make_room(folder, job, clearing)?;
         let alloc = self.rt.alloc();
-        let status = run_builder(alloc, self.processes, self.store_dir.as_str(), folder, call)?;
-        let trees = match status {
+        let ended = run_builder(alloc, self.processes, self.store_dir.as_str(), folder, call)?;
+        let trees = match ended.code() {
             Some(0) => read_outputs(self.rt, job)?,
             _ => Vec::new(alloc),
         };
-        Ok(Answer { status, trees })
+        Ok(Left::by(ended, trees))
     }
 
     // Clears the places of the job's outputs and of the build folder, and makes the folder.
@@ -127,7 +131,9 @@ impl<R: Files + AllocGlobal, P: Processes> ProcessBuild<'_, R, P> {
         folder: &BuildFolder,
         job: &Job,
         clearing: &mut Clearing<'_, R>,
-    ) -> Result<(), Reason> {
+    ) -> Result<(), Reason>
+        ensures { IfErr result IsRoomFault }
+    {
         for place in folder.places(self.rt.alloc(), job)? {
             clearing.clear(place).map_err(no_room)?;
         }

@@ -1,46 +1,42 @@
 //! The line of progress, which tells how far a run is.
-ghost use Rattle.std.specs.Prelude.{◌≡◌, List, OnOk, ℕ};
-ghost use Rattle.std.specs.Io.KnownBytes.{Appends};
-ghost use Rattle.process_build.specs.Progress.{Heard, IsHeard, IsShown, IsTallyOf, shown_text};
+ghost use Rattle.std.specs.Prelude.{◌∷◌, [], ◌++◌, List};
+ghost use Rattle.process_build.specs.Progress.{Began, Ended, Heard, IsHeardAndTold, IsTallyOf};
 
 use crate::builders::Builders;
-use crate::tally::{NO_LINE, Tally};
+use crate::tally::Tally;
+use crate::told::Told;
 use sched_core::{Answer, Build, Job, Reason, Watch};
 use std::alloc::{AllocError, Global};
-use std::io;
 use std::io::Write;
 use std::sync::{Mutex, Wait};
 
-// A tally, and the terminal to which its line is written.
+// A tally, the terminal to which its line is written, and what that was told last. Whenever the
+// lock is free, that is the line of the tally.
 #[derive(Drop)]
 struct Shown<W> {
     tally: Tally,
     to: W,
-    ghost heard: { ∥ IsHeard tally ∥₁ },
+    told: Option<Told>,
+    ghost heard: { ∥ IsHeardAndTold tally told ∥₁ },
 }
 
 impl<W: Write> Shown<W> {
-    // Writes the line while a job runs, and clears it otherwise.
-    fn tell(&mut self, alloc: Global) -> io::Result<()>
-        ensures tally { self.new.tally ≡ self.old.tally }
-        ensures told { (calls : List Heard) → IsTallyOf calls self.old.tally → OnOk result
-            ((text : List ℕ) × IsShown calls text
-            × Appends (W.contents self.old.to) (W.contents self.new.to) text) }
+    // Hears that a job begins, and tells it.
+    fn begin(&mut self, alloc: Global, unsettled: usize)
+        ensures { (calls : List Heard) → IsTallyOf calls self.old.tally
+            → IsTallyOf (calls ++ Began unsettled ∷ []) self.new.tally }
     {
-        let numbers = self.tally.numbers();
-        let line = numbers.line(alloc);
-        self.to
-            .write_all(text_of(numbers.running, &line).as_bytes())
+        self.tally.begin(unsettled);
+        self.told = Some(Told::by(alloc, &self.tally, &mut self.to));
     }
-}
 
-// The line while a job runs. If no job runs, or there is no memory for the line, what clears it.
-fn text_of(running: usize, line: &Result<String, AllocError>) -> &str
-    ensures { result.now ≡ shown_text running line.now }
-{
-    match line {
-        Ok(line) if running > 0 => line.as_str(),
-        Ok(_) | Err(_) => NO_LINE,
+    // Hears that a job ended, and tells it.
+    fn end(&mut self, alloc: Global, is_good: bool, unsettled: usize)
+        ensures { (calls : List Heard) → IsTallyOf calls self.old.tally
+            → IsTallyOf (calls ++ Ended is_good unsettled ∷ []) self.new.tally }
+    {
+        self.tally.end(is_good, unsettled);
+        self.told = Some(Told::by(alloc, &self.tally, &mut self.to));
     }
 }
 
@@ -58,24 +54,22 @@ impl<W: Write> Progress<W> {
     pub fn new(to: W) -> Progress<W> {
         let tally = Tally::new();
         Progress {
-            shown: Mutex::new(Shown { tally, to }),
+            shown: Mutex::new(Shown {
+                tally,
+                to,
+                told: None,
+            }),
         }
     }
 
     // A job begins, while `unsettled` derivations are unsettled.
     fn begin<R: Wait + AllocGlobal>(&self, rt: &R, unsettled: usize) {
-        let mut shown = self.shown.lock(rt);
-        shown.tally.begin(unsettled);
-        // A refused write changes nothing.
-        let _ = shown.tell(rt.alloc());
+        self.shown.lock(rt).begin(rt.alloc(), unsettled);
     }
 
     // A job ended, well or not, and `unsettled` derivations are unsettled.
     fn end<R: Wait + AllocGlobal>(&self, rt: &R, is_good: bool, unsettled: usize) {
-        let mut shown = self.shown.lock(rt);
-        shown.tally.end(is_good, unsettled);
-        // A refused write changes nothing.
-        let _ = shown.tell(rt.alloc());
+        self.shown.lock(rt).end(rt.alloc(), is_good, unsettled);
     }
 }
 

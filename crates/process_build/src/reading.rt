@@ -1,7 +1,13 @@
 //! What lies at the outputs' paths, read within the limits of an output.
-ghost use Rattle.std.specs.Prelude.{◌≡◌, ◌≤◌, IfErr, IfOk, length};
+ghost use Rattle.std.specs.Prelude.{◌≡◌, ◌≤◌, ◌+◌, ◌⊎◌, [], Err, IfErr, IfOk};
+ghost use Rattle.std.specs.Prelude.{IsUtf8, length, string_bytes};
 ghost use Rattle.std.specs.Fs.{file_type};
-ghost use Rattle.process_build.specs.Answers.{IsNodeAt, IsNodeOf, IsNoNode};
+ghost use Rattle.std.specs.Io.KnownBytes.{Consumes, IsAtEnd, ReadConsumes};
+ghost use Rattle.process_build.specs.Answers.{IsNodeAt, IsNodeOf, IsNoNode, IsReadingFault};
+ghost use Rattle.process_build.specs.Contents.{child_of, IsMoreThan, IsWhole};
+ghost use Rattle.ref_scan.specs.Trees.{joined};
+ghost use Rattle.sched_core.specs.declared.reason.Reason.TheVariants.{OutOfMemory, ReadFault};
+ghost use Rattle.sched_core.specs.declared.reason.Reason.TheVariants.{TooLarge};
 
 use crate::failures::is_made_again;
 use crate::reasons::read_fault;
@@ -22,7 +28,8 @@ const NAMES_AT_ONCE: usize = 4_096;
 /// What lies at the path of each output of a job, in the job's order, `None` where nothing does; or
 /// the first fault. A folder's entries are read in the byte order of their names.
 pub fn read_outputs<R: Files + AllocGlobal>(rt: &R, job: &Job) -> Result<Vec<Option<Tree>>, Reason>
-    ensures { IfOk result (λ trees. length trees.items ≡ length job.now.outputs.items) }
+    ensures trees { IfOk result (λ trees. length trees.items ≡ length job.now.outputs.items) }
+    ensures bad { IfErr result IsReadingFault }
 {
     let mut trees = Vec::new(rt.alloc());
     for output in &job.outputs {
@@ -32,9 +39,11 @@ pub fn read_outputs<R: Files + AllocGlobal>(rt: &R, job: &Job) -> Result<Vec<Opt
 }
 
 // What lies at a path, if anything does.
-fn read_output<R: Files + AllocGlobal>(rt: &R, path: &str) -> Result<Option<Tree>, Reason> {
+fn read_output<R: Files + AllocGlobal>(rt: &R, path: &str) -> Result<Option<Tree>, Reason>
+    ensures { IfErr result IsReadingFault }
+{
     match node_of(fs::symlink_metadata(rt, path))? {
-        Some(node) => Ok(Some(Reader::new(rt)?.tree(node, path, MAX_DEPTH - 1)?)),
+        Some(node) => Ok(Some(Reader::new(rt).tree(node, path, MAX_DEPTH - 1)?)),
         None => Ok(None),
     }
 }
@@ -78,23 +87,25 @@ struct Reader<'a, R> {
     rt: &'a R,
     entries: usize,
     bytes: usize,
-    buffer: Vec<u8>,
+    buffer: [u8; MAX_PIECE],
 }
 
 impl<'a, R: Files + AllocGlobal> Reader<'a, R> {
     // Nothing is read yet.
-    fn new(rt: &'a R) -> Result<Reader<'a, R>, AllocError> {
-        Ok(Reader {
+    fn new(rt: &'a R) -> Reader<'a, R> {
+        Reader {
             rt,
             entries: MAX_ENTRIES,
             bytes: MAX_FILE_BYTES,
-            buffer: vec![in rt.alloc(); 0; MAX_PIECE]?,
-        })
+            buffer: [0; MAX_PIECE],
+        }
     }
 
     // What lies at a path, by what was found there, with at most `below` levels below its own.
     #[cycle(tree)]
-    fn tree(&mut self, node: Node, path: &str, below: usize) -> Result<Tree, Reason> {
+    fn tree(&mut self, node: Node, path: &str, below: usize) -> Result<Tree, Reason>
+        ensures { IfErr result IsReadingFault }
+    {
         match node {
             Node::File => Ok(Tree::Pieces(self.pieces(path)?)),
             Node::Folder => Ok(Tree::Dir(self.members(path, below)?)),
@@ -103,7 +114,9 @@ impl<'a, R: Files + AllocGlobal> Reader<'a, R> {
 
     // The members of a folder, in the byte order of their names.
     #[cycle(tree)]
-    fn members(&mut self, path: &str, below: usize) -> Result<Vec<Member>, Reason> {
+    fn members(&mut self, path: &str, below: usize) -> Result<Vec<Member>, Reason>
+        ensures { IfErr result IsReadingFault }
+    {
         let alloc = self.rt.alloc();
         let mut members = Vec::new(alloc);
         for name in self.names(path)? {
@@ -114,7 +127,9 @@ impl<'a, R: Files + AllocGlobal> Reader<'a, R> {
 
     // The member of a folder with this name, if a level is left for it.
     #[cycle(tree)]
-    fn member(&mut self, path: &str, name: Vec<u8>, below: usize) -> Result<Member, Reason> {
+    fn member(&mut self, path: &str, name: Vec<u8>, below: usize) -> Result<Member, Reason>
+        ensures { IfErr result IsReadingFault }
+    {
         let Some(below) = below.checked_sub(1) else {
             return Err(Reason::TooLarge);
         };
@@ -127,12 +142,14 @@ impl<'a, R: Files + AllocGlobal> Reader<'a, R> {
     }
 
     // The names in a folder, in byte order. A link in its place is not followed.
-    fn names(&mut self, path: &str) -> Result<Vec<Vec<u8>>, Reason> {
+    fn names(&mut self, path: &str) -> Result<Vec<Vec<u8>>, Reason>
+        ensures { IfErr result IsReadingFault }
+    {
         let mut folder = self.rt.open_dir(path).map_err(read_fault)?;
         let mut read = [0; NAMES_AT_ONCE];
         let mut names = Vec::new(self.rt.alloc());
         for _ in 0..u64::MAX {
-            let count = folder.read(&mut read).map_err(read_fault)?;
+            let count = read_once(&mut folder, &mut read).map_err(read_fault)?;
             if count == 0 {
                 break;
             }
@@ -143,7 +160,9 @@ impl<'a, R: Files + AllocGlobal> Reader<'a, R> {
     }
 
     // Adds names, each of which is ended by a zero byte, to a list, and counts them.
-    fn push_names(&mut self, read: &[u8], names: &mut Vec<Vec<u8>>) -> Result<(), Reason> {
+    fn push_names(&mut self, read: &[u8], names: &mut Vec<Vec<u8>>) -> Result<(), Reason>
+        ensures { IfErr result (λ reason. (reason ≡ OutOfMemory) ⊎ (reason ≡ TooLarge)) }
+    {
         for name in read.split(|byte| *byte == 0) {
             if is_member(name) {
                 let Some(left) = self.entries.checked_sub(1) else {
@@ -157,26 +176,48 @@ impl<'a, R: Files + AllocGlobal> Reader<'a, R> {
     }
 
     // The bytes of a file, in pieces.
-    fn pieces(&mut self, path: &str) -> Result<Vec<Vec<u8>>, Reason> {
+    fn pieces(&mut self, path: &str) -> Result<Vec<Vec<u8>>, Reason>
+        ensures { IfErr result IsReadingFault }
+    {
         let mut file = fs::open(self.rt, path).map_err(read_fault)?;
+        self.pieces_of(&mut file)
+    }
+
+    // All bytes of a file, in pieces.
+    fn pieces_of<F: Read>(&mut self, file: &mut F) -> Result<Vec<Vec<u8>>, Reason>
+        ensures all { IfOk result (λ pieces.
+            IsWhole (F.remaining file.old) (F.remaining file.new) pieces.items) }
+        ensures left { IfOk result (λ pieces.
+            self.new.bytes + length (joined pieces.items) ≡ self.old.bytes) }
+        ensures bad { IfErr result IsReadingFault }
+    {
         let mut pieces = Vec::new(self.rt.alloc());
         for _ in 0..u64::MAX {
-            let piece = self.piece(&mut file)?;
-            if piece.is_empty() {
-                break;
+            let piece = self.piece(file)?;
+            if piece.as_slice().is_empty() {
+                return Ok(pieces);
             }
             pieces.push(piece)?;
         }
-        Ok(pieces)
+        // Each piece has a byte.
+        Err(Reason::TooLarge)
     }
 
     // The next piece of a file: exactly what one reading gave, and no bytes at its end.
     fn piece<F: Read>(&mut self, file: &mut F) -> Result<Vec<u8>, Reason>
-        ensures { IfOk result (λ piece. length piece.items ≤ 65536) }
+        ensures size { IfOk result (λ piece. length piece.items ≤ 65536) }
+        ensures bytes { IfOk result (λ piece.
+            Consumes (F.remaining file.old) (F.remaining file.new) piece.items) }
+        ensures end { IfOk result (λ piece.
+            piece.items ≡ [] → IsAtEnd (F.remaining file.new)) }
+        ensures left { IfOk result (λ piece.
+            self.new.bytes + length piece.items ≡ self.old.bytes) }
+        ensures too_large { (result ≡ Err TooLarge)
+            → IsMoreThan self.old.bytes (F.remaining file.old) }
+        ensures bad { IfErr result IsReadingFault }
     {
         let most = self.bytes.saturating_add(1).min(MAX_PIECE);
-        let room = most.min(self.buffer.len());
-        let count = read_once(file, &mut self.buffer[..room]).map_err(read_fault)?;
+        let count = read_once(file, &mut self.buffer[..most]).map_err(read_fault)?;
         let Some(left) = self.bytes.checked_sub(count) else {
             return Err(Reason::TooLarge);
         };
@@ -189,6 +230,7 @@ impl<'a, R: Files + AllocGlobal> Reader<'a, R> {
 fn read_once<F: Read>(file: &mut F, buffer: &mut [u8]) -> io::Result<usize>
     ensures same { length buffer.new ≡ length buffer.old }
     ensures count { IfOk result (λ count. count ≤ length buffer.old) }
+    ensures bytes { ReadConsumes (F.remaining file.old) (F.remaining file.new) result buffer.new }
 {
     for _ in 0..u64::MAX {
         match file.read(buffer) {
@@ -206,7 +248,11 @@ fn is_member(name: &[u8]) -> bool {
 }
 
 // The path of a member of a folder; a fault where its name isn't UTF-8.
-fn child_path(alloc: Global, path: &str, name: &[u8]) -> Result<String, Reason> {
+fn child_path(alloc: Global, path: &str, name: &[u8]) -> Result<String, Reason>
+    ensures path { IfOk result (λ child. string_bytes child ≡ child_of path.now name.now) }
+    ensures bad { IfErr result (λ reason.
+        (reason ≡ OutOfMemory) ⊎ ((reason ≡ ReadFault) × ¬ (IsUtf8 name.now))) }
+{
     match str::from_utf8(name) {
         Ok(name) => Ok(joined(alloc, path, name)?),
         Err(_) => Err(Reason::ReadFault),
@@ -214,6 +260,8 @@ fn child_path(alloc: Global, path: &str, name: &[u8]) -> Result<String, Reason> 
 }
 
 // The path of a name in a folder.
-fn joined(alloc: Global, path: &str, name: &str) -> Result<String, AllocError> {
+fn joined(alloc: Global, path: &str, name: &str) -> Result<String, AllocError>
+    ensures { IfOk result (λ child. string_bytes child ≡ child_of path.now name.now) }
+{
     format!(in alloc; "{path}/{name}")
 }

@@ -1,5 +1,6 @@
 //! What a failure of the system means for a build.
-ghost use Rattle.std.specs.Prelude.{◌≡◌, ◌≢◌};
+ghost use Rattle.std.specs.Prelude.{◌≡◌, ◌≢◌, ◌⊎◌};
+ghost use Rattle.process_build.specs.Answers.{IsRoomFault};
 ghost use Rattle.process_build.specs.Errors.{IsNoMemory};
 ghost use Rattle.sched_core.specs.declared.reason.Reason.TheVariants.{NoStart, OutOfMemory};
 ghost use Rattle.sched_core.specs.declared.reason.Reason.TheVariants.{ReadFault};
@@ -12,6 +13,7 @@ use std::io;
 pub fn no_room(failure: Failure) -> Reason
     ensures no_memory { failure ≡ Failure.NoMemory → result ≡ OutOfMemory }
     ensures other { failure ≢ Failure.NoMemory → result ≡ NoStart }
+    ensures one { IsRoomFault result }
 {
     match failure {
         Failure::NoMemory => Reason::OutOfMemory,
@@ -23,6 +25,7 @@ pub fn no_room(failure: Failure) -> Reason
 pub fn no_start(error: io::Error) -> Reason
     ensures no_memory { IsNoMemory error → result ≡ OutOfMemory }
     ensures other { ¬ IsNoMemory error → result ≡ NoStart }
+    ensures one { IsRoomFault result }
 {
     no_room(Failure::from(error))
 }
@@ -32,6 +35,7 @@ pub fn no_start(error: io::Error) -> Reason
 pub fn read_fault(error: io::Error) -> Reason
     ensures no_memory { IsNoMemory error → result ≡ OutOfMemory }
     ensures other { ¬ IsNoMemory error → result ≡ ReadFault }
+    ensures one { (result ≡ OutOfMemory) ⊎ (result ≡ ReadFault) }
 {
     match Failure::from(error) {
         Failure::NoMemory => Reason::OutOfMemory,

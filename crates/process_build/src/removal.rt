@@ -1,6 +1,6 @@
 //! What lies at a path of the store folder, taken away.
-ghost use Rattle.std.specs.Prelude.{◌≡◌, IfErr, IfOk, Ok, string_bytes, true};
-ghost use Rattle.process_build.specs.Folders.{aside_of, gone_after, IsThere};
+ghost use Rattle.std.specs.Prelude.{◌≡◌, IfErr, IfOk, Ok, OnErr, OnOk, string_bytes, true};
+ghost use Rattle.process_build.specs.Folders.{aside_of, gone_after, IsAside, IsThere, NotesAside};
 
 use crate::failures::Failure;
 use std::alloc::{AllocError, Global};
@@ -31,19 +31,18 @@ impl<'a, R: Files + AllocGlobal> Clearing<'a, R> {
     /// removed. Anything else, for example a folder that holds something, is moved aside, to a name
     /// of the store folder that begins with `.nix_realise-left-`. No link is followed, and no
     /// permissions are changed.
-    pub fn clear(&mut self, path: &str) -> Result<(), Failure> {
+    pub fn clear(&mut self, path: &str) -> Result<(), Failure>
+        ensures noted { OnOk result (NotesAside self.old.store_dir.now
+            self.old.aside.items self.new.aside.items) }
+        ensures same { OnErr result (self.new.aside.items ≡ self.old.aside.items) }
+    {
         if is_gone(remove(self.rt, path))? {
             return Ok(());
         }
         self.aside.reserve(1)?;
         let aside = move_aside(self.rt, self.store_dir, path)?;
-        self.note(aside)?;
-        Ok(())
-    }
-
-    // Notes the path of what was moved aside, in the room that there is for it.
-    fn note(&mut self, aside: String) -> Result<(), AllocError> {
-        self.aside.push(aside)?;
+        // There is room for it, so what was moved is always noted.
+        self.aside.push_reserved(aside);
         Ok(())
     }
 
@@ -89,7 +88,9 @@ fn move_aside<R: Files + AllocGlobal>(
     rt: &R,
     store_dir: &str,
     path: &str,
-) -> Result<String, Failure> {
+) -> Result<String, Failure>
+    ensures { IfOk result (IsAside store_dir.now) }
+{
     for number in 0..u64::MAX {
         let aside = aside_path(rt.alloc(), store_dir, number)?;
         if moves_to(rt, path, aside.as_str())? {

@@ -1,11 +1,13 @@
 //! A builder that is started and waited for.
-ghost use Rattle.std.specs.Prelude.{◌≡◌, ◌++◌, [], IfOk, OnOk, Some, map, string_bytes};
-ghost use Rattle.std.specs.Process.{command_args, command_dir, command_program};
+ghost use Rattle.std.specs.Prelude.{◌≡◌, ◌++◌, IfErr, IfOk, OnOk, Some, map, string_bytes};
+ghost use Rattle.std.specs.Process.{command_arg0, command_args, command_dir, command_program};
 ghost use Rattle.std.specs.Process.{SameDir, SameEnv, SameProgramAndArgs};
+ghost use Rattle.process_build.specs.Answers.{IsRunFault};
 ghost use Rattle.process_build.specs.BuilderCalls.{entries_in_order, entry_of_setting};
 ghost use Rattle.process_build.specs.BuilderCalls.{program_of, Runs};
 
 use crate::call::Call;
+use crate::ended::Ended;
 use crate::environment::{set_environment, settings};
 use crate::failures::is_made_again;
 use crate::folders::BuildFolder;
@@ -17,20 +19,21 @@ use std::io::ErrorKind;
 use std::os::unix::process::CommandExt;
 use std::process::{Child, Command, Processes, Stdio};
 
-/// Runs a builder in its folder, and gives its exit status, `None` if a signal ended it. It waits
-/// for the builder alone, and not for what that one has started. `NoStart` where it can't be
-/// started, `ReadFault` where it was and its end can't be waited for.
+/// Runs a builder in its folder, and tells how it ended. It waits for the builder alone, and not for
+/// what that one has started. `NoStart` where it can't be started, `ReadFault` where it was and its
+/// end can't be waited for.
 pub fn run_builder<P: Processes>(
     alloc: Global,
     processes: &P,
     store_dir: &str,
     folder: &BuildFolder,
     call: &Call<'_>,
-) -> Result<Option<i32>, Reason> {
+) -> Result<Ended, Reason>
+    ensures { IfErr result IsRunFault }
+{
     let mut command = command(alloc, store_dir, folder, call)?;
     let mut builder = start(&mut command, processes).map_err(no_start)?;
-    let status = builder.wait().map_err(read_fault)?;
-    Ok(status.code())
+    Ended::of(&mut builder).map_err(read_fault)
 }
 
 // Starts a builder, again if a signal interrupted the start, for example at the opening of its
@@ -52,29 +55,39 @@ fn command(
     folder: &BuildFolder,
     call: &Call<'_>,
 ) -> Result<Command, AllocError>
-    ensures { IfOk result (Runs (program_of call.now.builder.now)
-        (map (λ a. a.now) call.now.args.items)
+    ensures { IfOk result (Runs call.now.builder.now (map (λ a. a.now) call.now.args.items)
         (entries_in_order store_dir.now (string_bytes folder.now.path)
         (map entry_of_setting call.now.env.items))
         (string_bytes folder.now.path)) }
 {
-    let mut command = in_folder(alloc, folder.path(), call.builder)?;
-    set_args(&mut command, &call.args)?;
+    let mut command = called(alloc, call)?;
+    be_silent(&mut command);
     let settings = settings(alloc, store_dir, folder.path(), &call.env)?;
     set_environment(&mut command, &settings)?;
-    be_silent(&mut command);
+    set_place(&mut command, folder.path(), call.builder)?;
     Ok(command)
 }
 
-// The command that runs a builder in its folder, before anything else is said of it.
-fn in_folder(alloc: Global, folder: &str, builder: &str) -> Result<Command, AllocError>
-    ensures program { IfOk result (λ c. command_program c ≡ program_of builder.now) }
-    ensures args { IfOk result (λ c. command_args c ≡ []) }
-    ensures dir { IfOk result (λ c. command_dir c ≡ Some folder.now) }
+// The command of a builder's program and its arguments, before anything else is said of it.
+fn called(alloc: Global, call: &Call<'_>) -> Result<Command, AllocError>
+    ensures program { IfOk result (λ c. command_program c ≡ program_of call.now.builder.now) }
+    ensures args { IfOk result (λ c.
+        command_args c ≡ map (λ a. a.now) call.now.args.items) }
 {
-    let mut command = Command::new(alloc, program(alloc, builder)?)?;
-    command.arg0(builder)?.current_dir(folder)?;
+    let mut command = Command::new(alloc, program(alloc, call.builder)?)?;
+    set_args(&mut command, &call.args)?;
     Ok(command)
+}
+
+// Runs a command in a folder, under the name that its builder is given.
+fn set_place(command: &mut Command, folder: &str, name: &str) -> Result<(), AllocError>
+    ensures dir { OnOk result (command_dir command.new ≡ Some folder.now) }
+    ensures name { OnOk result (command_arg0 command.new ≡ Some name.now) }
+    ensures call { OnOk result (SameProgramAndArgs command.old command.new) }
+    ensures env { OnOk result (SameEnv command.old command.new) }
+{
+    command.current_dir(folder)?.arg0(name)?;
+    Ok(())
 }
 
 // The path of a builder's program. One without a slash would be looked for in the folders of its

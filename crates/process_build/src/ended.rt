@@ -1,0 +1,58 @@
+//! How a builder ended, which nothing but waiting for it tells.
+ghost use Rattle.std.specs.Prelude.{◌≡◌, IfOk, Some};
+ghost use Rattle.std.specs.Process.{child_status, exit_code};
+ghost use Rattle.process_build.specs.Answers.{answer_of};
+
+use ref_scan::Tree;
+use sched_core::Answer;
+use std::io;
+use std::process::{Child, ExitStatus, OpenProcess};
+
+/// How a process ended that was waited for. Waiting alone makes this value.
+#[derive(Drop)]
+pub struct Ended {
+    status: ExitStatus,
+}
+
+impl Ended {
+    /// Waits for a process.
+    pub fn of<P: OpenProcess>(process: &mut Child<P>) -> io::Result<Ended>
+        ensures { IfOk result (λ ended. child_status process.new ≡ Some ended.status) }
+    {
+        let status = process.wait()?;
+        Ok(Ended { status })
+    }
+
+    /// Its exit status, none where a signal ended it.
+    pub fn code(&self) -> Option<i32>
+        ensures { result ≡ exit_code self.now.status }
+    {
+        self.status.code()
+    }
+}
+
+/// What a builder that was waited for left behind.
+#[derive(Drop)]
+pub struct Left {
+    ended: Ended,
+    trees: Vec<Option<Tree>>,
+}
+
+impl Left {
+    /// These trees, of a builder that ended so.
+    pub fn by(ended: Ended, trees: Vec<Option<Tree>>) -> Left
+        ensures { result ≡ record { ended = ended; trees = trees } }
+    {
+        Left { ended, trees }
+    }
+
+    /// The answer to the builder's job.
+    pub fn answer(self) -> Answer
+        ensures { result ≡ answer_of self }
+    {
+        Answer {
+            status: self.ended.code(),
+            trees: self.trees,
+        }
+    }
+}
