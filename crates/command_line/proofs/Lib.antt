@@ -1,3 +1,6 @@
 pub mod CommandLines
+pub mod Found
+pub mod Jobs
 pub mod Rows
 pub mod Usage
+pub mod Walks

@@ -1,8 +1,9 @@
 -- The command line, in `clap`'s words for one: its subcommands, and the words and options of each
 -- (the documentation of clap 4, `Command` and `Arg`).
-use Rattle.std.specs.Prelude.{[], ◌∷◌, Some, true, codes}
+use Rattle.std.specs.Prelude.{[], ◌∷◌, Some, pos, true, codes}
 use Rattle.clap.specs.Words.{App, Rule, new_app, new_rule, with_rule, with_subcommand}
 use Rattle.clap.specs.declared.builder.action.ArgAction.TheVariants.{Append, SetTrue}
+use Rattle.clap.specs.declared.builder.value_parser.ValueParser.TheVariants.{Signed}
 use Rattle.nix_names.specs.Bytes.{Bytes, Name}
 
 -- an option with one value
@@ -29,9 +30,10 @@ journal_option = option (codes "journal")
 abbrev pub system_option : Rule
 system_option = option_or (codes "system") (codes "x86_64-linux")
 
--- the option with the number of builders
+-- the option with the number of builders, a whole number from 1 to 64
 abbrev pub jobs_option : Rule
-jobs_option = option_or (codes "jobs") (codes "1")
+jobs_option =
+    record (option_or (codes "jobs") (codes "1")) { parser = Some (Signed (pos 1) (pos 64)) }
 
 -- an option without a value
 abbrev pub flag : (name : Name) → Rule

@@ -2,3 +2,5 @@
 pub mod CommandLine
 pub mod Requests
 pub mod Usage
+-- What only private contracts and proofs cite.
+pub mod Found

@@ -8,7 +8,7 @@ ghost use Rattle.command_line.specs.CommandLine.{store_dir_option};
 ghost use Rattle.command_line.specs.CommandLine.{system_option, top_line};
 ghost use Rattle.command_line.specs.CommandLine.{required_word};
 
-use clap::{Arg, ArgAction, Command};
+use clap::{Arg, ArgAction, Command, value_parser};
 use std::alloc::{AllocError, Global};
 
 // The version of this crate.
@@ -44,7 +44,10 @@ pub const DEFAULT_STORE_DIR: &str = "/nix/store";
 
 pub const DEFAULT_SYSTEM: &str = "x86_64-linux";
 
-pub const DEFAULT_JOBS: &str = "1";
+// The number of builders that run at a time, where none is given: as a word, and as a number.
+pub const DEFAULT_JOBS_WORD: &str = "1";
+
+pub const DEFAULT_JOBS: u8 = 1;
 
 /// The program's command line.
 pub fn command<'a>(alloc: Global) -> Result<Command<'a>, AllocError>
@@ -140,8 +143,8 @@ fn plan_command<'a>(alloc: Global) -> Result<Command<'a>, AllocError>
     .arg(wanted_drvs(alloc))
 }
 
-/// The subcommand `realise`.
-pub fn realise_command<'a>(alloc: Global) -> Result<Command<'a>, AllocError>
+// The subcommand `realise`.
+fn realise_command<'a>(alloc: Global) -> Result<Command<'a>, AllocError>
     ensures { IfOk result (λ command. app_of command ≡ realise_line) }
 {
     run_command(
@@ -213,7 +216,8 @@ fn jobs<'a>(alloc: Global) -> Arg<'a>
         .long(JOBS)
         .value_name("N")
         .help("How many builders run at a time, from 1 to 64")
-        .default_value(DEFAULT_JOBS)
+        .value_parser(value_parser!(u8).range(1..=64))
+        .default_value(DEFAULT_JOBS_WORD)
 }
 
 // The flag that asks for a graph.

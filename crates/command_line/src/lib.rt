@@ -3,17 +3,15 @@
 //!
 //! | Module | What is in it |
 //! |---|---|
-//! | `options`, `jobs` | what a command line asks for |
+//! | `options` | what a command line asks for |
 //! | `command` | the command line that `clap` reads |
 //! | `words` | the words of a command line, read by `clap` |
 #![tactic(auto)]
 
 mod command;
-mod jobs;
 mod options;
 mod words;
 
-pub use jobs::Jobs;
 pub use options::{
     AddDrvRequest, AddTextRequest, CheckRequest, PlanRequest, RealiseRequest, Request, RunRequest,
 };

@@ -1,6 +1,4 @@
 //! What a command line asks the program for.
-use crate::jobs::Jobs;
-
 /// One request, by its subcommand.
 #[derive(Debug, Drop)]
 pub enum Request<'a> {
@@ -77,6 +75,6 @@ pub struct PlanRequest<'a> {
 pub struct RealiseRequest<'a> {
     /// The words of the run.
     pub run: RunRequest<'a>,
-    /// How many builders run at a time.
-    pub jobs: Jobs,
+    /// How many builders run at a time, from 1 to 64.
+    pub jobs: u8,
 }

@@ -1,16 +1,17 @@
 //! The words of a command line, read by `clap`.
 ghost use Rattle.std.specs.Prelude.{◌≡◌, IfErr, IfOk, codes, map, option_map};
-ghost use Rattle.clap.specs.Words.{first_of, found_of, kind_of, rows_of};
-ghost use Rattle.command_line.specs.Usage.{IsAsked, IsJobsFault, IsOwnFault, IsUsageFault};
-ghost use Rattle.command_line.specs.Requests.{IsAddDrv, IsAddText, IsAskedBy, IsCheckRequest};
+ghost use Rattle.clap.specs.Words.{first_of, found_of, kind_of, rows_of, subcommand_rows_of};
+ghost use Rattle.command_line.specs.Found.{HasJobs, IsFound, IsSubcommand};
+ghost use Rattle.command_line.specs.Usage.{IsAsked, IsUsageFault};
+ghost use Rattle.command_line.specs.Requests.{AreJobs, IsAddDrv, IsAddText, IsAskedBy};
+ghost use Rattle.command_line.specs.Requests.{IsAskedIn, IsCheckRequest};
 ghost use Rattle.command_line.specs.Requests.{IsPlanned, IsRealise, IsRunRequest, dot_in, drvs_in};
 ghost use Rattle.command_line.specs.Requests.{jobs_in, store_dir_in, system_in, word_in};
 
 use crate::command::{
     ADD_DRV, ADD_TEXT, CHECK, DEFAULT_JOBS, DEFAULT_STORE_DIR, DEFAULT_SYSTEM, DOT, DRVS, FILE,
-    JOBS, JOURNAL, NAME, PLAN, REALISE, STORE_DIR, SYSTEM, command, realise_command,
+    JOBS, JOURNAL, NAME, PLAN, REALISE, STORE_DIR, SYSTEM, command,
 };
-use crate::jobs::Jobs;
 use crate::options::{
     AddDrvRequest, AddTextRequest, CheckRequest, PlanRequest, RealiseRequest, Request, RunRequest,
 };
@@ -26,9 +27,17 @@ pub fn request<'a>(alloc: Global, words: &'a [&'a str]) -> Result<Request<'a>, E
         (λ e. IsUsageFault (map (λ w. w.now) words.entry.now) (kind_of e)) }
 {
     let matches = command(alloc)?.try_get_matches_from(words)?;
+    Ok(found_request(alloc, &matches)?)
+}
+
+// The request of the subcommand that was found.
+fn found_request<'a>(alloc: Global, matches: &ArgMatches<'a>) -> Result<Request<'a>, AllocError>
+    requires { IsFound (subcommand_rows_of matches.now) }
+    ensures { IfOk result (IsAskedIn (subcommand_rows_of matches.now)) }
+{
     match matches.subcommand() {
         Some((name, found)) => subcommand_request(alloc, name, found),
-        None => Err(no_subcommand(alloc)?),
+        None => unreachable!(),
     }
 }
 
@@ -37,10 +46,10 @@ fn subcommand_request<'a>(
     alloc: Global,
     name: &str,
     found: &ArgMatches<'a>,
-) -> Result<Request<'a>, Error>
-    ensures ok { IfOk result (IsAskedBy name.now (rows_of (found_of found.now))) }
-    ensures err { IfErr result
-        (λ e. IsOwnFault name.now (rows_of (found_of found.now)) (kind_of e)) }
+) -> Result<Request<'a>, AllocError>
+    requires name { IsSubcommand name.now }
+    requires jobs { HasJobs (rows_of (found_of found.now)) }
+    ensures { IfOk result (IsAskedBy name.now (rows_of (found_of found.now))) }
 {
     match name {
         CHECK => Ok(Request::Check(check_request(alloc, found)?)),
@@ -48,27 +57,8 @@ fn subcommand_request<'a>(
         ADD_DRV => Ok(Request::AddDrv(add_drv_request(found))),
         PLAN => Ok(Request::Plan(plan_request(alloc, found)?)),
         REALISE => Ok(Request::Realise(realise_request(alloc, found)?)),
-        _ => Err(no_subcommand(alloc)?),
+        _ => unreachable!(),
     }
-}
-
-// The usage fault of a command line without a subcommand.
-fn no_subcommand(alloc: Global) -> Result<Error, AllocError>
-    ensures { IfOk result (λ e. kind_of e ≡ ErrorKind.MissingSubcommand) }
-{
-    command(alloc)?.error(ErrorKind::MissingSubcommand, "a subcommand is required")
-}
-
-// The usage fault of `realise` for a text that is no number of builders.
-fn no_jobs(alloc: Global, text: &str) -> Result<Error, AllocError>
-    ensures { IfOk result (λ e. kind_of e ≡ ErrorKind.ValueValidation) }
-{
-    let message = format!(in alloc;
-        "invalid value '{text}' for '--jobs <N>': a number from 1 to 64 is expected"
-    )?;
-    realise_command(alloc)?
-        .bin_name("nix_realise realise")?
-        .error(ErrorKind::ValueValidation, message.as_str())
 }
 
 /// The usage fault of a command line with a word that is not UTF-8.
@@ -125,16 +115,17 @@ fn plan_request<'a>(alloc: Global, found: &ArgMatches<'a>) -> Result<PlanRequest
 }
 
 // The request of `realise`, by its matches.
-fn realise_request<'a>(alloc: Global, found: &ArgMatches<'a>) -> Result<RealiseRequest<'a>, Error>
-    ensures ok { IfOk result (IsRealise (rows_of (found_of found.now))) }
-    ensures err { IfErr result (λ e. IsJobsFault (rows_of (found_of found.now)) (kind_of e)) }
+fn realise_request<'a>(
+    alloc: Global,
+    found: &ArgMatches<'a>,
+) -> Result<RealiseRequest<'a>, AllocError>
+    requires { HasJobs (rows_of (found_of found.now)) }
+    ensures { IfOk result (IsRealise (rows_of (found_of found.now))) }
 {
-    let text = jobs_of(found);
-    let Some(jobs) = Jobs::from_text(text) else {
-        return Err(no_jobs(alloc, text)?);
-    };
-    let run = run_request(alloc, found)?;
-    Ok(RealiseRequest { run, jobs })
+    Ok(RealiseRequest {
+        run: run_request(alloc, found)?,
+        jobs: jobs_of(found),
+    })
 }
 
 // The words that `plan` and `realise` share, by their matches.
@@ -165,12 +156,12 @@ fn system_of<'a>(found: &ArgMatches<'a>) -> &'a str
     found.get_str(SYSTEM).unwrap_or(DEFAULT_SYSTEM)
 }
 
-// The number of builders that the matches give, as a text, or the default one.
-#[tactic(auto, using(crate::proofs::Rows::first_row))]
-fn jobs_of<'a>(found: &ArgMatches<'a>) -> &'a str
-    ensures { result.now ≡ jobs_in (rows_of (found_of found.now)) }
+// The number of builders that the matches give, or the default one.
+fn jobs_of(found: &ArgMatches<'_>) -> u8
+    requires { HasJobs (rows_of (found_of found.now)) }
+    ensures { AreJobs (jobs_in (rows_of (found_of found.now))) result }
 {
-    found.get_str(JOBS).unwrap_or(DEFAULT_JOBS)
+    found.get_one(JOBS).unwrap_or(DEFAULT_JOBS)
 }
 
 // The path of the journal file, where the matches give one.

@@ -1,0 +1,23 @@
+use Rattle.std.proofs.Common.{subst}
+use Rattle.command_line.proofs.Rows.{met, none_met}
+use Rattle.command_line.specs.Found.{IsFound}
+use Rattle.command_line.proofs.words.found_request.Goals as goal
+
+pub subcommand_request-requires-clause-name : goal.subcommand_request-requires-clause-name
+subcommand_request-requires-clause-name c =
+    let is = met c.args.matches.now _ _ c.in-Some.ensures.name c.in-Some.ensures.rows in
+    (subst IsFound is c.requires).0
+
+pub subcommand_request-requires-clause-jobs : goal.subcommand_request-requires-clause-jobs
+subcommand_request-requires-clause-jobs c =
+    let is = met c.args.matches.now _ _ c.in-Some.ensures.name c.in-Some.ensures.rows in
+    (subst IsFound is c.requires).1
+
+pub returns : goal.returns
+returns c =
+    let is = met c.args.matches.now _ _ c.in-Some.ensures.name c.in-Some.ensures.rows in
+    rw is c.subcommand_request.ensures
+
+pub unreachable-requires : goal.unreachable-requires
+unreachable-requires c =
+    subst IsFound (none_met c.args.matches.now c.in-None.ensures.name) c.requires
