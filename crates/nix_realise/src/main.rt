@@ -11,13 +11,13 @@ use subcommands::run_process;
 fn main(rt: HostRuntime) -> ExitCode {
     let make = ByProcesses::new(&rt, &rt);
     let mut err = rt.stderr();
-    let status = if err.is_terminal() && !is_dumb(&rt) {
+    let ending = if err.is_terminal() && !is_dumb(&rt) {
         let progress = Progress::new(err);
         run_process(&rt, &Watching::new(&rt, &make, &progress), &mut err)
     } else {
         run_process(&rt, &make, &mut err)
     };
-    ExitCode::from(status.code())
+    ExitCode::from(ending.code())
 }
 
 // Whether the terminal understands no escapes, by the variable `TERM`.

@@ -1,10 +1,15 @@
 -- How a run of `add-text` ends where its text is refused, or where a file is not written.
-use Rattle.std.proofs.Common.{refl, ℕ, List, Option, Result, Ok, Err}
+use Rattle.std.proofs.Common.{inl, inr, refl, ℕ, List, Option, Result, Ok, Err}
 use Rattle.std.specs.Io.KnownBytes.{Appends}
 use Rattle.command_line.specs.declared.options.AddTextRequest.{AddTextRequest}
-use Rattle.subcommands.specs.AddedText.{FileBytes, IsAddingText}
+use Rattle.subcommands.specs.AddedText.{IsAddingText}
+use Rattle.subcommands.specs.Files.{FileBytes}
 use Rattle.subcommands.specs.Endings.{EndsBy, IsPrintedAndWritten, IsWriteFault, path_line}
+use Rattle.subcommands.specs.DrvEndings.{IsNotPut}
+use Rattle.subcommands.specs.Filed.{IsUnprinted, IsUnput}
 use Rattle.subcommands.specs.StoreDirs.{IsStoreDirOf}
+use Rattle.subcommands.specs.declared.add_drv.Unput.{Unput}
+use Rattle.subcommands.specs.declared.add_drv.Unput.TheVariants.{File, Line}
 use Rattle.subcommands.specs.declared.added_text.AddedText.{AddedText}
 use Rattle.subcommands.specs.declared.status.Status.{Status}
 use Rattle.subcommands.specs.declared.stop.Stop.{Stop}
@@ -53,3 +58,9 @@ put_ends request gave journal before after added (Err JournalNotWritten) is h =
 put_ends request gave journal before after added (Err Unwritable) is h = (added, is)
 put_ends request gave journal before after added (Err NoMemory) is h = λ none. none is.0.0.0
 put_ends request gave journal before after added (Err stop) is h = absurd h.0
+
+-- what is known where a derivation is not put
+pub not_put : (path : List ℕ) (before after : Option (List ℕ)) (unput : Unput) (stop : Stop)
+    → IsUnprinted before after unput → IsUnput path unput stop → IsNotPut path before after stop
+not_put path before after (File unwritten) stop same is = inl (same, is)
+not_put path before after Line stop same is = inr is

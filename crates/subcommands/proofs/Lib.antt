@@ -1,5 +1,6 @@
 pub mod AddedTexts
 pub mod Endings
+pub mod Journals
 pub mod Registrations
 pub mod Reports
 pub mod Tasks

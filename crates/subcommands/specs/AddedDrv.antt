@@ -14,7 +14,7 @@ use Rattle.drv_graph.specs.declared.fault.GraphFault.{GraphFault}
 use Rattle.drv_graph.specs.declared.fault.GraphFault.TheVariants as graph
 use Rattle.drv_graph.specs.declared.fault.NodeFault.TheVariants as node
 use Rattle.command_line.specs.declared.options.AddDrvRequest.{AddDrvRequest}
-use Rattle.subcommands.specs.AddedText.{FileBytes}
+use Rattle.subcommands.specs.Files.{FileBytes}
 use Rattle.subcommands.specs.StoreDirs.{IsStoreDirOf}
 use Rattle.subcommands.specs.declared.added_drv.AddedDrv.{AddedDrv}
 use Rattle.subcommands.specs.declared.files.FileFault.TheVariants as file

@@ -17,23 +17,14 @@ use Rattle.valid_table.specs.declared.entry.Entry.{Entry}
 use Rattle.valid_table.specs.declared.fault.TableFault.{TableFault}
 use Rattle.valid_table.specs.declared.fault.TableFault.TheVariants as table
 use Rattle.command_line.specs.declared.options.AddTextRequest.{AddTextRequest}
+use Rattle.subcommands.specs.Files.{FileBytes}
 use Rattle.subcommands.specs.Registering.{text_entry}
 use Rattle.subcommands.specs.declared.added_text.AddedText.{AddedText}
-use Rattle.subcommands.specs.declared.files.FileFault.{FileFault}
 use Rattle.subcommands.specs.declared.files.FileFault.TheVariants as file
 use Rattle.subcommands.specs.declared.stop.Stop.{Stop}
 use Rattle.subcommands.specs.declared.stop.Stop.TheVariants.{BadStoreDir, Unreadable, TooLong}
 use Rattle.subcommands.specs.declared.stop.Stop.TheVariants.{BadName, JournalUnreadable, BadJournal}
 use Rattle.subcommands.specs.declared.stop.Stop.TheVariants.{NoMemory}
-
--- what a file gave: its bytes, or why it gave no bytes
-abbrev pub FileBytes : Type 0
-FileBytes = Result Bytes FileFault
-
--- what a file gave, from the machine vector of its bytes
-abbrev pub file_bytes : Result (Vec ℕ) FileFault → FileBytes
-file_bytes (Ok bytes) = Ok bytes.items
-file_bytes (Err fault) = Err fault
 
 -- the greatest length of a text, in bytes
 abbrev pub max_text_len : ℕ

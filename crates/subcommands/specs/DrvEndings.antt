@@ -4,7 +4,7 @@ use Rattle.std.specs.Io.KnownBytes.{Appends}
 use Rattle.nix_names.specs.Bytes.{Bytes, Path}
 use Rattle.command_line.specs.declared.options.AddDrvRequest.{AddDrvRequest}
 use Rattle.subcommands.specs.AddedDrv.{IsAddingDrv}
-use Rattle.subcommands.specs.AddedText.{FileBytes}
+use Rattle.subcommands.specs.Files.{FileBytes}
 use Rattle.subcommands.specs.Endings.{path_line}
 use Rattle.subcommands.specs.Folders.{may_give}
 use Rattle.subcommands.specs.declared.added_drv.AddedDrv.{AddedDrv}

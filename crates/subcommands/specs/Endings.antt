@@ -4,7 +4,8 @@ use Rattle.std.specs.Io.KnownBytes.{Appends}
 use Rattle.nix_names.specs.Bytes.{Bytes, Path}
 use Rattle.nix_names.specs.Names.{IsStoreDir}
 use Rattle.command_line.specs.declared.options.AddTextRequest.{AddTextRequest}
-use Rattle.subcommands.specs.AddedText.{FileBytes, IsAddingText}
+use Rattle.subcommands.specs.AddedText.{IsAddingText}
+use Rattle.subcommands.specs.Files.{FileBytes}
 use Rattle.subcommands.specs.declared.added_text.AddedText.{AddedText}
 use Rattle.subcommands.specs.declared.status.Status.{Status}
 use Rattle.subcommands.specs.declared.status.Status.TheVariants.{Done}

@@ -5,6 +5,7 @@ pub mod CheckLines
 pub mod DrvEndings
 pub mod Endings
 pub mod FaultWords
+pub mod Files
 pub mod Folders
 pub mod GraphWords
 pub mod Planning
@@ -16,5 +17,5 @@ pub mod Stops
 pub mod StoreDirs
 pub mod Tasks
 -- What only private contracts and proofs cite.
-pub mod Files
+pub mod Filed
 pub mod JournalFiles

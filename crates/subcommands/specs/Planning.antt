@@ -8,7 +8,7 @@ use Rattle.forecast.specs.Pictures.{IsPicture}
 use Rattle.forecast.specs.Texts.{IsForecast, is_whole}
 use Rattle.command_line.specs.declared.options.PlanRequest.{PlanRequest}
 use Rattle.command_line.specs.declared.options.RunRequest.{RunRequest}
-use Rattle.subcommands.specs.AddedText.{FileBytes}
+use Rattle.subcommands.specs.Files.{FileBytes}
 use Rattle.subcommands.specs.Folders.{may_give}
 use Rattle.subcommands.specs.Tasks.{IsTaskTaken}
 use Rattle.subcommands.specs.declared.status.Status.{Status}

@@ -18,10 +18,12 @@ use Rattle.subcommands.specs.Folders.{may_give}
 use Rattle.subcommands.specs.Planning.{PlanEnds}
 use Rattle.subcommands.specs.Realising.{May, RealiseEnds}
 use Rattle.subcommands.specs.Stops.{IsStopOf, IsTold}
+use Rattle.subcommands.specs.declared.status.Ending.{Ending}
+use Rattle.subcommands.specs.declared.status.Ending.TheVariants.{Told, Untold}
 use Rattle.subcommands.specs.declared.status.Status.{Status}
-use Rattle.subcommands.specs.declared.status.Status.TheVariants.{Done, Refused, CutShort}
+use Rattle.subcommands.specs.declared.status.Status.TheVariants.{Done, Refused}
 use Rattle.subcommands.specs.declared.stop.Stop.{Stop}
-use Rattle.subcommands.specs.declared.stop.Stop.TheVariants.{Unwritable}
+use Rattle.subcommands.specs.declared.stop.Stop.TheVariants.{NoMemory, Unwritable}
 
 -- what standard output, or standard error, held before the run, and holds after it
 abbrev pub Stream : Type 0
@@ -52,33 +54,32 @@ SubcommandEnds may (Realise request) out outcome = RealiseEnds may request out.0
 
 -- What standard error gets: nothing where the subcommand ended well, else the line of what stopped
 -- it.
-abbrev pub IsToldEnd : Result Status Stop → Stream → Status → Type 0
-IsToldEnd (Ok done) err status = (status ≡ done) × IsUntouched err
-IsToldEnd (Err stop) err status = IsTold err.0 err.1 stop status
+abbrev pub IsToldEnd : Result Status Stop → Stream → Ending → Type 0
+IsToldEnd (Ok status) err end = (end ≡ Told status) × IsUntouched err
+IsToldEnd (Err stop) err end = IsTold err.0 err.1 stop end
 
 -- How a run ends on a request.
-abbrev pub RequestEnds : May → Request → (out err : Stream) → Status → Type 0
-RequestEnds may request out err status =
+abbrev pub RequestEnds : May → Request → (out err : Stream) → Ending → Type 0
+RequestEnds may request out err end =
     (outcome : Result Status Stop) × SubcommandEnds may request out outcome
-    × IsToldEnd outcome err status
+    × IsToldEnd outcome err end
 
 -- How a run ends that shows the help or the version: the text is printed, or standard output
 -- refuses it.
-abbrev pub ShownEnds : (err : Stream) → Status → Type 0
-ShownEnds err status =
-    ((status ≡ Done) × IsUntouched err) ⊎ IsTold err.0 err.1 Unwritable status
+abbrev pub ShownEnds : (err : Stream) → Ending → Type 0
+ShownEnds err end =
+    ((end ≡ Told Done) × IsUntouched err) ⊎ IsTold err.0 err.1 Unwritable end
 
--- How a run ends whose words are not taken. A mistake in them is printed on standard error alone.
--- The run is cut short for want of memory, or where standard error refuses the text.
-abbrev pub UsageEnds : ErrorKind → (out err : Stream) → Status → Type 0
-UsageEnds DisplayHelp out err status = ShownEnds err status
-UsageEnds DisplayVersion out err status = ShownEnds err status
-UsageEnds OutOfMemory out err status = IsUntouched out × (status ≡ CutShort)
-UsageEnds kind out err status =
-    IsUntouched out × ((status ≡ Refused) ⊎ (status ≡ CutShort))
+-- How a run ends whose words are not taken. A mistake in them is printed on standard error alone,
+-- unless that refuses the text. Want of memory is told as ever.
+abbrev pub UsageEnds : ErrorKind → (out err : Stream) → Ending → Type 0
+UsageEnds DisplayHelp out err end = ShownEnds err end
+UsageEnds DisplayVersion out err end = ShownEnds err end
+UsageEnds OutOfMemory out err end = IsUntouched out × IsTold err.0 err.1 NoMemory end
+UsageEnds kind out err end = IsUntouched out × ((end ≡ Told Refused) ⊎ (end ≡ Untold))
 
 -- How a run ends: by what the words ask for, or by what is wrong with them.
-abbrev pub ProgramEnds : May → (words : List Bytes) → (out err : Stream) → Status → Type 0
-ProgramEnds may words out err status =
-    ((request : Request) × IsAsked words request × RequestEnds may request out err status)
-    ⊎ ((kind : ErrorKind) × IsUsageFault words kind × UsageEnds kind out err status)
+abbrev pub ProgramEnds : May → (words : List Bytes) → (out err : Stream) → Ending → Type 0
+ProgramEnds may words out err end =
+    ((request : Request) × IsAsked words request × RequestEnds may request out err end)
+    ⊎ ((kind : ErrorKind) × IsUsageFault words kind × UsageEnds kind out err end)

@@ -1,5 +1,5 @@
 -- How a run of `realise` ends: its status, and what was printed.
-use Rattle.std.specs.Prelude.{◌≡◌, ◌⊎◌, Option, Result, Ok, Err, if◌then◌else◌}
+use Rattle.std.specs.Prelude.{◌≡◌, ◌⊎◌, Bool, Option, Result, Ok, Err, if◌then◌else◌, is_some}
 use Rattle.std.specs.Io.KnownBytes.{Appends}
 use Rattle.std.specs.List.{list_all}
 use Rattle.nix_names.specs.Bytes.{Bytes}
@@ -13,7 +13,7 @@ use Rattle.sched_core.specs.declared.reason.Reason.{Reason}
 use Rattle.store_run.specs.Realising.{IsRealised, IsRunFault}
 use Rattle.store_run.specs.declared.fault.RunFault.{RunFault}
 use Rattle.command_line.specs.declared.options.RealiseRequest.{RealiseRequest}
-use Rattle.subcommands.specs.AddedText.{FileBytes}
+use Rattle.subcommands.specs.Files.{FileBytes}
 use Rattle.subcommands.specs.Folders.{may_give}
 use Rattle.subcommands.specs.Tasks.{IsTaskTaken}
 use Rattle.subcommands.specs.declared.status.Status.{Status}
@@ -38,10 +38,17 @@ abbrev pub IsSettledBook : May → RealiseRequest → Task → Ledger → Type 0
 IsSettledBook may request task book =
     IsRealised may task.plan request.run.system.now task.journal.entries request.jobs book
 
--- the workers gave no settled book, for this fault
-abbrev pub IsFallingShort : May → RealiseRequest → Task → RunFault → Type 0
-IsFallingShort may request task fault = (book : Option Ledger)
+-- A run ends for this fault of its workers. Where they left a book, its journal was written, or
+-- could not be.
+abbrev pub IsCutShort : RunFault → (has_book : Bool) → Stop → Type 0
+IsCutShort fault has_book (Run told kept) = (told ≡ fault) × (kept.has_book ≡ has_book)
+IsCutShort fault has_book stop = ⊥
+
+-- the workers gave no settled book, and this ends the run
+abbrev pub IsFallingShort : May → RealiseRequest → Task → Stop → Type 0
+IsFallingShort may request task stop = (fault : RunFault) × (book : Option Ledger)
     × IsRunFault may task.plan request.run.system.now task.journal.entries request.jobs fault book
+    × IsCutShort fault (is_some book) stop
 
 -- How a run ends with a settled book: its report is printed, or nothing where the journal can't be
 -- written or memory is refused.
@@ -60,8 +67,8 @@ abbrev pub RunEnds : May → RealiseRequest → Task → (before after : Option 
     → Result Status Stop → Type 0
 RunEnds may request task before after result =
     ((book : Ledger) × IsSettledBook may request task book × BookEnds book before after result)
-    ⊎ ((fault : RunFault) × (result ≡ Err (Run fault)) × (after ≡ before)
-    × IsFallingShort may request task fault)
+    ⊎ ((stop : Stop) × (result ≡ Err stop) × (after ≡ before)
+    × IsFallingShort may request task stop)
 
 -- How a run ends, by what the journal file gave. Nothing is printed where the request is refused,
 -- where the journal can't be written, or where memory is refused before the workers start.

@@ -1,5 +1,5 @@
 -- What ends a run: its line, the number of the fault, and the status of the run.
-use Rattle.std.specs.Prelude.{◌≡◌, ◌⊎◌, ℕ, [], ◌∷◌, ◌++◌, Option, codes}
+use Rattle.std.specs.Prelude.{◌≡◌, ℕ, [], ◌∷◌, ◌++◌, Option, codes}
 use Rattle.std.specs.Io.KnownBytes.{Appends}
 use Rattle.nix_names.specs.Bytes.{Bytes}
 use Rattle.drv_graph.specs.Faults.{node_number_of}
@@ -11,6 +11,8 @@ use Rattle.valid_table.specs.declared.fault.TableFault.{TableFault}
 use Rattle.valid_table.specs.declared.fault.TableFault.TheVariants as table
 use Rattle.subcommands.specs.FaultWords.{name_fault_words, run_fault_words, table_fault_words}
 use Rattle.subcommands.specs.GraphWords.{node_fault_words}
+use Rattle.subcommands.specs.declared.status.Ending.{Ending}
+use Rattle.subcommands.specs.declared.status.Ending.TheVariants as ending
 use Rattle.subcommands.specs.declared.status.Status.{Status}
 use Rattle.subcommands.specs.declared.status.Status.TheVariants.{Refused, CutShort}
 use Rattle.subcommands.specs.declared.stop.Stop.{Stop}
@@ -36,7 +38,7 @@ number_of (Unreadable file) = 20
 number_of JournalUnreadable = 20
 number_of (BadJournal fault) = table_number_of fault
 number_of (NoPath word fault) = name_number_of fault
-number_of (Run fault) = run_number_of fault
+number_of (Run fault kept) = run_number_of fault
 number_of (BadDraft file fault) = node_number_of fault
 number_of (BadDrv path fault) = node_number_of fault
 number_of (NotWritten path) = 74
@@ -56,7 +58,7 @@ blamed_of JournalUnreadable = codes "journal"
 blamed_of (BadJournal fault) = codes "journal"
 blamed_of (NotWritten path) = path
 blamed_of JournalNotWritten = codes "journal"
-blamed_of (Run fault) = codes "run"
+blamed_of (Run fault kept) = codes "run"
 blamed_of NoMemory = codes "run"
 blamed_of Unwritable = codes "run"
 
@@ -73,7 +75,7 @@ stop_fault_words JournalUnreadable = codes "Unreadable"
 stop_fault_words (BadJournal fault) = table_fault_words fault
 stop_fault_words (NotWritten path) = codes "Unwritable"
 stop_fault_words JournalNotWritten = codes "Unwritable"
-stop_fault_words (Run fault) = run_fault_words fault
+stop_fault_words (Run fault kept) = run_fault_words fault
 stop_fault_words NoMemory = codes "NoMemory"
 stop_fault_words Unwritable = codes "Unwritable"
 
@@ -94,17 +96,19 @@ status_of (NoPath word fault) = Refused
 status_of (BadDrv path fault) = Refused
 status_of (BadJournal fault) = Refused
 status_of JournalUnreadable = CutShort
-status_of (Run fault) = CutShort
+status_of (Run fault kept) = CutShort
 status_of (NotWritten path) = CutShort
 status_of JournalNotWritten = CutShort
 status_of NoMemory = CutShort
 status_of Unwritable = CutShort
 
--- A run ends with the line and the status of what ends it, or is cut short where the line could not
--- be made or written.
-abbrev pub IsTold : (before after : Option Bytes) → Stop → Status → Type 0
-IsTold before after stop status =
-    ((status ≡ status_of stop) × Appends before after (stop_line stop)) ⊎ (status ≡ CutShort)
+-- A run ends with the line and the status of what ends it. Where there is no memory for the line,
+-- that of `NoMemory` is written; where standard error refuses a write, nothing is known of it.
+abbrev pub IsTold : (before after : Option Bytes) → Stop → Ending → Type 0
+IsTold before after stop (ending.Told status) =
+    (status ≡ status_of stop) × Appends before after (stop_line stop)
+IsTold before after stop ending.NoMemory = Appends before after (stop_line NoMemory)
+IsTold before after stop ending.Untold = Unit {0}
 
 -- why `check` prints no report: the given word is no store folder; or memory is refused; or it is a
 -- store folder, and a write is refused

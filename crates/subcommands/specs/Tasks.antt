@@ -13,7 +13,8 @@ use Rattle.drv_graph.specs.Loading.{IsLoading}
 use Rattle.drv_graph.specs.Plans.{Graph, IsPlan}
 use Rattle.drv_graph.specs.declared.fault.GraphFault.TheVariants as graph
 use Rattle.command_line.specs.declared.options.RunRequest.{RunRequest}
-use Rattle.subcommands.specs.AddedText.{FileBytes, IsJournalOf}
+use Rattle.subcommands.specs.AddedText.{IsJournalOf}
+use Rattle.subcommands.specs.Files.{FileBytes}
 use Rattle.subcommands.specs.declared.stop.Stop.{Stop}
 use Rattle.subcommands.specs.declared.stop.Stop.TheVariants.{BadStoreDir, NoPath, BadDrv}
 use Rattle.subcommands.specs.declared.stop.Stop.TheVariants.{NoMemory}

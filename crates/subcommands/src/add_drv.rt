@@ -1,16 +1,18 @@
 //! The subcommand `add-drv`.
 ghost use Rattle.std.specs.Prelude.{◌≡◌, IfErr, IfOk};
 ghost use Rattle.std.specs.Io.KnownBytes.{Appends};
-ghost use Rattle.subcommands.specs.DrvEndings.{DrvEnds, IsNotPut};
+ghost use Rattle.subcommands.specs.DrvEndings.{DrvEnds};
+ghost use Rattle.subcommands.specs.Filed.{IsDrvWritten, IsUnprinted, IsUnput};
 ghost use Rattle.subcommands.specs.Endings.{path_line};
 
-use crate::add_text::{print_path, write_text};
+use crate::add_text::{print_path, text_stop};
 use crate::added_drv::{AddedDrv, added_drv};
 use crate::files::read_text;
 use crate::folder::FolderSource;
 use crate::status::Status;
 use crate::stop::Stop;
 use crate::store_dir::store_dir;
+use crate::whole_file::{Unwritten, Written, write_whole};
 use command_line::AddDrvRequest;
 use std::io::Write;
 use std::rt::Files;
@@ -30,24 +32,57 @@ pub fn add_drv<'a, R: Files + AllocGlobal, O: Write>(
     let draft = read_text(rt, request.file);
     let mut source = FolderSource::new(rt);
     let added = added_drv(rt.alloc(), &mut source, request, draft)?;
-    put(rt, added, out)?;
-    Ok(Status::Done)
+    match put(rt, &added, out) {
+        Ok(written) => Ok(done(written)),
+        Err(unput) => Err(stop_of(unput, added)),
+    }
+}
+
+// Evidence that the file of a derivation was not written, or that the line of its path was not.
+#[derive(Clone, Copy)]
+enum Unput {
+    File(Unwritten),
+    Line,
 }
 
 // Writes a derivation at its path, and prints the path.
-fn put<'a, R: Files + AllocGlobal, O: Write>(
+fn put<'w, R: Files + AllocGlobal, O: Write>(
     rt: &R,
-    added: AddedDrv,
+    added: &'w AddedDrv,
     out: &mut O,
-) -> Result<(), Stop<'a>>
-    ensures ok { IfOk result
-        (λ _. Appends (O.contents out.old) (O.contents out.new) (path_line added.path)) }
-    ensures err { IfErr result (IsNotPut added.path (O.contents out.old) (O.contents out.new)) }
+) -> Result<Written<'w>, Unput>
+    ensures written { IfOk result (IsDrvWritten added.entry.now) }
+    ensures printed { IfOk result (λ _.
+        Appends (O.contents out.old) (O.contents out.new) (path_line added.entry.now.path)) }
+    ensures err { IfErr result (IsUnprinted (O.contents out.old) (O.contents out.new)) }
 {
-    let AddedDrv { path, text } = added;
-    let path = write_text(rt, path, &text)?;
-    match print_path(&path, out) {
-        Ok(()) => Ok(()),
-        Err(_) => Err(Stop::Unwritable),
+    let written = match write_whole(rt, added.path.as_str(), &added.text) {
+        Ok(written) => written,
+        Err(unwritten) => return Err(Unput::File(unwritten)),
+    };
+    match print_path(&added.path, out) {
+        Ok(()) => Ok(written),
+        Err(_) => {
+            written.used();
+            Err(Unput::Line)
+        }
+    }
+}
+
+// The status of a run whose file was written.
+fn done(written: Written<'_>) -> Status
+    ensures { result ≡ Status.Done }
+{
+    written.used();
+    Status::Done
+}
+
+// What ends a run whose derivation was not put.
+fn stop_of<'a>(unput: Unput, added: AddedDrv) -> Stop<'a>
+    ensures { IsUnput added.path unput result }
+{
+    match unput {
+        Unput::File(unwritten) => text_stop(added.path, unwritten),
+        Unput::Line => Stop::Unwritable,
     }
 }

@@ -1,7 +1,8 @@
 //! The subcommand `add-text`.
-ghost use Rattle.std.specs.Prelude.{◌≡◌, ◌⊎◌, IfErr, IfOk, OnOk};
+ghost use Rattle.std.specs.Prelude.{◌≡◌, ◌⊎◌, IfErr, IfOk, IsSome, OnOk};
 ghost use Rattle.std.specs.Io.KnownBytes.{Appends};
 ghost use Rattle.subcommands.specs.Endings.{Ends, IsPrintedAndWritten, IsWriteFault, path_line};
+ghost use Rattle.subcommands.specs.Filed.{AreFiled};
 
 use crate::added_text::{AddedText, added_text};
 use crate::files::read_text;
@@ -10,7 +11,7 @@ use crate::printing::print_bytes;
 use crate::status::Status;
 use crate::stop::Stop;
 use crate::store_dir::store_dir;
-use crate::whole_file::write_whole;
+use crate::whole_file::{Unwritten, Written, write_whole};
 use command_line::AddTextRequest;
 use nix_names::StorePath;
 use process_build::Failure;
@@ -47,11 +48,13 @@ fn put<'a, R: Files + AllocGlobal, O: Write>(
 ) -> Result<Status, Stop<'a>>
     ensures { IsPrintedAndWritten added (O.contents out.old) (O.contents out.new) result }
 {
-    let Ok(()) = print_path(&added.path, out) else {
+    let Ok(()) = print_path(added.path(), out) else {
         return Err(Stop::Unwritable);
     };
-    write_files(rt, file, added)?;
-    Ok(Status::Done)
+    match write_files(rt, file, &added) {
+        Ok(filed) => Ok(done(filed)),
+        Err(unfiled) => Err(stop_of(unfiled, added)),
+    }
 }
 
 /// Prints the line of a path.
@@ -62,45 +65,72 @@ pub fn print_path<O: Write>(path: &StorePath, out: &mut O) -> io::Result<()>
     print_bytes(b"\n", out)
 }
 
-// Writes the text at its path and then the journal, unless the path is valid already.
-fn write_files<'a, R: Files + AllocGlobal>(
-    rt: &R,
-    file: &JournalFile,
-    added: AddedText,
-) -> Result<(), Stop<'a>>
-    ensures { IfErr result (IsWriteFault added) }
-{
-    let AddedText {
-        path,
-        text,
-        journal,
-    } = added;
-    let Some(journal) = journal else {
-        return Ok(());
-    };
-    write_text(rt, path, &text)?;
-    file.write(rt, &journal)?.used();
-    Ok(())
+// Evidence that the files of a text were written.
+struct Filed<'w> {
+    text: Written<'w>,
+    journal: Written<'w>,
 }
 
-/// Writes a text at its path, in place of the file that is there, and hands the path back.
-pub fn write_text<'a, R: Files + AllocGlobal>(
+// Evidence that a file of a text was not written.
+#[derive(Clone, Copy)]
+enum Unfiled {
+    Text(Unwritten),
+    Journal(Unwritten),
+}
+
+// Writes the text at its path and then the journal, unless the path is valid already.
+fn write_files<'w, R: Files + AllocGlobal>(
     rt: &R,
-    path: StorePath,
-    bytes: &[u8],
-) -> Result<StorePath, Stop<'a>>
-    ensures ok { IfOk result (λ same. same ≡ path) }
-    ensures err { IfErr result (λ stop. (stop ≡ Stop.NoMemory) ⊎ (stop ≡ Stop.NotWritten path)) }
+    file: &'w JournalFile,
+    added: &'w AddedText,
+) -> Result<Option<Filed<'w>>, Unfiled>
+    ensures ok { IfOk result (AreFiled added.entry.now file.entry.now) }
+    ensures err { IfErr result (λ _. IsSome added.entry.now.journal) }
 {
-    match write_at(rt, &path, bytes) {
-        Ok(()) => Ok(path),
-        Err(Failure::NoMemory) => Err(Stop::NoMemory),
-        Err(_) => Err(Stop::NotWritten(path)),
+    let Some(bytes) = added.journal() else {
+        return Ok(None);
+    };
+    let text = match write_whole(rt, added.path().as_str(), added.text()) {
+        Ok(text) => text,
+        Err(unwritten) => return Err(Unfiled::Text(unwritten)),
+    };
+    match file.write(rt, bytes) {
+        Ok(journal) => Ok(Some(Filed { text, journal })),
+        Err(unwritten) => {
+            text.used();
+            Err(Unfiled::Journal(unwritten))
+        }
     }
 }
 
-// Writes a text at its path.
-fn write_at<R: Files + AllocGlobal>(rt: &R, path: &StorePath, bytes: &[u8]) -> Result<(), Failure> {
-    write_whole(rt, path.as_str(), bytes)?.used();
-    Ok(())
+// The status of a run whose files were written.
+fn done(filed: Option<Filed<'_>>) -> Status
+    ensures { result ≡ Status.Done }
+{
+    if let Some(Filed { text, journal }) = filed {
+        text.used();
+        journal.used();
+    }
+    Status::Done
+}
+
+// What ends a run of which a file was not written.
+fn stop_of<'a>(unfiled: Unfiled, added: AddedText) -> Stop<'a>
+    requires { IsSome added.journal }
+    ensures { IsWriteFault added result }
+{
+    match unfiled {
+        Unfiled::Text(unwritten) => text_stop(added.into_path(), unwritten),
+        Unfiled::Journal(unwritten) => Stop::from(unwritten),
+    }
+}
+
+/// What ends a run of which the file at this path was not written.
+pub fn text_stop<'a>(path: StorePath, unwritten: Unwritten) -> Stop<'a>
+    ensures { (result ≡ Stop.NoMemory) ⊎ (result ≡ Stop.NotWritten path) }
+{
+    match unwritten.failure() {
+        Failure::NoMemory => Stop::NoMemory,
+        _ => Stop::NotWritten(path),
+    }
 }

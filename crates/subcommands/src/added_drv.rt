@@ -4,9 +4,9 @@ ghost use Rattle.std.specs.Prelude.{◌≡◌, IfErr, IfOk};
 ghost use Rattle.nix_drv.specs.Derivation.{IsDrvText};
 ghost use Rattle.subcommands.specs.AddedDrv.{IsAddingDrv, IsDraftOf, IsDraftRead, IsFillingOf};
 ghost use Rattle.subcommands.specs.AddedDrv.{fill_stop};
-ghost use Rattle.subcommands.specs.AddedText.{file_bytes};
+ghost use Rattle.subcommands.specs.Files.{IsReadFrom, needed_bytes};
 
-use crate::files::FileFault;
+use crate::files::{FileFault, Given};
 use crate::stop::Stop;
 use crate::store_dir::store_dir;
 use command_line::AddDrvRequest;
@@ -37,9 +37,10 @@ pub fn added_drv<'a, S: DrvSource>(
     alloc: Global,
     source: &mut S,
     request: &AddDrvRequest<'a>,
-    draft: Result<Vec<u8>, FileFault>,
+    draft: Given<'_>,
 ) -> Result<AddedDrv, Stop<'a>>
-    ensures { IsAddingDrv (S.gives source.old) request.now (file_bytes draft) result }
+    requires { IsReadFrom request.now.file.now 4194305 draft }
+    ensures { IsAddingDrv (S.gives source.old) request.now (needed_bytes draft.entry) result }
 {
     let dir = store_dir(alloc, request.store_dir)?;
     let draft = draft_of(alloc, request.file, draft)?;
@@ -49,14 +50,10 @@ pub fn added_drv<'a, S: DrvSource>(
 }
 
 // The draft whose text the file gave.
-fn draft_of<'a>(
-    alloc: Global,
-    file: &'a str,
-    gave: Result<Vec<u8>, FileFault>,
-) -> Result<Derivation, Stop<'a>>
-    ensures { IsDraftOf file.entry (file_bytes gave) result }
+fn draft_of<'a>(alloc: Global, file: &'a str, gave: Given<'_>) -> Result<Derivation, Stop<'a>>
+    ensures { IsDraftOf file.entry (needed_bytes gave.entry) result }
 {
-    match gave {
+    match gave.bytes() {
         Ok(bytes) => read_draft(alloc, file, &bytes),
         Err(FileFault::NoMemory) => Err(Stop::NoMemory),
         Err(FileFault::Unreadable) => Err(Stop::Unreadable(file)),

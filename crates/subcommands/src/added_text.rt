@@ -1,13 +1,17 @@
 //! The answer of `add-text`: a text's path, and the journal with it. No file is read here.
+ghost use Rattle.std.specs.Global.{Vec};
 ghost use Rattle.std.specs.Prelude.{◌≡◌, [], ℕ, List, IfOk, IfErr, IsTrue, if◌then◌else◌};
+ghost use Rattle.std.specs.Prelude.{option_map};
 ghost use Rattle.sha2.specs.Sha256.{sha256};
 ghost use Rattle.nix_names.specs.Names.{is_name};
 ghost use Rattle.nix_drv.specs.OwnPath.{text_path};
 ghost use Rattle.subcommands.specs.AddedText.{IsAddingText, IsJournalOf, IsRenewing};
-ghost use Rattle.subcommands.specs.AddedText.{IsTextOf, file_bytes};
+ghost use Rattle.subcommands.specs.AddedText.{IsTextOf};
+ghost use Rattle.subcommands.specs.Files.{IsReadFrom, journal_bytes, needed_bytes};
+ghost use Rattle.subcommands.specs.JournalFiles.{IsTextsJournal};
 ghost use Rattle.subcommands.specs.Registering.{IsTextRegistering};
 
-use crate::files::FileFault;
+use crate::files::{FileFault, Given};
 use crate::stop::Stop;
 use crate::store_dir::store_dir;
 use command_line::AddTextRequest;
@@ -17,15 +21,46 @@ use sha2::{Digest as _, Sha256};
 use std::alloc::Global;
 use valid_table::{Journal, Record, TableFault};
 
-/// A text that is put into a store.
+/// A text that is put into a store. Only `added_text` makes one, of what reading its files gave.
 #[derive(Debug, Drop)]
 pub struct AddedText {
+    path: StorePath,
+    text: Vec<u8>,
+    journal: Option<Vec<u8>>,
+}
+
+impl AddedText {
     /// Its path.
-    pub path: StorePath,
+    pub fn path(&self) -> &StorePath
+        ensures { result.now ≡ self.now.path }
+    {
+        &self.path
+    }
+
     /// Its bytes.
-    pub text: Vec<u8>,
+    pub fn text(&self) -> &[u8]
+        ensures { result.now ≡ self.now.text.items }
+    {
+        &self.text
+    }
+
     /// The bytes of the journal with the text's entry; none where the path is valid already.
-    pub journal: Option<Vec<u8>>,
+    pub fn journal(&self) -> Option<&[u8]>
+        ensures { option_map (λ b. b.now) result
+            ≡ option_map (λ (b : Vec ℕ). b.items) self.now.journal }
+    {
+        match &self.journal {
+            Some(bytes) => Some(bytes),
+            None => None,
+        }
+    }
+
+    /// Its path alone.
+    pub fn into_path(self) -> StorePath
+        ensures { result ≡ self.path }
+    {
+        self.path
+    }
 }
 
 /// The path of a text without references, under the request's folder and name, and the journal's
@@ -42,10 +77,12 @@ pub struct AddedText {
 pub fn added_text<'a>(
     alloc: Global,
     request: &AddTextRequest<'a>,
-    text: Result<Vec<u8>, FileFault>,
-    journal: Result<Vec<u8>, FileFault>,
+    text: Given<'_>,
+    journal: Given<'_>,
 ) -> Result<AddedText, Stop<'a>>
-    ensures { IsAddingText request.now (file_bytes text) (file_bytes journal) result }
+    requires text { IsReadFrom request.now.file.now 4194305 text }
+    requires journal { IsTextsJournal request.now journal }
+    ensures { IsAddingText request.now (needed_bytes text.entry) (journal_bytes journal.entry) result }
 {
     let dir = store_dir(alloc, request.store_dir)?;
     let text = text_within(request.file, text)?;
@@ -60,10 +97,10 @@ pub fn added_text<'a>(
 }
 
 // The text's bytes, if they are not too many.
-fn text_within<'a>(file: &'a str, text: Result<Vec<u8>, FileFault>) -> Result<Vec<u8>, Stop<'a>>
-    ensures { IsTextOf file.entry (file_bytes text) result }
+fn text_within<'a>(file: &'a str, text: Given<'_>) -> Result<Vec<u8>, Stop<'a>>
+    ensures { IsTextOf file.entry (needed_bytes text.entry) result }
 {
-    match text {
+    match text.bytes() {
         Ok(bytes) if bytes.len() > MAX_LEN => Err(Stop::TooLong(file)),
         Ok(bytes) => Ok(bytes),
         Err(FileFault::NoMemory) => Err(Stop::NoMemory),
@@ -96,11 +133,11 @@ fn path_of<'a>(
 fn renewed_journal<'a>(
     alloc: Global,
     dir: &StoreDir,
-    journal: Result<Vec<u8>, FileFault>,
+    journal: Given<'_>,
     path: &StorePath,
     digest: [u8; 32],
 ) -> Result<Option<Vec<u8>>, Stop<'a>>
-    ensures { IsRenewing dir.now (file_bytes journal) path.now digest result }
+    ensures { IsRenewing dir.now (journal_bytes journal.entry) path.now digest result }
 {
     let mut journal = journal_of(alloc, dir, journal)?;
     if !register_text(alloc, &mut journal, path, digest)? {
@@ -114,11 +151,11 @@ fn renewed_journal<'a>(
 pub fn journal_of<'a>(
     alloc: Global,
     dir: &StoreDir,
-    journal: Result<Vec<u8>, FileFault>,
+    journal: Given<'_>,
 ) -> Result<Journal, Stop<'a>>
-    ensures { IsJournalOf dir.now (file_bytes journal) result }
+    ensures { IsJournalOf dir.now (journal_bytes journal.entry) result }
 {
-    match journal {
+    match journal.bytes_or_none(alloc) {
         Ok(bytes) => Ok(Journal::read(alloc, dir, &bytes)?),
         Err(FileFault::NoMemory) => Err(Stop::NoMemory),
         Err(FileFault::Unreadable) => Err(Stop::JournalUnreadable),

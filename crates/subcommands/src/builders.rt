@@ -14,7 +14,7 @@ pub fn make_all<M: Builders>(
     ensures { IfOk result (λ builders. length builders.items ≡ request.now.jobs) }
 {
     let mut builders = Vec::new(alloc);
-    for _ in 0..request.jobs.count() {
+    for _ in 0..request.jobs {
         builders.push(make.builder(alloc, request.run.store_dir)?)?;
     }
     Ok(builders)

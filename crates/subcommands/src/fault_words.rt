@@ -96,7 +96,7 @@ pub fn write_stop_fault(stop: &Stop<'_>, out: &mut Vec<u8>) -> Result<(), AllocE
         Stop::BadJournal(fault) => write_table_fault(fault, out),
         Stop::NotWritten(_) => write_name(b"Unwritable", out),
         Stop::JournalNotWritten => write_name(b"Unwritable", out),
-        Stop::Run(fault) => write_run_fault(*fault, out),
+        Stop::Run(fault, _) => write_run_fault(*fault, out),
         Stop::NoMemory => write_name(b"NoMemory", out),
         Stop::Unwritable => write_name(b"Unwritable", out),
     }

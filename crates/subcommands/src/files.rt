@@ -2,7 +2,8 @@
 ghost use Rattle.std.specs.Prelude.{◌≡◌, ◌≤◌, IfErr, IfOk, length};
 ghost use Rattle.std.specs.Fs.{file_type};
 ghost use Rattle.process_build.specs.Errors.{IsFailure, IsNoMemory};
-ghost use Rattle.subcommands.specs.Files.{IsRegular};
+ghost use Rattle.subcommands.specs.Files.{IsReadFrom, IsRegular, file_bytes, journal_bytes};
+ghost use Rattle.subcommands.specs.Files.{needed_bytes};
 
 use nix_drv::MAX_LEN;
 use process_build::Failure;
@@ -11,10 +12,14 @@ use std::fs::Metadata;
 use std::io::Read;
 use std::rt::Files;
 use std::{fs, io};
+use valid_table::MAX_JOURNAL;
 
 /// How many bytes of a text's file are read: one more than a text may have, so that a file that is
 /// too long is known by the number of its bytes.
 pub const MAX_READ: u64 = MAX_LEN as u64 + 1;
+
+// How many bytes of a journal file are read: one more than a journal may have.
+const MAX_JOURNAL_READ: u64 = MAX_JOURNAL as u64 + 1;
 
 /// Why a file gave no bytes.
 #[derive(Clone, Copy, Debug, PartialEq, Eq)]
@@ -44,6 +49,35 @@ impl From<Failure> for FileFault {
         match failure {
             Failure::NoMemory => FileFault::NoMemory,
             _ => FileFault::Unreadable,
+        }
+    }
+}
+
+/// What the system gave for the file at a path: its first bytes, or why it gave none. Only the
+/// reading of a file makes one.
+#[derive(Drop)]
+pub struct Given<'p> {
+    path: &'p str,
+    most: u64,
+    bytes: Result<Vec<u8>, Failure>,
+}
+
+impl Given<'_> {
+    /// The bytes of a file that has to be there, or why there are none.
+    pub fn bytes(self) -> Result<Vec<u8>, FileFault>
+        ensures { file_bytes result ≡ needed_bytes self.entry }
+    {
+        Ok(self.bytes?)
+    }
+
+    /// The same where a file that is not found has no bytes.
+    pub fn bytes_or_none(self, alloc: Global) -> Result<Vec<u8>, FileFault>
+        ensures { file_bytes result ≡ journal_bytes self.entry }
+    {
+        match self.bytes {
+            Ok(bytes) => Ok(bytes),
+            Err(Failure::NotFound) => Ok(Vec::new(alloc)),
+            Err(failure) => Err(FileFault::from(failure)),
         }
     }
 }
@@ -105,10 +139,25 @@ fn is_regular(asked: io::Result<Metadata>) -> Result<(), Failure>
     }
 }
 
-/// The bytes of a text's file, which may be of any kind; at most one byte more than a text may
-/// have.
-pub fn read_text<R: Files + AllocGlobal>(rt: &R, path: &str) -> Result<Vec<u8>, FileFault>
-    ensures { IfOk result (λ bytes. length bytes.items ≤ 4194305) }
+/// What a text's file gives, which may be of any kind; at most one byte more than a text may have.
+pub fn read_text<'p, R: Files + AllocGlobal>(rt: &R, path: &'p str) -> Given<'p>
+    ensures { IsReadFrom path.entry.now 4194305 result }
 {
-    Ok(read_start(rt.alloc(), rt, path, MAX_READ)?)
+    Given {
+        path,
+        most: MAX_READ,
+        bytes: read_start(rt.alloc(), rt, path, MAX_READ),
+    }
+}
+
+/// What the journal file at a path gives, which must be a regular file; at most one byte more than
+/// a journal may have.
+pub fn read_journal<'p, R: Files + AllocGlobal>(rt: &R, path: &'p str) -> Given<'p>
+    ensures { IsReadFrom path.entry.now 134217729 result }
+{
+    Given {
+        path,
+        most: MAX_JOURNAL_READ,
+        bytes: read_regular(rt.alloc(), rt, path, MAX_JOURNAL_READ),
+    }
 }

@@ -9,6 +9,7 @@
 //! | `whole_file` | a file that is written whole or not at all |
 //! | `journal_file` | the journal file: its path, read and written |
 //! | `stop` | why a run ends without its report |
+//! | `kept` | what became of the journal of workers that gave no settled book |
 //! | `status` | the status of a run |
 //! | `fault_words`, `graph_words` | the words of faults |
 //! | `verdict`, `check` | the verdict of `check` on one word; its lines |
@@ -33,6 +34,7 @@ mod files;
 mod folder;
 mod graph_words;
 mod journal_file;
+mod kept;
 mod plan;
 mod printing;
 mod process;
@@ -51,4 +53,4 @@ pub use check::check_lines;
 pub use folder::FolderSource;
 pub use process::run_process;
 pub use program::{print_no_memory, refuse_words, run};
-pub use status::Status;
+pub use status::{Ending, Status};

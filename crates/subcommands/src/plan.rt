@@ -55,7 +55,7 @@ fn forecast_of<'a>(
     ensures entries { IfOk result (λ forecast. forecast.entries ≡ task.journal.entries) }
     ensures err { IfErr result (λ stop. stop ≡ NoMemory) }
 {
-    let Task { plan, journal } = task;
+    let (plan, journal) = task.into_parts();
     let system = Vec::from_slice(alloc, request.system.as_bytes())?;
     match Forecast::open(alloc, plan, journal, system) {
         Ok(forecast) => Ok(forecast),

@@ -1,10 +1,11 @@
 //! One run of the program in a process: on its arguments and its standard output.
 ghost use Rattle.std.specs.Prelude.{◌≡◌, ◌⊎◌, IfOk, map, string_bytes};
 ghost use Rattle.std.specs.Io.Buffered.{writer_inner};
-ghost use Rattle.subcommands.specs.ProgramEndings.{ProgramEnds};
+ghost use Rattle.clap.specs.declared.error.kind.ErrorKind.TheVariants.{OutOfMemory};
+ghost use Rattle.subcommands.specs.ProgramEndings.{ProgramEnds, UsageEnds};
 
 use crate::program::{print_no_memory, refuse_words, run};
-use crate::status::Status;
+use crate::status::Ending;
 use process_build::Builders;
 use std::alloc::{AllocError, Global};
 use std::io::{BufWriter, ErrorKind, Write};
@@ -13,9 +14,9 @@ use std::sync::Wait;
 use std::thread::Threads;
 use std::{env, io};
 
-/// Runs the program on the arguments and the standard output of the process, and gives the status.
+/// Runs the program on the arguments and the standard output of the process. Says how the run ended.
 /// A word that is not UTF-8 is a mistake in the words.
-pub fn run_process<R, M, E>(rt: &R, make: &M, err: &mut E) -> Status
+pub fn run_process<R, M, E>(rt: &R, make: &M, err: &mut E) -> Ending
 where
     R: Env + Files + Print + Threads + Wait + Sync + AllocGlobal,
     M: Builders,
@@ -23,9 +24,9 @@ where
 {
     match BufWriter::new(rt.alloc(), io::writer(rt)) {
         Ok(mut out) => {
-            let status = run_arguments(rt, make, &mut out, err);
+            let ending = run_arguments(rt, make, &mut out, err);
             let_go(out);
-            status
+            ending
         }
         Err(_) => print_no_memory(err),
     }
@@ -41,7 +42,7 @@ fn let_go<W: Write + Drop>(buffer: BufWriter<W>) -> W
 }
 
 // Runs the program on the arguments of the process.
-fn run_arguments<R, M, O, E>(rt: &R, make: &M, out: &mut O, err: &mut E) -> Status
+fn run_arguments<R, M, O, E>(rt: &R, make: &M, out: &mut O, err: &mut E) -> Ending
 where
     R: Env + Files + Threads + Wait + Sync + AllocGlobal,
     M: Builders,
@@ -56,7 +57,7 @@ where
 }
 
 // Runs the program on these arguments.
-fn run_texts<R, M, O, E>(rt: &R, make: &M, arguments: &[String], out: &mut O, err: &mut E) -> Status
+fn run_texts<R, M, O, E>(rt: &R, make: &M, arguments: &[String], out: &mut O, err: &mut E) -> Ending
 where
     R: Files + Threads + Wait + Sync + AllocGlobal,
     M: Builders,
@@ -64,7 +65,8 @@ where
     E: Write,
     ensures { ProgramEnds M.Builder.may (map string_bytes arguments.now)
         (O.contents out.old, O.contents out.new) (E.contents err.old, E.contents err.new) result
-        ⊎ ((O.contents out.new ≡ O.contents out.old) × (result ≡ Status.CutShort)) }
+        ⊎ UsageEnds OutOfMemory
+        (O.contents out.old, O.contents out.new) (E.contents err.old, E.contents err.new) result }
 {
     match texts(rt.alloc(), arguments) {
         Ok(words) => run(rt, make, &words, out, err),

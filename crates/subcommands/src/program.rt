@@ -1,5 +1,5 @@
 //! One run of the program.
-ghost use Rattle.std.specs.Prelude.{◌≡◌, IfErr, IfOk, map};
+ghost use Rattle.std.specs.Prelude.{◌⊎◌, IfErr, IfOk, map};
 ghost use Rattle.clap.specs.Words.{kind_of};
 ghost use Rattle.nix_names.specs.Names.{IsStoreDir};
 ghost use Rattle.subcommands.specs.CheckLines.{IsCheckReport};
@@ -7,6 +7,7 @@ ghost use Rattle.subcommands.specs.Folders.{may_give};
 ghost use Rattle.subcommands.specs.ProgramEndings.{CheckEnds, IsToldEnd, ProgramEnds};
 ghost use Rattle.subcommands.specs.ProgramEndings.{RequestEnds, SubcommandEnds, UsageEnds};
 ghost use Rattle.subcommands.specs.Stops.{IsStopOf, IsTold};
+ghost use Rattle.subcommands.specs.declared.stop.Stop.{Stop};
 
 use crate::add_drv::add_drv;
 use crate::add_text::add_text;
@@ -16,7 +17,7 @@ use crate::folder::FolderSource;
 use crate::plan::plan;
 use crate::printing::{print_bytes, print_text};
 use crate::realise::realise;
-use crate::status::Status;
+use crate::status::{Ending, Status};
 use crate::stop::Stop;
 use crate::store_dir::store_dir;
 use clap::error::ErrorKind;
@@ -32,15 +33,15 @@ use std::thread::Threads;
 // The line of a run that ends for want of memory.
 const NO_MEMORY_LINE: &[u8; 27] = b"nix_realise: run: NoMemory\n";
 
-/// Runs the program on a command line, whose first word is the program's own name, and gives the
-/// status.
+/// Runs the program on a command line, whose first word is the program's own name. Says how the run
+/// ended, and whether that was told.
 pub fn run<'a, R, M, O, E>(
     rt: &R,
     make: &M,
     words: &'a [&'a str],
     out: &mut O,
     err: &mut E,
-) -> Status
+) -> Ending
 where
     R: Files + Threads + Wait + Sync + AllocGlobal,
     M: Builders,
@@ -62,7 +63,7 @@ fn run_request<R, M, O, E>(
     request: &Request<'_>,
     out: &mut O,
     err: &mut E,
-) -> Status
+) -> Ending
 where
     R: Files + Threads + Wait + Sync + AllocGlobal,
     M: Builders,
@@ -99,18 +100,20 @@ where
 }
 
 // Ends a run with its status, or with the line and the status of what stopped it.
-fn end<E: Write>(alloc: Global, outcome: Result<Status, Stop<'_>>, err: &mut E) -> Status
+fn end<E: Write>(alloc: Global, outcome: Result<Status, Stop<'_>>, err: &mut E) -> Ending
     ensures { IsToldEnd outcome.entry (E.contents err.old, E.contents err.new) result }
 {
     match outcome {
-        Ok(status) => status,
+        Ok(status) => Ending::Told(status),
         Err(stop) => print_stop(alloc, &stop, err),
     }
 }
 
 /// Ends a run whose command line has a word that is not UTF-8.
-pub fn refuse_words<O: Write, E: Write>(alloc: Global, out: &mut O, err: &mut E) -> Status
+pub fn refuse_words<O: Write, E: Write>(alloc: Global, out: &mut O, err: &mut E) -> Ending
     ensures { UsageEnds ErrorKind.ValueValidation
+        (O.contents out.old, O.contents out.new) (E.contents err.old, E.contents err.new) result
+        ⊎ UsageEnds ErrorKind.OutOfMemory
         (O.contents out.old, O.contents out.new) (E.contents err.old, E.contents err.new) result }
 {
     match not_text(alloc) {
@@ -119,27 +122,37 @@ pub fn refuse_words<O: Write, E: Write>(alloc: Global, out: &mut O, err: &mut E)
     }
 }
 
-/// Ends a run with a line that names the fault, and gives its status. Where there is no memory for
-/// the line, or standard error refuses it, the run is cut short.
-pub fn print_stop<E: Write>(alloc: Global, stop: &Stop<'_>, err: &mut E) -> Status
+/// Ends a run with a line that names the fault, and gives its status.
+pub fn print_stop<E: Write>(alloc: Global, stop: &Stop<'_>, err: &mut E) -> Ending
     ensures { IsTold (E.contents err.old) (E.contents err.new) stop.now result }
 {
     let Ok(line) = stop_line(alloc, stop) else {
-        return print_no_memory(err);
+        return print_no_line(err);
     };
     match print_bytes(&line, err) {
-        Ok(()) => stop.status(),
-        Err(_) => Status::CutShort,
+        Ok(()) => Ending::Told(stop.status()),
+        Err(_) => Ending::Untold,
+    }
+}
+
+// Ends a run for which there is no memory to make its line.
+fn print_no_line<E: Write>(err: &mut E) -> Ending
+    ensures { (stop : Stop) → IsTold (E.contents err.old) (E.contents err.new) stop result }
+{
+    match print_bytes(NO_MEMORY_LINE, err) {
+        Ok(()) => Ending::NoMemory,
+        Err(_) => Ending::Untold,
     }
 }
 
 /// Ends a run for want of memory, and needs no memory.
-pub fn print_no_memory<E: Write>(err: &mut E) -> Status
-    ensures { result ≡ Status.CutShort }
+pub fn print_no_memory<E: Write>(err: &mut E) -> Ending
+    ensures { IsTold (E.contents err.old) (E.contents err.new) Stop.NoMemory result }
 {
-    // The status is the same where standard error refuses the line.
-    let _ = print_bytes(NO_MEMORY_LINE, err);
-    Status::CutShort
+    match print_bytes(NO_MEMORY_LINE, err) {
+        Ok(()) => Ending::Told(Status::CutShort),
+        Err(_) => Ending::Untold,
+    }
 }
 
 // Ends a run with the text of `clap`: a mistake in the words, or the help or version that was asked
@@ -149,7 +162,7 @@ fn print_usage<O: Write, E: Write>(
     fault: &clap::Error,
     out: &mut O,
     err: &mut E,
-) -> Status
+) -> Ending
     ensures { UsageEnds (kind_of fault.now)
         (O.contents out.old, O.contents out.new) (E.contents err.old, E.contents err.new) result }
 {
@@ -158,12 +171,12 @@ fn print_usage<O: Write, E: Write>(
     }
     if fault.use_stderr() {
         return match print_text(fault, err) {
-            Ok(()) => Status::Refused,
-            Err(_) => Status::CutShort,
+            Ok(()) => Ending::Told(Status::Refused),
+            Err(_) => Ending::Untold,
         };
     }
     match print_text(fault, out) {
-        Ok(()) => Status::Done,
+        Ok(()) => Ending::Told(Status::Done),
         Err(_) => print_stop(alloc, &Stop::Unwritable, err),
     }
 }

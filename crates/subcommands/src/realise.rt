@@ -1,10 +1,11 @@
 //! The subcommand `realise`.
-ghost use Rattle.std.specs.Prelude.{◌≡◌, length};
+ghost use Rattle.std.specs.Prelude.{◌≡◌, is_some, length, true};
 ghost use Rattle.sched_core.specs.Books.{IsRunSettled};
-ghost use Rattle.subcommands.specs.Realising.{BookEnds, RealiseEnds, RunEnds};
+ghost use Rattle.subcommands.specs.Realising.{BookEnds, IsCutShort, RealiseEnds, RunEnds};
 
 use crate::builders::make_all;
 use crate::journal_file::JournalFile;
+use crate::kept::Kept;
 use crate::printing::print_bytes;
 use crate::settled::{journal_bytes, report_of, roots_status};
 use crate::status::Status;
@@ -87,7 +88,7 @@ where
     ensures { RunEnds B.may request.now task.now (O.contents out.old) (O.contents out.new) result }
 {
     let system = request.run.system.as_bytes();
-    let (plan, journal) = (&task.plan, &task.journal);
+    let (plan, journal) = (task.plan(), task.journal());
     match store_run::realise::<J, R, B>(rt, rt.alloc(), name, plan, journal, system, builders) {
         Ok(book) => end(rt, file, book, out),
         Err((fault, book)) => Err(fall_short(rt, file, fault, book)),
@@ -116,14 +117,26 @@ fn fall_short<'a, R: Files + AllocGlobal, V: Outlet>(
     fault: RunFault,
     book: Option<Book<V>>,
 ) -> Stop<'a>
-    ensures { result ≡ Stop.Run fault }
+    ensures { IsCutShort fault (is_some book) result }
 {
-    if let Some(book) = book {
-        // Only the first fault is reported.
-        let _ = write_book(rt, file, &book);
-        book.close();
+    match book {
+        Some(book) => {
+            let kept = keep(rt, file, &book);
+            book.close();
+            Stop::Run(fault, kept)
+        }
+        None => Stop::Run(fault, Kept::no_book()),
     }
-    Stop::Run(fault)
+}
+
+// Puts the journal of a book that isn't settled in place of the journal file.
+fn keep<R: Files + AllocGlobal, V: Outlet>(rt: &R, file: &JournalFile, book: &Book<V>) -> Kept
+    ensures { result.has_book ≡ true }
+{
+    match journal_bytes(rt.alloc(), book) {
+        Ok(bytes) => Kept::tried(book, file.write(rt, &bytes)),
+        Err(_) => Kept::no_memory(),
+    }
 }
 
 // Writes the journal of a settled book, and prints its report.
@@ -143,15 +156,4 @@ fn tell<'a, R: Files + AllocGlobal, V: Outlet, O: Write>(
         Ok(()) => Ok(roots_status(book)),
         Err(_) => Err(Stop::Unwritable),
     }
-}
-
-// Puts the journal of a book in place of the journal file.
-fn write_book<'a, R: Files + AllocGlobal, V: Outlet>(
-    rt: &R,
-    file: &JournalFile,
-    book: &Book<V>,
-) -> Result<(), Stop<'a>> {
-    let bytes = journal_bytes(rt.alloc(), book)?;
-    file.write(rt, &bytes)?.used();
-    Ok(())
 }

@@ -1,6 +1,6 @@
 //! The status of a run.
 ghost use Rattle.std.specs.Prelude.{◌≡◌};
-ghost use Rattle.subcommands.specs.Statuses.{code_of};
+ghost use Rattle.subcommands.specs.Statuses.{code_of, ending_status};
 
 /// How a run ended, as its exit status tells.
 #[derive(Clone, Copy, Debug, PartialEq, Eq)]
@@ -14,6 +14,37 @@ pub enum Status {
     /// Memory was refused, the journal could not be read, the workers ended too early, or a write
     /// was refused.
     CutShort,
+}
+
+/// How a run ended, and whether that was told.
+#[derive(Clone, Copy, Debug, PartialEq, Eq)]
+pub enum Ending {
+    /// With this status. Where a line or a text says why, all of it was written.
+    Told(Status),
+    /// Cut short: there was no memory for the line that says why. The line of `NoMemory` was
+    /// written in its place.
+    NoMemory,
+    /// Cut short: standard error refused a write.
+    Untold,
+}
+
+impl Ending {
+    /// The status of the run.
+    pub fn status(self) -> Status
+        ensures { result ≡ ending_status self }
+    {
+        match self {
+            Ending::Told(status) => status,
+            Ending::NoMemory | Ending::Untold => Status::CutShort,
+        }
+    }
+
+    /// The exit status of the process.
+    pub fn code(self) -> u8
+        ensures { result ≡ code_of (ending_status self) }
+    {
+        self.status().code()
+    }
 }
 
 impl Status {

@@ -2,9 +2,12 @@
 ghost use Rattle.std.specs.Prelude.{◌≡◌};
 ghost use Rattle.subcommands.specs.Stops.{blamed_of, number_of, status_of};
 
+use crate::kept::Kept;
 use crate::status::Status;
+use crate::whole_file::Unwritten;
 use drv_graph::NodeFault;
 use nix_names::{NameFault, StorePath};
+use process_build::Failure;
 use std::alloc::{AllocError, AllocFailed};
 use store_run::RunFault;
 use valid_table::TableFault;
@@ -34,8 +37,8 @@ pub enum Stop<'a> {
     NotWritten(StorePath),
     /// The journal file cannot be written.
     JournalNotWritten,
-    /// The workers gave no settled book.
-    Run(RunFault),
+    /// The workers gave no settled book; what became of the journal.
+    Run(RunFault, Kept),
     /// Memory was refused.
     NoMemory,
     /// Standard output refused a write.
@@ -55,7 +58,7 @@ impl Stop<'_> {
             Stop::TooLong(_) => 12,
             Stop::Unreadable(_) | Stop::JournalUnreadable => 20,
             Stop::BadJournal(fault) => fault.number(),
-            Stop::Run(fault) => fault.number(),
+            Stop::Run(fault, _) => fault.number(),
             Stop::BadDraft(_, fault) | Stop::BadDrv(_, fault) => fault.number(),
             Stop::NotWritten(_) | Stop::JournalNotWritten | Stop::Unwritable => 74,
         }
@@ -76,7 +79,7 @@ impl Stop<'_> {
             | Stop::BadDrv(..)
             | Stop::BadJournal(_) => Status::Refused,
             Stop::JournalUnreadable
-            | Stop::Run(_)
+            | Stop::Run(..)
             | Stop::NotWritten(_)
             | Stop::JournalNotWritten
             | Stop::NoMemory
@@ -97,7 +100,24 @@ impl Stop<'_> {
             | Stop::NoPath(word, _) => word.as_bytes(),
             Stop::BadDrv(path, _) | Stop::NotWritten(path) => path.text(),
             Stop::JournalUnreadable | Stop::BadJournal(_) | Stop::JournalNotWritten => b"journal",
-            Stop::Run(_) | Stop::NoMemory | Stop::Unwritable => b"run",
+            Stop::Run(..) | Stop::NoMemory | Stop::Unwritable => b"run",
+        }
+    }
+}
+
+// What ends a run whose journal file is not written.
+impl From<Unwritten> for Stop<'_> {
+    ghost use Rattle.std.specs.Prelude.{◌⊎◌};
+    ghost use Rattle.subcommands.specs.JournalFiles.{journal_stop};
+    ghost use Rattle.subcommands.specs.declared.stop.Stop.TheVariants.{JournalNotWritten, NoMemory};
+
+    ghost from_gives = { λ unwritten stop. (stop ≡ journal_stop unwritten.failure)
+        × ((stop ≡ NoMemory) ⊎ (stop ≡ JournalNotWritten)) };
+
+    fn from(unwritten: Unwritten) -> Self {
+        match unwritten.failure() {
+            Failure::NoMemory => Stop::NoMemory,
+            _ => Stop::JournalNotWritten,
         }
     }
 }

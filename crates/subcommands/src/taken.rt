@@ -1,10 +1,9 @@
 //! The plan and the journal of a run, by the files on disk.
 ghost use Rattle.std.specs.Prelude.{Err, IfErr, IfOk, Ok};
-ghost use Rattle.subcommands.specs.AddedText.{FileBytes};
+ghost use Rattle.subcommands.specs.Files.{FileBytes};
 ghost use Rattle.subcommands.specs.Folders.{may_give};
 ghost use Rattle.subcommands.specs.Tasks.{IsTaskTaken};
 
-use crate::added_text::journal_of;
 use crate::folder::FolderSource;
 use crate::journal_file::JournalFile;
 use crate::stop::Stop;
@@ -26,6 +25,6 @@ pub fn taken<'a, R: Files + AllocGlobal>(
     let (dir, plan) = planned(rt.alloc(), &mut FolderSource::new(rt), request)?;
     let file = JournalFile::new(rt.alloc(), request.store_dir, request.journal)?;
     let gave = file.read(rt);
-    let journal = journal_of(rt.alloc(), &dir, gave)?;
-    Ok((file, Task { plan, journal }))
+    let task = Task::new(rt.alloc(), request, &dir, plan, gave)?;
+    Ok((file, task))
 }

@@ -1,8 +1,13 @@
 //! The task of `plan` and `realise`: the plan of their roots, and the journal. Files are read
 //! through the source alone.
-ghost use Rattle.std.specs.Prelude.{◌≡◌, IfErr, IfOk, map};
+ghost use Rattle.std.specs.Prelude.{◌≡◌, Err, IfErr, IfOk, Ok, map};
+ghost use Rattle.subcommands.specs.AddedText.{IsJournalOf};
+ghost use Rattle.subcommands.specs.Files.{journal_bytes};
+ghost use Rattle.subcommands.specs.JournalFiles.{IsRunsJournal};
 ghost use Rattle.subcommands.specs.Tasks.{ArePathsOf, HasPlan, IsNotPlanned, IsWordsPath, IsPlanOf};
 
+use crate::added_text::journal_of;
+use crate::files::Given;
 use crate::stop::Stop;
 use crate::store_dir::store_dir;
 use command_line::RunRequest;
@@ -12,13 +17,55 @@ use nix_names::{NameFault, StoreDir, StorePath, parse_path};
 use std::alloc::Global;
 use valid_table::Journal;
 
-/// What a run takes: a plan and a journal.
+/// What a run takes: a plan and a journal. Only `Task::new` makes one, of what reading the journal
+/// file gave.
 #[derive(Drop)]
 pub struct Task {
+    plan: Plan,
+    journal: Journal,
+}
+
+impl Task {
+    /// The task of a request over its plan, by what its journal file gave. The faults are those of
+    /// `journal_of`.
+    pub fn new<'a>(
+        alloc: Global,
+        _request: &RunRequest<'_>,
+        dir: &StoreDir,
+        plan: Plan,
+        journal: Given<'_>,
+    ) -> Result<Task, Stop<'a>>
+        requires { IsRunsJournal _request.now journal }
+        ensures ok { IfOk result (λ task. (task.plan ≡ plan)
+            × IsJournalOf dir.now (journal_bytes journal.entry) (Ok task.journal)) }
+        ensures err { IfErr result
+            (λ stop. IsJournalOf dir.now (journal_bytes journal.entry) (Err stop)) }
+    {
+        let journal = journal_of(alloc, dir, journal)?;
+        Ok(Task { plan, journal })
+    }
+
     /// The derivations that the roots reach.
-    pub plan: Plan,
+    pub fn plan(&self) -> &Plan
+        ensures { result.now ≡ self.now.plan }
+    {
+        &self.plan
+    }
+
     /// The valid paths.
-    pub journal: Journal,
+    pub fn journal(&self) -> &Journal
+        ensures { result.now ≡ self.now.journal }
+    {
+        &self.journal
+    }
+
+    /// The plan and the journal.
+    pub fn into_parts(self) -> (Plan, Journal)
+        ensures { (result.0 ≡ self.plan) × (result.1 ≡ self.journal) }
+    {
+        let Task { plan, journal } = self;
+        (plan, journal)
+    }
 }
 
 /// The store folder of a request, and the plan of its derivations, which the source gives. The

@@ -25,6 +25,21 @@ impl Written<'_> {
     }
 }
 
+/// Evidence that a file was not written, and why. Only `write_whole` and `try_out` make one.
+#[derive(Clone, Copy, Debug, PartialEq, Eq)]
+pub struct Unwritten {
+    failure: Failure,
+}
+
+impl Unwritten {
+    /// Why the file was not written.
+    pub fn failure(self) -> Failure
+        ensures { result ≡ self.failure }
+    {
+        self.failure
+    }
+}
+
 /// Puts a file with these bytes at a path, in place of the file or the link that is there, even a
 /// read-only file; a fault where anything else is there. A process that opens the path finds the
 /// whole old file or the whole new one, even if this process is killed on the way. The new file
@@ -38,10 +53,18 @@ pub fn write_whole<'a, R: Files + AllocGlobal>(
     rt: &R,
     path: &'a str,
     bytes: &'a [u8],
-) -> Result<Written<'a>, Failure>
+) -> Result<Written<'a>, Unwritten>
     ensures { IfOk result (λ written.
         (written.path.now ≡ path.entry.now) × (written.bytes.now ≡ bytes.entry.now)) }
 {
+    match put_whole(rt, path, bytes) {
+        Ok(()) => Ok(Written { path, bytes }),
+        Err(failure) => Err(Unwritten { failure }),
+    }
+}
+
+// Does what `write_whole` does.
+fn put_whole<R: Files + AllocGlobal>(rt: &R, path: &str, bytes: &[u8]) -> Result<(), Failure> {
     let mode = place_of(fs::symlink_metadata(rt, path))?;
     let (file, temporary) = create_beside(rt, path)?;
     let put = put_at(rt, file, mode, bytes, temporary.as_path(), path);
@@ -50,12 +73,20 @@ pub fn write_whole<'a, R: Files + AllocGlobal>(
         let _ = fs::remove_file(rt, temporary.as_path());
         return Err(failure);
     }
-    Ok(Written { path, bytes })
+    Ok(())
 }
 
 /// Tests whether a file can be written at a path: what lies there may be replaced, and a file can
 /// be made in its folder. The made file is removed again, and the path is left as it is.
-pub fn try_out<R: Files + AllocGlobal>(rt: &R, path: &str) -> Result<(), Failure> {
+pub fn try_out<R: Files + AllocGlobal>(rt: &R, path: &str) -> Result<(), Unwritten> {
+    match try_place(rt, path) {
+        Ok(()) => Ok(()),
+        Err(failure) => Err(Unwritten { failure }),
+    }
+}
+
+// Does what `try_out` does.
+fn try_place<R: Files + AllocGlobal>(rt: &R, path: &str) -> Result<(), Failure> {
     place_of(fs::symlink_metadata(rt, path))?;
     let (_file, temporary) = create_beside(rt, path)?;
     Ok(fs::remove_file(rt, temporary.as_path())?)

@@ -1,6 +1,7 @@
 use Rattle.std.proofs.Common.{inl, inr, refl, Err}
 use Rattle.std.proofs.lemmas.Result.{err_from_is_err_and}
-use Rattle.subcommands.specs.AddedText.{FileBytes, file_bytes}
+use Rattle.subcommands.proofs.Endings.{not_put}
+use Rattle.subcommands.specs.Files.{FileBytes, needed_bytes}
 use Rattle.subcommands.specs.declared.files.FileFault.TheVariants.{Unreadable}
 use Rattle.subcommands.proofs.add_drv.add_drv.Goals as goal
 
@@ -13,22 +14,24 @@ returns-in_err-store_dir g c =
 
 pub returns-in_err-added : goal.returns-in_err-added
 returns-in_err-added g c =
-    let gave : FileBytes = file_bytes c.read_text-draft.result in
+    let gave : FileBytes = needed_bytes c.read_text-draft.result in
     let step = c.from_residual-in_err-added in
     let e = err_from_is_err_and step.result step.ensures.1 in
     (gave, rw (e.1, e.2) (inl (refl, c.in_err-added.ensures)))
 
-pub returns-in_err-put : goal.returns-in_err-put
-returns-in_err-put g c =
-    let gave : FileBytes = file_bytes c.read_text-draft.result in
-    let step = c.from_residual-in_err-put in
-    let e = err_from_is_err_and step.result step.ensures.1 in (
+pub returns : goal.returns
+returns g c =
+    let gave : FileBytes = needed_bytes c.read_text-draft.result in (
       gave,
-      rw (e.1, e.2) (inr (c.in_ok-added.added, c.in_ok-added.ensures, c.in_err-put.ensures.err)),
+      inr (
+        c.in_ok-added.added,
+        c.in_ok-added.ensures,
+        not_put _ _ _ c.in-Err.unput _ c.in-Err.ensures.err c.stop_of.ensures,
+      ),
     )
 
-pub returns : goal.returns
-returns g c = (
-  file_bytes c.read_text-draft.result,
-  (refl, (c.in_ok-added.added, c.in_ok-added.ensures, c.in_ok-put.ensures.ok)),
+pub returns-in-Ok : goal.returns-in-Ok
+returns-in-Ok g c = (
+  needed_bytes c.read_text-draft.result,
+  (c.done.ensures, (c.in_ok-added.added, c.in_ok-added.ensures, c.in-Ok.ensures.printed)),
 )

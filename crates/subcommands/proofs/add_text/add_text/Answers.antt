@@ -1,7 +1,7 @@
 use Rattle.std.proofs.Common.{ℕ, List, Option, Err}
 use Rattle.std.proofs.lemmas.Result.{err_from_is_err_and}
 use Rattle.subcommands.proofs.Endings.{folder_refused, put_ends, text_refused}
-use Rattle.subcommands.specs.AddedText.{FileBytes, file_bytes}
+use Rattle.subcommands.specs.Files.{FileBytes, journal_bytes, needed_bytes}
 use Rattle.subcommands.specs.declared.files.FileFault.TheVariants.{Unreadable}
 use Rattle.subcommands.proofs.add_text.add_text.Goals as goal
 
@@ -25,8 +25,8 @@ returns-in_err-file g c =
 
 pub returns-in_err-added : goal.returns-in_err-added
 returns-in_err-added g c =
-    let gave : FileBytes = file_bytes c.read_text-text.result in
-    let journal : FileBytes = file_bytes c.read-journal.result in
+    let gave : FileBytes = needed_bytes c.read_text-text.result in
+    let journal : FileBytes = journal_bytes c.read-journal.result in
     let before : Option (List ℕ) = g.O.Write.contents c.args.out.now in
     let step = c.from_residual-in_err-added in
     let e = err_from_is_err_and step.result step.ensures.1 in
@@ -37,8 +37,8 @@ returns-in_err-added g c =
 
 pub returns : goal.returns
 returns g c =
-    let gave : FileBytes = file_bytes c.read_text-text.result in
-    let journal : FileBytes = file_bytes c.read-journal.result in
+    let gave : FileBytes = needed_bytes c.read_text-text.result in
+    let journal : FileBytes = journal_bytes c.read-journal.result in
     let before : Option (List ℕ) = g.O.Write.contents c.args.out.now in
     let after : Option (List ℕ) = g.O.Write.contents c.put.new.out in (
       gave,

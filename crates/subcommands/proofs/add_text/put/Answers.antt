@@ -1,13 +1,14 @@
-use Rattle.std.proofs.Common.{ℕ, List, Option}
-use Rattle.std.proofs.lemmas.Result.{err_from_is_err_and}
+use Rattle.std.proofs.Common.{subst, ℕ, List, Option}
+use Rattle.std.specs.Io.KnownBytes.{Appends}
 use Rattle.subcommands.proofs.Endings.{file_not_written}
+use Rattle.subcommands.specs.Endings.{path_line}
 use Rattle.subcommands.proofs.add_text.put.Goals as goal
 
-pub returns-in_err-write_files : goal.returns-in_err-write_files
-returns-in_err-write_files g c =
+pub returns : goal.returns
+returns g c =
     let before : Option (List ℕ) = g.O.Write.contents c.args.out.now in
     let after : Option (List ℕ) = g.O.Write.contents c.print_path.new.out in
-    let e = err_from_is_err_and c.from_residual.result c.from_residual.ensures.1 in
-    rw (e.1, e.2)
-    (file_not_written c.args.added before after c.in_err-write_files.field-0.0 c.in-Ok.ensures
-    c.in_err-write_files.ensures)
+    let printed =
+    subst (λ (path : List ℕ). Appends before after (path_line path)) c.path.ensures
+    c.in-Ok.ensures in
+    file_not_written c.args.added before after c.stop_of.result printed c.stop_of.ensures

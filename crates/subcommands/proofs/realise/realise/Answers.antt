@@ -16,7 +16,7 @@ returns-in_err-try_out g c =
     let e = err_from_is_err_and step.result step.ensures.1 in
     let t = c.in_ok-file.ensures.ok in
     let fault =
-    told step.result c.in_err-try_out.field-0.0 (e.1 ∙ ap Err e.2) c.in_err-try_out.ensures in
+    told step.result e.0 e.1 e.2.1 in
     (t.0, inr (c.in_ok-file.task, t.1, inr (fault, refl)))
 
 pub returns-in_err-builders : goal.returns-in_err-builders

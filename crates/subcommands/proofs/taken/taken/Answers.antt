@@ -1,6 +1,7 @@
 use Rattle.std.proofs.Common.{inl, inr, subst, Ok, Err}
 use Rattle.std.proofs.lemmas.Result.{err_from_is_err_and}
-use Rattle.subcommands.specs.AddedText.{FileBytes, IsJournalOf, file_bytes}
+use Rattle.subcommands.specs.AddedText.{IsJournalOf}
+use Rattle.subcommands.specs.Files.{FileBytes, journal_bytes}
 use Rattle.subcommands.specs.declared.files.FileFault.TheVariants.{Unreadable}
 use Rattle.subcommands.proofs.taken.taken.Goals as goal
 
@@ -18,29 +19,29 @@ returns-in_err-file-clause-err g c =
     let e = err_from_is_err_and step.result step.ensures.1 in
     rw (e.1, e.2) (none, inl (λ no. no c.in_ok-dir.ensures.ok.1.0.0))
 
-pub returns-in_err-journal-clause-err : goal.returns-in_err-journal-clause-err
-returns-in_err-journal-clause-err g c =
-    let gave : FileBytes = file_bytes c.read-gave.result in
-    let step = c.from_residual-in_err-journal in
+pub returns-in_err-task-clause-err : goal.returns-in_err-task-clause-err
+returns-in_err-task-clause-err g c =
+    let gave : FileBytes = journal_bytes c.read-gave.result in
+    let step = c.from_residual-in_err-task in
     let e = err_from_is_err_and step.result step.ensures.1 in
     let found = c.in_ok-dir.ensures.ok in
     rw (e.1, e.2) (
       gave,
       inr (
         (_, found.1),
-        subst (λ d. IsJournalOf d gave (Err c.in_err-journal.field-0.0)) found.0
-            c.in_err-journal.ensures,
+        subst (λ d. IsJournalOf d gave (Err c.in_err-task.field-0.0)) found.0
+            c.in_err-task.ensures.err,
       ),
     )
 
 pub returns-clause-ok : goal.returns-clause-ok
 returns-clause-ok g c =
-    let gave : FileBytes = file_bytes c.read-gave.result in
-    let found = c.in_ok-dir.ensures.ok in (
+    let gave : FileBytes = journal_bytes c.read-gave.result in
+    let found = c.in_ok-dir.ensures.ok in
+    let made = c.in_ok-task.ensures.ok in (
       gave,
       (
-        found.1,
-        subst (λ d. IsJournalOf d gave (Ok c.in_ok-journal.journal)) found.0
-            c.in_ok-journal.ensures,
+        rw made.0 found.1,
+        subst (λ d. IsJournalOf d gave (Ok c.in_ok-task.task.journal)) found.0 made.1,
       ),
     )

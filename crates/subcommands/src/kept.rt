@@ -1,0 +1,43 @@
+//! What became of the journal where the workers of a run gave no settled book.
+ghost use Rattle.std.specs.Prelude.{◌≡◌, IfOk, false, true};
+ghost use Rattle.valid_table.specs.Written.{written_text};
+
+use crate::whole_file::{Unwritten, Written};
+use sched_core::Book;
+use valid_table::Outlet;
+
+/// Evidence of what became of the journal of a book. Only this module makes one.
+#[derive(Clone, Copy, Debug, PartialEq, Eq)]
+pub struct Kept {
+    // Whether the workers left a book.
+    has_book: bool,
+}
+
+impl Kept {
+    /// The workers left no book, so there is no journal.
+    pub fn no_book() -> Kept
+        ensures { result.has_book ≡ false }
+    {
+        Kept { has_book: false }
+    }
+
+    /// The journal of a book was written, or could not be.
+    pub fn tried<O: Outlet>(_book: &Book<O>, tried: Result<Written<'_>, Unwritten>) -> Kept
+        requires { IfOk tried
+            (λ written. written.bytes.now ≡ written_text _book.now.history.entries) }
+        ensures { result.has_book ≡ true }
+    {
+        // Only the fault of the run is reported.
+        if let Ok(written) = tried {
+            written.used();
+        }
+        Kept { has_book: true }
+    }
+
+    /// There was no memory for the journal's bytes.
+    pub fn no_memory() -> Kept
+        ensures { result.has_book ≡ true }
+    {
+        Kept { has_book: true }
+    }
+}
