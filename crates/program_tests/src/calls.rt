@@ -3,6 +3,7 @@ use crate::double::{Double, Event};
 use crate::running::{Host, Outcome, run_by};
 use crate::scene::Scene;
 use crate::steps::Step;
+use crate::texts::text_of;
 use process_build::{Builders, ByProcesses};
 use std::alloc::{AllocError, Global};
 use std::io::ErrorKind;
@@ -65,6 +66,7 @@ fn told(letter: u8) -> (&'static str, &'static str, u8) {
         b'w' => ("<text>\n", "nix_realise: <text>: Unwritable\n", 3),
         b'W' => ("", "nix_realise: <any>: Unwritable\n", 3),
         b'F' => ("", "nix_realise: <dir>/file: Unreadable\n", 2),
+        b'U' => ("", "nix_realise: <up>/file: Unreadable\n", 2),
         b'f' => ("", "nix_realise: <dir>/draft: Unreadable\n", 2),
         b'D' => ("", "nix_realise: <any>: Unreadable\n", 2),
         b'B' => ("bad <any>: Unreadable\n", "", 2),
@@ -72,6 +74,9 @@ fn told(letter: u8) -> (&'static str, &'static str, u8) {
         b'O' => ("failed <any>: OutOfMemory\n", "", 1),
         b'X' => ("failed <any>: ReadFault\n", "", 1),
         b'0' => ("failed <any>: MissingOutput(\"out\")\n", "", 1),
+        b'd' => ("failed <any>: MissingOutput(\"dev\")\n", "", 1),
+        b'P' => ("build <any>\noutput <any.out>\n", "", 0),
+        b'p' => ("built <any>\noutput <any.dev>\noutput <any.out>\n", "", 0),
         b't' => ("<text>\n", "", 0),
         b'a' => ("<any>\n", "", 0),
         b'k' => ("ok <any>\n", "", 0),
@@ -80,7 +85,7 @@ fn told(letter: u8) -> (&'static str, &'static str, u8) {
     }
 }
 
-static ADDING: [Row; 4] = [
+static ADDING: [Row; 6] = [
     Row {
         name: "calls-check",
         before: &[PUT],
@@ -90,14 +95,45 @@ static ADDING: [Row; 4] = [
         kept: &[],
     },
     Row {
+        name: "calls-plan",
+        before: &[PUT],
+        line: "nix_realise plan --store-dir <dir> <any>",
+        calls: &["stat <any>\nopen <any>\nread \nread \nstat <dir>/realiser-journal\n"],
+        refusals: &[b"PPPPP", b"DDDMD", b"DDDMD", b"DDDMD", b"DDDMD", b"PRRMR"],
+        kept: &[NO_JOURNAL],
+    },
+    // Relative paths are used as they are given. A journal's temporary file lies beside it.
+    Row {
+        name: "calls-add-text-by-relative-paths",
+        before: &[FILE, TEXT],
+        line: "nix_realise add-text --store-dir <dir> --journal <up>/journal greeting <up>/file",
+        calls: &[
+            "open <up>/file\nread \nread \nstat <up>/journal\n\
+            lstat <text>\ncreate <dir>/.nix_realise-0\nwrite \nsync \n\
+            rename <dir>/.nix_realise-0 <text>\n\
+            lstat <up>/journal\ncreate <up>/.nix_realise-0\nwrite \nsync \n\
+            rename <up>/.nix_realise-0 <up>/journal\n",
+        ],
+        refusals: &[
+            b"ttttt", b"UUUMU", b"UUUMU", b"UUUMU", b"tRRMR", b"twwmw", b"wtwmw", b"wwwmw",
+            b"wwwmw", b"wwwmw", b"tjjmj", b"jtjmj", b"jjjmj", b"jjjmj", b"jjjmj",
+        ],
+        kept: &[
+            NO_JOURNAL,
+            NO_TEMPORARY,
+            Step::Stands("<dir>/journal", false),
+        ],
+    },
+    Row {
         name: "calls-add-text",
         before: &[FILE, TEXT],
         line: "nix_realise add-text --store-dir <dir> greeting <dir>/file",
         calls: &[
             "open <dir>/file\nread \nread \nstat <dir>/realiser-journal\n\
-            lstat <text>\ncreate <dir>/.nix_realise-0\nwrite \nsync \nrename <text>\n\
+            lstat <text>\ncreate <dir>/.nix_realise-0\nwrite \nsync \n\
+            rename <dir>/.nix_realise-0 <text>\n\
             lstat <dir>/realiser-journal\ncreate <dir>/.nix_realise-0\nwrite \nsync \n\
-            rename <dir>/realiser-journal\n",
+            rename <dir>/.nix_realise-0 <dir>/realiser-journal\n",
         ],
         refusals: &[
             b"ttttt", b"FFFMF", b"FFFMF", b"FFFMF", b"tRRMR", b"twwmw", b"wtwmw", b"wwwmw",
@@ -113,9 +149,10 @@ static ADDING: [Row; 4] = [
         calls: &[
             "open <dir>/file\nread \nread \nstat <dir>/realiser-journal\n\
             open <dir>/realiser-journal\nread \nread \n\
-            lstat <text>\ncreate <dir>/.nix_realise-0\nwrite \nsync \nrename <text>\n\
+            lstat <text>\ncreate <dir>/.nix_realise-0\nwrite \nsync \n\
+            rename <dir>/.nix_realise-0 <text>\n\
             lstat <dir>/realiser-journal\ncreate <dir>/.nix_realise-0\nfchmod \nwrite \nsync \n\
-            rename <dir>/realiser-journal\n",
+            rename <dir>/.nix_realise-0 <dir>/realiser-journal\n",
         ],
         refusals: &[
             b"ttttt", b"FFFMF", b"FFFMF", b"FFFMF", b"tRRMR", b"tRRMR", b"RRRMR", b"RRRMR",
@@ -130,7 +167,7 @@ static ADDING: [Row; 4] = [
         line: "nix_realise add-drv --store-dir <dir> any <dir>/draft",
         calls: &[
             "open <dir>/draft\nread \nread \nlstat <any>\ncreate <dir>/.nix_realise-0\n\
-            fchmod \nwrite \nsync \nrename <any>\n",
+            fchmod \nwrite \nsync \nrename <dir>/.nix_realise-0 <any>\n",
         ],
         refusals: &[
             b"aaaaa", b"fffMf", b"fffMf", b"fffMf", b"aWWMW", b"WaWMW", b"WWWMW", b"WWWMW",
@@ -155,9 +192,44 @@ const BUILT: &str = "mkdir <dir>/.build-0\nspawn cd \"<dir>/.build-0\" && env -i
 
 // Those that write the journal.
 const WRITTEN: &str = "lstat <dir>/realiser-journal\ncreate <dir>/.nix_realise-0\nwrite \nsync \n\
-    rename <dir>/realiser-journal\n";
+    rename <dir>/.nix_realise-0 <dir>/realiser-journal\n";
 
-static RUN: [Row; 2] = [
+// A draft of two outputs, a folder and a file.
+const TWO: &str = "Derive([(\"dev\",\"\",\"\",\"\"),(\"out\",\"\",\"\",\"\")],[],[],\
+    \"x86_64-linux\",\"/bin/sh\",[\"-c\",\"mkdir -p $dev/b; : > $dev/a; : > $out\"],\
+    [(\"PATH\",\"/usr/bin:/bin\"),(\"dev\",\"\"),(\"out\",\"\")])";
+
+// The calls that build it once its paths are clear, and read both outputs.
+const TWO_BUILT: &str = "mkdir <dir>/.build-0\nspawn cd \"<dir>/.build-0\" && env -i \
+    HOME=\"/homeless-shelter\" NIX_BUILD_TOP=\"<dir>/.build-0\" NIX_STORE=\"<dir>\" \
+    PATH=\"/usr/bin:/bin\" PWD=\"<dir>/.build-0\" TEMP=\"<dir>/.build-0\" \
+    TEMPDIR=\"<dir>/.build-0\" TMP=\"<dir>/.build-0\" TMPDIR=\"<dir>/.build-0\" \
+    dev=\"<any.dev>\" out=\"<any.out>\" \"/bin/sh\" \"-c\" \
+    \"mkdir -p $dev/b; : > $dev/a; : > $out\" Stdio { .. } Stdio { .. } Stdio { .. }\nwait \n\
+    lstat <any.dev>\nlist <any.dev>\nread \nread \nlstat <any.dev>/a\nopen <any.dev>/a\nread \n\
+    lstat <any.dev>/b\nlist <any.dev>/b\nread \nread \nlstat <any.out>\nopen <any.out>\nread \n";
+
+static RUN: [Row; 3] = [
+    Row {
+        name: "calls-realise-two-outputs",
+        before: &[Step::Put("any", TWO)],
+        line: "nix_realise realise --store-dir <dir> <any>",
+        calls: &[
+            OPENED,
+            "lstat <any.dev>\nlstat <any.out>\nlstat <dir>/.build-0\n",
+            TWO_BUILT,
+            "lstat <dir>/.build-0\nlist <dir>/.build-0\nrmdir <dir>/.build-0\n",
+            WRITTEN,
+        ],
+        refusals: &[
+            b"ppppp", b"DDDMD", b"DDDMD", b"DDDMD", b"DDDMD", b"pRRMR", b"pJJMJ", b"JpJMJ",
+            b"JJJMJ", b"pNNON", b"pNNON", b"pNNON", b"NNNON", b"NNNON", b"XXXOX", b"dXXOX",
+            b"XXXOX", b"XXXOX", b"XXXOX", b"XXXOX", b"XXXOX", b"XXXOX", b"XXXOX", b"XXXOX",
+            b"XXXOX", b"XXXOX", b"0XXOX", b"XXXOX", b"XXXOX", b"ppppp", b"ppppp", b"ppppp",
+            b"pJJMJ", b"JpJMJ", b"JJJMJ", b"JJJMJ", b"JJJMJ",
+        ],
+        kept: &[NO_JOURNAL],
+    },
     Row {
         name: "calls-realise",
         before: &[PUT],
@@ -190,7 +262,7 @@ static RUN: [Row; 2] = [
         calls: &[
             OPENED,
             "lstat <any.out>\nlstat <dir>/.build-0\nlist <dir>/.build-0\nrmdir <dir>/.build-0\n\
-                lstat <dir>/.nix_realise-left-0\nrename <dir>/.nix_realise-left-0\n",
+                lstat <dir>/.nix_realise-left-0\nrename <dir>/.build-0 <dir>/.nix_realise-left-0\n",
             BUILT,
             "lstat <dir>/.build-0\nlist <dir>/.build-0\nrmdir <dir>/.build-0\n\
                 remove <dir>/.nix_realise-left-0\n",
@@ -268,23 +340,45 @@ fn calls_of(alloc: Global, scene: &Scene, row: &Row) -> Result<String, Fail> {
     Ok(calls)
 }
 
-// Whether a case ended as wanted: the texts that the run wrote and its status, these calls where
-// none was refused, and the status 0 when the same run is made again.
-fn came<R: Host>(
-    rt: &R,
+// What a run told, its calls where none was refused, and the status of the same run made again.
+fn told_by(
+    alloc: Global,
+    case: &Case<'_>,
+    (out, err, status): (&str, &str, u8),
+    calls: &str,
+    again: u8,
+) -> Result<String, AllocError> {
+    let calls = if case.number > 0 { "" } else { calls };
+    format!(in alloc; "{out}{err}{status}\n{calls}{again}")
+}
+
+// What is wanted of a case: the run made again has the status 0.
+fn wanted(alloc: Global, scene: &Scene, case: &Case<'_>) -> Result<String, Fail> {
+    let (out, err, status) = told(case.letter);
+    let out = scene.said(alloc, out)?;
+    let err = scene.said(alloc, err)?;
+    let calls = calls_of(alloc, scene, case.row)?;
+    let told = (out.as_str(), err.as_str(), status);
+    Ok(told_by(alloc, case, told, calls.as_str(), 0)?)
+}
+
+// How a case ended otherwise than is wanted, if it did.
+fn stray(
+    alloc: Global,
     scene: &Scene,
     case: &Case<'_>,
     (first, calls, second): (&Outcome, &str, &Outcome),
-) -> Result<bool, Fail> {
-    let (out, err, status) = told(case.letter);
-    let out = scene.said(rt.alloc(), out)?;
-    let err = scene.said(rt.alloc(), err)?;
-    let wanted = calls_of(rt.alloc(), scene, case.row)?;
-    let is_told = first.out.as_slice() == out.as_bytes()
-        && first.err.as_slice() == err.as_bytes()
-        && first.status == status;
-    let is_called = case.number > 0 || calls == wanted.as_str();
-    Ok(is_told && is_called && second.status == 0)
+) -> Result<Option<String>, Fail> {
+    let (out, err) = (text_of(alloc, &first.out)?, text_of(alloc, &first.err)?);
+    let told = (out.as_str(), err.as_str(), first.status);
+    let came = told_by(alloc, case, told, calls, second.status)?;
+    let wanted = wanted(alloc, scene, case)?;
+    if came == wanted {
+        return Ok(None);
+    }
+    let (name, number, kind) = (case.row.name, case.number, case.kind);
+    let stray = format!(in alloc; "{name}, call {number}, {kind:?}: wanted {wanted}, came {came}")?;
+    Ok(Some(stray))
 }
 
 // Whether a run that was refused or cut short kept what it must keep.
@@ -301,7 +395,6 @@ fn keeps<R: Host + Processes, M: Builders>(
 fn refused_calls_of_adding(rt: HostRuntime) -> Result<(), Fail> {
     let process = process::id(rt.process());
     let make = ByProcesses::new(&rt, &rt);
-    let mut stray = None;
     for case in cases(rt.alloc(), adding())?.iter() {
         let mut scene = Scene::behind(&rt, &make, process, case.row.name, case.row.before)?;
         let line = scene.said(rt.alloc(), case.row.line)?;
@@ -311,12 +404,15 @@ fn refused_calls_of_adding(rt: HostRuntime) -> Result<(), Fail> {
         let again = Double::new(rt.clone()?, Event::Nothing)?;
         let second = ran(&again, &ByProcesses::new(&again, &again), line.as_str())?;
         let calls = double.calls()?;
-        if !is_kept || !came(&rt, &scene, case, (&first, calls.as_str(), &second))? {
-            stray = Some((case.row.name, case.number, case.kind));
-        }
+        let stray = stray(rt.alloc(), &scene, case, (&first, calls.as_str(), &second))?;
+        assert_eq!(rt; stray, None);
+        assert!(rt;
+            is_kept,
+            "{}, call {}: {}",
+            case.row.name, case.number, scene.stray
+        );
         scene.close(&rt)?;
     }
-    assert_eq!(rt; stray, None);
     Ok(())
 }
 
@@ -324,7 +420,6 @@ fn refused_calls_of_adding(rt: HostRuntime) -> Result<(), Fail> {
 fn refused_calls_of_a_run(rt: HostRuntime) -> Result<(), Fail> {
     let process = process::id(rt.process());
     let make = ByProcesses::new(&rt, &rt);
-    let mut stray = None;
     for case in cases(rt.alloc(), run_rows())?.iter() {
         let mut scene = Scene::behind(&rt, &make, process, case.row.name, case.row.before)?;
         let line = scene.said(rt.alloc(), case.row.line)?;
@@ -334,11 +429,14 @@ fn refused_calls_of_a_run(rt: HostRuntime) -> Result<(), Fail> {
         let again = Double::new(rt.clone()?, Event::Nothing)?;
         let second = ran(&again, &ByProcesses::new(&again, &again), line.as_str())?;
         let calls = double.calls()?;
-        if !is_kept || !came(&rt, &scene, case, (&first, calls.as_str(), &second))? {
-            stray = Some((case.row.name, case.number, case.kind));
-        }
+        let stray = stray(rt.alloc(), &scene, case, (&first, calls.as_str(), &second))?;
+        assert_eq!(rt; stray, None);
+        assert!(rt;
+            is_kept,
+            "{}, call {}: {}",
+            case.row.name, case.number, scene.stray
+        );
         scene.close(&rt)?;
     }
-    assert_eq!(rt; stray, None);
     Ok(())
 }

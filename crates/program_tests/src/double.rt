@@ -26,6 +26,9 @@ pub enum Event {
     Removed(usize, String),
     /// Right before the call with this number another process makes a folder at this path.
     Made(usize, String),
+    /// Right before the call with this number another process makes a folder at this path, with a
+    /// file in it.
+    Filled(usize, String),
     /// Right before the call with this number another process moves what lies at the second path,
     /// if anything does, and makes a link to the first path there.
     Linked(usize, String, String),
@@ -41,10 +44,18 @@ impl Event {
             }
             Event::Removed(number, path) if *number == count => fs::remove_file(rt, path.as_str()),
             Event::Made(number, path) if *number == count => fs::create_dir(rt, path.as_str()),
+            Event::Filled(number, path) if *number == count => fill(rt, path),
             Event::Linked(number, to, at) if *number == count => swap(rt, to, at),
             _ => Ok(()),
         }
     }
+}
+
+// Makes a folder with a file in it.
+fn fill<R: Plain>(rt: &R, path: &str) -> io::Result<()> {
+    fs::create_dir(rt, path)?;
+    let file = format!(in rt.alloc(); "{path}/file")?;
+    fs::write(rt, file.as_str(), b"other")
 }
 
 // Puts a link to the path `to` at the path `at`. What lies there is moved to a name that ends in
@@ -79,6 +90,12 @@ impl<R: Plain> Shared<R> {
         let mut log = self.log.lock(&self.rt);
         log.calls.push(line)?;
         log.event.happen(&self.rt, log.calls.len())
+    }
+
+    // Logs a call with two paths in the same way.
+    fn note_two(&self, call: &str, from: &str, to: &str) -> io::Result<()> {
+        let paths = format!(in self.rt.alloc(); "{from} {to}")?;
+        self.note(call, paths.as_str())
     }
 
     // How many bytes a read or a write takes at most.
@@ -138,24 +155,23 @@ impl<R: Plain + Threads> Threads for Double<R> {}
 impl<R: Plain> Files for Double<R> {
     type File = Noted<R, R::File>;
 
-    type Dir = R::Dir;
+    type Dir = Listed<R, R::Dir>;
 
     fn open_file(&self, how: &OpenOptions, path: &str) -> io::Result<Noted<R, R::File>> {
-        let call = if how.asks_create_new() {
-            "create"
-        } else {
-            "open"
-        };
-        self.shared.note(call, path)?;
+        let options = format!(in self.shared.rt.alloc(); "{how:?}")?;
+        self.shared.note(name_of(options.as_str()), path)?;
         Ok(Noted {
             shared: self.shared.again()?,
             file: self.shared.rt.open_file(how, path)?,
         })
     }
 
-    fn open_dir(&self, path: &str) -> io::Result<R::Dir> {
+    fn open_dir(&self, path: &str) -> io::Result<Listed<R, R::Dir>> {
         self.shared.note("list", path)?;
-        self.shared.rt.open_dir(path)
+        Ok(Listed {
+            shared: self.shared.again()?,
+            dir: self.shared.rt.open_dir(path)?,
+        })
     }
 
     fn metadata(&self, path: &str) -> io::Result<Metadata> {
@@ -169,12 +185,12 @@ impl<R: Plain> Files for Double<R> {
     }
 
     fn copy(&self, from: &str, to: &str) -> io::Result<u64> {
-        self.shared.note("copy", to)?;
+        self.shared.note_two("copy", from, to)?;
         self.shared.rt.copy(from, to)
     }
 
     fn rename(&self, from: &str, to: &str) -> io::Result<()> {
-        self.shared.note("rename", to)?;
+        self.shared.note_two("rename", from, to)?;
         self.shared.rt.rename(from, to)
     }
 
@@ -201,6 +217,37 @@ impl<R: Plain> Files for Double<R> {
     fn set_permissions(&self, path: &str, permissions: Permissions) -> io::Result<()> {
         self.shared.note("chmod", path)?;
         self.shared.rt.set_permissions(path, permissions)
+    }
+}
+
+// How a file is opened that is only read.
+const FOR_READING: &str = "OpenOptions { read: true, write: false, append: false, truncate: false, \
+    create: false, create_new: false, mode: 438 }";
+
+// How a new file is made: its permissions are 0o666, less the user's mask.
+const AS_NEW: &str = "OpenOptions { read: true, write: true, append: false, truncate: false, \
+    create: false, create_new: true, mode: 438 }";
+
+// The name of a call that opens a file with these options: their text where they are no such.
+fn name_of(options: &str) -> &str {
+    match options {
+        FOR_READING => "open",
+        AS_NEW => "create",
+        other => other,
+    }
+}
+
+/// An open folder whose reads are logged.
+#[derive(Drop)]
+pub struct Listed<R, D> {
+    shared: Shared<R>,
+    dir: D,
+}
+
+impl<R: Plain, D: Read> Read for Listed<R, D> {
+    fn read(&mut self, buf: &mut [u8]) -> io::Result<usize> {
+        self.shared.note("read", "")?;
+        self.dir.read(buf)
     }
 }
 

@@ -72,7 +72,27 @@ static IN_PLACE: [Row; 3] = [
     },
 ];
 
-static BUILD_FOLDERS: [Row; 3] = [
+static BUILD_FOLDERS: [Row; 4] = [
+    // However many names for what is moved aside are taken, the next one is found.
+    Row {
+        name: "many-left-folders",
+        steps: &[
+            Step::Script(
+                "cd $NIX_STORE; seq -f .nix_realise-left-%g 0 4999 | xargs mkdir; : > $out",
+                &["out"],
+                Made::File(""),
+            ),
+            Step::Folder("<dir>/.build-0/left"),
+            Step::Script(
+                "test -z \"$(ls -A)\" && echo made > $out",
+                &["out"],
+                Made::File("made\n"),
+            ),
+            Step::Stands(BUILD, false),
+            Step::Stands("<dir>/.nix_realise-left-4999", true),
+            Step::Stands("<dir>/.nix_realise-left-5000", false),
+        ],
+    },
     // The build folder is empty at the start and gone at the end, also after a fault.
     Row {
         name: "build-folder",

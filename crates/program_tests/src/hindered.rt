@@ -24,6 +24,8 @@ enum Way {
     Removes(usize, &'static str),
     // It makes a folder.
     MakesFolder(usize, &'static str),
+    // It makes a folder with a file in it.
+    FillsFolder(usize, &'static str),
     // It moves what lies at the second path and makes a link to the first path there.
     Links(usize, &'static str, &'static str),
 }
@@ -76,12 +78,28 @@ const WITH_LINKED_OUTPUT: &str = "realiser-journal 2\nD <any>\nO <any.out> \
 const WITH_OUTPUT: &str = "realiser-journal 2\nD <any>\nO <any.out> \
     sha256:9ccbd3f1b19a1cdfd8d7c6ae48e9e822e2345f5be1a6187b19e41486c6941004\n";
 
+// A draft whose builder makes an output of 70,000 zero bytes, and their digest.
+const LARGE: &str = "Derive([(\"out\",\"\",\"\",\"\")],[],[],\"x86_64-linux\",\"/bin/sh\",[\"-c\",\
+    \"head -c 70000 /dev/zero > $out\"],[(\"PATH\",\"/usr/bin:/bin\"),(\"out\",\"\")])";
+
+const WITH_LARGE_OUTPUT: &str = "realiser-journal 2\nD <any>\nO <any.out> \
+    sha256:f51b279903037b37ea1828a1021499995718d38016cad6c0da30962a41be052f\n";
+
 const GREETED: (&str, &str, u8) = ("<text>\n", "", 0);
 
 const BUILT: (&str, &str, u8) = ("built <any>\noutput <any.out>\n", "", 0);
 
 // Each file is read and written byte by byte, and a run ends the same.
-static SHORT: [Row; 4] = [
+static SHORT: [Row; 5] = [
+    // A file of 70,000 bytes comes in as many pieces.
+    Row {
+        name: "short-reads-of-a-large-output",
+        before: &[Step::Put("any", LARGE)],
+        line: REALISE,
+        way: Way::Short,
+        told: BUILT,
+        after: &[Step::Holds(JOURNAL, WITH_LARGE_OUTPUT), Step::Left(4)],
+    },
     Row {
         name: "short-check",
         before: &[PUT],
@@ -264,6 +282,40 @@ static WRITTEN: [Row; 5] = [
     },
 ];
 
+// What lies at the path of the build folder is moved aside.
+const LEFT_FOLDER: Step = Step::Folder("<dir>/.build-0");
+
+const LEFT_FILE: Step = Step::Write("<dir>/.build-0/file", "left");
+
+static TAKEN: [Row; 2] = [
+    // Another worker moves a folder, or a file, to the free name before this one does: the next
+    // name is taken, and what the other worker moved stays.
+    Row {
+        name: "free-name-taken-for-a-folder",
+        before: &[PUT, LEFT_FOLDER, LEFT_FILE],
+        line: REALISE,
+        way: Way::FillsFolder(14, "<dir>/.nix_realise-left-0"),
+        told: BUILT,
+        after: &[
+            Step::Holds("<dir>/.nix_realise-left-0/file", "other"),
+            Step::Holds(JOURNAL, WITH_OUTPUT),
+            Step::Left(5),
+        ],
+    },
+    Row {
+        name: "free-name-taken-for-a-file",
+        before: &[PUT, LEFT_FOLDER, LEFT_FILE],
+        line: REALISE,
+        way: Way::Writes(14, "<dir>/.nix_realise-left-0", "other"),
+        told: BUILT,
+        after: &[
+            Step::Holds("<dir>/.nix_realise-left-0", "other"),
+            Step::Holds(JOURNAL, WITH_OUTPUT),
+            Step::Left(5),
+        ],
+    },
+];
+
 static RUN: [Row; 4] = [
     // Another process makes the build folder, or the output. With the build folder there, no
     // builder is started; an output there is written over.
@@ -366,8 +418,8 @@ static LINKED: [Row; 5] = [
     },
 ];
 
-fn tables() -> [&'static [Row]; 6] {
-    [&SHORT, &INTERRUPTED, &READ, &WRITTEN, &RUN, &LINKED]
+fn tables() -> [&'static [Row]; 7] {
+    [&SHORT, &INTERRUPTED, &READ, &WRITTEN, &TAKEN, &RUN, &LINKED]
 }
 
 // The event that hinders a run, in a scene.
@@ -381,6 +433,7 @@ fn event_of(alloc: Global, scene: &Scene, way: &Way) -> Result<Event, Fail> {
         }
         Way::Removes(number, file) => Ok(Event::Removed(*number, scene.said(alloc, file)?)),
         Way::MakesFolder(number, path) => Ok(Event::Made(*number, scene.said(alloc, path)?)),
+        Way::FillsFolder(number, path) => Ok(Event::Filled(*number, scene.said(alloc, path)?)),
         Way::Links(number, to, at) => {
             let to = scene.said(alloc, to)?;
             Ok(Event::Linked(*number, to, scene.said(alloc, at)?))

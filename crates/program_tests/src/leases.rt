@@ -4,7 +4,7 @@ use crate::double::{Double, Event};
 use crate::scene::Scene;
 use crate::steps::Step;
 use crate::texts::replaced;
-use process_build::{ByProcesses, ProcessBuild};
+use process_build::{ByProcesses, ProcessBuild, Progress, Watching};
 use sched_core::Build;
 use std::alloc::{AllocError, Global};
 use std::process;
@@ -52,7 +52,7 @@ const LEASE: &str = "lstat <it.out>\nlstat <build>\nmkdir <build>\nspawn cd \"<b
 
 // The last calls of a run, which belong to no lease: the journal is written.
 const END: &str = "lstat <dir>/realiser-journal\ncreate <dir>/.nix_realise-0\nwrite \nsync \n\
-    rename <dir>/realiser-journal\n";
+    rename <dir>/.nix_realise-0 <dir>/realiser-journal\n";
 
 fn puts() -> &'static [Step] {
     &PUTS
@@ -142,6 +142,27 @@ fn calls_of_each_lease(rt: HostRuntime) -> Result<(), Fail> {
         let line = scene.said(rt.alloc(), line)?;
         let double = Double::new(rt.clone()?, Event::Nothing)?;
         let ran = ran(&double, &ByProcesses::new(&double, &double), line.as_str())?;
+        let calls = double.calls()?;
+        let found = found(rt.alloc(), &scene, ran.status, calls.as_str())?;
+        assert_eq!(rt; found, wanted(rt.alloc(), &scene)?, "at {line}");
+        scene.close(&rt)?;
+    }
+    Ok(())
+}
+
+// The line of progress changes nothing of that: each lease keeps its number, and its own folder.
+#[test]
+fn calls_behind_the_line_of_progress(rt: HostRuntime) -> Result<(), Fail> {
+    let process = process::id(rt.process());
+    let make = ByProcesses::new(&rt, &rt);
+    for line in LINES {
+        let scene = Scene::behind(&rt, &make, process, "watched-leases", puts())?;
+        let line = scene.said(rt.alloc(), line)?;
+        let double = Double::new(rt.clone()?, Event::Nothing)?;
+        let builders = ByProcesses::new(&double, &double);
+        let progress = Progress::new(Vec::new(rt.alloc()));
+        let watching = Watching::new(&double, &builders, &progress);
+        let ran = ran(&double, &watching, line.as_str())?;
         let calls = double.calls()?;
         let found = found(rt.alloc(), &scene, ran.status, calls.as_str())?;
         assert_eq!(rt; found, wanted(rt.alloc(), &scene)?, "at {line}");

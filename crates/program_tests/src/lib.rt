@@ -8,6 +8,7 @@
 //! | `lines` | the lines of `check` |
 //! | `checks` | derivations that are read from files |
 //! | `added_texts`, `journals` | `add-text`, and the journal file that it writes |
+//! | `corners` | byte order marks, permissions, a path without a slash, long lines |
 //! | `drvs` | `add-drv` |
 //! | `planning` | `plan` |
 //! | `realising`, `realisations`, `many` | `realise`: its faults, its reports, many derivations |
@@ -32,6 +33,8 @@ mod calls;
 mod checks;
 #[cfg(test)]
 mod commands;
+#[cfg(test)]
+mod corners;
 #[cfg(test)]
 mod double;
 #[cfg(test)]

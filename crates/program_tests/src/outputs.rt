@@ -41,6 +41,16 @@ static LIMITS: [Row; 4] = [
                 Made::Failed(Reason::ReadFault),
             ),
             Step::Script(
+                "mkdir $out; ln -s /etc/passwd $out/a",
+                &["out"],
+                Made::Failed(Reason::ReadFault),
+            ),
+            Step::Script(
+                "mkdir -p $out/a; : > $out/b; ln -s ../b $out/a/c",
+                &["out"],
+                Made::Failed(Reason::ReadFault),
+            ),
+            Step::Script(
                 "mkdir -p $out/a; : > $out/a/$(printf '\\377')",
                 &["out"],
                 Made::Failed(Reason::ReadFault),

@@ -2,10 +2,11 @@
 use crate::running::{Idle, Narrow};
 use crate::scene::first_fault;
 use crate::steps::{Row, Step};
+use crate::texts::text_of;
 use process_build::ByProcesses;
 use std::process;
 use std::test::Fail;
-use subcommands::{Status, refuse_words, run};
+use subcommands::{Ending, Status, refuse_words, run};
 
 const UNWRITABLE: &str = "nix_realise: run: Unwritable\n";
 
@@ -174,9 +175,7 @@ static JOBS: [Row; 2] = [
             Step::Run(
                 "nix_realise realise --store-dir x --jobs 0 x",
                 "",
-                "error: invalid value '0' for '--jobs <N>': a number from 1 to 64 is expected\n\
-                    \n\
-                    Usage: nix_realise realise [OPTIONS] <DRV>...\n\
+                "error: invalid value '0' for '--jobs <N>': 0 is not in 1..=64\n\
                     \n\
                     For more information, try '--help'.\n",
                 2,
@@ -184,9 +183,7 @@ static JOBS: [Row; 2] = [
             Step::Run(
                 "nix_realise realise --store-dir x --jobs 65 x",
                 "",
-                "error: invalid value '65' for '--jobs <N>': a number from 1 to 64 is expected\n\
-                    \n\
-                    Usage: nix_realise realise [OPTIONS] <DRV>...\n\
+                "error: invalid value '65' for '--jobs <N>': 65 is not in 1..=64\n\
                     \n\
                     For more information, try '--help'.\n",
                 2,
@@ -194,9 +191,7 @@ static JOBS: [Row; 2] = [
             Step::Run(
                 "nix_realise realise --store-dir x --jobs x x",
                 "",
-                "error: invalid value 'x' for '--jobs <N>': a number from 1 to 64 is expected\n\
-                    \n\
-                    Usage: nix_realise realise [OPTIONS] <DRV>...\n\
+                "error: invalid value 'x' for '--jobs <N>': invalid digit found in string\n\
                     \n\
                     For more information, try '--help'.\n",
                 2,
@@ -205,9 +200,7 @@ static JOBS: [Row; 2] = [
                 // The number is an empty word.
                 "nix_realise realise --store-dir x --jobs  x",
                 "",
-                "error: invalid value '' for '--jobs <N>': a number from 1 to 64 is expected\n\
-                    \n\
-                    Usage: nix_realise realise [OPTIONS] <DRV>...\n\
+                "error: invalid value '' for '--jobs <N>': cannot parse integer from empty string\n\
                     \n\
                     For more information, try '--help'.\n",
                 2,
@@ -276,13 +269,21 @@ fn numbers_of_builders(rt: HostRuntime) -> Result<(), Fail> {
     Ok(())
 }
 
+const NOT_TEXT: &str = "error: invalid UTF-8 was detected in one or more arguments\n\
+    \n\
+    Usage: nix_realise <COMMAND>\n\
+    \n\
+    For more information, try '--help'.\n";
+
 #[test]
-fn words_that_are_not_text(rt: HostRuntime) {
+fn words_that_are_not_text(rt: HostRuntime) -> Result<(), Fail> {
     let mut out = Vec::new(rt.alloc());
     let mut err = Vec::new(rt.alloc());
-    assert!(rt; refuse_words(rt.alloc(), &mut out, &mut err) == Status::Refused);
-    assert!(rt; err.starts_with(b"error: invalid UTF-8 was detected in one or more arguments\n"));
+    assert!(rt; refuse_words(rt.alloc(), &mut out, &mut err) == Ending::Told(Status::Refused));
+    let told = text_of(rt.alloc(), &err)?;
+    assert_eq!(rt; told.as_str(), NOT_TEXT);
     assert!(rt; out.is_empty());
+    Ok(())
 }
 
 // Standard error has room for 5 bytes.
@@ -291,7 +292,7 @@ fn refused_mistakes(rt: HostRuntime) {
     for word in ["--frob", "--store-dir=x y"] {
         let words = ["nix_realise", "check", word];
         let mut out = Vec::new(rt.alloc());
-        let status = run(&rt, &Idle, &words, &mut out, &mut Narrow { room: 5 });
-        assert!(rt; status == Status::CutShort && out.is_empty(), "at {word}");
+        let ending = run(&rt, &Idle, &words, &mut out, &mut Narrow { room: 5 });
+        assert!(rt; ending == Ending::Untold && out.is_empty(), "at {word}");
     }
 }

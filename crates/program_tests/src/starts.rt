@@ -6,6 +6,7 @@ use crate::steps::{Row, Step};
 use process_build::{ByProcesses, ProcessBuild};
 use sched_core::{Build, Job, Reason};
 use std::alloc::Allocator;
+use std::cell::Cell;
 use std::process::{
     Child, ChildStderr, ChildStdin, ChildStdout, Command, ExitStatus, OpenProcess, Processes, Stdio,
 };
@@ -171,10 +172,12 @@ fn texts_that_no_process_takes(rt: HostRuntime) -> Result<(), Fail> {
     Ok(())
 }
 
-// A host on which no process can be started, for this cause.
+// A host on which no process can be started, for this cause. It counts the starts that are tried,
+// and after the third there is another cause.
 #[derive(Drop)]
 struct NoProcess {
     cause: io::ErrorKind,
+    starts: Cell<u32>,
 }
 
 impl Processes for NoProcess {
@@ -187,6 +190,10 @@ impl Processes for NoProcess {
         _stdout: &Stdio,
         _stderr: &Stdio,
     ) -> io::Result<Child<process::SystemProcess>> {
+        self.starts.set(self.starts.get().saturating_add(1));
+        if self.starts.get() > 3 {
+            return Err(io::Error::from(io::ErrorKind::Other));
+        }
         Err(io::Error::from(self.cause))
     }
 }
@@ -229,20 +236,41 @@ impl Processes for LostProcesses {
     }
 }
 
-// Why a job fails for which no process can be started, if the build folder is removed.
+// Why a job fails for which no process can be started, and how often a start was tried, if the
+// build folder is removed.
 fn refusal<R: Files + AllocGlobal>(
     rt: &R,
     site: &Site,
     job: &Job,
     cause: io::ErrorKind,
-) -> Result<Option<Reason>, Fail> {
-    let none = NoProcess { cause };
+) -> Result<Option<(Reason, u32)>, Fail> {
+    let none = NoProcess {
+        cause,
+        starts: Cell::new(0),
+    };
     let build = ProcessBuild::new(rt.alloc(), rt, &none, site.folder.as_str())?;
     let reason = build.run(0, job).err();
     let folder = format!(in rt.alloc(); "{}/.build-0", site.folder)?;
     let stands = fs::symlink_metadata(rt, folder.as_str()).is_ok();
-    Ok(if stands { None } else { reason })
+    Ok(match reason {
+        Some(reason) if !stands => Some((reason, none.starts.get())),
+        _ => None,
+    })
 }
+
+// The causes for which a start is refused, the reasons of the failure, and how often a start is
+// tried: again where a signal came between, and once for every other cause.
+const REFUSED_STARTS: [(io::ErrorKind, Reason, u32); 9] = [
+    (io::ErrorKind::OutOfMemory, Reason::OutOfMemory, 1),
+    (io::ErrorKind::WouldBlock, Reason::NoStart, 1),
+    (io::ErrorKind::ExecutableFileBusy, Reason::NoStart, 1),
+    (io::ErrorKind::ResourceBusy, Reason::NoStart, 1),
+    (io::ErrorKind::TimedOut, Reason::NoStart, 1),
+    (io::ErrorKind::NotFound, Reason::NoStart, 1),
+    (io::ErrorKind::PermissionDenied, Reason::NoStart, 1),
+    (io::ErrorKind::Other, Reason::NoStart, 1),
+    (io::ErrorKind::Interrupted, Reason::NoStart, 4),
+];
 
 // Want of memory at the start has its own reason, and every other cause the reason of a failed
 // start. A failed wait has another reason.
@@ -251,14 +279,9 @@ fn refused_starts(rt: HostRuntime) -> Result<(), Fail> {
     let folder = new_folder(&rt, process::id(rt.process()), "refused-starts")?;
     let site = Site { folder };
     let job = site.job(rt.alloc(), b"/bin/sh", &["out"])?;
-    for (cause, reason) in [
-        (io::ErrorKind::OutOfMemory, Reason::OutOfMemory),
-        (io::ErrorKind::WouldBlock, Reason::NoStart),
-    ] {
-        assert!(rt;
-            refusal(&rt, &site, &job, cause)? == Some(reason),
-            "at {reason:?}"
-        );
+    for (cause, reason, starts) in REFUSED_STARTS {
+        let came = refusal(&rt, &site, &job, cause)?;
+        assert_eq!(rt; came, Some((reason, starts)), "at {cause:?}");
     }
     let lost = ProcessBuild::new(rt.alloc(), &rt, &LostProcesses, site.folder.as_str())?;
     assert!(rt;

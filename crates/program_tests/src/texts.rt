@@ -7,6 +7,9 @@ use std::alloc::{AllocError, Global};
 use std::str;
 use std::test::Fail;
 
+// A path from any folder that is not deep to the root.
+const UP: &str = "../../../../../../../../../../../../../../../../../../../../../../../..";
+
 /// Words in angle brackets, and the texts for which they stand.
 #[derive(Drop)]
 pub struct Names {
@@ -14,11 +17,13 @@ pub struct Names {
 }
 
 impl Names {
-    /// The word `<dir>` for a folder.
+    /// The word `<dir>` for a folder, and `<up>` for the same folder by a relative path.
     pub fn of(alloc: Global, folder: &str) -> Result<Names, AllocError> {
         let names = Vec::new(alloc);
         let mut names = Names { names };
         names.bind(alloc, "dir", String::from_str(alloc, folder)?)?;
+        // The folder above the root is the root.
+        names.bind(alloc, "up", format!(in alloc; "{UP}{folder}")?)?;
         Ok(names)
     }
 
