@@ -53,17 +53,24 @@ def output_of(folder, number, inputs, script=SCRIPT, sources=()):
     return make_path("output:out", digest(derivation(name, "", hashes, script, sources)), folder, name)
 
 
-def write(folder, number, inputs, script=SCRIPT, sources=()):
-    """Writes the derivation with this number, whose inputs are paths with their modulo hashes, and gives its own."""
+def made(folder, number, inputs, script=SCRIPT, sources=()):
+    """The path, the text, the output's path and the modulo hash of the derivation with this number, whose inputs are paths with
+    their modulo hashes."""
     name = name_of(number)
     output = output_of(folder, number, inputs, script, sources)
     paths = sorted(path for path, _ in inputs)
     hashes = sorted({modulo for _, modulo in inputs})
     text = derivation(name, output, paths, script, sources)
     path = text_path(folder, name + ".drv", text.encode(), sorted([*paths, *sources]))
+    return path, text, output, digest(derivation(name, output, hashes, script, sources))
+
+
+def write(folder, number, inputs, script=SCRIPT, sources=()):
+    """Writes the derivation with this number, whose inputs are paths with their modulo hashes, and gives its own."""
+    path, text, _, modulo = made(folder, number, inputs, script, sources)
     with open(path, "w", encoding="ascii") as file:
         file.write(text)
-    return path, digest(derivation(name, output, hashes, script, sources))
+    return path, modulo
 
 
 def write_fixed(folder, name, script, inputs, content):

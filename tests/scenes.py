@@ -7,6 +7,7 @@ import shutil
 import stat
 import subprocess
 import sys
+import tempfile
 
 HERE = pathlib.Path(__file__).resolve().parent
 sys.path.insert(0, str(HERE.parent / "bench"))
@@ -14,6 +15,7 @@ from store_paths import text_path  # noqa: E402,F401
 
 BUILT = HERE.parent / "crates/nix_realise/out/nix_realise"
 PATH = ("PATH", "/usr/sbin:/usr/bin:/sbin:/bin")
+MEMORY = "/dev/shm"
 
 
 def program_of(words):
@@ -23,6 +25,17 @@ def program_of(words):
     if not os.access(program, os.X_OK):
         sys.exit(f"{program} is not there: build it by (cd crates/nix_realise && rt run -- --help)")
     return str(program)
+
+
+def room(need=2**28):
+    """A folder for temporary files: a memory file system with so many bytes free, else the usual
+    one. Scripts that write many files would wait for a disk."""
+    try:
+        if os.access(MEMORY, os.W_OK) and shutil.disk_usage(MEMORY).free >= need:
+            return MEMORY
+    except OSError:
+        pass
+    return tempfile.gettempdir()
 
 
 def number_of(words, option, default):

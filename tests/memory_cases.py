@@ -1,0 +1,270 @@
+"""What `tests/memory-sources --self-test` plants: bugs that have to be found, and good code."""
+
+# Bugs that make want of memory up. Each is planted at the end of a file.
+PLANTED = {
+    "a catch-all arm": """
+fn p(r: Result<u8, AllocError>) -> Result<u8, XFault> {
+    match r { Ok(n) => Ok(n), Err(_) => Err(XFault::NoMemory) }
+}""",
+    "a named other fault": """
+fn p(r: Result<u8, BookFault>) -> Result<u8, BookFault> {
+    match r {
+        Err(BookFault::BadName | BookFault::NoMemory) => Err(BookFault::NoMemory),
+        other => other,
+    }
+}""",
+    "an alternative": """
+fn p(f: BookFault) -> BookFault { match f { BookFault::NoMemory | BookFault::NoView =>
+    BookFault::NoMemory, other => other } }""",
+    "an early return": """
+fn p(n: usize) -> Result<(), XFault>
+    ensures { IfErr result (λ e. e ≡ NoMemory) }
+{
+    if n > 1024 { return Err(XFault::NoMemory); }
+    Ok(())
+}""",
+    "a closure": "fn p(r: Result<u8, u8>) -> Result<u8, AllocError> { r.map_err(|_| AllocError) }",
+    "a closure's fault": """
+fn p(r: Result<u8, u8>) -> Result<u8, XFault> { r.map_err(|_| XFault::NoMemory) }""",
+    "an option": "fn p(n: Option<u8>) -> Result<u8, XFault> { n.ok_or(XFault::NoMemory) }",
+    "another value for a missing one": """
+fn p(f: Option<XFault>) -> XFault { f.unwrap_or(XFault::NoMemory) }""",
+    "a let with else": """
+fn p(n: Option<u8>) -> Result<u8, XFault> { let Some(n) = n else { return Err(XFault::NoMemory);
+    }; Ok(n) }""",
+    "a conversion of another error": """
+impl From<XFault> for YFault { fn from(_: XFault) -> Self { YFault::NoMemory } }""",
+    "a conversion to std's error": """
+impl From<XFault> for AllocError { fn from(_: XFault) -> Self { Self } }""",
+    "a conversion to another variant": """
+impl From<AllocError> for XFault {
+    ghost from_gives = { λ _ fault. fault ≡ NoMemory };
+    fn from(error: AllocError) -> Self { keep(error); XFault::NoMemory }
+}""",
+    "a guard": """
+fn p(e: BookFault) -> Reason { match e { fault if fault.number() < 9 => Reason::OutOfMemory, _
+    => Reason::Killed } }""",
+    "a value in a guard": """
+fn p(e: BookFault) -> bool { match e { fault if tell(BookFault::NoMemory) => true, _ => false }
+    }""",
+    "a value kept for later": "fn p() -> bool { let fault = XFault::NoMemory; tell(fault) }",
+    "a fault put in another's place": """
+fn p(f: &mut XFault) -> XFault { mem::replace(f, XFault::NoMemory) }""",
+    "a conversion of a bound error": """
+impl<T: Drop> From<Held<T>> for YFault {
+    ghost from_gives = { λ _ fault. fault ≡ NoMemory };
+    fn from(_: Held<T>) -> Self { YFault::NoMemory }
+}""",
+    "a conversion without its clause": """
+impl From<AllocError> for ZFault { fn from(_: AllocError) -> Self { ZFault::NoMemory } }""",
+    "a value within a tuple": """
+fn p(op: Op) -> Result<(), (Op, AllocError)> { Err((op, AllocError)) }""",
+    "an argument": "fn p(b: &mut Book) { b.fail(Reason::OutOfMemory); }",
+    "a lease abandoned for another cause": "fn p(b: &mut Book, l: Lease) { let _ = b.abandon(l); }",
+    "an error that holds what came back": """
+fn p(v: u8) -> AllocError { AllocFailed { value: v }.into() }""",
+    "another name for std's error": """
+use std::alloc::AllocError as Refused;
+fn p(n: u8) -> Result<u8, Refused> { Err(Refused) }""",
+    "std's other name for it": """
+use std::collections::TryReserveError;
+fn p() -> TryReserveError { TryReserveError }""",
+    "another name for a variant": """
+use crate::fault::XFault::NoMemory as Short;
+fn p() -> XFault { Short }""",
+    "a variant imported": """
+use crate::fault::XFault::NoMemory;
+fn p(r: u8) -> u8 { r }""",
+    "all variants imported": """
+use crate::fault::XFault::*;
+fn p(r: u8) -> u8 { r }""",
+    "an own type by std's name": """
+pub struct AllocError;
+fn p(n: u8) -> u8 { n }""",
+    "std's name from elsewhere": """
+use crate::own::AllocError;
+fn p(n: u8) -> u8 { n }""",
+    "another name of a type": """
+type Refused = AllocError;
+fn p() -> Refused { Refused {} }""",
+    "a borrowed value": "fn p(n: u8) -> Result<u8, AllocError> { let e = *&AllocError; Err(e) }",
+    "a value with braces": "fn p(n: u8) -> Result<u8, AllocError> { Err(AllocError {}) }",
+    "a field of a struct": "fn p() -> Passed { Passed { fault: BookFault::NoMemory } }",
+    "a changed copy of a struct": """
+fn p(old: Passed) -> Passed { Passed { fault: BookFault::NoMemory, ..old } }""",
+    "a variant that holds it": "fn p() -> Stop { Stop::Run(RunFault::NoMemory) }",
+    "a comparison": "fn p(a: XFault) -> bool { a < X::NoMemory }",
+    "an equality that keeps its operand": """
+fn p(a: XFault) -> XFault { let b = a == XFault::NoMemory.kept(); a }""",
+    "a constant": """
+const WANT: XFault = XFault::NoMemory;
+fn p() -> XFault { WANT }""",
+    "a static": """
+static WANT: XFault = XFault::NoMemory;
+fn p() -> &'static XFault { &WANT }""",
+    "a constant by the variant's name": "impl YFault { const NoMemory: YFault = YFault::BadName; }",
+    "a constant of a trait": "trait Faulty { const NoMemory: Self; }",
+    "its own type's name": "impl XFault { fn p() -> Self { Self::NoMemory } }",
+    "a variant by default": """
+#[derive(Default)]
+pub enum Q { #[default] NoMemory, Other }""",
+    "a default": "impl Default for XFault { fn default() -> Self { XFault::Other } }",
+    "a variant of a number": "pub enum Q { NoMemory = 9, Other = 10 }",
+    "a macro": "macro_rules! want { () => { XFault::Killed } }",
+    "a block comment": "fn p() -> u8 { /* /* */ 7 /* */ }",
+    "a raw string": r"""
+fn p() -> u8 { let a = r"\"; 7 }""",
+    "a pattern that binds everything": """
+fn p(r: Result<u8, YFault>) -> Result<u8, BookFault> {
+    match r { Ok(n) => Ok(n), Err(NoMemory) => Err(BookFault::NoMemory) }
+}""",
+    "a pattern of std's name that binds everything": """
+fn p(r: Result<u8, YFault>) -> Result<u8, AllocError> { match r { Ok(n) => Ok(n),
+    Err(AllocError) => Err(AllocError) } }""",
+    "an enum of others": """
+fn p(r: Result<u8, other::Full>) -> Result<u8, BookFault> {
+    match r { Ok(n) => Ok(n), Err(other::Full::NoSpace) => Err(BookFault::NoMemory) }
+}""",
+    "a system's error": """
+fn p(k: ErrorKind) -> Reason { match k { ErrorKind::OutOfMemory => Reason::OutOfMemory, _ =>
+    Reason::Killed } }""",
+    "an error made of a kind": "fn p() -> io::Error { io::Error::from(ErrorKind::OutOfMemory) }",
+    "an error made of a number": "fn p() -> io::Error { io::Error::from_raw_os_error(12) }",
+    "a block before the arms": """
+fn p(n: u8) -> Result<u8, BookFault> { match { Err(BookFault::NoMemory) } { r => r } }""",
+    "a clause that is none": """
+fn p(n: u8) -> ensures { let x = ensures { fault: BookFault::NoMemory }; x }""",
+    "a ghost item that is none": "fn p(n: u8) -> XFault { ghost + XFault::NoMemory }",
+    "an arm within an arm": """
+fn p(r: Result<u8, BookFault>) -> Result<u8, BookFault> {
+    match r {
+        Err(BookFault::NoMemory) => match p(r) { Ok(n) => Err(BookFault::NoMemory), other =>
+            other },
+        other => other,
+    }
+}""",
+    "a wanted fault kept in its arm": """
+fn p(r: Result<u8, BookFault>, kept: &mut BookFault) -> u8 {
+    match r { Err(BookFault::NoMemory) => { *kept = BookFault::NoMemory; 7 } _ => 8 }
+}""",
+    "a room without end": """
+fn p(alloc: Global) -> Result<Vec<u8>, AllocError> { Ok(Vec::with_capacity(alloc, usize::MAX)?)
+    }""",
+    "a room of a large constant": """
+fn p(v: &mut Vec<u8>) -> Result<(), AllocError> { v.reserve(1 << 62) }""",
+    "a room of any size": """
+fn p(v: &mut Vec<u8>, many: usize) -> Result<(), AllocError> { v.reserve_exact(many) }""",
+    "a room by steps": """
+fn p(v: &mut Vec<u8>) -> Result<(), AllocError> { v.reserve(v.len() * 1000000) }""",
+    "a list without end": """
+fn p(alloc: Global, many: usize) -> Result<Vec<u8>, AllocError> {
+    Ok(vec![in alloc; 0; many]?)
+}""",
+    "the largest number kept": "fn p() -> usize { let n = usize::MAX; n }",
+    "a text whose writing fails": """
+impl Display for Q { fn fmt(&self, f: &mut Formatter) -> fmt::Result { Err(fmt::Error) } }""",
+    "its fault imported": "use std::fmt::{Display, Error, Formatter};\nfn p() -> Error { Error }",
+    "a list of any length": """
+fn p(alloc: Global, many: usize) -> Result<Vec<u8>, AllocError> {
+    Vec::from_elem(alloc, 0, many)
+}""",
+    "a thread that can't start": """
+fn p<R: Threads>(rt: &R, s: &Scope) -> Result<(), AllocError> { s.spawn(|| 7)?; Ok(()) }""",
+    "a reader without a place": """
+fn p(line: &Line) -> Result<Sight, AllocError> { Ok(line.writer.factory().reader()?) }""",
+    "a line printed for another cause": """
+fn p(err: &mut E, r: Result<u8, YFault>) -> Status { match r { _ => print_no_memory(err) } }""",
+    "code of another file": 'include!("more.txt");',
+    "a module of another file": """
+#[path = "more.txt"]
+mod more;""",
+}
+
+# Bugs that change a line: the file, the line, and what stands in its place.
+EDITED = {
+    "a second lease failed where one is listed": (
+        "sched_core/src/book.rt",
+        "        self.fail(lease, Reason::OutOfMemory)\n",
+        "        if lease.number() > 9 { return self.fail(lease, Reason::OutOfMemory); }\n"
+        "        self.fail(lease, Reason::OutOfMemory)\n",
+    ),
+    "a listed place for another cause": (
+        "process_build/src/failures.rt",
+        "ErrorKind::OutOfMemory if error.raw_os_error().is_none() => Failure::NoMemory",
+        "ErrorKind::OutOfMemory => Failure::NoMemory",
+    ),
+    "a variant with another meaning": (
+        "sched_core/src/fault.rt",
+        "    NoMemory,\n",
+        "    NoMemory(u8),\n",
+    ),
+}
+
+# Code that has to pass.
+ALLOWED = {
+    "an arm of want alone": """
+fn p(r: Result<u8, BookFault>) -> Result<u8, RunFault> {
+    match r { Ok(n) => Ok(n), Err(BookFault::NoMemory) => Err(RunFault::NoMemory), Err(_) =>
+        Err(RunFault::Other) }
+}""",
+    "an arm that returns": """
+fn p(r: Result<u8, BookFault>) -> Result<u8, RunFault> {
+    let n = match r { Ok(n) => n, Err(BookFault::NoMemory) => return Err(RunFault::NoMemory),
+        Err(_) => unreachable!() };
+    Ok(n)
+}""",
+    "two enums' want": """
+fn p(f: BookFault) -> RunFault { match f { BookFault::NoMemory | Self::NoMemory =>
+    RunFault::NoMemory, _ => RunFault::Other } }""",
+    "want that comes with what was lent": """
+fn p(b: &mut Book) -> LeaseEnd {
+    match b.finish() { Err((BookFault::NoMemory, lease, _checked)) => self.fail(lease,
+        Reason::OutOfMemory), _ => End::Other }
+}""",
+    "want to std's error": """
+fn p(r: Result<u8, BookFault>) -> Result<u8, AllocError> {
+    match r { Ok(n) => Ok(n), Err(BookFault::NoMemory) => Err(AllocError), Err(_) =>
+        unreachable!() }
+}""",
+    "a number and a word": """
+fn p(f: &BookFault, out: &mut Vec<u8>) -> u8 { match f { BookFault::NoMemory =>
+    write(b"NoMemory", out), _ => 7 } }""",
+    "an alternative that makes nothing": """
+fn p(s: &Stop) -> &[u8] { match s { Stop::Run(_) | Stop::NoMemory | Stop::Unwritable => b"run",
+    _ => b"" } }""",
+    "a fault handed on whole": """
+fn p(r: Result<u8, BookFault>) -> Result<u8, BookFault> { match r { Ok(n) => Ok(n), Err(fault)
+    => Err(fault) } }""",
+    "a conversion": """
+impl From<AllocError> for XFault {
+    ghost from_gives = { λ _ fault. fault ≡ NoMemory };
+    fn from(_: AllocError) -> Self { XFault::NoMemory }
+}
+#[derive(Debug, Drop)]
+pub enum XFault { NoMemory, Other(u8) }""",
+    "a conversion of an error that hands back": """
+impl<T: Drop> From<AllocFailed<T>> for Stop<'_> {
+    ghost from_gives = { λ _ fault. fault ≡ NoMemory };
+    fn from(_e: AllocFailed<T>) -> Self { Stop::NoMemory }
+}""",
+    "types": """
+use std::alloc::{AllocError, Global};
+pub struct Returned { pub op: Op, pub error: AllocError }
+pub enum Refusal { NoMemory, NoPlace(AllocError) }
+fn p(op: Op, line: &Result<String, AllocError>) -> Result<Option<([u8; 32], u8)>, (Op,
+    AllocFailed<Op>)>
+    requires { n ≡ 7 }
+    ensures err { IfErr result (λ e. e ≡ BookFault.NoMemory) }
+{
+    Ok(None)
+}""",
+    "sizes": """
+fn p(alloc: Global, v: &mut Vec<u8>, dir: &Dir) -> Result<Vec<u8>, AllocError> {
+    v.reserve(1)?;
+    let all = vec![in alloc; false; dir.rows().len()]?;
+    for _ in 0..u64::MAX { step(); }
+    Ok(Vec::with_capacity(alloc, 2 * v.len() + dir.text.len() + 1)?)
+}""",
+    "a list of given values": """
+fn p(alloc: Global) -> Result<Vec<u8>, AllocError> { Ok(vec![in alloc; 7, 8]?) }""",
+}

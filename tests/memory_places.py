@@ -1,0 +1,78 @@
+"""What `tests/memory-sources` lets pass by name, each with its reason."""
+
+# (file, function, the words that stand there, once): why they may.
+PLACES = {
+    ("sched_core/src/book.rt", "abandon", "self . fail ( lease , Reason :: OutOfMemory )"): (
+        "what the call means: who builds may end a lease so, to whom memory was refused; no code"
+        " here calls it"
+    ),
+    ("valid_view/src/line.rt", "append", "AllocFailed { value : ( ) } . into ( )"): (
+        "left_right gives the operation back exactly where its queue could not grow"
+    ),
+    (
+        "valid_view/src/shelf.rt",
+        "absorb_first",
+        "Err ( AllocFailed { value : fault } . into ( ) )",
+    ): "never reached, since the entry may follow the shown ones; Absorb cannot say so",
+    ("valid_view/src/line.rt", "reader", "match self . writer . factory ( ) . reader ( ) {"): (
+        "answers AllocError where each place is in use, which is told as NoView"
+    ),
+    (
+        "process_build/src/failures.rt",
+        "from",
+        "ErrorKind :: OutOfMemory if error . raw_os_error ( ) . is_none ( ) => Failure :: NoMemory",
+    ): "an error of std's without a number of the system's is that std was refused memory",
+    (
+        "subcommands/src/program.rt",
+        "print_usage",
+        "if fault . kind ( ) == ErrorKind :: OutOfMemory { return print_no_memory ( err ) ; }",
+    ): "clap was refused memory",
+    ("subcommands/src/program.rt", "refuse_words", "Err ( _ ) => print_no_memory ( err )"): (
+        "the fault of a call whose only fault is AllocError"
+    ),
+    (
+        "subcommands/src/program.rt",
+        "print_stop",
+        "let Ok ( line ) = stop_line ( alloc , stop ) else { return print_no_line ( err ) ; }",
+    ): "there was no memory for the line; the only fault of its call is AllocError",
+    (
+        "subcommands/src/program.rt",
+        "print_no_line",
+        "match print_bytes ( NO_MEMORY_LINE , err ) { Ok ( ( ) ) => Ending :: NoMemory",
+    ): "what the call means",
+    ("subcommands/src/program.rt", "print_no_memory", "print_bytes ( NO_MEMORY_LINE , err )"): (
+        "what the call means"
+    ),
+    ("subcommands/src/process.rt", "run_process", "Err ( _ ) => print_no_memory ( err )"): (
+        "there was no memory for the buffer of standard output"
+    ),
+    ("subcommands/src/process.rt", "run_arguments", "Err ( _ ) => print_no_memory ( err )"): (
+        "arguments that are text can be refused for want of memory alone"
+    ),
+    ("subcommands/src/process.rt", "run_texts", "Err ( _ ) => print_no_memory ( err )"): (
+        "the fault of a call whose only fault is AllocError"
+    ),
+    (
+        "store_run/src/run.rt",
+        "run_workers",
+        "let _ = scope . spawn ( move || work ( rt , alloc , locked , reader , & builder ) )",
+    ): "a thread that can't be started is told as ThreadFault, if all of them can't",
+    ("process_build/src/start.rt", "start", "match command . spawn ( processes ) {"): (
+        "starts a process; its error is std's, and goes through Failure"
+    ),
+}
+
+# (file, a size that is no sum of lengths): what it is.
+SIZES = {
+    ("nix_names/src/base32.rt", "len"): "the characters of the text of some bytes",
+    ("nix_names/src/base32.rt", "n"): "at most the characters of a text (`within`)",
+    ("process_build/src/reading.rt", "MAX_PIECE"): "the bytes of a piece, 65,536",
+    ("process_build/src/tally.rt", "unsettled : usize :: MAX"): "no size: no count reaches it",
+    ("ref_scan/src/index.rt", "slots"): "the slots of a sieve, at most 1,048,576",
+    ("sched_core/src/links.rt", "count"): "a list for each output of a derivation",
+    ("sched_core/src/users.rt", "pairs_in ( plan , twins )"): "derivations with who waits for them",
+    ("valid_table/src/found.rt", "count / 64 + 1"): "a bit for each row",
+    ("valid_table/src/journal.rt", "paths"): "what the caller asks for",
+    ("valid_table/src/table.rt", "paths"): "what the caller asks for",
+    ("valid_view/src/opening.rt", "count"): "the number of readers, at most 64",
+}
