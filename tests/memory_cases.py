@@ -174,6 +174,106 @@ fn p<R: Threads>(rt: &R, s: &Scope) -> Result<(), AllocError> { s.spawn(|| 7)?; 
 fn p(line: &Line) -> Result<Sight, AllocError> { Ok(line.writer.factory().reader()?) }""",
     "a line printed for another cause": """
 fn p(err: &mut E, r: Result<u8, YFault>) -> Status { match r { _ => print_no_memory(err) } }""",
+    "a length that a type makes up": """
+struct Wide;
+impl Wide { pub fn len(&self) -> usize { 1 << 62 } }
+fn p(v: &mut Vec<u8>, w: &Wide) -> Result<(), AllocError> { v.reserve(w.len()) }""",
+    "the length of a range": """
+fn p(v: &mut Vec<u8>) -> Result<(), AllocError> { let all = 0..1 << 62; v.reserve(all.len()) }""",
+    "the length of a range behind a loop": """
+fn p(v: &mut Vec<u8>, w: &[u8]) -> Result<(), AllocError> {
+    for x in w { step(x); }
+    let all = 0..w[0] << 62;
+    v.reserve(all.len())
+}""",
+    "the length of an array of nothing": """
+fn p(v: &mut Vec<u8>) -> Result<(), AllocError> {
+    let all = [(); 4611686018427387904];
+    v.reserve(all.len())
+}""",
+    "a list collected from a long range": """
+fn p(alloc: Global, n: usize) -> Result<Vec<u8>, AllocError> { (0..n).map(|_| 7).collect(alloc) }
+""",
+    "a loop over a list of a long range": """
+fn p(alloc: Global, n: usize) -> Result<(), AllocError> {
+    for x in (0..n).collect::<Vec<usize>>(alloc)? { step(x); }
+    Ok(())
+}""",
+    "a list collected from a range without end": """
+fn p(alloc: Global) -> Result<Vec<usize>, AllocError> { (0..).collect(alloc) }""",
+    "an item again and again": """
+fn p(alloc: Global) -> Result<Vec<u8>, AllocError> { iter::repeat(7).take(1 << 62).collect(alloc) }
+""",
+    "a list again and again": """
+fn p(alloc: Global, v: &[u8]) -> Result<Vec<&u8>, AllocError> {
+    v.iter().cycle().take(1 << 62).collect(alloc)
+}""",
+    "the length of a list of nothing": """
+fn p(v: &mut Vec<u8>, many: Vec<()>) -> Result<(), AllocError> { v.reserve(many.len()) }""",
+    "a list made longer": """
+fn p(v: &mut Vec<u8>) -> Result<(), AllocError> { v.resize(1 << 62, 0) }""",
+    "room exactly for any size": """
+fn p(v: &mut Vec<u8>, many: usize) -> Result<(), AllocError> { v.try_reserve_exact(many) }""",
+    "an element without end": """
+fn p(alloc: Global) -> Result<Vec<[u64; 1152921504606846976]>, AllocError> {
+    Ok(Vec::with_capacity(alloc, 1)?)
+}""",
+    "a list that promises too much": """
+impl Iterator for Promising {
+    fn size_hint(&self) -> (usize, Option<usize>) { (1 << 62, None) }
+}""",
+    "std's fmt under another name": """
+use std::fmt as shown;
+impl Display for Q { fn fmt(&self, f: &mut Formatter) -> shown::Result { Err(shown::Error) } }""",
+    "its fault imported behind another name": """
+use std::fmt::{Display as Shown, Error};
+impl Shown for Q { fn fmt(&self, f: &mut Formatter) -> Result<(), Error> { Err(Error) } }""",
+    "its fault by default": """
+impl Display for Q { fn fmt(&self, f: &mut Formatter) -> fmt::Result { Err(None
+    .unwrap_or_default()) } }""",
+    "a text longer than its place": """
+use arrayvec::ArrayString;
+impl Display for Q { fn fmt(&self, f: &mut Formatter) -> fmt::Result {
+    write!(ArrayString::<1>::new(), "too long") } }""",
+    "code in an attribute": """
+#[derive(Debug, Drop, Error)]
+pub enum Q { #[error("{}", return Err(fail()))] Other }""",
+    "a raw string of C's": r"""
+fn p() -> u8 { let a = cr"\"; 7 }""",
+    "a value behind the comma of types": """
+fn p(r: Result<u8, YFault>) -> u8 {
+    match r { Ok(_) => told::<u8, XFault>(XFault::NoMemory), Err(_) => 8 }
+}""",
+    "a closure that is an arm": """
+fn p(r: Result<u8, YFault>) -> F { match r { Ok(_) => |a, b| XFault::NoMemory, Err(_) => other } }
+""",
+    "a system's error by its own type": """
+impl Told for ErrorKind { fn reason(self) -> Reason { match self { Self::OutOfMemory =>
+    Reason::OutOfMemory, _ => Reason::Killed } } }""",
+    "a type that a trait leaves open": """
+trait Told { fn reason(self) -> Reason { match self { Self::OutOfMemory => Reason::OutOfMemory, _
+    => Reason::Killed } } }""",
+    "another type by an enum's name": """
+use std::io::ErrorKind as BookFault;
+fn p(k: BookFault) -> Reason { match k { BookFault::OutOfMemory => Reason::OutOfMemory, _ =>
+    Reason::Killed } }""",
+    "another crate's type by an enum's name": """
+use indexmap::BookFault;
+fn p(k: BookFault) -> Reason { match k { BookFault::OutOfMemory => Reason::OutOfMemory, _ =>
+    Reason::Killed } }""",
+    "a type declared by an enum's name": """
+type BookFault = ErrorKind;
+fn p(k: BookFault) -> Reason { match k { BookFault::OutOfMemory => Reason::OutOfMemory, _ =>
+    Reason::Killed } }""",
+    "the words of want for another cause": """
+fn p(r: Result<u8, YFault>, out: &mut Vec<u8>) -> Result<(), AllocError> {
+    match r { Ok(_) => Ok(()), Err(_) => write_name(b"NoMemory", out) }
+}""",
+    "the line of want written out": """
+fn p(err: &mut E) -> io::Result<()> { print_bytes(b"nix_realise: run: NoMemory\n", err) }""",
+    "a journal kept for another cause": """
+fn p(r: Result<Vec<u8>, Stop>) -> Kept { match r { Ok(_) => Kept::no_book(), Err(_) =>
+    Kept::no_memory() } }""",
     "code of another file": 'include!("more.txt");',
     "a module of another file": """
 #[path = "more.txt"]
@@ -182,6 +282,13 @@ mod more;""",
 
 # Bugs that change a line: the file, the line, and what stands in its place.
 EDITED = {
+    "a listed size in another function": (
+        "nix_names/src/base32.rt",
+        "// How many characters the text of `n` bytes has.\n",
+        "fn p(alloc: Global, len: usize) -> Result<Vec<u8>, AllocError> {\n"
+        "    Ok(Vec::with_capacity(alloc, len)?)\n}\n"
+        "// How many characters the text of `n` bytes has.\n",
+    ),
     "a second lease failed where one is listed": (
         "sched_core/src/book.rt",
         "        self.fail(lease, Reason::OutOfMemory)\n",
@@ -214,8 +321,10 @@ fn p(r: Result<u8, BookFault>) -> Result<u8, RunFault> {
     Ok(n)
 }""",
     "two enums' want": """
-fn p(f: BookFault) -> RunFault { match f { BookFault::NoMemory | Self::NoMemory =>
-    RunFault::NoMemory, _ => RunFault::Other } }""",
+impl Kept<'_> for BookFault {
+    fn p(f: BookFault) -> RunFault { match f { BookFault::NoMemory | Self::NoMemory =>
+        RunFault::NoMemory, _ => RunFault::Other } }
+}""",
     "want that comes with what was lent": """
 fn p(b: &mut Book) -> LeaseEnd {
     match b.finish() { Err((BookFault::NoMemory, lease, _checked)) => self.fail(lease,
@@ -265,6 +374,19 @@ fn p(alloc: Global, v: &mut Vec<u8>, dir: &Dir) -> Result<Vec<u8>, AllocError> {
     for _ in 0..u64::MAX { step(); }
     Ok(Vec::with_capacity(alloc, 2 * v.len() + dir.text.len() + 1)?)
 }""",
+    "ranges": """
+fn p(n: usize, v: &[u8], f: &dyn F) -> u8 {
+    for d in (0..n).rev() { step(d); }
+    for d in v.len()..n { step(d); }
+    let head = v.get(..n).unwrap_or(&v[1..n]);
+    match head { [b'0'..=b'9', rest @ ..] => f.range(1..=64), _ => 7 }
+}""",
+    "its own enum's want": """
+impl<T: Drop> Kept<T> for crate::fault::BookFault {
+    fn p(self) -> RunFault { match self { Self::NoMemory => RunFault::NoMemory, _ =>
+        RunFault::Other } }
+}""",
+    "arrays": "fn p(a: [u8; 32]) -> [Option<u8>; 3] { [None; 3] }",
     "a list of given values": """
 fn p(alloc: Global) -> Result<Vec<u8>, AllocError> { Ok(vec![in alloc; 7, 8]?) }""",
 }

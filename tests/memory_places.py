@@ -43,6 +43,9 @@ PLACES = {
     ("subcommands/src/program.rt", "print_no_memory", "print_bytes ( NO_MEMORY_LINE , err )"): (
         "what the call means"
     ),
+    ("subcommands/src/realise.rt", "keep", "Err ( _ ) => Kept :: no_memory ( )"): (
+        "the only fault of the call is want of memory"
+    ),
     ("subcommands/src/process.rt", "run_process", "Err ( _ ) => print_no_memory ( err )"): (
         "there was no memory for the buffer of standard output"
     ),
@@ -62,17 +65,24 @@ PLACES = {
     ),
 }
 
-# (file, a size that is no sum of lengths): what it is.
+# (file, function, a size that is no sum of lengths, or the length of an array): what it is.
 SIZES = {
-    ("nix_names/src/base32.rt", "len"): "the characters of the text of some bytes",
-    ("nix_names/src/base32.rt", "n"): "at most the characters of a text (`within`)",
-    ("process_build/src/reading.rt", "MAX_PIECE"): "the bytes of a piece, 65,536",
-    ("process_build/src/tally.rt", "unsettled : usize :: MAX"): "no size: no count reaches it",
-    ("ref_scan/src/index.rt", "slots"): "the slots of a sieve, at most 1,048,576",
-    ("sched_core/src/links.rt", "count"): "a list for each output of a derivation",
-    ("sched_core/src/users.rt", "pairs_in ( plan , twins )"): "derivations with who waits for them",
-    ("valid_table/src/found.rt", "count / 64 + 1"): "a bit for each row",
-    ("valid_table/src/journal.rt", "paths"): "what the caller asks for",
-    ("valid_table/src/table.rt", "paths"): "what the caller asks for",
-    ("valid_view/src/opening.rt", "count"): "the number of readers, at most 64",
+    ("nix_names/src/base32.rt", "base32_text", "len"): "the characters of the text of some bytes",
+    ("nix_names/src/base32.rt", "bytes_of", "n"): "at most the characters of a text (`within`)",
+    ("process_build/src/reading.rt", "", "MAX_PIECE"): "the bytes of a piece, 65,536",
+    ("process_build/src/reading.rt", "new", "MAX_PIECE"): "the same",
+    ("process_build/src/reading.rt", "names", "NAMES_AT_ONCE"): "4,096 bytes of names",
+    ("process_build/src/tally.rt", "new", "unsettled : usize :: MAX"): (
+        "no size: no count reaches it"
+    ),
+    ("ref_scan/src/index.rt", "sieve_of", "slots"): "the slots of a sieve, at most 1,048,576",
+    ("sched_core/src/links.rt", "no_links", "count"): "a list for each output of a derivation",
+    ("sched_core/src/users.rt", "open", "pairs_in ( plan , twins )"): (
+        "derivations with who waits for them"
+    ),
+    ("valid_table/src/found.rt", "new", "count / 64 + 1"): "a bit for each row",
+    ("valid_table/src/journal.rt", "reserve", "paths"): "what the caller asks for",
+    ("valid_table/src/table.rt", "reserve", "paths"): "what the caller asks for",
+    ("valid_view/src/front.rt", "len", "self . count"): "the entries of a list that is there",
+    ("valid_view/src/opening.rt", "made_readers", "count"): "the number of readers, at most 64",
 }
