@@ -4,7 +4,8 @@ use Rattle.std.specs.Global.{Vec}
 use Rattle.nix_names.specs.Names.{same_bytes}
 use Rattle.ref_scan.specs.declared.tree.Tree.{Dir}
 use Rattle.ref_scan.specs.declared.tree.Member.{Member}
-use Rattle.ref_scan.proofs.Folders.{count_below, count_dir}
+use Rattle.ref_scan.specs.Walk.{count_below}
+use Rattle.ref_scan.proofs.Folders.{count_dir}
 use Rattle.sched_core.specs.declared.job.Answer.{Answer}
 use Rattle.store_run.specs.ScheduleExample.{IsEmptyFolder, Leaves}
 use Rattle.book_tests.proofs.example.ProgramBuild.run.Goals as goal
