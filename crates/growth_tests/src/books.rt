@@ -16,9 +16,18 @@ use valid_table::{Journal, ListOutlet, Outlet};
 /// The system of the run.
 pub(crate) const SYSTEM: &[u8] = b"x86_64-linux";
 
-/// The journal with which a run opens: the output of `BASE` is valid.
+/// The journal with which a run opens: the output of `BASE` is valid, and so are outputs of four
+/// derivations that the plan has not.
 pub(crate) const BEFORE: &[u8] = b"realiser-journal 2
 A /nix/store/i73x2qwb221ly8r0xpzlngmrfjzb9dr1-base -
+D /nix/store/00000000000000000000000000000000-e.drv
+O /nix/store/0000000000000000000000000000000a-e -
+D /nix/store/11111111111111111111111111111111-e.drv
+O /nix/store/1111111111111111111111111111111a-e -
+D /nix/store/22222222222222222222222222222222-e.drv
+O /nix/store/2222222222222222222222222222222a-e -
+D /nix/store/33333333333333333333333333333333-e.drv
+O /nix/store/3333333333333333333333333333333a-e -
 ";
 
 /// What is wanted of a book of two derivations: their states, its events, and its journal's text.

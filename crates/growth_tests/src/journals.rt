@@ -7,7 +7,7 @@ use crate::calls::*;
 use crate::files::path;
 use crate::samples::*;
 use crate::tables::*;
-use nix_names::is_drv_name;
+use nix_names::{StorePath, is_drv_name};
 use std::alloc::{AllocError, Global};
 use std::io::Print;
 use std::slice;
@@ -129,6 +129,67 @@ fn outputs_that_are_appended(rt: HostRuntime) -> Result<(), Fail> {
     appended(&rt, rt.alloc(), &mut journal)?;
     let entry = built(rt.alloc())?;
     assert!(rt; has_last(&rt, &journal, &entry));
+    Ok(())
+}
+
+// One derivation for each letter, and its output; all are appended one after the other.
+const LETTERS: &[u8] = b"0123456789abcdfghijklmnpqrsvwxyz";
+
+// The path with this letter and this name.
+fn lettered(alloc: Global, letter: u8, name: &[u8]) -> Result<StorePath, Fail> {
+    let mut text = Vec::from_slice(alloc, b"/nix/store/fffffffffffffffffffffffffffffff")?;
+    text.push(letter)?;
+    text.extend_from_slice(name)?;
+    path(alloc, &text)
+}
+
+// The output of that derivation, which refers to `X`.
+fn output_of(alloc: Global, letter: u8) -> Result<Outputs, Fail> {
+    let (path, info) = (lettered(alloc, letter, b"-v")?, record(alloc)?);
+    Ok(Outputs::new(vec![in alloc; Registration { path, info }]?))
+}
+
+// Each derivation with its output.
+fn all_built(alloc: Global) -> Result<Vec<(StorePath, Outputs)>, Fail> {
+    let mut all = Vec::new(alloc);
+    for letter in LETTERS {
+        let deriver = lettered(alloc, *letter, b"-v.drv")?;
+        all.push((deriver, output_of(alloc, *letter)?))?;
+    }
+    Ok(all)
+}
+
+// Appends outputs one after the other.
+fn append_each(journal: &mut Journal, all: Vec<(StorePath, Outputs)>) -> Result<(), TableFault> {
+    for (deriver, outputs) in all {
+        if is_drv_name(deriver.name()) {
+            journal.append(deriver, outputs)?;
+        }
+    }
+    Ok(())
+}
+
+// How many entries a journal has to which all were appended between two printed lines. None where
+// memory was refused.
+fn length_behind<R: Print>(rt: &R, alloc: Global) -> Result<Option<usize>, Fail> {
+    let (mut journal, all) = (journal(alloc, JOURNAL)?, all_built(alloc)?);
+    begins(rt, "Journal::append often");
+    let answer = append_each(&mut journal, all);
+    ends(rt, "Journal::append often");
+    match answer {
+        Ok(()) => Ok(Some(journal.entries().len())),
+        Err(TableFault::NoMemory) => Ok(None),
+        Err(fault) => Err(fault.into()),
+    }
+}
+
+#[test]
+fn outputs_that_are_appended_often(rt: HostRuntime) -> Result<(), Fail> {
+    let length = match length_behind(&rt, rt.alloc())? {
+        None => length_behind(&rt, rt.alloc())?,
+        length => length,
+    };
+    assert_eq!(rt; length, Some(35));
     Ok(())
 }
 
@@ -307,7 +368,8 @@ fn outlet_of_one<R: Print>(rt: &R, alloc: Global) -> Result<ListOutlet, Fail> {
     ends(rt, "ListOutlet::append");
     match answer {
         Ok(()) => Ok(outlet),
-        Err(_) => appended_alone(rt, outlet, again),
+        Err(OutletFault::NoMemory) => appended_alone(rt, outlet, again),
+        Err(fault) => Err(fault.into()),
     }
 }
 

@@ -60,7 +60,8 @@ impl Watch for Double {
 
 // A run: its root, the text of the journal that it begins with, how many workers it has, the name
 // of the call, and its report in ample memory. Where memory is refused, one derivation may fail for
-// it, with these reports, or the run may end by one of these faults, without a settled book.
+// it, with these reports, or the run may end by the fault with this number, without a settled book.
+// It is 0 where no fault is right.
 #[derive(Clone, Copy)]
 struct Row<'a> {
     root: &'a [u8],
@@ -69,11 +70,16 @@ struct Row<'a> {
     call: &'a str,
     report: &'a [u8],
     failed: &'a [&'a [u8]],
-    faults: &'a [u8],
+    fault: u8,
 }
 
-// `NoMemory` of a book, `NoView`, `ThreadFault`, and `NoMemory` of a run.
-const FAULTS: [u8; 4] = [9, 40, 71, 72];
+// Want of memory, as a book answers it and as a run does.
+const BOOKS_WANT: u8 = 9;
+
+const RUNS_WANT: u8 = 72;
+
+// All workers that could be started have ended.
+const THREAD_FAULT: u8 = 71;
 
 const BUILT: &[u8] = b"built /nix/store/f4g7fbcn37jxc3dqm6l2k7azd70cig89-right.drv
 built /nix/store/wf7kqrqhkw4448bgfb32jrkflk1lhzla-left.drv
@@ -112,7 +118,7 @@ static ONE: Row<'static> = Row {
     call: "realise",
     report: BUILT,
     failed: &FAILED,
-    faults: &FAULTS,
+    fault: RUNS_WANT,
 };
 
 static TWO: Row<'static> = Row {
@@ -122,7 +128,7 @@ static TWO: Row<'static> = Row {
     call: "realise by two",
     report: BUILT,
     failed: &FAILED,
-    faults: &FAULTS,
+    fault: RUNS_WANT,
 };
 
 // The journal after a run of `GREET`. The digest was computed with Python's hashlib.
@@ -140,7 +146,7 @@ static FIRST: Row<'static> = Row {
 output /nix/store/i0439xxk79knfdnk3nffhknwdbw7fv5y-greet
 ",
     failed: &[b"failed /nix/store/kdc81748wrwf717c0gr4rxm3yy21gxpx-greet.drv: OutOfMemory\n"],
-    faults: &FAULTS,
+    fault: RUNS_WANT,
 };
 
 static AGAIN: Row<'static> = Row {
@@ -152,7 +158,7 @@ static AGAIN: Row<'static> = Row {
 output /nix/store/i0439xxk79knfdnk3nffhknwdbw7fv5y-greet
 ",
     failed: &[],
-    faults: &FAULTS,
+    fault: RUNS_WANT,
 };
 
 // The same run without a refusal.
@@ -160,7 +166,16 @@ fn ample<'a>(row: &Row<'a>) -> Row<'a> {
     Row {
         call: "ample memory",
         failed: &[],
-        faults: &[],
+        fault: 0,
+        ..*row
+    }
+}
+
+// The same work over a book that is there.
+fn of_book<'a>(row: &Row<'a>) -> Row<'a> {
+    Row {
+        call: "work",
+        fault: BOOKS_WANT,
         ..*row
     }
 }
@@ -188,7 +203,24 @@ fn is_reported<R: Print, O: Outlet>(rt: &R, book: &Book<O>, row: &Row<'_>) -> bo
 
 // Whether a row's run may end by the fault with this number, without a settled book.
 fn is_fault<R: Print>(rt: &R, fault: u8, row: &Row<'_>) -> bool {
-    row.faults.contains(&fault) || are_values(rt, &[fault], &[0])
+    are_values(rt, &[fault], &[row.fault])
+}
+
+// Whether a row's run may end so, if its one thread could not be made: nothing has begun. Prints
+// that it ended so. `tests/refused-growths` sees whether memory was refused to the thread's start.
+fn is_unstarted<R: Print, O: Outlet>(rt: &R, book: &Book<O>, row: &Row<'_>) -> bool {
+    let _ = rt.println(format_args!("no thread was made"));
+    are_values(rt, &[row.fault], &[RUNS_WANT]) && are_values(rt, book.events(), &[])
+}
+
+// Whether a row's run may leave this unsettled book by the fault with this number.
+fn is_cut_off<R: Print, O: Outlet>(rt: &R, book: &Book<O>, fault: u8, row: &Row<'_>) -> bool {
+    let is_right = if fault == THREAD_FAULT {
+        is_unstarted(rt, book, row)
+    } else {
+        is_fault(rt, fault, row)
+    };
+    is_right && are_values(rt, &[book.settled()], &[false])
 }
 
 // Whether a row's run may leave this book, if it ended by the fault with this number, or by none
@@ -203,7 +235,7 @@ fn is_right<R: Print, O: Outlet>(
     let is_end = if fault == 0 {
         is_reported(rt, book, row)
     } else {
-        is_fault(rt, fault, row) && are_values(rt, &[book.settled()], &[false])
+        is_cut_off(rt, book, fault, row)
     };
     goes_on(rt, alloc, book.journal(), row.before) && is_end
 }
@@ -338,7 +370,7 @@ fn is_worked<J: Naming, O: Tells<J>, B: Build + Watch, R: Wait + Print>(
     let (first, second) = readers;
     let (book, stop) = worked(rt, alloc, book, first, builder);
     let fault = number_of(stop);
-    let is_first = is_right(rt, alloc, &book, fault, &ONE);
+    let is_first = is_right(rt, alloc, &book, fault, &of_book(&ONE));
     let (book, last) = worked(rt, alloc, book, second, builder);
     is_left_right(rt, alloc, book, number_of(last), &row_behind(fault)) && is_first
 }

@@ -19,7 +19,7 @@ fn is_book_told<R: Print>(rt: &R, book: &Book<ListOutlet>) -> bool {
         book.tell(),
         book.unsettled(),
     ];
-    are_values(rt, &counts, &[2, 1, 1, 1, 1])
+    are_values(rt, &counts, &[2, 5, 5, 5, 1])
         && are_values(rt, &[book.steps()], &[1])
         && are_values(rt, &[book.settled(), book.can_begin()], &[false, false])
         && are_values(rt, book.events(), BUILDING.events)
@@ -29,7 +29,7 @@ fn is_book_told<R: Print>(rt: &R, book: &Book<ListOutlet>) -> bool {
 // Whether a lease answers right: what the outlet told is given at the first call alone.
 fn is_lease_told<R: Print>(rt: &R, lease: &mut Lease<usize>) -> bool {
     let told = [lease.told(), lease.told()];
-    is_first(rt, lease) && are_values(rt, &told, &[Some(1), None])
+    is_first(rt, lease) && are_values(rt, &told, &[Some(5), None])
 }
 
 // Whether the numbers of faults are right.

@@ -18,6 +18,14 @@ static BUILT: Stand = Stand {
     events: &[Event::Begin(1, 0), Event::Done(1, 0)],
     text: b"realiser-journal 2
 A /nix/store/i73x2qwb221ly8r0xpzlngmrfjzb9dr1-base -
+D /nix/store/00000000000000000000000000000000-e.drv
+O /nix/store/0000000000000000000000000000000a-e -
+D /nix/store/11111111111111111111111111111111-e.drv
+O /nix/store/1111111111111111111111111111111a-e -
+D /nix/store/22222222222222222222222222222222-e.drv
+O /nix/store/2222222222222222222222222222222a-e -
+D /nix/store/33333333333333333333333333333333-e.drv
+O /nix/store/3333333333333333333333333333333a-e -
 D /nix/store/wf7kqrqhkw4448bgfb32jrkflk1lhzla-left.drv
 O /nix/store/4rawnpa29lim699rqkfdvnqzmp6p83wy-left-dev sha256:73377e3b138ef22fd7c0ccbdfd590c88582ed185fa364f7cc945e47eb73cc1b4
 R /nix/store/r3lrfaxdqrmdarcmvswkif248fgwl4jx-left

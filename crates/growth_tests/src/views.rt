@@ -50,10 +50,11 @@ fn append<J: Naming, R, P: Print>(
     ends(rt, "ViewWriter::append");
     match answer {
         Ok(()) => Ok(()),
-        Err(_) => {
+        Err(OutletFault::NoMemory) => {
             check_empty(writer, reader, w)?;
             Ok(writer.append(again)?)
         }
+        Err(fault) => Err(fault.into()),
     }
 }
 
@@ -171,25 +172,53 @@ fn closure<J: Naming, P: Print>(
     }
 }
 
-// Whether that closure is right in a view of the journal.
-fn is_closed<J: Naming + Send, R: Wait + Print>(
-    rt: &R,
+// Whether that closure is right to the reader of a view, which is closed.
+fn closes_asked<J: Naming + Send, R: Wait + Drop, P: Print>(
+    rt: &P,
     alloc: Global,
-    name: Name,
+    writer: ViewWriter<J, R>,
+    mut readers: Vec<ViewReader<J>>,
+    z: &StorePath,
 ) -> Result<bool, Fail>
-    requires { name ≡ J.book }
+    requires { length readers.items ≡ 1 }
 {
-    let z = path(alloc, Z)?;
-    let (writer, mut readers) = open::<J, &R>(alloc, rt, name, &journal(alloc, JOURNAL)?, 1)?;
-    let all = closure(rt, alloc, &mut readers[0], &z);
+    let all = closure(rt, alloc, &mut readers[0], z);
     writer.close();
     Ok(are_paths(rt, &all?, &[X, Y, Z]))
 }
 
+// Whether that closure is right in a view of the journal. None where there was no memory to open
+// the view.
+fn is_closed<J: Naming + Send, R: Wait + Print>(
+    rt: &R,
+    alloc: Global,
+    name: Name,
+) -> Result<Option<bool>, Fail>
+    requires { name ≡ J.book }
+{
+    let (z, known) = (path(alloc, Z)?, journal(alloc, JOURNAL)?);
+    begins(rt, "open over entries");
+    let view = open::<J, &R>(alloc, rt, name, &known, 1);
+    ends(rt, "open over entries");
+    match view {
+        Ok((writer, readers)) => Ok(Some(closes_asked(rt, alloc, writer, readers, &z)?)),
+        Err(OpenFault::NoMemory) => Ok(None),
+        Err(fault) => Err(fault.into()),
+    }
+}
+
+// The same with a new name.
+fn closed_once<R: Wait + Print>(rt: &R, alloc: Global) -> Result<Option<bool>, Fail> {
+    is_closed::<Brand, _>(rt, alloc, Name::new())
+}
+
 #[test]
 fn closures_of_readers(rt: HostRuntime) -> Result<(), Fail> {
-    let is_closed = is_closed::<Brand, _>(&rt, rt.alloc(), Name::new())?;
-    assert!(rt; is_closed);
+    let is_closed = match closed_once(&rt, rt.alloc())? {
+        None => closed_once(&rt, rt.alloc())?,
+        is_closed => is_closed,
+    };
+    assert_eq!(rt; is_closed, Some(true));
     Ok(())
 }
 
