@@ -177,9 +177,11 @@ static ADDING: [Row; 6] = [
     },
 ];
 
-// The calls of `realise` before it builds anything: the plan and the journal are read, and it is
-// tried out whether a journal can be written.
-const OPENED: &str = "stat <any>\nopen <any>\nread \nread \nstat <dir>/realiser-journal\n\
+// The calls of `realise` before it builds anything: the plan is read,
+const LOADED: &str = "stat <any>\nopen <any>\nread \nread \n";
+
+// there is no journal, and it is tried out whether one can be written.
+const TRIED: &str = "stat <dir>/realiser-journal\n\
     lstat <dir>/realiser-journal\ncreate <dir>/.nix_realise-0\nunlink <dir>/.nix_realise-0\n";
 
 // Those that build `any` once its paths are clear.
@@ -194,17 +196,21 @@ const BUILT: &str = "mkdir <dir>/.build-0\nspawn cd \"<dir>/.build-0\" && env -i
 const WRITTEN: &str = "lstat <dir>/realiser-journal\ncreate <dir>/.nix_realise-0\nwrite \nsync \n\
     rename <dir>/.nix_realise-0 <dir>/realiser-journal\n";
 
-// A draft of two outputs, a folder and a file.
+// A draft of two outputs, a folder and a file. Its derivation is read in two pieces, wherever the
+// store folder lies: the text has more than 512 and less than 1,024 bytes.
 const TWO: &str = "Derive([(\"dev\",\"\",\"\",\"\"),(\"out\",\"\",\"\",\"\")],[],[],\
     \"x86_64-linux\",\"/bin/sh\",[\"-c\",\"mkdir -p $dev/b; : > $dev/a; : > $out\"],\
-    [(\"PATH\",\"/usr/bin:/bin\"),(\"dev\",\"\"),(\"out\",\"\")])";
+    [(\"PATH\",\"/usr/bin:/bin\"),(\"about\",\"A text by which the derivation is longer than its \
+    first piece, even if the path of the store folder is short.\"),\
+    (\"dev\",\"\"),(\"out\",\"\")])";
 
 // The calls that build it once its paths are clear, and read both outputs.
 const TWO_BUILT: &str = "mkdir <dir>/.build-0\nspawn cd \"<dir>/.build-0\" && env -i \
     HOME=\"/homeless-shelter\" NIX_BUILD_TOP=\"<dir>/.build-0\" NIX_STORE=\"<dir>\" \
     PATH=\"/usr/bin:/bin\" PWD=\"<dir>/.build-0\" TEMP=\"<dir>/.build-0\" \
     TEMPDIR=\"<dir>/.build-0\" TMP=\"<dir>/.build-0\" TMPDIR=\"<dir>/.build-0\" \
-    dev=\"<any.dev>\" out=\"<any.out>\" \"/bin/sh\" \"-c\" \
+    about=\"A text by which the derivation is longer than its first piece, even if the path of \
+    the store folder is short.\" dev=\"<any.dev>\" out=\"<any.out>\" \"/bin/sh\" \"-c\" \
     \"mkdir -p $dev/b; : > $dev/a; : > $out\" Stdio { .. } Stdio { .. } Stdio { .. }\nwait \n\
     lstat <any.dev>\nlist <any.dev>\nread \nread \nlstat <any.dev>/a\nopen <any.dev>/a\nread \n\
     lstat <any.dev>/b\nlist <any.dev>/b\nread \nread \nlstat <any.out>\nopen <any.out>\nread \n";
@@ -215,18 +221,20 @@ static RUN: [Row; 3] = [
         before: &[Step::Put("any", TWO)],
         line: "nix_realise realise --store-dir <dir> <any>",
         calls: &[
-            OPENED,
+            LOADED,
+            "read \n",
+            TRIED,
             "lstat <any.dev>\nlstat <any.out>\nlstat <dir>/.build-0\n",
             TWO_BUILT,
             "lstat <dir>/.build-0\nlist <dir>/.build-0\nrmdir <dir>/.build-0\n",
             WRITTEN,
         ],
         refusals: &[
-            b"ppppp", b"DDDMD", b"DDDMD", b"DDDMD", b"DDDMD", b"pRRMR", b"pJJMJ", b"JpJMJ",
-            b"JJJMJ", b"pNNON", b"pNNON", b"pNNON", b"NNNON", b"NNNON", b"XXXOX", b"dXXOX",
-            b"XXXOX", b"XXXOX", b"XXXOX", b"XXXOX", b"XXXOX", b"XXXOX", b"XXXOX", b"XXXOX",
-            b"XXXOX", b"XXXOX", b"0XXOX", b"XXXOX", b"XXXOX", b"ppppp", b"ppppp", b"ppppp",
-            b"pJJMJ", b"JpJMJ", b"JJJMJ", b"JJJMJ", b"JJJMJ",
+            b"ppppp", b"DDDMD", b"DDDMD", b"DDDMD", b"DDDMD", b"DDDMD", b"pRRMR", b"pJJMJ",
+            b"JpJMJ", b"JJJMJ", b"pNNON", b"pNNON", b"pNNON", b"NNNON", b"NNNON", b"XXXOX",
+            b"dXXOX", b"XXXOX", b"XXXOX", b"XXXOX", b"XXXOX", b"XXXOX", b"XXXOX", b"XXXOX",
+            b"XXXOX", b"XXXOX", b"XXXOX", b"0XXOX", b"XXXOX", b"XXXOX", b"ppppp", b"ppppp",
+            b"ppppp", b"pJJMJ", b"JpJMJ", b"JJJMJ", b"JJJMJ", b"JJJMJ",
         ],
         kept: &[NO_JOURNAL],
     },
@@ -235,7 +243,8 @@ static RUN: [Row; 3] = [
         before: &[PUT],
         line: "nix_realise realise --store-dir <dir> <any>",
         calls: &[
-            OPENED,
+            LOADED,
+            TRIED,
             "lstat <any.out>\nlstat <dir>/.build-0\n",
             BUILT,
             "lstat <dir>/.build-0\nlist <dir>/.build-0\nrmdir <dir>/.build-0\n",
@@ -260,7 +269,8 @@ static RUN: [Row; 3] = [
         ],
         line: "nix_realise realise --store-dir <dir> <any>",
         calls: &[
-            OPENED,
+            LOADED,
+            TRIED,
             "lstat <any.out>\nlstat <dir>/.build-0\nlist <dir>/.build-0\nrmdir <dir>/.build-0\n\
                 lstat <dir>/.nix_realise-left-0\nrename <dir>/.build-0 <dir>/.nix_realise-left-0\n",
             BUILT,
