@@ -18,6 +18,7 @@
 //! | `example` | the run of the example in the definitions, by its laws and by workers |
 //! | `growths` | memory that is refused while a lease ends |
 //! | `held_lock` | a reader that is asked while its thread holds the lock of the book |
+//! | `outlets` | the calls that a book makes of its outlet |
 //! | `costs` | the costs of events |
 //! | `random_runs` | random plans and answers, beside states that the test computes |
 //! | `random_plans`, `made`, `random` | random derivations, and random numbers |
@@ -57,6 +58,8 @@ mod hindered;
 mod made;
 #[cfg(test)]
 mod many;
+#[cfg(test)]
+mod outlets;
 #[cfg(test)]
 mod permitted;
 #[cfg(test)]

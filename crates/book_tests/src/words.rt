@@ -5,6 +5,7 @@ use crate::files::TWO;
 use sched_core::{Book, BookFault, Reason, Refusal};
 use std::alloc::Global;
 use std::test::*;
+use store_run::RunFault;
 use valid_table::ListOutlet;
 
 #[test]
@@ -28,6 +29,30 @@ fn faults(rt: HostRuntime) -> Result<(), Fail> {
         ),
     ] {
         assert_eq!(rt; fault.number(), number, "{fault}");
+        let told = format!(in rt.alloc(); "{fault}")?;
+        assert_eq!(rt; told.as_str(), words);
+    }
+    Ok(())
+}
+
+#[test]
+fn faults_of_runs(rt: HostRuntime) -> Result<(), Fail> {
+    for (fault, words) in [
+        (RunFault::NoWorkers, "there must be from 1 to 64 workers"),
+        (
+            RunFault::NoView,
+            "the view of the valid paths could not be opened",
+        ),
+        (
+            RunFault::ThreadFault,
+            "the workers ended before the book was settled",
+        ),
+        (RunFault::NoMemory, "memory was refused"),
+        (
+            RunFault::ForeignPlan,
+            "the book is not over the plan that was given",
+        ),
+    ] {
         let told = format!(in rt.alloc(); "{fault}")?;
         assert_eq!(rt; told.as_str(), words);
     }
