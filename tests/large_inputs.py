@@ -10,7 +10,7 @@ from reading import MAX_DRV
 from scenes import HERE, quoted, room
 
 sys.path.insert(0, str(HERE.parent / "bench"))
-from derivations import made  # noqa: E402
+from derivations import made, write_fixed  # noqa: E402
 from store_paths import make_path, text_path  # noqa: E402
 
 MAX_JOURNAL = 134217728
@@ -19,6 +19,8 @@ INPUTS = 50000
 # What the largest group of cases writes, with a good deal over.
 ROOM = 3 * 2**29
 FIRST = b"realiser-journal 2\n"
+# What each fixed output is.
+TWIN = b"twin\n"
 
 
 class Place:
@@ -105,6 +107,16 @@ def of_inputs(place):
     return text_of(inputs=",".join(map(used, paths))), paths
 
 
+def of_both(place):
+    """4 MiB of sources and inputs, whose paths lie between one another; and the paths of all."""
+    size = len(quoted(place.path(0)) + used(place.path(0, "x.drv"))) + 2
+    count = (MAX_DRV - len(text_of())) // size
+    sources = [place.path(2 * number) for number in range(count)]
+    drvs = [place.path(2 * number + 1, "x.drv") for number in range(count)]
+    text = text_of(sources=",".join(map(quoted, sources)), inputs=",".join(map(used, drvs)))
+    return text, sources + drvs
+
+
 class Row:
     """A derivation of a plan: its path, its output's, its modulo hash and its inputs' paths."""
 
@@ -145,6 +157,17 @@ def hub(place, rows):
     return Row(place, len(rows), rows[: min(INPUTS, count)])
 
 
+class Twin:
+    """A derivation of a fixed output: its path, its output's and its modulo hash."""
+
+    def __init__(self, place, number):
+        script = f"echo twin > $out; : {number}"
+        self.path, self.modulo = write_fixed(place.folder, "twin", script, [], TWIN)
+        made = f"fixed:out:{digest_of(TWIN)}:".encode()
+        inner = hashlib.sha256(made).hexdigest()
+        self.output = make_path("output:out", inner, place.folder, "twin")
+
+
 def lines(rows, word_of, roots):
     """The lines of a plan or of a report: a line for each row, then the outputs of some roots."""
     told = sorted((row.path, word_of(row)) for row in rows)
@@ -176,15 +199,17 @@ for number, path in enumerate(paths):
 """
 
 
-def many_outputs(place, count):
-    """A draft of so many outputs, which refer to one another; the filled text, and the outputs'
-    paths by their names."""
+def many_outputs(place, count, variables=0):
+    """A draft of so many outputs, which refer to one another, and of so many variables more; the
+    filled text, and the outputs' paths by their names."""
     names = [f"o{number:04d}" for number in range(count)]
+    others = [f'("v{number:06d}","")' for number in range(variables)]
     writer = WRITER.replace("COUNT", str(count)).replace("BEFORE", str(BEFORE))
     file = place.file(f"writer-{count}", writer.encode())
     args = f'"-c",{quoted(f"exec {sys.executable} {file}")}'
     outputs = lambda paths: ",".join(f'("{name}","{paths.get(name, "")}","","")' for name in names)
-    env = lambda paths: ",".join(f'("{name}","{paths.get(name, "")}")' for name in names)
+    named = lambda paths: [f'("{name}","{paths.get(name, "")}")' for name in names]
+    env = lambda paths: ",".join([*named(paths), *others])
     draft = text_of(outputs({}), args=args, env=env({}))
     digest = hashlib.sha256(draft).hexdigest()
     path_of = lambda name: make_path(f"output:{name}", digest, place.folder, f"many-{name}")
