@@ -3,10 +3,11 @@
 import os
 import resource
 import subprocess
+import sys
 import tempfile
 import time
 
-from scenes import room
+from scenes import HERE, room
 
 # A limit of the stack with which the system takes words of 6 MB.
 STACK = 32 * 2**20
@@ -14,11 +15,19 @@ STACK = 32 * 2**20
 
 class Ran:
     """How a run ended: its status, what it wrote, its own seconds of processor time, those that
-    passed, and the most address space that it had."""
+    passed, the most address space that it had, and for how many bytes it asked the C library."""
 
-    def __init__(self, status, out, err, seconds, passed, space):
+    def __init__(self, status, out, err, seconds, passed, space, asked):
         self.status, self.out, self.err = status, out, err
-        self.seconds, self.passed, self.space = seconds, passed, space
+        self.seconds, self.passed, self.space, self.asked = seconds, passed, space, asked
+
+
+def compile_counter(folder):
+    """The library that counts for how many bytes a program asks."""
+    library = os.path.join(folder, "asked_bytes.so")
+    words = ["cc", "-O1", "-shared", "-fPIC", "-o", library, str(HERE / "asked_bytes.c")]
+    subprocess.run(words, check=True)
+    return library
 
 
 def set_limits(seconds, space):
@@ -49,14 +58,18 @@ def seconds_of(pid):
     return (int(fields[11]) + int(fields[12])) / os.sysconf("SC_CLK_TCK")
 
 
-def limited(words, seconds, space, clock):
+def limited(counter, words, seconds, space, clock):
     """Runs a command within so many seconds of processor time and bytes of address space, where
     they aren't nought, and kills it after so many seconds by the clock."""
     begin, most = time.monotonic(), 0
     limits = lambda: set_limits(seconds, space)
-    with tempfile.TemporaryFile(dir=room()) as out, tempfile.TemporaryFile(dir=room()) as err:
+    made = lambda: tempfile.NamedTemporaryFile(dir=room())
+    with made() as out, made() as err, made() as asked:
+        asked.write(bytes(8))
+        asked.flush()
+        env = {**os.environ, "LD_PRELOAD": counter, "ASKED_BYTES": asked.name}
         streams = {"stdin": subprocess.DEVNULL, "stdout": out, "stderr": err}
-        run = subprocess.Popen(words, preexec_fn=limits, **streams)
+        run = subprocess.Popen(words, preexec_fn=limits, env=env, **streams)
         while os.waitid(os.P_PID, run.pid, os.WEXITED | os.WNOHANG | os.WNOWAIT) is None:
             most = max(most, space_of(run.pid))
             if time.monotonic() - begin > clock:
@@ -64,5 +77,6 @@ def limited(words, seconds, space, clock):
             time.sleep(0.01)
         own, passed = seconds_of(run.pid), time.monotonic() - begin
         run.wait()
-        texts = [file.seek(0) or file.read() for file in (out, err)]
-    return Ran(run.returncode, *texts, own, passed, most)
+        texts = [file.seek(0) or file.read() for file in (out, err, asked)]
+        count = int.from_bytes(texts.pop(), sys.byteorder)
+    return Ran(run.returncode, *texts, own, passed, most, count)
