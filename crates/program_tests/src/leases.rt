@@ -1,11 +1,12 @@
 //! The system calls for each lease, in runs by several workers.
 use crate::calls::ran;
 use crate::double::{Double, Event};
+use crate::running::Plain;
 use crate::scene::Scene;
 use crate::steps::Step;
 use crate::texts::replaced;
-use process_build::{ByProcesses, ProcessBuild, Progress, Watching};
-use sched_core::Build;
+use process_build::{Builders, ByProcesses, ProcessBuild, Progress, Watching};
+use sched_core::{Build, Job};
 use std::alloc::{AllocError, Global};
 use std::process;
 use std::test::Fail;
@@ -150,42 +151,46 @@ fn calls_of_each_lease(rt: HostRuntime) -> Result<(), Fail> {
     Ok(())
 }
 
-// The line of progress changes nothing of that: each lease keeps its number, and its own folder.
-#[test]
-fn calls_behind_the_line_of_progress(rt: HostRuntime) -> Result<(), Fail> {
-    let process = process::id(rt.process());
-    let make = ByProcesses::new(&rt, &rt);
-    for line in LINES {
-        let scene = Scene::behind(&rt, &make, process, "watched-leases", puts())?;
-        let line = scene.said(rt.alloc(), line)?;
-        let double = Double::new(rt.clone()?, Event::Nothing)?;
-        let builders = ByProcesses::new(&double, &double);
-        let progress = Progress::new(Vec::new(rt.alloc()));
-        let watching = Watching::new(&double, &builders, &progress);
-        let ran = ran(&double, &watching, line.as_str())?;
-        let calls = double.calls()?;
-        let found = found(rt.alloc(), &scene, ran.status, calls.as_str())?;
-        assert_eq!(rt; found, wanted(rt.alloc(), &scene)?, "at {line}");
-        scene.close(&rt)?;
-    }
-    Ok(())
+// Whether the lease of this number is built, in the folder of its number, by what a double saw.
+fn is_in_its_folder<R: Plain, B: Build>(
+    double: &Double<R>,
+    build: &B,
+    (folder, job): (&str, &Job),
+    number: u64,
+) -> Result<bool, Fail> {
+    let is_built = build.run(number, job).is_ok();
+    let made = format!(in double.alloc(); "mkdir {folder}/.build-{number}\n")?;
+    Ok(is_built && double.calls()?.contains(made.as_str()))
 }
 
 // A lease builds in the folder of its own number, whatever leases came before it.
 #[test]
 fn folders_of_later_leases(rt: HostRuntime) -> Result<(), Fail> {
     let scene = Scene::new(&rt, process::id(rt.process()), "later-leases")?;
+    let folder = scene.site.folder.as_str();
     let job = scene.site.job(rt.alloc(), b"/bin/sh", &["out"])?;
     for number in [64, 256, 65_536, u64::MAX] {
         let double = Double::new(rt.clone()?, Event::Nothing)?;
-        let folder = scene.site.folder.as_str();
         let build = ProcessBuild::new(rt.alloc(), &double, &double, folder)?;
-        let is_built = build.run(number, &job).is_ok();
-        let made = format!(in rt.alloc(); "mkdir {folder}/.build-{number}\n")?;
-        assert!(rt;
-            is_built && double.calls()?.contains(made.as_str()),
-            "at {number}"
-        );
+        let is_right = is_in_its_folder(&double, &build, (folder, &job), number)?;
+        assert!(rt; is_right, "at {number}");
+    }
+    scene.close(&rt)
+}
+
+// The line of progress hands the number of a lease on.
+#[test]
+fn folders_behind_the_line_of_progress(rt: HostRuntime) -> Result<(), Fail> {
+    let scene = Scene::new(&rt, process::id(rt.process()), "watched-leases")?;
+    let folder = scene.site.folder.as_str();
+    let job = scene.site.job(rt.alloc(), b"/bin/sh", &["out"])?;
+    for number in [1, 64, u64::MAX] {
+        let double = Double::new(rt.clone()?, Event::Nothing)?;
+        let make = ByProcesses::new(&double, &double);
+        let progress = Progress::new(Vec::new(rt.alloc()));
+        let build = Watching::new(&rt, &make, &progress).builder(rt.alloc(), folder)?;
+        let is_right = is_in_its_folder(&double, &build, (folder, &job), number)?;
+        assert!(rt; is_right, "at {number}");
     }
     scene.close(&rt)
 }
