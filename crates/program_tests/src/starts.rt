@@ -14,7 +14,7 @@ use std::rt::Files;
 use std::test::Fail;
 use std::{fs, io, process};
 
-static RUNS: [Row; 5] = [
+static RUNS: [Row; 6] = [
     // The environment that a script finds, with its job's entries: `HOME`, `TMP` and `k`, and no
     // `PATH`.
     Row {
@@ -58,6 +58,26 @@ static RUNS: [Row; 5] = [
             Step::Script("exit 3", &["out"], Made::Ended(Some(3))),
             Step::Script("exit 255", &["out"], Made::Ended(Some(255))),
             Step::Script("kill -9 $$", &["out"], Made::Ended(None)),
+        ],
+    },
+    // A builder is started once, also one that a signal ended, or that ended with a status.
+    Row {
+        name: "started-once",
+        steps: &[
+            Step::Script(
+                "echo x >> $NIX_STORE/killed; kill -9 $$",
+                &["out"],
+                Made::Ended(None),
+            ),
+            Step::Holds("<dir>/killed", "x\n"),
+            Step::Script(
+                "echo x >> $NIX_STORE/failed; exit 1",
+                &["out"],
+                Made::Ended(Some(1)),
+            ),
+            Step::Holds("<dir>/failed", "x\n"),
+            Step::Script("echo x >> $NIX_STORE/built", &["out"], Made::Ended(Some(0))),
+            Step::Holds("<dir>/built", "x\n"),
         ],
     },
     // The run waits for the builder alone, and not for a child that the builder leaves running.
