@@ -4,7 +4,7 @@ ghost use Rattle.valid_table.specs.Written.{written_text};
 
 use crate::whole_file::{Unwritten, Written};
 use sched_core::Book;
-use valid_table::Outlet;
+use valid_table::{Outlet, TableFault};
 
 /// Evidence of what became of the journal of a book. Only this module makes one.
 #[derive(Clone, Copy, Debug, PartialEq, Eq)]
@@ -35,7 +35,8 @@ impl Kept {
     }
 
     /// There was no memory for the journal's bytes.
-    pub fn no_memory() -> Kept
+    pub fn no_memory(_refused: TableFault) -> Kept
+        requires { _refused ≡ TableFault.NoMemory }
         ensures { result.has_book ≡ true }
     {
         Kept { has_book: true }

@@ -135,7 +135,7 @@ fn keep<R: Files + AllocGlobal, V: Outlet>(rt: &R, file: &JournalFile, book: &Bo
 {
     match journal_bytes(rt.alloc(), book) {
         Ok(bytes) => Kept::tried(book, file.write(rt, &bytes)),
-        Err(_) => Kept::no_memory(),
+        Err(refused) => Kept::no_memory(refused),
     }
 }
 

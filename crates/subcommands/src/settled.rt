@@ -11,7 +11,7 @@ use crate::stop::Stop;
 use crate::whole_file::Written;
 use sched_core::{Book, BookFault, State};
 use std::alloc::Global;
-use valid_table::Outlet;
+use valid_table::{Outlet, TableFault};
 
 /// The status of a run with this book: `Done` where each root was built or reused, else
 /// `Unrealised`.
@@ -37,11 +37,11 @@ fn is_realised(state: State) -> bool
 }
 
 /// The text of the journal of a book, in version 2.
-pub fn journal_bytes<'a, O: Outlet>(alloc: Global, book: &Book<O>) -> Result<Vec<u8>, Stop<'a>>
+pub fn journal_bytes<O: Outlet>(alloc: Global, book: &Book<O>) -> Result<Vec<u8>, TableFault>
     ensures ok { IfOk result (λ bytes. bytes.items ≡ written_text book.now.history.entries) }
-    ensures err { IfErr result (λ stop. stop ≡ Stop.NoMemory) }
+    ensures err { IfErr result (λ fault. fault ≡ TableFault.NoMemory) }
 {
-    Ok(book.journal().write(alloc)?)
+    book.journal().write(alloc)
 }
 
 /// The report of a book that is settled, whose journal was written.
