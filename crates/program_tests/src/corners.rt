@@ -13,8 +13,10 @@ const JOURNAL: &str = "<dir>/realiser-journal";
 
 const ADD: &str = "nix_realise add-text --store-dir <dir> greeting <dir>/file";
 
+const NOTHING: &str = "Derive([],[],[],\"\",\"\",[],[])";
+
 static FILES: [Row; 3] = [
-    // A byte order mark is part of a text, and no part of a journal or a draft.
+    // A byte order mark is part of a text, and no part of a journal, a draft or a derivation.
     Row {
         name: "byte-order-mark",
         steps: &[
@@ -29,6 +31,14 @@ static FILES: [Row; 3] = [
                 "nix_realise add-drv --store-dir <dir> nothing <dir>/file",
                 "",
                 "nix_realise: <dir>/file: Syntax(0)\n",
+                2,
+            ),
+            Step::TextPath("any", "nothing.drv", NOTHING),
+            Step::Write("<any>", "\u{feff}Derive([],[],[],\"\",\"\",[],[])"),
+            Step::Run(
+                "nix_realise check --store-dir <dir> <any>",
+                "bad <any>: Syntax(0)\n",
+                "",
                 2,
             ),
         ],
