@@ -43,7 +43,7 @@ PLACES = {
     ("subcommands/src/program.rt", "print_no_memory", "print_bytes ( NO_MEMORY_LINE , err )"): (
         "what the call means"
     ),
-    ("subcommands/src/realise.rt", "keep", "Err ( _ ) => Kept :: no_memory ( )"): (
+    ("subcommands/src/realise.rt", "keep", "Err ( refused ) => Kept :: no_memory ( refused )"): (
         "the only fault of the call is want of memory"
     ),
     ("subcommands/src/process.rt", "run_process", "Err ( _ ) => print_no_memory ( err )"): (
