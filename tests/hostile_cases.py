@@ -130,6 +130,10 @@ def ends():
     """Builders that end otherwise, or go on."""
     yield Case("an exit status", "echo x > $out; exit 77", failed("ExitStatus(77)"), stands="file")
     yield Case("a signal", "echo x > $out; kill -9 $$", failed("Killed"), stands="file")
+    first = "if [ -e $F/once ]; then echo made > $out; else : > $F/once; %s; fi"
+    status = failed("ExitStatus(77)")
+    yield Case("an exit status the first time", first % "exit 77", status)
+    yield Case("a signal the first time", first % "kill -9 $$", failed("Killed"))
     ignores = "s='INT TERM HUP QUIT PIPE USR1'; trap '' $s; for s in $s; do kill -$s $$; done; "
     yield Case("signals that are ignored", ignores + "echo made > $out", stands="file")
     outlives = "trap '' HUP TERM INT; " + LOOP.format(6000, "echo x >> $F/late; sleep 0.05")
