@@ -20,9 +20,14 @@ use valid_table::{Journal, ListOutlet};
 
 mod builders;
 mod calls;
+mod closing;
 mod folders;
 mod gates;
 mod heard;
+mod heard_runs;
+mod hearing;
+mod leases;
+mod locking;
 mod many;
 mod meanwhile;
 mod refusing;
