@@ -86,9 +86,13 @@ def put(program, store, name, text):
     status, out, err = run([program, "add-drv", "--store-dir", store, name, file])
     assert status == 0, (name, status, err)
     path = out.strip()
-    front = pathlib.Path(path).read_text().split("],[")[0]
-    outputs = {row.split('"')[1]: row.split('"')[3] for row in front.split("(")[2:]}
-    return path, outputs
+    return path, outputs_in(pathlib.Path(path).read_text())
+
+
+def outputs_in(text):
+    """The names and the paths of the outputs in a derivation's text."""
+    front = text.split("],[")[0]
+    return {row.split('"')[1]: row.split('"')[3] for row in front.split("(")[2:]}
 
 
 def entry_of(path):

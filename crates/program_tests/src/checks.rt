@@ -1,61 +1,53 @@
-//! `check` over files on disk.
+//! `check` where a source fails: files in memory, and a folder.
 use crate::running::{NOTHING, new_folder};
-use crate::scene::first_fault;
-use crate::steps::{Row, Step};
-use nix_drv::{DrvSource, SourceFault, text_path};
+use crate::texts::text_of;
+use nix_drv::{DrvSource, ListSource, ListedFile, SourceFault, text_path};
 use nix_names::{StoreDir, StorePath};
-use process_build::ByProcesses;
+use std::alloc::Global;
 use std::rt::{Env, Files};
 use std::test::Fail;
 use std::{fs, process, str};
-use subcommands::FolderSource;
+use subcommands::{FolderSource, check_lines};
 
-const DRV: &str = r#"Derive([],[],[],"","",[],[])"#;
+// The path was computed with a program in another language, by the rule of text paths.
+const NOTHING_PATH: &str = "/nix/store/5lhp9n6nphjda2gcbmin4vshljbil6kq-nothing.drv";
 
-const CHECK: &str = "nix_realise check --store-dir <dir> <nothing>";
+const TEXT_PATH: &str = "/nix/store/lywz1bhqzs79zmmk12zgdnyld4x8clz1-nothing.txt";
 
-static ROWS: [Row; 3] = [
-    Row {
-        name: "files",
-        steps: &[
-            Step::TextPath("nothing", "nothing.drv", DRV),
-            Step::Write("<nothing>", DRV),
-            Step::Run(CHECK, "ok <nothing>\n", "", 0),
-            // The text without its last byte.
-            Step::Write("<nothing>", r#"Derive([],[],[],"","",[],[]"#),
-            Step::Run(CHECK, "bad <nothing>: Syntax(27)\n", "", 2),
-            Step::Fill("<nothing>", b'x', 100),
-            Step::Run(CHECK, "bad <nothing>: Syntax(0)\n", "", 2),
-        ],
-    },
-    // Of a file with two bytes too many not all bytes are read.
-    Row {
-        name: "long-file",
-        steps: &[
-            Step::TextPath("nothing", "nothing.drv", DRV),
-            Step::Fill("<nothing>", b'x', 4_194_306),
-            Step::Run(CHECK, "bad <nothing>: TooLong\n", "", 2),
-        ],
-    },
-    Row {
-        name: "folder-in-place-of-a-file",
-        steps: &[
-            Step::TextPath("nothing", "nothing.drv", DRV),
-            Step::Folder("<nothing>"),
-            Step::Run(CHECK, "bad <nothing>: Unreadable\n", "", 2),
-        ],
-    },
+const WORDS: [&str; 5] = [
+    NOTHING_PATH,
+    "/nix/store/x",
+    NOTHING_PATH,
+    NOTHING_PATH,
+    TEXT_PATH,
 ];
 
-fn rows() -> &'static [Row] {
-    &ROWS
+const LINES: &str = "ok /nix/store/5lhp9n6nphjda2gcbmin4vshljbil6kq-nothing.drv
+bad /nix/store/x: BadHashPart
+bad /nix/store/5lhp9n6nphjda2gcbmin4vshljbil6kq-nothing.drv: Unreadable
+ok /nix/store/5lhp9n6nphjda2gcbmin4vshljbil6kq-nothing.drv
+bad /nix/store/lywz1bhqzs79zmmk12zgdnyld4x8clz1-nothing.txt: Unreadable
+";
+
+// A source of the empty derivation, of whose fetches the second fails.
+fn failing_source(alloc: Global) -> Result<ListSource, Fail> {
+    let path = Vec::from_slice(alloc, NOTHING_PATH.as_bytes())?;
+    let bytes = Vec::from_slice(alloc, NOTHING)?;
+    let mut files = Vec::new(alloc);
+    files.push(ListedFile { path, bytes })?;
+    Ok(ListSource::new(alloc, files, Vec::from_slice(alloc, &[1])?)?)
 }
 
+// A word that is no path is not fetched.
 #[test]
-fn files_on_disk(rt: HostRuntime) -> Result<(), Fail> {
-    let make = ByProcesses::new(&rt, &rt);
-    let fault = first_fault(&rt, &make, process::id(rt.process()), rows())?;
-    assert_eq!(rt; fault, None);
+fn second_of_three_fetches_fails(rt: HostRuntime) -> Result<(), Fail> {
+    let mut source = failing_source(rt.alloc())?;
+    let dir = StoreDir::new(rt.alloc(), b"/nix/store")?;
+    let (lines, status) = check_lines(rt.alloc(), &mut source, &dir, &WORDS)?;
+    let lines = text_of(rt.alloc(), &lines)?;
+    assert_eq!(rt; lines.as_str(), LINES);
+    assert_eq!(rt; status.code(), 2);
+    assert_eq!(rt; source.failures(), 1);
     Ok(())
 }
 

@@ -27,9 +27,6 @@ impl Scene {
     ) -> Result<bool, Fail> {
         match step {
             Step::Holds(..) => self.holds(rt, path, text),
-            Step::Ends(..) => Ok(fs::read(rt, path)?.ends_with(text.as_bytes())),
-            Step::HasMode(_, mode) => Ok(mode_of(rt, path)? == *mode),
-            Step::IsLink(..) => Ok(fs::symlink_metadata(rt, path)?.is_symlink()),
             // Even a link that leads nowhere stands.
             Step::Stands(_, wanted) => Ok(fs::symlink_metadata(rt, path).is_ok() == *wanted),
             Step::Left(count) => self.left(rt, *count),
@@ -53,7 +50,7 @@ impl Scene {
     }
 
     // Whether the store folder has `wanted` files and folders.
-    pub(crate) fn left<R: Host>(&mut self, rt: &R, wanted: usize) -> Result<bool, Fail> {
+    fn left<R: Host>(&mut self, rt: &R, wanted: usize) -> Result<bool, Fail> {
         let count = count(rt, self.site.folder.as_str())?;
         if count != wanted {
             self.stray = format!(in rt.alloc(); "wanted {wanted} files and folders, came {count}")?;
@@ -70,13 +67,9 @@ fn texts(step: &Step) -> (&'static str, &'static str) {
         Step::Link(to, at) => (to, at),
         Step::Move(from, to) => (from, to),
         Step::Holds(file, text) => (file, text),
-        Step::Ends(file, text) => (file, text),
-        Step::Fill(file, _, _) => (file, ""),
         Step::Folder(path) => (path, ""),
         Step::Mode(path, _) => (path, ""),
         Step::Remove(file) => (file, ""),
-        Step::HasMode(path, _) => (path, ""),
-        Step::IsLink(path) => (path, ""),
         Step::Stands(path, _) => (path, ""),
         _ => ("", ""),
     }
@@ -86,7 +79,6 @@ fn texts(step: &Step) -> (&'static str, &'static str) {
 fn change<R: Host>(rt: &R, step: &Step, path: &str, text: &str) -> io::Result<()> {
     match step {
         Step::Write(..) => fs::write(rt, path, text.as_bytes()),
-        Step::Fill(_, byte, length) => { fs::write(rt, path, vec![in rt.alloc(); *byte; *length]?) }
         Step::Folder(..) => fs::create_dir_all(rt, path),
         Step::Mode(_, mode) => fs::set_permissions(rt, path, Permissions::from_mode(*mode)),
         Step::Link(..) => rt.symlink(path, text),
@@ -94,11 +86,6 @@ fn change<R: Host>(rt: &R, step: &Step, path: &str, text: &str) -> io::Result<()
         Step::Remove(..) => fs::remove_file(rt, path),
         _ => Err(io::Error::other("the step names no file")),
     }
-}
-
-// The permissions of a file or folder.
-fn mode_of<R: Host>(rt: &R, path: &str) -> io::Result<u32> {
-    Ok(fs::symlink_metadata(rt, path)?.permissions().mode() & 0o777)
 }
 
 // How many files and folders a folder has.

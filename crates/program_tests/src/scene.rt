@@ -69,36 +69,12 @@ impl Scene {
     ) -> Result<bool, Fail> {
         match step {
             Step::Run(line, out, err, status) => self.runs(rt, make, line, [out, err], *status),
-            Step::Realise(line, told, outputs, status) => {
-                self.realises(rt, make, line, told, outputs, *status)
-            }
             Step::Put(name, draft) => self.put(rt, name, draft),
-            Step::Twins(name, first, second) => self.put_twins(rt, name, *first, *second),
             Step::Start(call, made) => self.starts(rt, call, made),
             Step::NoStart(builder) => self.starts_none(rt, builder),
             Step::NoProcess(args, env) => self.refuses(rt, args, env),
             Step::Script(script, outputs, made) => self.builds(rt, script, outputs, made),
-            other => self.takes_narrow(rt, make, other),
-        }
-    }
-
-    // The same for a step with a narrow writer, or a step that names a path.
-    fn takes_narrow<R: Host, M: Builders>(
-        &mut self,
-        rt: &R,
-        make: &M,
-        step: &Step,
-    ) -> Result<bool, Fail> {
-        match step {
-            Step::Room(line, room, err, status) => {
-                self.runs_in(rt, make, line, *room, err, *status)
-            }
-            Step::Rooms(line, out, err, status) => {
-                self.runs_in_less(rt, make, line, out, err, *status)
-            }
             Step::TextPath(word, name, text) => self.name_text(rt.alloc(), word, name, text),
-            Step::OutputPath(word, name, draft) => self.name_output(rt.alloc(), word, name, draft),
-            Step::Order(one, other) => self.order(rt.alloc(), one, other),
             other => self.finds(rt, other),
         }
     }
@@ -127,19 +103,8 @@ pub fn first_fault<R: Env + Host + Processes, M: Builders>(
     process: u32,
     rows: &[Row],
 ) -> Result<Option<String>, Fail> {
-    first_fault_by(rt, make, process, rows, "1")
-}
-
-/// The same where the word `<jobs>` stands for a number of workers.
-pub fn first_fault_by<R: Env + Host + Processes, M: Builders>(
-    rt: &R,
-    make: &M,
-    process: u32,
-    rows: &[Row],
-    jobs: &str,
-) -> Result<Option<String>, Fail> {
     for row in rows {
-        let fault = play(rt, make, process, row, jobs)?;
+        let fault = play(rt, make, process, row)?;
         if fault.is_some() {
             return Ok(fault);
         }
@@ -153,11 +118,8 @@ fn play<R: Env + Host + Processes, M: Builders>(
     make: &M,
     process: u32,
     row: &Row,
-    jobs: &str,
 ) -> Result<Option<String>, Fail> {
     let mut scene = Scene::new(rt, process, row.name)?;
-    let jobs = String::from_str(rt.alloc(), jobs)?;
-    scene.names.bind(rt.alloc(), "jobs", jobs)?;
     let taken = scene.take(rt, make, row.steps)?;
     let fault = fault_of(rt.alloc(), &scene, row, taken)?;
     scene.close(rt)?;

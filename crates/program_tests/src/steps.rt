@@ -13,22 +13,11 @@ pub struct Row {
 /// A step.
 pub enum Step {
     /// A command line is run. It writes these texts to standard output and standard error, and has
-    /// this status. Where a text ends in `…`, more may be written.
+    /// this status.
     Run(&'static str, &'static str, &'static str, u8),
-    /// A command line is run. It writes these lines, ordered by the paths in them, and the last
-    /// text after them, and nothing to standard error. It has this status.
-    Realise(&'static str, &'static [&'static str], &'static str, u8),
-    /// A command line is run, and standard output has room for this number of bytes. The run writes
-    /// this text to standard error, and has this status.
-    Room(&'static str, usize, &'static str, u8),
-    /// The same with room for each number of bytes that is less than a text's.
-    Rooms(&'static str, &'static str, &'static str, u8),
     /// `add-drv` puts the derivation of a draft into the folder. Its name is a word for its path;
     /// its name, a dot and an output's name are a word for the output's path.
     Put(&'static str, &'static str),
-    /// The same for two drafts under this name, each with its word. In both drafts `<try>` stands
-    /// for the first number, from 0, with which the first path is the lesser.
-    Twins(&'static str, (&'static str, &'static str), (&'static str, &'static str)),
     /// A builder is called, and has this outcome.
     Start(Call, Made),
     /// No process is started for the builder at this path.
@@ -40,14 +29,8 @@ pub enum Step {
     Script(&'static str, &'static [&'static str], Made),
     /// A word for the path that a text gets under a name.
     TextPath(&'static str, &'static str, &'static str),
-    /// A word for the path of the output `out` of a draft under a name.
-    OutputPath(&'static str, &'static str, &'static str),
-    /// The words `<lesser>` and `<greater>` for the paths that two words stand for.
-    Order(&'static str, &'static str),
     /// A file is written with a text.
     Write(&'static str, &'static str),
-    /// A file is written with this byte, repeated this number of times.
-    Fill(&'static str, u8, usize),
     /// A folder is made, and the folders above it.
     Folder(&'static str),
     /// A file or folder gets these permissions.
@@ -60,12 +43,6 @@ pub enum Step {
     Remove(&'static str),
     /// A file has this text.
     Holds(&'static str, &'static str),
-    /// A file ends with this text.
-    Ends(&'static str, &'static str),
-    /// A file or folder has these permissions.
-    HasMode(&'static str, u32),
-    /// There is a link at the path.
-    IsLink(&'static str),
     /// Whether something lies at a path, even a link that leads nowhere.
     Stands(&'static str, bool),
     /// The store folder has this number of files and folders.

@@ -1,8 +1,7 @@
 //! Words in angle brackets, and the texts for which they stand.
 use crate::scene::Scene;
 use nix_drv::text_path;
-use nix_names::{StoreDir, StorePath, make_path};
-use sha2::{Digest, Sha256};
+use nix_names::StoreDir;
 use std::alloc::{AllocError, Global};
 use std::str;
 use std::test::Fail;
@@ -66,39 +65,8 @@ impl Scene {
         let text = self.said(alloc, text)?;
         let dir = StoreDir::new(alloc, self.site.folder.as_bytes())?;
         let path = text_path(alloc, &dir, name.as_bytes(), text.as_bytes(), &[])?;
-        self.name_path(alloc, word, &path)
-    }
-
-    // Names the path of a draft's output, by the rule of output paths.
-    pub(crate) fn name_output(
-        &mut self,
-        alloc: Global,
-        word: &str,
-        name: &str,
-        draft: &str,
-    ) -> Result<bool, Fail> {
-        let dir = StoreDir::new(alloc, self.site.folder.as_bytes())?;
-        let digest = Sha256::digest(draft.as_bytes());
-        let path = make_path(alloc, b"output:out", &digest, &dir, name.as_bytes())?;
-        self.name_path(alloc, word, &path)
-    }
-
-    fn name_path(&mut self, alloc: Global, word: &str, path: &StorePath) -> Result<bool, Fail> {
         let path = text_of(alloc, path.text())?;
         self.names.bind(alloc, word, path)?;
-        Ok(true)
-    }
-
-    // Names the lesser and the greater of two paths.
-    pub(crate) fn order(&mut self, alloc: Global, one: &str, other: &str) -> Result<bool, Fail> {
-        let (one, other) = (self.said(alloc, one)?, self.said(alloc, other)?);
-        let (lesser, greater) = if one < other {
-            (one, other)
-        } else {
-            (other, one)
-        };
-        self.names.bind(alloc, "lesser", lesser)?;
-        self.names.bind(alloc, "greater", greater)?;
         Ok(true)
     }
 }

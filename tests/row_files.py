@@ -1,0 +1,157 @@
+"""Reads files of rows: what is done in a store folder, and what has to come of it.
+
+A row begins with `== NAME`, and a comment with `#`. Each other line begins a step, whose texts
+stand below it: a line of a text behind `|`, a piece of a line behind `+`. Before these marks stands
+the text's label, if the step has more than one text. Before the first row `text <WORD>` lets a word
+stand for a text, and `for <WORD> in VALUES` has each row taken once with each of these values.
+"""
+
+import re
+
+PIECE = re.compile(r"    ([a-z ]*)([|+])(?: (.*))?")
+SETTING = re.compile(r"    ([a-z]+) ([0-9]+)")
+
+# The kinds of step, and how many words may stand behind each.
+STEPS = {
+    "$": range(1, 100),
+    "put": [1],
+    "twins": [1],
+    "text-path": [2],
+    "output-path": [2],
+    "order": [2],
+    "repeat": [3],
+    "write": [1],
+    "fill": [3],
+    "folder": [1],
+    "mode": [2],
+    "link": [3],
+    "move": [3],
+    "pipe": [1],
+    "remove": [1],
+    "holds": [1],
+    "ends": [1],
+    "has-mode": [2],
+    "is-link": [1],
+    "is-pipe": [1],
+    "exists": [1],
+    "missing": [1],
+    "entries": [1],
+}
+# What may stand before the first row.
+FRONT = {"text": [1], "for": range(3, 100)}
+# The texts and numbers of a run.
+RUN_TEXTS = {"out", "err", "by path", "too much"}
+RUN_NUMBERS = {"status", "room"}
+
+
+class Mistake(Exception):
+    """A line of a file of rows that means nothing."""
+
+
+class Step:
+    """A step: the number of its line, its kind, the words behind it, its texts and numbers."""
+
+    def __init__(self, number, line):
+        self.number, self.line = number, line
+        self.kind, *self.words = line.split(" ")
+        self.texts, self.numbers = {}, {}
+
+    def add(self, line):
+        """Adds a line that stands below the step."""
+        if piece := PIECE.fullmatch(line):
+            label, mark, text = piece.groups()
+            end = "\n" if mark == "|" else ""
+            self.texts[label] = self.texts.get(label, "") + (text or "") + end
+        elif setting := SETTING.fullmatch(line):
+            self.numbers[setting[1]] = int(setting[2])
+        else:
+            raise Mistake("it is no part of a step")
+
+    def check(self, kinds):
+        """Refuses a step that is none of these kinds, or that has other parts than it may have."""
+        if self.kind not in kinds or len(self.words) not in kinds[self.kind]:
+            raise Mistake("nothing is known of such a step")
+        labels, numbers = set(self.texts), set(self.numbers)
+        if self.kind == "$":
+            known = labels <= RUN_TEXTS and {"status"} <= numbers <= RUN_NUMBERS
+        elif self.kind == "twins":
+            known = len(labels) == 2 and "" not in labels and not numbers
+        else:
+            known = labels <= {""} and not numbers
+        if not known:
+            raise Mistake("below it stands what it may not have, or not what it must have")
+
+
+class Row:
+    """A row: its file, its name, its steps, and the words of the file with their texts."""
+
+    def __init__(self, file, name, texts, steps):
+        self.file, self.name, self.texts, self.steps = file, name, texts, steps
+
+    def full_name(self):
+        """The names of the file and of the row."""
+        return f"{self.file.stem}::{self.name}"
+
+    def with_word(self, word, value):
+        """The same row where a word stands for this value too."""
+        name = f"{self.name}, {word} = {value}"
+        return Row(self.file, name, {**self.texts, word: value}, self.steps)
+
+
+class Reading:
+    """What was read of a file: what stands before the rows, and the rows by their names."""
+
+    def __init__(self, file):
+        self.file, self.front, self.rows = file, [], {}
+        self.steps, self.last = self.front, None
+
+    def read(self, number, line):
+        """Reads a line."""
+        if not line or line.startswith("#"):
+            return
+        if line.startswith("    "):
+            if self.last is None:
+                raise Mistake("it stands below no step")
+            self.last.add(line)
+        elif line.startswith("== "):
+            self.begin(line[3:])
+        else:
+            self.last = Step(number, line)
+            self.steps.append(self.last)
+
+    def begin(self, name):
+        """Begins a row."""
+        if name in self.rows:
+            raise Mistake("another row has this name")
+        self.steps, self.last = [], None
+        self.rows[name] = self.steps
+
+    def all_steps(self):
+        """Each step with the kinds that may stand there."""
+        yield from ((step, FRONT) for step in self.front)
+        yield from ((step, STEPS) for steps in self.rows.values() for step in steps)
+
+    def given(self):
+        """The rows, each with each value of the word that has several."""
+        texts = {s.words[0]: s.texts.get("", "") for s in self.front if s.kind == "text"}
+        loops = [(s.words[0], s.words[2:]) for s in self.front if s.kind == "for"]
+        rows = [Row(self.file, name, texts, steps) for name, steps in self.rows.items()]
+        for word, values in loops:
+            rows = [row.with_word(word, value) for row in rows for value in values]
+        return rows
+
+
+def rows_of(file):
+    """The rows of a file."""
+    reading = Reading(file)
+    lines = file.read_text(encoding="utf-8").splitlines()
+    number = 0
+    try:
+        for number, line in enumerate(lines, 1):
+            reading.read(number, line)
+        for step, kinds in reading.all_steps():
+            number = step.number
+            step.check(kinds)
+    except Mistake as mistake:
+        raise Mistake(f"{file}:{number}: {mistake}: {lines[number - 1]}") from None
+    return reading.given()

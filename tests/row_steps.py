@@ -1,0 +1,295 @@
+"""Takes the steps of a row in a store folder of its own.
+
+A word in angle brackets stands for a text: `<dir>` for the store folder, `<bom>` for a byte order
+mark, and other words for what earlier steps name. `put any` writes a draft to `<dir>/file` and lets
+`add-drv` add it under the name `any`: then `<any>` stands for the derivation's path, and
+`<any.out>` for the path of its output `out`. `twins` does so with two drafts, in which `<try>` is
+the first number with which the first path is the lesser. `order` names the lesser and the greater
+of two paths `<lesser>` and `<greater>`.
+
+Below a run stand what it writes to standard output (`out`) and to standard error (`err`), and its
+status. Lines behind `by path` come before those behind `out`, in the order of the paths in them.
+With `room N` standard output takes N bytes and refuses the next; with `too much` the run is made
+with room for each number of bytes that is less than this text's.
+"""
+
+import hashlib
+import os
+import pathlib
+import re
+import resource
+import signal
+import stat
+import subprocess
+
+from row_faults import Fault, expect, told
+from scenes import outputs_in
+from store_paths import make_path, text_path
+
+WORD = re.compile(r"<[^<>\s]+>")
+# The seconds that a run may take.
+MOST_SECONDS = 120
+# How many numbers are tried at most for twins: each gives the right order in one of two cases.
+MOST_TRIES = 64
+# The greatest size of the files of a run whose standard output has little room: that has it at the
+# end of a file of this size.
+GREATEST_FILE = 2**30
+
+
+def behind_word(line):
+    """The text of a line behind its first word."""
+    return line.partition(" ")[2] or line
+
+
+class Ran:
+    """How a run ended: what it wrote, and its status."""
+
+    def __init__(self, out, err, status):
+        self.out, self.err, self.status = out, err, status
+
+
+class Scene:
+    """A store folder below a folder, in which the program runs."""
+
+    def __init__(self, program, folder, texts):
+        self.program, self.folder, self.texts = program, folder, texts
+        self.dir = folder / "store"
+        self.dir.mkdir()
+        self.names = {"<dir>": str(self.dir), "<bom>": "\ufeff"}
+
+    def said(self, text):
+        """A text in which each word is replaced by its text."""
+
+        def meant(found):
+            word = found[0]
+            return self.said(self.texts[word]) if word in self.texts else self.names.get(word, word)
+
+        return WORD.sub(meant, text)
+
+    def path(self, text):
+        """The path that a word of a step gives."""
+        path = self.said(text)
+        if WORD.search(path):
+            raise Fault("a path", path)
+        return self.folder / path
+
+    def text(self, step, label=""):
+        """A text of a step."""
+        return self.said(step.texts.get(label, ""))
+
+    def take(self, step):
+        """Takes a step. Fails where something else comes of it than it says."""
+        if step.kind == "$":
+            self.take_run(step)
+        elif step.kind in NAMING:
+            NAMING[step.kind](self, step)
+        else:
+            FILES[step.kind](self, self.path(step.words[0]), step)
+
+    # Runs.
+
+    def run(self, words, room=None):
+        """Runs the program, and gives how that ended. Standard output takes `room` bytes."""
+        start = GREATEST_FILE - room if room is not None else 0
+        with open(self.folder / "out", "w+b") as out, open(self.folder / "err", "w+b") as err:
+            out.seek(start)
+            streams = {"stdin": subprocess.DEVNULL, "stdout": out, "stderr": err}
+            before = limit_files if room is not None else None
+            run = subprocess.Popen(
+                [self.program, *words],
+                cwd=self.folder,
+                preexec_fn=before,
+                start_new_session=True,
+                **streams,
+            )
+            status = ended(run)
+            out.seek(start)
+            err.seek(0)
+            texts = [file.read().decode(errors="backslashreplace") for file in (out, err)]
+        return Ran(*texts, status)
+
+    def take_run(self, step):
+        """Runs a command line, and compares what it writes and its status."""
+        words = [self.said(word) for word in step.words[1:]]
+        if "too much" in step.texts:
+            for room in range(len(self.text(step, "too much").encode())):
+                self.compare_narrow(step, words, room)
+        elif "room" in step.numbers:
+            self.compare_narrow(step, words, step.numbers["room"])
+        else:
+            ran = self.run(words)
+            wanted = told(self.report(step), self.text(step, "err"), step.numbers["status"])
+            expect(wanted, told(ran.out, ran.err, ran.status))
+
+    def report(self, step):
+        """What a run has to print: lines in the order of the paths in them, then a text."""
+        lines = self.text(step, "by path").splitlines(keepends=True)
+        return "".join(sorted(lines, key=behind_word)) + self.text(step, "out")
+
+    def compare_narrow(self, step, words, room):
+        """Runs with room for so many bytes, and compares the line of the fault and the status."""
+        ran = self.run(words, room)
+        head = f"with room for {room} bytes on standard output:\n"
+        wanted = told("", self.text(step, "err"), step.numbers["status"])
+        expect(head + wanted, head + told("", ran.err, ran.status))
+
+    # Words for paths.
+
+    def put(self, name, draft):
+        """Puts the derivation of a draft into the store folder, and gives its path."""
+        file = self.dir / "file"
+        file.write_text(draft)
+        ran = self.run(["add-drv", "--store-dir", self.dir, name, file])
+        expect(told("", "", 0), told("", ran.err, ran.status))
+        return ran.out.rstrip("\n")
+
+    def name_drv(self, name, path):
+        """Names the path of a derivation and those of its outputs."""
+        self.names[f"<{name}>"] = path
+        for output, found in outputs_in(pathlib.Path(path).read_text()).items():
+            self.names[f"<{name}.{output}>"] = found
+
+    def take_put(self, step):
+        """Puts a derivation into the store folder, and names its paths."""
+        (name,) = step.words
+        self.name_drv(name, self.put(name, self.text(step)))
+
+    def take_twins(self, step):
+        """Puts two derivations into the store folder, the first at the lesser path."""
+        (name,) = step.words
+        for number in range(MOST_TRIES):
+            self.names["<try>"] = str(number)
+            paths = {word: self.put(name, self.said(draft)) for word, draft in step.texts.items()}
+            first, second = paths.values()
+            if first < second:
+                break
+            os.remove(first)
+            os.remove(second)
+        else:
+            raise Fault("a number with which the first path is the lesser", "none")
+        for word, path in paths.items():
+            self.name_drv(word, path)
+
+    def take_text_path(self, step):
+        """Names the path that a text gets under a name."""
+        word, name = step.words
+        self.names[word] = text_path(str(self.dir), name, self.text(step).encode())
+
+    def take_output_path(self, step):
+        """Names the path of the output `out` of a draft without inputs."""
+        word, name = step.words
+        digest = hashlib.sha256(self.text(step).encode()).hexdigest()
+        self.names[word] = make_path("output:out", digest, str(self.dir), name)
+
+    def take_order(self, step):
+        """Names the lesser and the greater of two paths."""
+        self.names["<lesser>"], self.names["<greater>"] = sorted(map(self.said, step.words))
+
+    def take_repeat(self, step):
+        """Lets a word stand for a letter that is repeated."""
+        word, count, letter = step.words
+        self.names[word] = letter * int(count)
+
+    # Files.
+
+    def write(self, path, step):
+        """Writes a file."""
+        path.write_text(self.text(step), newline="")
+
+    def fill(self, path, step):
+        """Writes a file of one letter that is repeated."""
+        _, count, letter = step.words
+        with open(path, "wb") as file:
+            file.write(letter.replace("\\n", "\n").encode() * int(count))
+
+    def holds(self, path, step):
+        """Compares the text of a file."""
+        expect(self.text(step), text_at(path))
+
+    def ends(self, path, step):
+        """Compares the end of a file's text."""
+        wanted, got = self.text(step), text_at(path)
+        if not got.endswith(wanted):
+            raise Fault("… " + wanted, got)
+
+    def entries(self, _, step):
+        """Counts the files and folders in the store folder."""
+        (wanted,) = step.words
+        found = sorted(os.listdir(self.dir))
+        if len(found) != int(wanted):
+            raise Fault(f"{wanted} files and folders", f"{len(found)}: {' '.join(found)}")
+
+
+def limit_files():
+    """Lets this process, which is about to become the program, make no greater file, and lets such
+    a write fail."""
+    signal.signal(signal.SIGXFSZ, signal.SIG_IGN)
+    _, most = resource.getrlimit(resource.RLIMIT_FSIZE)
+    resource.setrlimit(resource.RLIMIT_FSIZE, (GREATEST_FILE, most))
+
+
+def ended(run):
+    """The status with which a run ended. It is killed where it takes too long."""
+    try:
+        return run.wait(MOST_SECONDS)
+    except subprocess.TimeoutExpired:
+        os.killpg(run.pid, signal.SIGKILL)
+        run.wait()
+        return f"none after {MOST_SECONDS} seconds"
+
+
+def text_at(path):
+    """The text of a file."""
+    try:
+        return path.read_bytes().decode(errors="backslashreplace")
+    except OSError as error:
+        raise Fault(f"the text of {path}", error.strerror) from None
+
+
+def kind_of(path):
+    """What lies at a path, where a link is one even if it leads nowhere."""
+    try:
+        mode = path.lstat().st_mode
+    except FileNotFoundError:
+        return "nothing"
+    kinds = {stat.S_ISLNK: "a link", stat.S_ISFIFO: "a pipe", stat.S_ISDIR: "a folder"}
+    return next((kind for is_kind, kind in kinds.items() if is_kind(mode)), "a file")
+
+
+def mode_at(path):
+    """The permissions of a file or folder."""
+    return f"{stat.S_IMODE(path.lstat().st_mode) & 0o777:03o}"
+
+
+def exists(_, path, __):
+    """Fails where nothing lies at a path."""
+    if kind_of(path) == "nothing":
+        raise Fault(f"something at {path}", "nothing")
+
+
+NAMING = {
+    "put": Scene.take_put,
+    "twins": Scene.take_twins,
+    "text-path": Scene.take_text_path,
+    "output-path": Scene.take_output_path,
+    "order": Scene.take_order,
+    "repeat": Scene.take_repeat,
+}
+FILES = {
+    "write": Scene.write,
+    "fill": Scene.fill,
+    "folder": lambda scene, path, step: path.mkdir(parents=True, exist_ok=True),
+    "mode": lambda scene, path, step: path.chmod(int(step.words[1], 8)),
+    "link": lambda scene, path, step: path.symlink_to(scene.path(step.words[2])),
+    "move": lambda scene, path, step: path.rename(scene.path(step.words[2])),
+    "pipe": lambda scene, path, step: os.mkfifo(path),
+    "remove": lambda scene, path, step: path.unlink(),
+    "holds": Scene.holds,
+    "ends": Scene.ends,
+    "has-mode": lambda scene, path, step: expect(step.words[1], mode_at(path)),
+    "is-link": lambda scene, path, step: expect("a link", kind_of(path)),
+    "is-pipe": lambda scene, path, step: expect("a pipe", kind_of(path)),
+    "exists": exists,
+    "missing": lambda scene, path, step: expect("nothing", kind_of(path)),
+    "entries": Scene.entries,
+}
