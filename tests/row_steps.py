@@ -96,7 +96,8 @@ class Scene:
             streams = {"stdin": subprocess.DEVNULL, "stdout": out, "stderr": err}
             before = limit_files if room is not None else None
             run = subprocess.Popen(
-                [self.program, *words],
+                ["nix_realise", *words],
+                executable=self.program,
                 cwd=self.folder,
                 preexec_fn=before,
                 start_new_session=True,
