@@ -33,8 +33,8 @@ PLACES = {
     (
         "subcommands/src/program.rt",
         "print_stop",
-        "let Ok ( line ) = stop_line ( alloc , stop ) else { return print_no_line ( err ) ; }",
-    ): "there was no memory for the line; the only fault of its call is AllocError",
+        "Err ( refused ) => return print_no_line ( refused , err )",
+    ): "there was no memory for the line; its call's fault is handed over",
     (
         "subcommands/src/program.rt",
         "print_no_line",

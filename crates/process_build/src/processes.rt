@@ -1,5 +1,5 @@
 //! A builder that runs a job's program as a process.
-ghost use Rattle.std.specs.Prelude.{◌⊎◌, IfErr, IfOk};
+ghost use Rattle.std.specs.Prelude.{◌≡◌, ◌⊎◌, IfErr, IfOk, string_bytes};
 ghost use Rattle.process_build.specs.Answers.{answer_of, IsAnswerOf, IsReadingFault, IsRoomFault, IsRunFault};
 
 use crate::builders::Builders;
@@ -38,7 +38,9 @@ impl<'a, R, P> ProcessBuild<'a, R, P> {
         rt: &'a R,
         processes: &'a P,
         store_dir: &str,
-    ) -> Result<ProcessBuild<'a, R, P>, AllocError> {
+    ) -> Result<ProcessBuild<'a, R, P>, AllocError>
+        ensures { IfOk result (λ build. string_bytes build.store_dir ≡ store_dir.now) }
+    {
         Ok(ProcessBuild {
             rt,
             processes,
@@ -63,6 +65,8 @@ impl<'a, R, P> ByProcesses<'a, R, P> {
 
 impl<'a, R: Files + AllocGlobal + Sync, P: Processes + Sync> Builders for ByProcesses<'a, R, P> {
     type Builder = ProcessBuild<'a, R, P>;
+
+    ghost builds_in = { λ build store_dir. string_bytes build.store_dir ≡ store_dir };
 
     fn builder(
         &self,

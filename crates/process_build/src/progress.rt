@@ -127,6 +127,8 @@ where
 {
     type Builder = Watched<'a, R, M::Builder, W>;
 
+    ghost builds_in = { λ watched store_dir. M.builds_in watched.builder store_dir };
+
     fn builder(
         &self,
         alloc: Global,

@@ -1,5 +1,5 @@
 //! What lies at a path of the store folder, taken away.
-ghost use Rattle.std.specs.Prelude.{◌≡◌, IfErr, IfOk, Ok, OnErr, OnOk, string_bytes, true};
+ghost use Rattle.std.specs.Prelude.{◌≡◌, [], IfErr, IfOk, Ok, OnErr, OnOk, string_bytes, true};
 ghost use Rattle.process_build.specs.Folders.{aside_of, gone_after, IsAside, IsThere, NotesAside};
 
 use crate::failures::Failure;
@@ -19,7 +19,10 @@ pub struct Clearing<'a, R> {
 
 impl<'a, R: Files + AllocGlobal> Clearing<'a, R> {
     /// Nothing is cleared yet.
-    pub fn new(rt: &'a R, store_dir: &'a str) -> Clearing<'a, R> {
+    pub fn new(rt: &'a R, store_dir: &'a str) -> Clearing<'a, R>
+        ensures folder { result.store_dir.now ≡ store_dir.entry.now }
+        ensures none { result.aside.items ≡ [] }
+    {
         Clearing {
             rt,
             store_dir,

@@ -56,6 +56,8 @@ impl Watch for Idle {
 impl Builders for Idle {
     type Builder = Idle;
 
+    ghost builds_in = { λ _ _. Unit {0} };
+
     fn builder(&self, _alloc: Global, _store_dir: &str) -> Result<Idle, AllocError> {
         Ok(Idle)
     }

@@ -1,15 +1,21 @@
 -- How a run of `add-text` ends where its text is refused, or where a file is not written.
-use Rattle.std.proofs.Common.{inl, inr, refl, ℕ, List, Option, Result, Ok, Err}
+use Rattle.std.proofs.Common.{◌≡◌, ◌⊎◌, inl, inr, refl, ℕ, List, Option, Result, Ok, Err}
+use Rattle.std.specs.Prelude.{IsSome}
 use Rattle.std.specs.Io.KnownBytes.{Appends}
 use Rattle.command_line.specs.declared.options.AddTextRequest.{AddTextRequest}
 use Rattle.subcommands.specs.AddedText.{IsAddingText}
 use Rattle.subcommands.specs.Files.{FileBytes}
-use Rattle.subcommands.specs.Endings.{EndsBy, IsPrintedAndWritten, IsWriteFault, path_line}
+use Rattle.process_build.specs.declared.failures.Failure.{Failure}
+use Rattle.process_build.specs.declared.failures.Failure.TheVariants as failure
+use Rattle.subcommands.specs.Endings.{EndsBy, IsPrintedAndWritten, path_line}
 use Rattle.subcommands.specs.DrvEndings.{IsNotPut}
-use Rattle.subcommands.specs.Filed.{IsUnprinted, IsUnput}
+use Rattle.subcommands.specs.Filed.{IsUnprinted, unfiled_stop, unput_stop}
+use Rattle.subcommands.specs.JournalFiles.{journal_stop, text_stop}
 use Rattle.subcommands.specs.StoreDirs.{IsStoreDirOf}
 use Rattle.subcommands.specs.declared.add_drv.Unput.{Unput}
 use Rattle.subcommands.specs.declared.add_drv.Unput.TheVariants.{File, Line}
+use Rattle.subcommands.specs.declared.add_text.Unfiled.{Unfiled}
+use Rattle.subcommands.specs.declared.add_text.Unfiled.TheVariants.{Text, Journal}
 use Rattle.subcommands.specs.declared.added_text.AddedText.{AddedText}
 use Rattle.subcommands.specs.declared.status.Status.{Status}
 use Rattle.subcommands.specs.declared.stop.Stop.{Stop}
@@ -36,14 +42,28 @@ folder_refused request gave journal before (BadStoreDir blamed) h = (refl, h)
 folder_refused request gave journal before NoMemory h = h
 folder_refused request gave journal before stop h = absurd h
 
--- a file is not written behind the printed path
-pub file_not_written : (added : AddedText) (before after : Option (List ℕ)) (stop : Stop)
-    → Appends before after (path_line added.path) → IsWriteFault added stop
-    → IsPrintedAndWritten added before after (Err stop)
-file_not_written added before after (NotWritten path) printed h = (h, printed)
-file_not_written added before after JournalNotWritten printed h = (h, printed)
-file_not_written added before after NoMemory printed h = (h, printed)
-file_not_written added before after stop printed h = absurd h
+-- a text is not written after its path was printed
+text_not_written : (added : AddedText) (failure : Failure) (before after : Option (List ℕ))
+    → Appends before after (path_line added.path) → IsSome added.journal
+    → IsPrintedAndWritten added before after (Err (text_stop added.path failure))
+text_not_written added failure.NoMemory before after printed renewed = (tt, printed)
+text_not_written added failure before after printed renewed = ((refl, renewed), printed)
+
+-- a journal is not written after the text's path was printed
+journal_not_written : (added : AddedText) (failure : Failure) (before after : Option (List ℕ))
+    → Appends before after (path_line added.path) → IsSome added.journal
+    → IsPrintedAndWritten added before after (Err (journal_stop failure))
+journal_not_written added failure.NoMemory before after printed renewed = (tt, printed)
+journal_not_written added failure before after printed renewed = (renewed, printed)
+
+-- a file is not written after the text's path was printed
+pub file_not_written : (added : AddedText) (unfiled : Unfiled) (before after : Option (List ℕ))
+    (stop : Stop) → Appends before after (path_line added.path) → IsSome added.journal
+    → stop ≡ unfiled_stop added.path unfiled → IsPrintedAndWritten added before after (Err stop)
+file_not_written added (Text unwritten) before after stop printed renewed is =
+    rw is (text_not_written added unwritten.failure before after printed renewed)
+file_not_written added (Journal unwritten) before after stop printed renewed is =
+    rw is (journal_not_written added unwritten.failure before after printed renewed)
 
 -- how the printing and the writing end is how the run does
 pub put_ends : (request : AddTextRequest) (gave journal : FileBytes)
@@ -59,8 +79,16 @@ put_ends request gave journal before after added (Err Unwritable) is h = (added,
 put_ends request gave journal before after added (Err NoMemory) is h = λ none. none is.0.0.0
 put_ends request gave journal before after added (Err stop) is h = absurd h.0
 
+-- the stop of a file that is not written
+stop_of_text : (path : List ℕ) (failure : Failure)
+    → (text_stop path failure ≡ NoMemory) ⊎ (text_stop path failure ≡ NotWritten path)
+stop_of_text path failure.NoMemory = inl refl
+stop_of_text path failure = inr refl
+
 -- what is known where a derivation is not put
 pub not_put : (path : List ℕ) (before after : Option (List ℕ)) (unput : Unput) (stop : Stop)
-    → IsUnprinted before after unput → IsUnput path unput stop → IsNotPut path before after stop
-not_put path before after (File unwritten) stop same is = inl (same, is)
+    → IsUnprinted before after unput → stop ≡ unput_stop path unput
+    → IsNotPut path before after stop
+not_put path before after (File unwritten) stop same is =
+    inl (same, rw is (stop_of_text path unwritten.failure))
 not_put path before after Line stop same is = inr is

@@ -1,6 +1,6 @@
--- Where the journal file is, and what ends a run that can't write it.
+-- Where the journal file is, and what ends a run that can't write a file.
 use Rattle.std.specs.Prelude.{◌++◌, Option, Some, None, codes, option_map}
-use Rattle.nix_names.specs.Bytes.{Bytes, Dir}
+use Rattle.nix_names.specs.Bytes.{Bytes, Dir, Path}
 use Rattle.process_build.specs.declared.failures.Failure.{Failure}
 use Rattle.process_build.specs.declared.failures.Failure.TheVariants as failure
 use Rattle.command_line.specs.declared.options.AddTextRequest.{AddTextRequest}
@@ -9,6 +9,7 @@ use Rattle.subcommands.specs.Files.{IsReadFrom}
 use Rattle.subcommands.specs.declared.files.Given.{Given}
 use Rattle.subcommands.specs.declared.stop.Stop.{Stop}
 use Rattle.subcommands.specs.declared.stop.Stop.TheVariants.{JournalNotWritten, NoMemory}
+use Rattle.subcommands.specs.declared.stop.Stop.TheVariants.{NotWritten}
 
 -- the journal file's path: the given one, else that of `realiser-journal` in the store folder
 abbrev pub journal_path_of : (store_dir : Dir) → (given : Option Bytes) → Bytes
@@ -31,3 +32,8 @@ IsTextsJournal request given =
 abbrev pub journal_stop : Failure → Stop
 journal_stop failure.NoMemory = NoMemory
 journal_stop failure = JournalNotWritten
+
+-- what ends a run whose file at this path is not written, by this failure
+abbrev pub text_stop : Path → Failure → Stop
+text_stop path failure.NoMemory = NoMemory
+text_stop path failure = NotWritten path

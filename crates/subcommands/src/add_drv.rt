@@ -2,7 +2,7 @@
 ghost use Rattle.std.specs.Prelude.{◌≡◌, IfErr, IfOk};
 ghost use Rattle.std.specs.Io.KnownBytes.{Appends};
 ghost use Rattle.subcommands.specs.DrvEndings.{DrvEnds};
-ghost use Rattle.subcommands.specs.Filed.{IsDrvWritten, IsUnprinted, IsUnput};
+ghost use Rattle.subcommands.specs.Filed.{IsDrvWritten, IsUnprinted, unput_stop};
 ghost use Rattle.subcommands.specs.Endings.{path_line};
 
 use crate::add_text::{print_path, text_stop};
@@ -79,7 +79,7 @@ fn done(written: Written<'_>) -> Status
 
 // What ends a run whose derivation was not put.
 fn stop_of<'a>(unput: Unput, added: AddedDrv) -> Stop<'a>
-    ensures { IsUnput added.path unput result }
+    ensures { result ≡ unput_stop added.path unput }
 {
     match unput {
         Unput::File(unwritten) => text_stop(added.path, unwritten),

@@ -1,8 +1,9 @@
 //! The subcommand `add-text`.
-ghost use Rattle.std.specs.Prelude.{◌≡◌, ◌⊎◌, IfErr, IfOk, IsSome, OnOk};
+ghost use Rattle.std.specs.Prelude.{◌≡◌, IfErr, IfOk, IsSome, OnOk};
 ghost use Rattle.std.specs.Io.KnownBytes.{Appends};
-ghost use Rattle.subcommands.specs.Endings.{Ends, IsPrintedAndWritten, IsWriteFault, path_line};
-ghost use Rattle.subcommands.specs.Filed.{AreFiled};
+ghost use Rattle.subcommands.specs.Endings.{Ends, IsPrintedAndWritten, path_line};
+ghost use Rattle.subcommands.specs.Filed.{AreFiled, unfiled_stop};
+ghost use Rattle.subcommands.specs.JournalFiles.{text_stop};
 
 use crate::added_text::{AddedText, added_text};
 use crate::files::read_text;
@@ -116,8 +117,7 @@ fn done(filed: Option<Filed<'_>>) -> Status
 
 // What ends a run of which a file was not written.
 fn stop_of<'a>(unfiled: Unfiled, added: AddedText) -> Stop<'a>
-    requires { IsSome added.journal }
-    ensures { IsWriteFault added result }
+    ensures { result ≡ unfiled_stop added.path unfiled }
 {
     match unfiled {
         Unfiled::Text(unwritten) => text_stop(added.into_path(), unwritten),
@@ -127,7 +127,7 @@ fn stop_of<'a>(unfiled: Unfiled, added: AddedText) -> Stop<'a>
 
 /// What ends a run of which the file at this path was not written.
 pub fn text_stop<'a>(path: StorePath, unwritten: Unwritten) -> Stop<'a>
-    ensures { (result ≡ Stop.NoMemory) ⊎ (result ≡ Stop.NotWritten path) }
+    ensures { result ≡ text_stop path unwritten.failure }
 {
     match unwritten.failure() {
         Failure::NoMemory => Stop::NoMemory,

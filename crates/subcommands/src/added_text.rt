@@ -82,7 +82,8 @@ pub fn added_text<'a>(
 ) -> Result<AddedText, Stop<'a>>
     requires text { IsReadFrom request.now.file.now 4194305 text }
     requires journal { IsTextsJournal request.now journal }
-    ensures { IsAddingText request.now (needed_bytes text.entry) (journal_bytes journal.entry) result }
+    ensures { IsAddingText request.now (needed_bytes text.entry) (journal_bytes journal.entry)
+        result }
 {
     let dir = store_dir(alloc, request.store_dir)?;
     let text = text_within(request.file, text)?;

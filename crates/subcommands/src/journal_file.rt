@@ -4,7 +4,7 @@ ghost use Rattle.subcommands.specs.Files.{IsReadFrom};
 ghost use Rattle.subcommands.specs.JournalFiles.{journal_path_of};
 
 use crate::files::{Given, read_journal};
-use crate::whole_file::{Unwritten, Written, try_out, write_whole};
+use crate::whole_file::{Tried, Unwritten, Written, try_out, write_whole};
 use std::alloc::{AllocError, Global};
 use std::rt::Files;
 
@@ -39,7 +39,9 @@ impl JournalFile {
     }
 
     /// Tests whether the file can be written, and changes nothing.
-    pub fn try_out<R: Files + AllocGlobal>(&self, rt: &R) -> Result<(), Unwritten> {
+    pub fn try_out<R: Files + AllocGlobal>(&self, rt: &R) -> Result<Tried<'_>, Unwritten>
+        ensures { IfOk result (λ tried. tried.path.now ≡ string_bytes self.entry.now.path) }
+    {
         try_out(rt, self.path.as_str())
     }
 

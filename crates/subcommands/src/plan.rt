@@ -1,6 +1,7 @@
 //! The subcommand `plan`.
 ghost use Rattle.std.specs.Prelude.{◌≡◌, IfErr, IfOk};
-ghost use Rattle.subcommands.specs.Planning.{ForecastEnds, IsForecastPrinted, PlanEnds, over, whole_status};
+ghost use Rattle.subcommands.specs.Planning.{ForecastEnds, IsForecastPrinted, PlanEnds, over};
+ghost use Rattle.subcommands.specs.Planning.{whole_status};
 ghost use Rattle.subcommands.specs.declared.stop.Stop.TheVariants.{NoMemory};
 
 use crate::printing::print_bytes;

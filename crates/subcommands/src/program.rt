@@ -24,7 +24,7 @@ use clap::error::ErrorKind;
 use command_line::{CheckRequest, Request, not_text, request};
 use nix_drv::DrvFault;
 use process_build::Builders;
-use std::alloc::Global;
+use std::alloc::{AllocError, Global};
 use std::io::Write;
 use std::rt::Files;
 use std::sync::Wait;
@@ -126,8 +126,9 @@ pub fn refuse_words<O: Write, E: Write>(alloc: Global, out: &mut O, err: &mut E)
 pub fn print_stop<E: Write>(alloc: Global, stop: &Stop<'_>, err: &mut E) -> Ending
     ensures { IsTold (E.contents err.old) (E.contents err.new) stop.now result }
 {
-    let Ok(line) = stop_line(alloc, stop) else {
-        return print_no_line(err);
+    let line = match stop_line(alloc, stop) {
+        Ok(line) => line,
+        Err(refused) => return print_no_line(refused, err),
     };
     match print_bytes(&line, err) {
         Ok(()) => Ending::Told(stop.status()),
@@ -136,7 +137,7 @@ pub fn print_stop<E: Write>(alloc: Global, stop: &Stop<'_>, err: &mut E) -> Endi
 }
 
 // Ends a run for which there is no memory to make its line.
-fn print_no_line<E: Write>(err: &mut E) -> Ending
+fn print_no_line<E: Write>(_refused: AllocError, err: &mut E) -> Ending
     ensures { (stop : Stop) → IsTold (E.contents err.old) (E.contents err.new) stop result }
 {
     match print_bytes(NO_MEMORY_LINE, err) {

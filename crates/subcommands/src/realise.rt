@@ -1,5 +1,5 @@
 //! The subcommand `realise`.
-ghost use Rattle.std.specs.Prelude.{◌≡◌, is_some, length, true};
+ghost use Rattle.std.specs.Prelude.{◌≡◌, All, is_some, length, string_bytes, true};
 ghost use Rattle.sched_core.specs.Books.{IsRunSettled};
 ghost use Rattle.subcommands.specs.Realising.{BookEnds, IsCutShort, RealiseEnds, RunEnds};
 
@@ -12,6 +12,7 @@ use crate::status::Status;
 use crate::stop::Stop;
 use crate::taken::taken;
 use crate::task::Task;
+use crate::whole_file::Tried;
 use command_line::RealiseRequest;
 use process_build::Builders;
 use sched_core::{Book, Build, Watch};
@@ -43,27 +44,31 @@ where
         result }
 {
     let (file, task) = taken(rt, &request.run)?;
-    file.try_out(rt)?;
+    let tried = file.try_out(rt)?;
     let builders = make_all(rt.alloc(), make, request)?;
-    run_task(rt, request, &file, &task, builders, out)
+    run_task::<R, M, O>(rt, request, &file, tried, &task, builders, out)
 }
 
-/// Builds the wanted derivations of a task, by one worker for each builder, writes the journal and
-/// prints the report.
-pub fn run_task<'a, R, B, O>(
+// Builds the wanted derivations of a task, by one worker for each builder, writes the journal and
+// prints the report. It was tried whether the journal can be written.
+fn run_task<'a, R, M, O>(
     rt: &R,
     request: &RealiseRequest<'a>,
     file: &JournalFile,
+    _tried: Tried<'_>,
     task: &Task,
-    builders: Vec<B>,
+    builders: Vec<M::Builder>,
     out: &mut O,
 ) -> Result<Status, Stop<'a>>
 where
     R: Files + AllocGlobal + Threads + Wait + Sync,
-    B: Build + Watch + Send + Drop,
+    M: Builders,
     O: Write,
-    requires { length builders.items ≡ request.now.jobs }
-    ensures { RunEnds B.may request.now task.now (O.contents out.old) (O.contents out.new) result }
+    requires tried { _tried.path.now ≡ string_bytes file.now.path }
+    requires count { length builders.items ≡ request.now.jobs }
+    requires folder { All (λ b. M.builds_in b request.now.run.store_dir.now) builders.items }
+    ensures { RunEnds M.Builder.may request.now task.now (O.contents out.old) (O.contents out.new)
+        result }
 {
     run_named::<Brand, _, _, _>(rt, Name::new(), request, file, task, builders, out)
 }

@@ -25,6 +25,12 @@ impl Written<'_> {
     }
 }
 
+/// Evidence that a file could be made beside what lies at this path. Only `try_out` makes one.
+#[derive(Clone, Copy)]
+pub struct Tried<'a> {
+    path: &'a str,
+}
+
 /// Evidence that a file was not written, and why. Only `write_whole` and `try_out` make one.
 #[derive(Clone, Copy, Debug, PartialEq, Eq)]
 pub struct Unwritten {
@@ -78,9 +84,11 @@ fn put_whole<R: Files + AllocGlobal>(rt: &R, path: &str, bytes: &[u8]) -> Result
 
 /// Tests whether a file can be written at a path: what lies there may be replaced, and a file can
 /// be made in its folder. The made file is removed again, and the path is left as it is.
-pub fn try_out<R: Files + AllocGlobal>(rt: &R, path: &str) -> Result<(), Unwritten> {
+pub fn try_out<'a, R: Files + AllocGlobal>(rt: &R, path: &'a str) -> Result<Tried<'a>, Unwritten>
+    ensures { IfOk result (λ tried. tried.path.now ≡ path.entry.now) }
+{
     match try_place(rt, path) {
-        Ok(()) => Ok(()),
+        Ok(()) => Ok(Tried { path }),
         Err(failure) => Err(Unwritten { failure }),
     }
 }

@@ -11,4 +11,5 @@ returns g c =
     let printed =
     subst (λ (path : List ℕ). Appends before after (path_line path)) c.path.ensures
     c.in-Ok.ensures in
-    file_not_written c.args.added before after c.stop_of.result printed c.stop_of.ensures
+    file_not_written c.args.added c.in-Err.unfiled before after c.stop_of.result printed c.in-Err.ensures.err
+    c.stop_of.ensures

@@ -1,6 +1,9 @@
 use Rattle.std.proofs.Common.{◌≡◌, length}
+use Rattle.std.specs.Prelude.{All}
 use Rattle.subcommands.proofs.builders.make_all.Given as goal
 
--- a builder for each round
+-- a builder for each round, in the store folder
 abbrev pub invariant-loop : goal.invariant-loop
-invariant-loop g l = length l.builders.items ≡ l.counter
+invariant-loop g l =
+    (length l.builders.items ≡ l.counter)
+    × All (λ b. g.M.Builders.builds_in b l.request.run.store_dir.now) l.builders.items

@@ -2,8 +2,8 @@ use Rattle.std.proofs.Common.{◌∙◌, subst}
 use Rattle.std.specs.Io.KnownBytes.{Appends}
 use Rattle.subcommands.proofs.program.print_stop.Goals as goal
 
-pub returns-in_default : goal.returns-in_default
-returns-in_default g c = c.print_no_line.ensures c.args.stop.now
+pub returns-in-Err : goal.returns-in-Err
+returns-in-Err g c = c.print_no_line.ensures c.args.stop.now
 
 pub returns-in-Ok-print_bytes : goal.returns-in-Ok-print_bytes
 returns-in-Ok-print_bytes g c = (

@@ -10,9 +10,9 @@ returns-in_err-file g c =
     let t = c.in_err-file.ensures.err in
     (t.0, inl (c.in_err-file.field-0.0, e.1 ∙ ap Err e.2, refl, t.1))
 
-pub returns-in_err-try_out : goal.returns-in_err-try_out
-returns-in_err-try_out g c =
-    let step = c.from_residual-in_err-try_out in
+pub returns-in_err-tried : goal.returns-in_err-tried
+returns-in_err-tried g c =
+    let step = c.from_residual-in_err-tried in
     let e = err_from_is_err_and step.result step.ensures.1 in
     let t = c.in_ok-file.ensures.ok in
     let fault =
