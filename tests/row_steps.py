@@ -205,11 +205,13 @@ class Scene:
 
     def holds(self, path, step):
         """Compares the text of a file."""
-        expect(self.text(step), text_at(path))
+        wanted = self.text(step)
+        expect(wanted, text_at(path, wanted))
 
     def ends(self, path, step):
         """Compares the end of a file's text."""
-        wanted, got = self.text(step), text_at(path)
+        wanted = self.text(step)
+        got = text_at(path, wanted)
         if not got.endswith(wanted):
             raise Fault("… " + wanted, got)
 
@@ -239,12 +241,12 @@ def ended(run):
         return f"none after {MOST_SECONDS} seconds"
 
 
-def text_at(path):
-    """The text of a file."""
+def text_at(path, wanted):
+    """The text of a file that is to have this text."""
     try:
         return path.read_bytes().decode(errors="backslashreplace")
     except OSError as error:
-        raise Fault(f"the text of {path}", error.strerror) from None
+        raise Fault(wanted, f"no file: {error.strerror}") from None
 
 
 def kind_of(path):
