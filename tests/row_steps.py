@@ -3,9 +3,10 @@
 A word in angle brackets stands for a text: `<dir>` for the store folder, `<bom>` for a byte order
 mark, and other words for what earlier steps name. `put any` writes a draft to `<dir>/file` and lets
 `add-drv` add it under the name `any`: then `<any>` stands for the derivation's path, and
-`<any.out>` for the path of its output `out`. `twins` does so with two drafts, in which `<try>` is
-the first number with which the first path is the lesser. `order` names the lesser and the greater
-of two paths `<lesser>` and `<greater>`.
+`<any.out>` for the path of its output `out`. `twins` does so with two drafts, of which the second
+may name the first: `<try>` is the first number with which the first path is the lesser, so both
+paths have to vary with it. `order` names the lesser and the greater of two paths `<lesser>` and
+`<greater>`.
 
 Below a run stand what it writes to standard output (`out`) and to standard error (`err`), and its
 status. Lines behind `by path` come before those behind `out`, in the order of the paths in them.
@@ -153,23 +154,25 @@ class Scene:
     def take_put(self, step):
         """Puts a derivation into the store folder, and names its paths."""
         (name,) = step.words
-        self.name_drv(name, self.put(name, self.text(step)))
+        self.put_named(name, name, step.texts.get("", ""))
 
     def take_twins(self, step):
         """Puts two derivations into the store folder, the first at the lesser path."""
         (name,) = step.words
         for number in range(MOST_TRIES):
             self.names["<try>"] = str(number)
-            paths = {word: self.put(name, self.said(draft)) for word, draft in step.texts.items()}
-            first, second = paths.values()
+            first, second = [self.put_named(name, *named) for named in step.texts.items()]
             if first < second:
-                break
+                return
             os.remove(first)
             os.remove(second)
-        else:
-            raise Fault("a number with which the first path is the lesser", "none")
-        for word, path in paths.items():
-            self.name_drv(word, path)
+        raise Fault("a number with which the first path is the lesser", "none")
+
+    def put_named(self, name, word, draft):
+        """Puts a derivation into the store folder, and names its paths by a word."""
+        path = self.put(name, self.said(draft))
+        self.name_drv(word, path)
+        return path
 
     def take_text_path(self, step):
         """Names the path that a text gets under a name."""
