@@ -370,9 +370,13 @@ fn is_worked<J: Naming, O: Tells<J>, B: Build + Watch, R: Wait + Print>(
     let (first, second) = readers;
     let (book, stop) = worked(rt, alloc, book, first, builder);
     let fault = number_of(stop);
-    let is_first = is_right(rt, alloc, &book, fault, &of_book(&ONE));
+    if !is_right(rt, alloc, &book, fault, &of_book(&ONE)) {
+        // More work would wait for ever for a lease that was given up.
+        book.close();
+        return false;
+    }
     let (book, last) = worked(rt, alloc, book, second, builder);
-    is_left_right(rt, alloc, book, number_of(last), &row_behind(fault)) && is_first
+    is_left_right(rt, alloc, book, number_of(last), &row_behind(fault))
 }
 
 // The same with two readers in a list.
