@@ -2,8 +2,8 @@
 
 import os
 import resource
+import struct
 import subprocess
-import sys
 import tempfile
 import time
 
@@ -14,18 +14,20 @@ STACK = 32 * 2**20
 
 
 class Ran:
-    """How a run ended: its status, what it wrote, its own seconds of processor time, those that
-    passed, the most address space that it had, and for how many bytes it asked the C library."""
+    """How a run ended: its status, what it wrote, its own seconds of processor time, those of them
+    from the file that it opened last to its answer, those that passed, the most address space that
+    it had, and for how many bytes it asked the C library."""
 
-    def __init__(self, status, out, err, seconds, passed, space, asked):
+    def __init__(self, status, out, err, seconds, answering, passed, space, asked):
         self.status, self.out, self.err = status, out, err
-        self.seconds, self.passed, self.space, self.asked = seconds, passed, space, asked
+        self.seconds, self.answering, self.passed = seconds, answering, passed
+        self.space, self.asked = space, asked
 
 
 def compile_counter(folder):
-    """The library that counts for how many bytes a program asks."""
-    library = os.path.join(folder, "asked_bytes.so")
-    words = ["cc", "-O1", "-shared", "-fPIC", "-o", library, str(HERE / "asked_bytes.c")]
+    """The library that counts for how many bytes a program asks, and when it answers."""
+    library = os.path.join(folder, "run_counts.so")
+    words = ["cc", "-O1", "-shared", "-fPIC", "-o", library, str(HERE / "run_counts.c")]
     subprocess.run(words, check=True)
     return library
 
@@ -64,10 +66,10 @@ def limited(counter, words, seconds, space, clock):
     begin, most = time.monotonic(), 0
     limits = lambda: set_limits(seconds, space)
     made = lambda: tempfile.NamedTemporaryFile(dir=room())
-    with made() as out, made() as err, made() as asked:
-        asked.write(bytes(8))
-        asked.flush()
-        env = {**os.environ, "LD_PRELOAD": counter, "ASKED_BYTES": asked.name}
+    with made() as out, made() as err, made() as counts:
+        counts.write(bytes(24))
+        counts.flush()
+        env = {**os.environ, "LD_PRELOAD": counter, "RUN_COUNTS": counts.name}
         streams = {"stdin": subprocess.DEVNULL, "stdout": out, "stderr": err}
         run = subprocess.Popen(words, preexec_fn=limits, env=env, **streams)
         while os.waitid(os.P_PID, run.pid, os.WEXITED | os.WNOHANG | os.WNOWAIT) is None:
@@ -77,6 +79,7 @@ def limited(counter, words, seconds, space, clock):
             time.sleep(0.01)
         own, passed = seconds_of(run.pid), time.monotonic() - begin
         run.wait()
-        texts = [file.seek(0) or file.read() for file in (out, err, asked)]
-        count = int.from_bytes(texts.pop(), sys.byteorder)
-    return Ran(run.returncode, *texts, own, passed, most, count)
+        texts = [file.seek(0) or file.read() for file in (out, err, counts)]
+        asked, opened, written = struct.unpack("=3Q", texts.pop())
+    answering = max(written - opened, 0) / 10**9
+    return Ran(run.returncode, *texts, own, answering, passed, most, asked)
