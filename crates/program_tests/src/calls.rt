@@ -1,13 +1,11 @@
 //! The system calls of each subcommand, and how a run ends in which one of them is refused.
-use crate::double::{Double, Event};
 use crate::running::{Host, Outcome, run_by};
 use crate::scene::Scene;
 use crate::steps::Step;
 use crate::texts::text_of;
-use process_build::{Builders, ByProcesses};
+use process_build::Builders;
 use std::alloc::{AllocError, Global};
 use std::io::ErrorKind;
-use std::process;
 use std::process::Processes;
 use std::rt::Files;
 use std::sync::Wait;
@@ -23,14 +21,17 @@ const KINDS: [ErrorKind; 5] = [
     ErrorKind::Other,
 ];
 
-// The steps before a run, its command line, the parts of the calls of a good run, one in a line,
-// and for each call how the run ends where the call is refused: a letter for each kind of error.
-// The first letters are those of the good run. After a run with status 2 or 3 the last steps are
-// taken: they find what the run kept.
-struct Row {
-    name: &'static str,
-    before: &'static [Step],
-    line: &'static str,
+/// The steps before a run, its command line, the parts of the calls of a good run, one in a line,
+/// and for each call how the run ends where the call is refused: a letter for each kind of error.
+/// The first letters are those of the good run. After a run with status 2 or 3 the last steps are
+/// taken: they find what the run kept.
+pub struct Row {
+    /// The name of the row.
+    pub name: &'static str,
+    /// The steps before the run.
+    pub before: &'static [Step],
+    /// The command line.
+    pub line: &'static str,
     calls: &'static [&'static str],
     refusals: &'static [&'static [u8; 5]],
     kept: &'static [Step],
@@ -288,28 +289,34 @@ static RUN: [Row; 3] = [
     },
 ];
 
-fn adding() -> &'static [Row] {
-    &ADDING
+fn tables() -> [&'static [Row]; 2] {
+    [&ADDING, &RUN]
 }
 
-fn run_rows() -> &'static [Row] {
-    &RUN
-}
-
-// One refused call of a row: its number, which is 0 for the good run, the kind of its error, and
-// the letter for the run's end.
+/// One refused call of a row: its number, which is 0 for the good run, the kind of its error, and
+/// the letter for the run's end.
 #[derive(Drop)]
-struct Case<'a> {
-    row: &'a Row,
-    number: usize,
-    kind: ErrorKind,
+pub struct Case<'a> {
+    /// The row.
+    pub row: &'a Row,
+    /// The number of the call.
+    pub number: usize,
+    /// The kind of its error.
+    pub kind: ErrorKind,
     letter: u8,
 }
 
-// The refused calls of some rows.
-fn cases(alloc: Global, rows: &[Row]) -> Result<Vec<Case<'_>>, AllocError> {
+impl Case<'_> {
+    /// The name of the row, and which of its calls is refused.
+    pub fn place(&self, alloc: Global) -> Result<String, AllocError> {
+        format!(in alloc; "{}, call {}, {:?}", self.row.name, self.number, self.kind)
+    }
+}
+
+/// The refused calls of all rows.
+pub fn cases(alloc: Global) -> Result<Vec<Case<'static>>, AllocError> {
     let mut cases = Vec::new(alloc);
-    for row in rows {
+    for row in tables().iter().flat_map(|rows| rows.iter()) {
         add_cases(&mut cases, row)?;
     }
     Ok(cases)
@@ -331,14 +338,14 @@ fn add_cases<'a>(cases: &mut Vec<Case<'a>>, row: &'a Row) -> Result<(), AllocErr
     Ok(())
 }
 
-/// What a run on a double wrote, and its status. Its builders run on the double too.
-pub fn ran<D, M>(double: &D, make: &M, line: &str) -> Result<Outcome, Fail>
+/// What a run wrote, and its status.
+pub fn ran<R, M>(rt: &R, make: &M, line: &str) -> Result<Outcome, Fail>
 where
-    D: Files + AllocGlobal + Threads + Wait + Sync,
+    R: Files + AllocGlobal + Threads + Wait + Sync,
     M: Builders,
 {
-    let words: Vec<&str> = line.split(' ').collect(double.alloc())?;
-    Ok(run_by(double, make, &words))
+    let words: Vec<&str> = line.split(' ').collect(rt.alloc())?;
+    Ok(run_by(rt, make, &words))
 }
 
 // The calls of a row's good run.
@@ -350,45 +357,31 @@ fn calls_of(alloc: Global, scene: &Scene, row: &Row) -> Result<String, Fail> {
     Ok(calls)
 }
 
-// What a run told, its calls where none was refused, and the status of the same run made again.
+// What a run told, and its calls where none was refused.
 fn told_by(
     alloc: Global,
     case: &Case<'_>,
     (out, err, status): (&str, &str, u8),
     calls: &str,
-    again: u8,
 ) -> Result<String, AllocError> {
     let calls = if case.number > 0 { "" } else { calls };
-    format!(in alloc; "{out}{err}{status}\n{calls}{again}")
+    format!(in alloc; "{out}{err}{status}\n{calls}")
 }
 
-// What is wanted of a case: the run made again has the status 0.
+// What is wanted of a case.
 fn wanted(alloc: Global, scene: &Scene, case: &Case<'_>) -> Result<String, Fail> {
     let (out, err, status) = told(case.letter);
     let out = scene.said(alloc, out)?;
     let err = scene.said(alloc, err)?;
     let calls = calls_of(alloc, scene, case.row)?;
     let told = (out.as_str(), err.as_str(), status);
-    Ok(told_by(alloc, case, told, calls.as_str(), 0)?)
+    Ok(told_by(alloc, case, told, calls.as_str())?)
 }
 
-// How a case ended otherwise than is wanted, if it did.
-fn stray(
-    alloc: Global,
-    scene: &Scene,
-    case: &Case<'_>,
-    (first, calls, second): (&Outcome, &str, &Outcome),
-) -> Result<Option<String>, Fail> {
-    let (out, err) = (text_of(alloc, &first.out)?, text_of(alloc, &first.err)?);
-    let told = (out.as_str(), err.as_str(), first.status);
-    let came = told_by(alloc, case, told, calls, second.status)?;
-    let wanted = wanted(alloc, scene, case)?;
-    if came == wanted {
-        return Ok(None);
-    }
-    let (name, number, kind) = (case.row.name, case.number, case.kind);
-    let stray = format!(in alloc; "{name}, call {number}, {kind:?}: wanted {wanted}, came {came}")?;
-    Ok(Some(stray))
+// What came of a case.
+fn came(alloc: Global, case: &Case<'_>, ran: &Outcome, calls: &str) -> Result<String, Fail> {
+    let (out, err) = (text_of(alloc, &ran.out)?, text_of(alloc, &ran.err)?);
+    Ok(told_by(alloc, case, (out.as_str(), err.as_str(), ran.status), calls)?)
 }
 
 // Whether a run that was refused or cut short kept what it must keep.
@@ -401,52 +394,23 @@ fn keeps<R: Host + Processes, M: Builders>(
     Ok(scene.take(rt, make, row.kept)? == row.kept.len())
 }
 
-#[test]
-fn refused_calls_of_adding(rt: HostRuntime) -> Result<(), Fail> {
-    let process = process::id(rt.process());
-    let make = ByProcesses::new(&rt, &rt);
-    for case in cases(rt.alloc(), adding())?.iter() {
-        let mut scene = Scene::behind(&rt, &make, process, case.row.name, case.row.before)?;
-        let line = scene.said(rt.alloc(), case.row.line)?;
-        let double = Double::new(rt.clone()?, Event::Refused(case.number, case.kind))?;
-        let first = ran(&double, &ByProcesses::new(&double, &double), line.as_str())?;
-        let is_kept = first.status < 2 || keeps(&rt, &make, &mut scene, case.row)?;
-        let again = Double::new(rt.clone()?, Event::Nothing)?;
-        let second = ran(&again, &ByProcesses::new(&again, &again), line.as_str())?;
-        let calls = double.calls()?;
-        let stray = stray(rt.alloc(), &scene, case, (&first, calls.as_str(), &second))?;
-        assert_eq!(rt; stray, None);
-        assert!(rt;
-            is_kept,
-            "{}, call {}: {}",
-            case.row.name, case.number, scene.stray
-        );
-        scene.close(&rt)?;
+/// How a case ended otherwise than is wanted, if it did: by what its run told and called, or by
+/// what it kept.
+pub fn fault_of<R: Host + Processes, M: Builders>(
+    rt: &R,
+    make: &M,
+    scene: &mut Scene,
+    case: &Case<'_>,
+    (ran, calls): (&Outcome, &str),
+) -> Result<Option<String>, Fail> {
+    let wanted = wanted(rt.alloc(), scene, case)?;
+    let came = came(rt.alloc(), case, ran, calls)?;
+    if came != wanted {
+        scene.strays(rt.alloc(), wanted.as_str(), came.as_str())?;
+    } else if ran.status < 2 || keeps(rt, make, scene, case.row)? {
+        return Ok(None);
     }
-    Ok(())
-}
-
-#[test]
-fn refused_calls_of_a_run(rt: HostRuntime) -> Result<(), Fail> {
-    let process = process::id(rt.process());
-    let make = ByProcesses::new(&rt, &rt);
-    for case in cases(rt.alloc(), run_rows())?.iter() {
-        let mut scene = Scene::behind(&rt, &make, process, case.row.name, case.row.before)?;
-        let line = scene.said(rt.alloc(), case.row.line)?;
-        let double = Double::new(rt.clone()?, Event::Refused(case.number, case.kind))?;
-        let first = ran(&double, &ByProcesses::new(&double, &double), line.as_str())?;
-        let is_kept = first.status < 2 || keeps(&rt, &make, &mut scene, case.row)?;
-        let again = Double::new(rt.clone()?, Event::Nothing)?;
-        let second = ran(&again, &ByProcesses::new(&again, &again), line.as_str())?;
-        let calls = double.calls()?;
-        let stray = stray(rt.alloc(), &scene, case, (&first, calls.as_str(), &second))?;
-        assert_eq!(rt; stray, None);
-        assert!(rt;
-            is_kept,
-            "{}, call {}: {}",
-            case.row.name, case.number, scene.stray
-        );
-        scene.close(&rt)?;
-    }
-    Ok(())
+    let place = case.place(rt.alloc())?;
+    let fault = format!(in rt.alloc(); "{place}: {}", scene.stray)?;
+    Ok(Some(fault))
 }

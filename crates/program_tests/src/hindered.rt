@@ -1,42 +1,45 @@
 //! Runs with short reads and writes, runs that a signal interrupts, and runs beside which another
 //! process changes files.
-use crate::calls::{DRAFT, ran};
-use crate::double::{Double, Event};
+use crate::calls::DRAFT;
+use crate::double::Event;
 use crate::running::{Host, Outcome};
 use crate::scene::Scene;
 use crate::steps::Step;
-use process_build::{Builders, ByProcesses};
+use process_build::Builders;
 use std::alloc::Global;
 use std::io::ErrorKind;
-use std::process;
 use std::process::Processes;
 use std::test::Fail;
 
-// What hinders a run, whose calls are counted from 1.
-enum Way {
-    // Each read and each write takes one byte at most.
+/// What hinders a run, whose calls are counted from 1.
+pub enum Way {
+    /// Each read and each write takes one byte at most.
     Short,
-    // A signal interrupts a call.
+    /// A signal interrupts a call.
     Interrupts(usize),
-    // Right before a call another process writes a file with a text.
+    /// Right before a call another process writes a file with a text.
     Writes(usize, &'static str, &'static str),
-    // It removes a file.
+    /// It removes a file.
     Removes(usize, &'static str),
-    // It makes a folder.
+    /// It makes a folder.
     MakesFolder(usize, &'static str),
-    // It makes a folder with a file in it.
+    /// It makes a folder with a file in it.
     FillsFolder(usize, &'static str),
-    // It moves what lies at the second path and makes a link to the first path there.
+    /// It moves what lies at the second path and makes a link to the first path there.
     Links(usize, &'static str, &'static str),
 }
 
-// The steps before a run, its command line, what hinders it, the texts that it writes to standard
-// output and standard error, its status, and the steps after it.
-struct Row {
-    name: &'static str,
-    before: &'static [Step],
-    line: &'static str,
-    way: Way,
+/// The steps before a run, its command line, what hinders it, the texts that it writes to standard
+/// output and standard error, its status, and the steps after it.
+pub struct Row {
+    /// The name of the row.
+    pub name: &'static str,
+    /// The steps before the run.
+    pub before: &'static [Step],
+    /// The command line.
+    pub line: &'static str,
+    /// What hinders the run.
+    pub way: Way,
     told: (&'static str, &'static str, u8),
     after: &'static [Step],
 }
@@ -418,12 +421,13 @@ static LINKED: [Row; 5] = [
     },
 ];
 
-fn tables() -> [&'static [Row]; 7] {
+/// The tables of all rows.
+pub fn tables() -> [&'static [Row]; 7] {
     [&SHORT, &INTERRUPTED, &READ, &WRITTEN, &TAKEN, &RUN, &LINKED]
 }
 
-// The event that hinders a run, in a scene.
-fn event_of(alloc: Global, scene: &Scene, way: &Way) -> Result<Event, Fail> {
+/// The event that hinders a run, in a scene.
+pub fn event_of(alloc: Global, scene: &Scene, way: &Way) -> Result<Event, Fail> {
     match way {
         Way::Short => Ok(Event::Short),
         Way::Interrupts(number) => Ok(Event::Refused(*number, ErrorKind::Interrupted)),
@@ -454,19 +458,17 @@ fn does<R: Host + Processes, M: Builders>(
     Ok(is_told && scene.take(rt, make, row.after)? == row.after.len())
 }
 
-#[test]
-fn hindered_runs(rt: HostRuntime) -> Result<(), Fail> {
-    let process = process::id(rt.process());
-    let make = ByProcesses::new(&rt, &rt);
-    for row in tables().iter().flat_map(|rows| rows.iter()) {
-        let mut scene = Scene::behind(&rt, &make, process, row.name, row.before)?;
-        let event = event_of(rt.alloc(), &scene, &row.way)?;
-        let line = scene.said(rt.alloc(), row.line)?;
-        let double = Double::new(rt.clone()?, event)?;
-        let ran = ran(&double, &ByProcesses::new(&double, &double), line.as_str())?;
-        let is_right = does(&rt, &make, &mut scene, row, &ran)?;
-        assert!(rt; is_right, "{}: {}", row.name, scene.stray);
-        scene.close(&rt)?;
+/// What a run, or a step after it, did otherwise than a row says, if it did.
+pub fn fault_of<R: Host + Processes, M: Builders>(
+    rt: &R,
+    make: &M,
+    scene: &mut Scene,
+    row: &Row,
+    ran: &Outcome,
+) -> Result<Option<String>, Fail> {
+    if does(rt, make, scene, row, ran)? {
+        return Ok(None);
     }
-    Ok(())
+    let fault = format!(in rt.alloc(); "{}: {}", row.name, scene.stray)?;
+    Ok(Some(fault))
 }

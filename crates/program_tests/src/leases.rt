@@ -1,7 +1,6 @@
 //! The system calls for each lease, in runs by several workers.
-use crate::calls::ran;
 use crate::double::{Double, Event};
-use crate::running::Plain;
+use crate::running::{Outcome, Plain};
 use crate::scene::Scene;
 use crate::steps::Step;
 use crate::texts::replaced;
@@ -32,8 +31,8 @@ static PUTS: [Step; 3] = [
 
 const WORDS: [&str; 3] = ["a", "b", "c"];
 
-// Command lines with one worker, with as many workers as derivations, and with more workers.
-const LINES: [&str; 3] = [
+/// Command lines with one worker, with as many workers as derivations, and with more workers.
+pub const LINES: [&str; 3] = [
     "nix_realise realise --store-dir <dir> --jobs 1 <a> <b> <c>",
     "nix_realise realise --store-dir <dir> --jobs 3 <a> <b> <c>",
     "nix_realise realise --store-dir <dir> --jobs 8 <a> <b> <c>",
@@ -55,7 +54,8 @@ const LEASE: &str = "lstat <it.out>\nlstat <build>\nmkdir <build>\nspawn cd \"<b
 const END: &str = "lstat <dir>/realiser-journal\ncreate <dir>/.nix_realise-0\nwrite \nsync \n\
     rename <dir>/.nix_realise-0 <dir>/realiser-journal\n";
 
-fn puts() -> &'static [Step] {
+/// The steps that put the three derivations into the store folder.
+pub fn puts() -> &'static [Step] {
     &PUTS
 }
 
@@ -134,21 +134,20 @@ fn wanted(alloc: Global, scene: &Scene) -> Result<String, Fail> {
     Ok(wanted)
 }
 
-#[test]
-fn calls_of_each_lease(rt: HostRuntime) -> Result<(), Fail> {
-    let process = process::id(rt.process());
-    let make = ByProcesses::new(&rt, &rt);
-    for line in LINES {
-        let scene = Scene::behind(&rt, &make, process, "leases", puts())?;
-        let line = scene.said(rt.alloc(), line)?;
-        let double = Double::new(rt.clone()?, Event::Nothing)?;
-        let ran = ran(&double, &ByProcesses::new(&double, &double), line.as_str())?;
-        let calls = double.calls()?;
-        let found = found(rt.alloc(), &scene, ran.status, calls.as_str())?;
-        assert_eq!(rt; found, wanted(rt.alloc(), &scene)?, "at {line}");
-        scene.close(&rt)?;
+/// How the calls of a run differ from those that are wanted, if they do.
+pub fn fault_of(
+    alloc: Global,
+    scene: &Scene,
+    line: &str,
+    (ran, calls): (&Outcome, &str),
+) -> Result<Option<String>, Fail> {
+    let found = found(alloc, scene, ran.status, calls)?;
+    let wanted = wanted(alloc, scene)?;
+    if found == wanted {
+        return Ok(None);
     }
-    Ok(())
+    let fault = format!(in alloc; "at {line}: wanted {wanted}, came {found}")?;
+    Ok(Some(fault))
 }
 
 // Whether the lease of this number is built, in the folder of its number, by what a double saw.

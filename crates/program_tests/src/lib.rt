@@ -8,6 +8,7 @@
 //! | `starts`, `folders`, `outputs` | a builder's start, its folder, the reading of its outputs |
 //! | `calls`, `leases` | the system calls, each refused in turn; the system calls of each lease |
 //! | `hindered` | short reads and writes, signals, and other processes that get in the way |
+//! | `doubled` | the runs of these tables, on a double |
 //! | `double` | a runtime that logs system calls, and lets something happen between them |
 //! | `steps`, `scene` | the steps of most rows, and how they are taken |
 //! | `texts`, `files`, `commands`, `sites` | paths, files, command lines and builders of a step |
@@ -22,6 +23,8 @@ mod checks;
 mod commands;
 #[cfg(test)]
 mod double;
+#[cfg(test)]
+mod doubled;
 #[cfg(test)]
 mod files;
 #[cfg(test)]

@@ -1,4 +1,4 @@
-//! Command lines that are refused: words that are no text, and a standard error that refuses writes.
+//! Refused command lines: words that are no text, and a standard error that refuses writes.
 use crate::running::{Idle, Narrow};
 use crate::texts::text_of;
 use std::test::Fail;
