@@ -1,7 +1,7 @@
 """Reads files of rows: what is done in a store folder, and what has to come of it.
 
 A row begins with `== NAME`, and a comment with `#`. Each other line begins a step, whose texts
-stand below it: a line of a text behind `|`, a piece of a line behind `+`. Before these marks stands
+stand below it: `|` begins a line of a text, and `+` a piece of a line. Before these marks stands
 the text's label, if the step has more than one text. Before the first row `text <WORD>` lets a word
 stand for a text, and `for <WORD> in VALUES` has each row taken once with each of these values.
 """
@@ -11,7 +11,7 @@ import re
 PIECE = re.compile(r"    ([a-z ]*)([|+])(?: (.*))?")
 SETTING = re.compile(r"    ([a-z]+) ([0-9]+)")
 
-# The kinds of step, and how many words may stand behind each.
+# The kinds of step, and how many words may follow each.
 STEPS = {
     "$": range(1, 100),
     "put": [1],
@@ -49,7 +49,7 @@ class Mistake(Exception):
 
 
 class Step:
-    """A step: the number of its line, its kind, the words behind it, its texts and numbers."""
+    """A step: the number of its line, its kind, the words after it, its texts and numbers."""
 
     def __init__(self, number, line):
         self.number, self.line = number, line

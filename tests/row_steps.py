@@ -9,7 +9,7 @@ paths have to vary with it. `order` names the lesser and the greater of two path
 `<greater>`.
 
 Below a run stand what it writes to standard output (`out`) and to standard error (`err`), and its
-status. Lines behind `by path` come before those behind `out`, in the order of the paths in them.
+status. Lines of `by path` come before those of `out`, in the order of the paths in them.
 With `room N` standard output takes N bytes and refuses the next; with `too much` the run is made
 with room for each number of bytes that is less than this text's.
 """
@@ -37,8 +37,8 @@ MOST_TRIES = 64
 GREATEST_FILE = 2**30
 
 
-def behind_word(line):
-    """The text of a line behind its first word."""
+def after_word(line):
+    """The text of a line after its first word."""
     return line.partition(" ")[2] or line
 
 
@@ -126,7 +126,7 @@ class Scene:
     def report(self, step):
         """What a run has to print: lines in the order of the paths in them, then a text."""
         lines = self.text(step, "by path").splitlines(keepends=True)
-        return "".join(sorted(lines, key=behind_word)) + self.text(step, "out")
+        return "".join(sorted(lines, key=after_word)) + self.text(step, "out")
 
     def compare_narrow(self, step, words, room):
         """Runs with room for so many bytes, and compares the line of the fault and the status."""
