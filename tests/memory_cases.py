@@ -301,7 +301,7 @@ EDITED = {
         "ErrorKind::OutOfMemory => Failure::NoMemory",
     ),
     "a variant with another meaning": (
-        "sched_core/src/fault.rt",
+        "run_states/src/fault.rt",
         "    NoMemory,\n",
         "    NoMemory(u8),\n",
     ),

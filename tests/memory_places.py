@@ -76,8 +76,8 @@ SIZES = {
         "no size: no count reaches it"
     ),
     ("ref_scan/src/index.rt", "sieve_of", "slots"): "the slots of a sieve, at most 1,048,576",
-    ("sched_core/src/links.rt", "no_links", "count"): "a list for each output of a derivation",
-    ("sched_core/src/users.rt", "open", "pairs_in ( plan , twins )"): (
+    ("build_outcome/src/links.rt", "no_links", "count"): "a list for each output of a derivation",
+    ("run_states/src/users.rt", "open", "pairs_in ( plan , twins )"): (
         "derivations with who waits for them"
     ),
     ("valid_table/src/found.rt", "new", "count / 64 + 1"): "a bit for each row",

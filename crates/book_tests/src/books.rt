@@ -1,6 +1,6 @@
 //! Plans, journals and books for the tests.
 ghost use Rattle.std.specs.Prelude.{◌≡◌, ◌++◌, IfOk};
-ghost use Rattle.sched_core.specs.Books.{opened};
+ghost use Rattle.run_states.specs.Runs.{opened};
 
 use crate::digests::DIGEST_FILES;
 use crate::files::{FILES, File};

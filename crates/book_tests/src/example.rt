@@ -1,7 +1,7 @@
 //! Runs over the plan of the definitions' example of a whole run, by the example's builder.
 ghost use Rattle.std.specs.Prelude.{◌≡◌, ℕ, Result};
-ghost use Rattle.sched_core.specs.declared.job.Answer.{Answer as Given};
-ghost use Rattle.sched_core.specs.declared.reason.Reason.{Reason as Why};
+ghost use Rattle.build_outcome.specs.declared.job.Answer.{Answer as Given};
+ghost use Rattle.build_outcome.specs.declared.reason.Reason.{Reason as Why};
 ghost use Rattle.store_run.specs.GivenOutcomes.{IsDecided};
 ghost use Rattle.store_run.specs.ScheduleExample.{both, in_turn, may_leave, side_by_side};
 ghost use Rattle.store_run.specs.Scheduling.{AreAlike};

@@ -13,15 +13,15 @@ use Rattle.drv_graph.specs.Nodes.{Node, paths_of}
 use Rattle.drv_graph.specs.PlanNodes.{drvs_of}
 use Rattle.drv_graph.specs.Plans.{Graph}
 use Rattle.valid_table.specs.declared.entry.Entry.{Entry}
-use Rattle.sched_core.specs.Listing.{IsMarked, numbers_of}
-use Rattle.sched_core.specs.Reports.{lines_if_some}
-use Rattle.sched_core.specs.Runs.{IsWanted, Run, is_one_of}
-use Rattle.sched_core.specs.declared.listing.Listed.{Listed}
-use Rattle.sched_core.specs.declared.reason.State.{State}
-use Rattle.sched_core.proofs.OwnStandings.{drv_is}
-use Rattle.sched_core.proofs.RunReports.{by_path_moved, marks_told, same_texts}
-use Rattle.sched_core.proofs.Tests.{is_among, is_found, same_test}
-use Rattle.sched_core.proofs.Wanting.{Marks, none_marked}
+use Rattle.run_report.specs.Listing.{IsMarked, numbers_of}
+use Rattle.run_report.specs.Reports.{lines_if_some}
+use Rattle.run_states.specs.Runs.{IsWanted, Run, is_one_of}
+use Rattle.run_report.specs.declared.listing.Listed.{Listed}
+use Rattle.run_states.specs.declared.state.State.{State}
+use Rattle.run_states.proofs.OwnStandings.{drv_is}
+use Rattle.run_report.proofs.RunReports.{by_path_moved, marks_told, same_texts}
+use Rattle.run_states.proofs.Tests.{is_among, is_found, same_test}
+use Rattle.run_states.proofs.Wanting.{Marks, none_marked}
 use Rattle.forecast.specs.Forecasts.{foretold}
 use Rattle.forecast.specs.Holding.{IsHeld, state_at}
 use Rattle.forecast.specs.Marks.{AreRoots, is_marked}

@@ -5,18 +5,18 @@ use Rattle.std.specs.Prelude.{Contains, cond, find}
 use Rattle.std.specs.List.{list_all, list_any}
 use Rattle.std.proofs.lemmas.Bool.{and_from, false≢true, true≢false}
 use Rattle.nix_names.proofs.Lists.{Contains-first, Contains-later}
-use Rattle.sched_core.specs.States.{Idle, IsInOrder, Rows, by_first, by_hindrance, by_inputs, by_phase, by_twins, by_validity, is_bad, is_good, is_open}
-use Rattle.sched_core.specs.declared.reason.Refusal.{Refusal}
-use Rattle.sched_core.specs.declared.reason.State.{State}
-use Rattle.sched_core.specs.declared.reason.State.TheVariants.{Blocked, Done, Refused, Reused}
-use Rattle.sched_core.specs.declared.standing.Standing.{Standing}
-use Rattle.sched_core.specs.declared.standing.Standing.TheVariants.{AllValid, Hindered, Free}
-use Rattle.sched_core.proofs.ClosedStates.{closed_is_good}
-use Rattle.sched_core.proofs.NearestTwins.{none_from}
-use Rattle.sched_core.proofs.PlanInputs.{rows_in_order}
-use Rattle.sched_core.proofs.StateLaws.{reads_at, state_at}
+use Rattle.run_states.specs.States.{Idle, IsInOrder, Rows, by_first, by_hindrance, by_inputs, by_phase, by_twins, by_validity, is_bad, is_good, is_open}
+use Rattle.run_states.specs.declared.state.Refusal.{Refusal}
+use Rattle.run_states.specs.declared.state.State.{State}
+use Rattle.run_states.specs.declared.state.State.TheVariants.{Blocked, Done, Refused, Reused}
+use Rattle.run_states.specs.declared.standing.Standing.{Standing}
+use Rattle.run_states.specs.declared.standing.Standing.TheVariants.{AllValid, Hindered, Free}
+use Rattle.run_states.proofs.ClosedStates.{closed_is_good}
+use Rattle.run_states.proofs.NearestTwins.{none_from}
+use Rattle.run_states.proofs.PlanInputs.{rows_in_order}
+use Rattle.run_states.proofs.StateLaws.{reads_at, state_at}
 use Rattle.forecast.specs.Forecasts.{ForecastsAgree, ForecastsAreClosed, ForecastsAreOne, built_if_ready, built_table, forecast}
-use Rattle.sched_core.proofs.Aside.{aside, aside_same, table_is}
+use Rattle.run_states.proofs.Aside.{aside, aside_same, table_is}
 
 -- ---- the equation and its uniqueness
 

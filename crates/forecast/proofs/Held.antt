@@ -8,17 +8,17 @@ use Rattle.std.proofs.lemmas.Option.{slice_get_past}
 use Rattle.drv_graph.specs.Nodes.{Node}
 use Rattle.drv_graph.specs.Plans.{Graph}
 use Rattle.valid_table.specs.declared.entry.Entry.{Entry}
-use Rattle.sched_core.specs.Courses.{AreStandings, AreWanted}
-use Rattle.sched_core.specs.Listing.{IsMarked}
-use Rattle.sched_core.specs.Reports.{lines_if_some, output_lines, outputs_at}
-use Rattle.sched_core.specs.Runs.{IsWanted, Run}
-use Rattle.sched_core.specs.States.{is_good}
-use Rattle.sched_core.specs.declared.reason.State.{State}
-use Rattle.sched_core.specs.declared.standing.Standing.{Standing}
-use Rattle.sched_core.proofs.RunReports.{by_path_moved, marks_told, same_texts}
-use Rattle.sched_core.proofs.StateLaws.{length_states, state_at as state_among}
-use Rattle.sched_core.proofs.Tests.{all_pass}
-use Rattle.sched_core.proofs.Wanting.{any_default}
+use Rattle.run_states.specs.Courses.{AreStandings, AreWanted}
+use Rattle.run_report.specs.Listing.{IsMarked}
+use Rattle.run_report.specs.Reports.{lines_if_some, output_lines, outputs_at}
+use Rattle.run_states.specs.Runs.{IsWanted, Run}
+use Rattle.run_states.specs.States.{is_good}
+use Rattle.run_states.specs.declared.state.State.{State}
+use Rattle.run_states.specs.declared.standing.Standing.{Standing}
+use Rattle.run_report.proofs.RunReports.{by_path_moved, marks_told, same_texts}
+use Rattle.run_states.proofs.StateLaws.{length_states, state_at as state_among}
+use Rattle.run_states.proofs.Tests.{all_pass}
+use Rattle.run_states.proofs.Wanting.{any_default}
 use Rattle.forecast.specs.Forecasts.{forecast, foretold}
 use Rattle.forecast.specs.Holding.{AreForetold, IsHeld, state_at}
 use Rattle.forecast.specs.Texts.{IsForecast, IsForecastText, line_at, line_of}

@@ -11,20 +11,20 @@ use Rattle.drv_graph.specs.Plans.{Graph}
 use Rattle.drv_graph.specs.SoundGraphs.{IsSound}
 use Rattle.drv_graph.specs.Twins.{are_twins_at, first_twin_of}
 use Rattle.valid_table.specs.declared.entry.Entry.{Entry}
-use Rattle.sched_core.specs.Courses.{AreStandings, AreWanted}
-use Rattle.sched_core.specs.Runs.{Run, earlier_twins, inputs_at, is_wanted, rows_of, standing_at}
-use Rattle.sched_core.specs.States.{by_hindrance, by_inputs, by_twins, by_validity, is_bad, is_done, is_good, is_open, states_by}
-use Rattle.sched_core.specs.declared.reason.State.{State}
-use Rattle.sched_core.specs.declared.reason.State.TheVariants.{Blocked, Done, Refused, Reused}
-use Rattle.sched_core.specs.declared.reason.Refusal.TheVariants.{InputNotRealised}
-use Rattle.sched_core.specs.declared.standing.Standing.{Standing}
-use Rattle.sched_core.specs.declared.standing.Standing.TheVariants.{Free}
-use Rattle.sched_core.proofs.ClosedStates.{good_not_bad, all_from, none_bad}
-use Rattle.sched_core.proofs.EarlierTwins.{twins_from}
-use Rattle.sched_core.proofs.NearestTwins.{none_from}
-use Rattle.sched_core.proofs.Tests.{any_passes, one_passes, same_test}
-use Rattle.sched_core.proofs.TwinLaws.{is_earlier_twin, same_first}
-use Rattle.sched_core.proofs.Wanting.{any_default, none_marked, wanted_told}
+use Rattle.run_states.specs.Courses.{AreStandings, AreWanted}
+use Rattle.run_states.specs.Runs.{Run, earlier_twins, inputs_at, is_wanted, rows_of, standing_at}
+use Rattle.run_states.specs.States.{by_hindrance, by_inputs, by_twins, by_validity, is_bad, is_done, is_good, is_open, states_by}
+use Rattle.run_states.specs.declared.state.State.{State}
+use Rattle.run_states.specs.declared.state.State.TheVariants.{Blocked, Done, Refused, Reused}
+use Rattle.run_states.specs.declared.state.Refusal.TheVariants.{InputNotRealised}
+use Rattle.run_states.specs.declared.standing.Standing.{Standing}
+use Rattle.run_states.specs.declared.standing.Standing.TheVariants.{Free}
+use Rattle.run_states.proofs.ClosedStates.{good_not_bad, all_from, none_bad}
+use Rattle.run_states.proofs.EarlierTwins.{twins_from}
+use Rattle.run_states.proofs.NearestTwins.{none_from}
+use Rattle.run_states.proofs.Tests.{any_passes, one_passes, same_test}
+use Rattle.run_states.proofs.TwinLaws.{is_earlier_twin, same_first}
+use Rattle.run_states.proofs.Wanting.{any_default, none_marked, wanted_told}
 use Rattle.forecast.specs.Forecasts.{built_if_ready, built_table}
 use Rattle.forecast.specs.Holding.{AreForetold, state_at, state_of, states_of}
 use Rattle.forecast.specs.declared.prospect.Prospect.{Prospect}

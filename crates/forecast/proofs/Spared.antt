@@ -6,26 +6,26 @@ use Rattle.std.proofs.lemmas.List.Elements.{All-contains}
 use Rattle.nix_names.proofs.Lists.{Contains-first, Contains-later}
 use Rattle.drv_graph.specs.SoundGraphs.{IsSound}
 use Rattle.valid_table.specs.declared.entry.Entry.{Entry}
-use Rattle.sched_core.specs.Courses.{IsOpen}
-use Rattle.sched_core.specs.Runs.{History, IsWanted, Run, earlier_twins, rows_of, state_in, wanted_input, wanted_root}
-use Rattle.sched_core.specs.States.{Begun, Broken, Ended, Idle, Phase, Rows, by_phase, later, phase_by, phase_of}
-use Rattle.sched_core.specs.declared.reason.Event.{Event}
-use Rattle.sched_core.specs.declared.reason.Event.TheVariants.{Begin, Done as Finish, Fail}
-use Rattle.sched_core.specs.declared.reason.Reason.{Reason}
-use Rattle.sched_core.specs.declared.reason.State.{State}
-use Rattle.sched_core.specs.declared.reason.State.TheVariants.{Blocked, Building, Done, Failed, Ready, Refused, Reused}
-use Rattle.sched_core.specs.declared.standing.Standing.TheVariants.{Free}
-use Rattle.sched_core.proofs.PlanInputs.{inputs_first, rows_in_order}
-use Rattle.sched_core.proofs.EarlierTwins.{twins_first}
-use Rattle.sched_core.proofs.Seeds.{same_number}
-use Rattle.sched_core.proofs.StateLaws.{reads_at}
-use Rattle.sched_core.proofs.TwinLaws.{is_earlier_twin}
-use Rattle.sched_core.proofs.Wanting.{wanted_told}
+use Rattle.run_states.specs.Courses.{IsOpen}
+use Rattle.run_states.specs.Runs.{History, IsWanted, Run, earlier_twins, rows_of, state_in, wanted_input, wanted_root}
+use Rattle.run_states.specs.States.{Begun, Broken, Ended, Idle, Phase, Rows, by_phase, later, phase_by, phase_of}
+use Rattle.run_states.specs.declared.state.Event.{Event}
+use Rattle.run_states.specs.declared.state.Event.TheVariants.{Begin, Done as Finish, Fail}
+use Rattle.build_outcome.specs.declared.reason.Reason.{Reason}
+use Rattle.run_states.specs.declared.state.State.{State}
+use Rattle.run_states.specs.declared.state.State.TheVariants.{Blocked, Building, Done, Failed, Ready, Refused, Reused}
+use Rattle.run_states.specs.declared.standing.Standing.TheVariants.{Free}
+use Rattle.run_states.proofs.PlanInputs.{inputs_first, rows_in_order}
+use Rattle.run_states.proofs.EarlierTwins.{twins_first}
+use Rattle.run_states.proofs.Seeds.{same_number}
+use Rattle.run_states.proofs.StateLaws.{reads_at}
+use Rattle.run_states.proofs.TwinLaws.{is_earlier_twin}
+use Rattle.run_states.proofs.Wanting.{wanted_told}
 use Rattle.forecast.specs.Forecasts.{built_if_ready, built_table, foretold}
 use Rattle.forecast.specs.Truths.{HasEnded, HasFailed, IsSpared, NoneFailed, SparedComeTrue, StatesComeTrue, spared}
-use Rattle.sched_core.proofs.Aside.{aside, aside_same, state_aside}
+use Rattle.run_states.proofs.Aside.{aside, aside_same, state_aside}
 use Rattle.forecast.proofs.Foretelling.{built_is, foretold_by, read_is}
-use Rattle.sched_core.proofs.Unhindered.{begun_unhindered, unhindered_ready}
+use Rattle.run_states.proofs.Unhindered.{begun_unhindered, unhindered_ready}
 
 -- ---- a failure is an event
 

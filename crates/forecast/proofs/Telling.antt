@@ -7,14 +7,14 @@ use Rattle.std.proofs.lemmas.List.Folds.{flat_map-map}
 use Rattle.nix_names.proofs.Lists.{Contains-first, Contains-later}
 use Rattle.drv_graph.specs.Nodes.{Node}
 use Rattle.drv_graph.specs.PlanNodes.{output_paths_of}
-use Rattle.sched_core.specs.Reports.{lines_if_some, line_of as report_line_of, line_at as report_line_at, outputs_at, path_line}
-use Rattle.sched_core.specs.Runs.{History, IsWanted, Run, state_in, wanted_root}
-use Rattle.sched_core.specs.States.{is_good}
-use Rattle.sched_core.specs.Words.{refusal_words}
-use Rattle.sched_core.specs.declared.reason.State.{State}
-use Rattle.sched_core.specs.declared.reason.State.TheVariants.{Blocked, Building, Done, Failed, Ready, Refused, Reused}
-use Rattle.sched_core.proofs.OneReport.{one_report}
-use Rattle.sched_core.proofs.StateLaws.{all_same}
+use Rattle.run_report.specs.Reports.{lines_if_some, line_of as report_line_of, line_at as report_line_at, outputs_at, path_line}
+use Rattle.run_states.specs.Runs.{History, IsWanted, Run, state_in, wanted_root}
+use Rattle.run_states.specs.States.{is_good}
+use Rattle.run_report.specs.Words.{refusal_words}
+use Rattle.run_states.specs.declared.state.State.{State}
+use Rattle.run_states.specs.declared.state.State.TheVariants.{Blocked, Building, Done, Failed, Ready, Refused, Reused}
+use Rattle.run_report.proofs.OneReport.{one_report}
+use Rattle.run_states.proofs.StateLaws.{all_same}
 use Rattle.forecast.specs.Forecasts.{foretold}
 use Rattle.forecast.specs.Texts.{line_at, line_of}
 use Rattle.forecast.specs.Truths.{Build, HasEnded, ForecastLine, NoneFailed, Output, Refuse, ReportsComeTrue, Reuse, WholeComesTrue, foretelling, reporting}

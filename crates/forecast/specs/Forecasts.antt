@@ -4,11 +4,11 @@ use Rattle.std.specs.Prelude.{◌≡◌, ◌<◌, ◌⊎◌, ℕ, List, []}
 use Rattle.std.specs.List.{slice_index_or}
 use Rattle.drv_graph.specs.SoundGraphs.{IsSound}
 use Rattle.valid_table.specs.declared.entry.Entry.{Entry}
-use Rattle.sched_core.specs.Runs.{Run, rows_of}
-use Rattle.sched_core.specs.States.{IsInOrder, Rows, states_by, table}
-use Rattle.sched_core.specs.declared.reason.Refusal.{Refusal}
-use Rattle.sched_core.specs.declared.reason.State.{State}
-use Rattle.sched_core.specs.declared.reason.State.TheVariants.{Done, Failed, Building, Reused, Refused, Ready, Blocked}
+use Rattle.run_states.specs.Runs.{Run, rows_of}
+use Rattle.run_states.specs.States.{IsInOrder, Rows, states_by, table}
+use Rattle.run_states.specs.declared.state.Refusal.{Refusal}
+use Rattle.run_states.specs.declared.state.State.{State}
+use Rattle.run_states.specs.declared.state.State.TheVariants.{Done, Failed, Building, Reused, Refused, Ready, Blocked}
 
 -- What a forecast is of: a run, and the entries that its journal opens with.
 pub record Opening : Type 0 where

@@ -2,11 +2,11 @@
 use Rattle.std.specs.Prelude.{◌≡◌, Bool, ℕ, List, [], length, map}
 use Rattle.std.specs.List.{slice_index_or}
 use Rattle.valid_table.specs.declared.entry.Entry.{Entry}
-use Rattle.sched_core.specs.Courses.{AreWanted}
-use Rattle.sched_core.specs.Runs.{Run, rows_of}
-use Rattle.sched_core.specs.States.{states_by}
-use Rattle.sched_core.specs.declared.reason.State.{State}
-use Rattle.sched_core.specs.declared.reason.State.TheVariants.{Done, Reused, Refused, Blocked}
+use Rattle.run_states.specs.Courses.{AreWanted}
+use Rattle.run_states.specs.Runs.{Run, rows_of}
+use Rattle.run_states.specs.States.{states_by}
+use Rattle.run_states.specs.declared.state.State.{State}
+use Rattle.run_states.specs.declared.state.State.TheVariants.{Done, Reused, Refused, Blocked}
 use Rattle.forecast.specs.Forecasts.{built_table}
 use Rattle.forecast.specs.declared.prospect.Prospect.{Prospect}
 use Rattle.forecast.specs.declared.prospect.Prospect.TheVariants.{Build, Reuse, Refuse}

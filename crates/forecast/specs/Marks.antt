@@ -2,7 +2,7 @@
 use Rattle.std.specs.Prelude.{◌≡◌, Bool, false, ℕ, List, length}
 use Rattle.std.specs.List.{slice_index_or}
 use Rattle.drv_graph.specs.Plans.{Graph}
-use Rattle.sched_core.specs.Runs.{is_one_of}
+use Rattle.run_states.specs.Runs.{is_one_of}
 
 -- whether a derivation is marked
 abbrev pub is_marked : List Bool → ℕ → Bool

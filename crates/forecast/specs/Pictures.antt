@@ -10,11 +10,11 @@ use Rattle.nix_drv.specs.Derivation.{Input}
 use Rattle.drv_graph.specs.Nodes.{Node}
 use Rattle.drv_graph.specs.Plans.{Graph}
 use Rattle.valid_table.specs.declared.entry.Entry.{Entry}
-use Rattle.sched_core.specs.Reports.{AreByPath, lines_if_some}
-use Rattle.sched_core.specs.Runs.{IsWanted, Run, is_one_of}
-use Rattle.sched_core.specs.declared.reason.Refusal.TheVariants.{InputNotRealised}
-use Rattle.sched_core.specs.declared.reason.State.{State}
-use Rattle.sched_core.specs.declared.reason.State.TheVariants.{Done, Reused, Refused}
+use Rattle.run_report.specs.Reports.{AreByPath, lines_if_some}
+use Rattle.run_states.specs.Runs.{IsWanted, Run, is_one_of}
+use Rattle.run_states.specs.declared.state.Refusal.TheVariants.{InputNotRealised}
+use Rattle.run_states.specs.declared.state.State.{State}
+use Rattle.run_states.specs.declared.state.State.TheVariants.{Done, Reused, Refused}
 use Rattle.forecast.specs.Forecasts.{foretold}
 
 -- a text in quotes

@@ -6,12 +6,12 @@ use Rattle.nix_names.specs.Bytes.{Bytes}
 use Rattle.drv_graph.specs.Nodes.{Node}
 use Rattle.drv_graph.specs.Plans.{Graph}
 use Rattle.valid_table.specs.declared.entry.Entry.{Entry}
-use Rattle.sched_core.specs.Reports.{AreByPath, lines_if_some, outputs_at, path_line, why_line}
-use Rattle.sched_core.specs.Runs.{IsWanted, Run}
-use Rattle.sched_core.specs.States.{is_good}
-use Rattle.sched_core.specs.Words.{refusal_words}
-use Rattle.sched_core.specs.declared.reason.State.{State}
-use Rattle.sched_core.specs.declared.reason.State.TheVariants.{Done, Reused, Refused}
+use Rattle.run_report.specs.Reports.{AreByPath, lines_if_some, outputs_at, path_line, why_line}
+use Rattle.run_states.specs.Runs.{IsWanted, Run}
+use Rattle.run_states.specs.States.{is_good}
+use Rattle.run_report.specs.Words.{refusal_words}
+use Rattle.run_states.specs.declared.state.State.{State}
+use Rattle.run_states.specs.declared.state.State.TheVariants.{Done, Reused, Refused}
 use Rattle.forecast.specs.Forecasts.{foretold}
 
 -- the line of a derivation of a plan, which has these nodes, by its foretold state

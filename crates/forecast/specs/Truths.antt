@@ -4,13 +4,13 @@ use Rattle.std.specs.Prelude.{◌≡◌, ℕ, List, codes, flat_map, slice_get, 
 use Rattle.std.specs.List.{list_all}
 use Rattle.nix_names.specs.Bytes.{Bytes, Path}
 use Rattle.drv_graph.specs.SoundGraphs.{IsSound}
-use Rattle.sched_core.specs.Books.{IsRunSettled}
-use Rattle.sched_core.specs.Legal.{IsLegal}
-use Rattle.sched_core.specs.Reports.{IsReportIn, path_line, why_line}
-use Rattle.sched_core.specs.Runs.{History, IsWanted, Run, earlier_twins, inputs_at, state_in}
-use Rattle.sched_core.specs.States.{is_good}
-use Rattle.sched_core.specs.declared.reason.Event.TheVariants.{Fail}
-use Rattle.sched_core.specs.declared.reason.Reason.{Reason}
+use Rattle.run_states.specs.Courses.{IsRunSettled}
+use Rattle.run_states.specs.Legal.{IsLegal}
+use Rattle.run_report.specs.Reports.{IsReportIn, path_line, why_line}
+use Rattle.run_states.specs.Runs.{History, IsWanted, Run, earlier_twins, inputs_at, state_in}
+use Rattle.run_states.specs.States.{is_good}
+use Rattle.run_states.specs.declared.state.Event.TheVariants.{Fail}
+use Rattle.build_outcome.specs.declared.reason.Reason.{Reason}
 use Rattle.forecast.specs.Forecasts.{foretold}
 use Rattle.forecast.specs.Texts.{IsForecast, is_whole}
 

@@ -2,15 +2,16 @@
 ghost use Rattle.std.specs.Prelude.{◌≡◌, ◌<◌, ◌++◌, OnOk, Vec, codes, flat_map, length, map, ℕ};
 ghost use Rattle.std.specs.declared.alloc.Global.{Global};
 ghost use Rattle.nix_drv.specs.Parts.{bytes_of, input_of};
-ghost use Rattle.sched_core.specs.Listing.{AreWithin};
-ghost use Rattle.sched_core.specs.declared.listing.Listed.{Listed};
+ghost use Rattle.run_report.specs.Listing.{AreWithin};
+ghost use Rattle.run_report.specs.declared.listing.Listed.{Listed};
 ghost use Rattle.forecast.specs.Holding.{state_at, state_of};
 ghost use Rattle.forecast.specs.Pictures.{are_out_alone, awaits_inputs, edge_line, edges_at, label_of, listed_names, quoted};
 
 use crate::prospect::{Prospect, prospect_at};
 use drv_graph::Plan;
 use nix_drv::Input;
-use sched_core::{Listed, Refusal};
+use run_report::Listed;
+use run_states::Refusal;
 use std::alloc::AllocError;
 
 // Adds the edges of some derivations.

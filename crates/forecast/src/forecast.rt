@@ -1,6 +1,6 @@
 //! What is foretold of a plan before anything is built.
 ghost use Rattle.std.specs.Prelude.{◌≡◌, ◌<◌, IfErr, IfOk, length};
-ghost use Rattle.sched_core.specs.declared.fault.BookFault.TheVariants.{NoMemory};
+ghost use Rattle.run_states.specs.declared.fault.BookFault.TheVariants.{NoMemory};
 ghost use Rattle.forecast.specs.Forecasts.{foretold};
 ghost use Rattle.forecast.specs.Holding.{state_of};
 ghost use Rattle.forecast.specs.Pictures.{IsPicture};
@@ -11,7 +11,7 @@ use crate::prospect::{Prospect, prospect_at};
 use crate::prospects::prospects_of;
 use crate::text::text_of;
 use drv_graph::Plan;
-use sched_core::{BookFault, standings_of, wanted_of};
+use run_states::{BookFault, standings_of, wanted_of};
 use std::alloc::Global;
 use std::marker::Model;
 use valid_table::Journal;

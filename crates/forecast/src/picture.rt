@@ -1,9 +1,9 @@
 //! The picture of a forecast, in Graphviz's language.
 ghost use Rattle.std.specs.Prelude.{◌≡◌, ◌<◌, ◌++◌, IfErr, IfOk, OnOk, codes, flat_map, length};
 ghost use Rattle.drv_graph.specs.SoundGraphs.{IsSound};
-ghost use Rattle.sched_core.specs.Listing.{AreWithin, IsMarked};
-ghost use Rattle.sched_core.specs.declared.fault.BookFault.TheVariants.{NoMemory};
-ghost use Rattle.sched_core.specs.declared.listing.Listed.{Listed};
+ghost use Rattle.run_report.specs.Listing.{AreWithin, IsMarked};
+ghost use Rattle.run_states.specs.declared.fault.BookFault.TheVariants.{NoMemory};
+ghost use Rattle.run_report.specs.declared.listing.Listed.{Listed};
 ghost use Rattle.forecast.specs.Holding.{state_at, state_of};
 ghost use Rattle.forecast.specs.Marks.{AreRoots, is_marked};
 ghost use Rattle.forecast.specs.Pictures.{IsDrawing, border_of, edges_at, fill_of, node_at, node_line};
@@ -12,7 +12,8 @@ use crate::edges::{write_all_edges, write_quoted};
 use crate::prospect::{Prospect, prospect_at};
 use drv_graph::Plan;
 use nix_names::StorePath;
-use sched_core::{BookFault, Listed, mark, marked_by_path};
+use run_report::{Listed, marked_by_path};
+use run_states::{BookFault, mark};
 use std::alloc::{AllocError, Global};
 
 // The picture of a plan of which these derivations are wanted, with these prospects.

@@ -1,11 +1,11 @@
 //! What is foretold of a derivation.
 ghost use Rattle.std.specs.Prelude.{◌≡◌, ◌<◌, All, if◌then◌else◌, length};
-ghost use Rattle.sched_core.specs.States.{by_hindrance, by_inputs, by_validity, is_done, is_good};
-ghost use Rattle.sched_core.specs.declared.reason.State.TheVariants.{Reused};
+ghost use Rattle.run_states.specs.States.{by_hindrance, by_inputs, by_validity, is_done, is_good};
+ghost use Rattle.run_states.specs.declared.state.State.TheVariants.{Reused};
 ghost use Rattle.forecast.specs.Forecasts.{built_if_ready};
 ghost use Rattle.forecast.specs.Holding.{state_at, state_of};
 
-use sched_core::{Refusal, Standing};
+use run_states::{Refusal, Standing};
 
 /// What becomes of a derivation, if each builder that is started makes its outputs.
 #[derive(Clone, Copy, Debug, PartialEq, Eq)]

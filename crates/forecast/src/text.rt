@@ -1,18 +1,17 @@
 //! The text of a forecast: what is foretold of each wanted derivation, and the outputs of the
 //! roots.
 ghost use Rattle.std.specs.Prelude.{◌≡◌, ◌<◌, ◌++◌, IfErr, IfOk, OnOk, flat_map, length};
-ghost use Rattle.sched_core.specs.Listing.{AreWithin, IsMarked};
-ghost use Rattle.sched_core.specs.Reports.{outputs_at};
-ghost use Rattle.sched_core.specs.declared.fault.BookFault.TheVariants.{NoMemory};
-ghost use Rattle.sched_core.specs.declared.listing.Listed.{Listed};
+ghost use Rattle.run_report.specs.Listing.{AreWithin, IsMarked};
+ghost use Rattle.run_report.specs.Reports.{outputs_at};
+ghost use Rattle.run_states.specs.declared.fault.BookFault.TheVariants.{NoMemory};
+ghost use Rattle.run_report.specs.declared.listing.Listed.{Listed};
 ghost use Rattle.forecast.specs.Holding.{state_at, state_of};
 ghost use Rattle.forecast.specs.Texts.{IsForecastText, line_at};
 
 use crate::prospect::{Prospect, prospect_at};
 use drv_graph::Plan;
-use sched_core::{
-    BookFault, Listed, marked_by_path, write_outputs, write_path_line, write_refused,
-};
+use run_report::{Listed, marked_by_path, write_outputs, write_path_line, write_refused};
+use run_states::BookFault;
 use std::alloc::{AllocError, Global};
 
 // The text of a plan of which these derivations are wanted, with these prospects.

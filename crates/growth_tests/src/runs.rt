@@ -1,6 +1,6 @@
 //! Runs of a diamond, and of one derivation twice, by a builder that leaves files.
 ghost use Rattle.std.specs.Prelude.{◌≡◌, [], IfOk, ⊤};
-ghost use Rattle.sched_core.specs.Books.{opened};
+ghost use Rattle.run_states.specs.Runs.{opened};
 ghost use Rattle.store_run.specs.Builders.{IsAnswered};
 
 use crate::books::SYSTEM;

@@ -3,9 +3,9 @@ use Rattle.std.proofs.Common.{◌≡◌, ◌⊎◌, ◌∙◌, ◌++◌, ◌∷�
 use Rattle.std.proofs.Common.{length, map, sym, take}
 use Rattle.std.proofs.lemmas.List.{map-append, map_more}
 use Rattle.process_build.specs.BuilderCalls.{IsCallable}
-use Rattle.sched_core.specs.declared.job.Job.{Job}
-use Rattle.sched_core.specs.declared.reason.Reason.{Reason}
-use Rattle.sched_core.specs.declared.reason.Reason.TheVariants.{NoStart, OutOfMemory}
+use Rattle.build_outcome.specs.declared.job.Job.{Job}
+use Rattle.build_outcome.specs.declared.reason.Reason.{Reason}
+use Rattle.build_outcome.specs.declared.reason.Reason.TheVariants.{NoStart, OutOfMemory}
 
 -- one more of a list is of the same value as one more of another
 pub mapped_more : {X Y Z : Type 0} (f : X → Z) (g : Y → Z) (xs more : List X) (x : X)

@@ -8,10 +8,10 @@ use Rattle.process_build.specs.Errors.{IsNoMemory, IsNotFound}
 use Rattle.process_build.specs.declared.ended.Left.{Left}
 use Rattle.process_build.specs.declared.reading.Node.{Node}
 use Rattle.process_build.specs.declared.reading.Node.TheVariants.{File, Folder}
-use Rattle.sched_core.specs.declared.job.Answer.{Answer}
-use Rattle.sched_core.specs.declared.job.Job.{Job}
-use Rattle.sched_core.specs.declared.reason.Reason.{Reason}
-use Rattle.sched_core.specs.declared.reason.Reason.TheVariants.{NoStart, OutOfMemory, ReadFault, TooLarge}
+use Rattle.build_outcome.specs.declared.job.Answer.{Answer}
+use Rattle.build_outcome.specs.declared.job.Job.{Job}
+use Rattle.build_outcome.specs.declared.reason.Reason.{Reason}
+use Rattle.build_outcome.specs.declared.reason.Reason.TheVariants.{NoStart, OutOfMemory, ReadFault, TooLarge}
 
 -- the answer of what a builder left behind: the exit status of its process, and what lies at the
 -- outputs' paths

@@ -10,7 +10,7 @@ use Rattle.nix_names.specs.Bytes.{Bytes, Dir, Name}
 use Rattle.nix_drv.specs.Derivation.{EnvEntry}
 use Rattle.nix_drv.specs.Parts.{entry_of}
 use Rattle.process_build.specs.declared.call.Setting.{Setting}
-use Rattle.sched_core.specs.declared.job.Job.{Job}
+use Rattle.build_outcome.specs.declared.job.Job.{Job}
 
 -- the entry of a key and a value
 abbrev pub entry : (key : Name) → (value : Bytes) → EnvEntry

@@ -9,7 +9,7 @@ use Rattle.nix_names.specs.Bytes.{Bytes, Dir}
 use Rattle.process_build.specs.Errors.{IsFailure, IsNotFound}
 use Rattle.process_build.specs.declared.failures.Failure.{Failure}
 use Rattle.process_build.specs.declared.failures.Failure.TheVariants.{NoMemory, NotFound}
-use Rattle.sched_core.specs.declared.job.Job.{Job}
+use Rattle.build_outcome.specs.declared.job.Job.{Job}
 
 -- the build folder of the lease with this number
 abbrev pub build_folder_of : (store_dir : Dir) → (number : ℕ) → Bytes

@@ -2,7 +2,7 @@
 ghost use Rattle.std.specs.Prelude.{IfOk};
 ghost use Rattle.nix_names.specs.Bytes.{Dir};
 
-use sched_core::{Build, Watch};
+use build_outcome::{Build, Watch};
 use std::alloc::{AllocError, Global};
 
 /// What makes the builders of a run.

@@ -4,10 +4,10 @@ ghost use Rattle.nix_drv.specs.Parts.{entry_of};
 ghost use Rattle.process_build.specs.BuilderCalls.{entry, entry_of_setting, own_entries};
 ghost use Rattle.process_build.specs.BuilderCalls.{IsCallable, IsProcessEntry, IsProcessKey};
 ghost use Rattle.process_build.specs.BuilderCalls.{IsProcessText};
-ghost use Rattle.sched_core.specs.declared.reason.Reason.TheVariants.{NoStart, OutOfMemory};
+ghost use Rattle.build_outcome.specs.declared.reason.Reason.TheVariants.{NoStart, OutOfMemory};
 
+use build_outcome::{Job, Reason};
 use nix_drv::EnvEntry;
-use sched_core::{Job, Reason};
 use std::alloc::Global;
 use std::str;
 

@@ -3,8 +3,8 @@ ghost use Rattle.std.specs.Prelude.{◌≡◌, IfOk, Some};
 ghost use Rattle.std.specs.Process.{child_status, exit_code};
 ghost use Rattle.process_build.specs.Answers.{answer_of};
 
+use build_outcome::Answer;
 use ref_scan::Tree;
-use sched_core::Answer;
 use std::io;
 use std::process::{Child, ExitStatus, OpenProcess};
 

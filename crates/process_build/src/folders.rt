@@ -2,7 +2,7 @@
 ghost use Rattle.std.specs.Prelude.{◌≡◌, IfOk, map, string_bytes};
 ghost use Rattle.process_build.specs.Folders.{build_folder_of, places_of};
 
-use sched_core::Job;
+use build_outcome::Job;
 use std::alloc::{AllocError, Global};
 
 /// The folder in which one builder runs.

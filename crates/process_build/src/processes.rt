@@ -10,7 +10,7 @@ use crate::reading::read_outputs;
 use crate::reasons::{no_room, no_start};
 use crate::removal::Clearing;
 use crate::start::run_builder;
-use sched_core::{Answer, Build, Job, Reason, Watch};
+use build_outcome::{Answer, Build, Job, Reason, Watch};
 use std::alloc::{AllocError, Global};
 use std::fs;
 use std::process::Processes;

@@ -5,7 +5,7 @@ ghost use Rattle.process_build.specs.Progress.{Began, Ended, Heard, IsHeardAndTo
 use crate::builders::Builders;
 use crate::tally::Tally;
 use crate::told::Told;
-use sched_core::{Answer, Build, Job, Reason, Watch};
+use build_outcome::{Answer, Build, Job, Reason, Watch};
 use std::alloc::{AllocError, Global};
 use std::io::Write;
 use std::sync::{Mutex, Wait};

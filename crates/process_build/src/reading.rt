@@ -6,13 +6,13 @@ ghost use Rattle.std.specs.Io.KnownBytes.{Consumes, IsAtEnd, ReadConsumes};
 ghost use Rattle.process_build.specs.Answers.{IsNodeAt, IsNodeOf, IsNoNode, IsReadingFault};
 ghost use Rattle.process_build.specs.Contents.{child_of, IsMoreThan, IsWhole};
 ghost use Rattle.ref_scan.specs.Trees.{joined};
-ghost use Rattle.sched_core.specs.declared.reason.Reason.TheVariants.{OutOfMemory, ReadFault};
-ghost use Rattle.sched_core.specs.declared.reason.Reason.TheVariants.{TooLarge};
+ghost use Rattle.build_outcome.specs.declared.reason.Reason.TheVariants.{OutOfMemory, ReadFault};
+ghost use Rattle.build_outcome.specs.declared.reason.Reason.TheVariants.{TooLarge};
 
 use crate::failures::is_made_again;
 use crate::reasons::read_fault;
+use build_outcome::{Job, Reason};
 use ref_scan::{MAX_DEPTH, MAX_ENTRIES, MAX_FILE_BYTES, Member, Tree};
-use sched_core::{Job, Reason};
 use std::alloc::{AllocError, Global};
 use std::fs::Metadata;
 use std::io::{ErrorKind, Read};

@@ -2,11 +2,11 @@
 ghost use Rattle.std.specs.Prelude.{◌≡◌, ◌≢◌, ◌⊎◌};
 ghost use Rattle.process_build.specs.Answers.{IsRoomFault};
 ghost use Rattle.process_build.specs.Errors.{IsNoMemory};
-ghost use Rattle.sched_core.specs.declared.reason.Reason.TheVariants.{NoStart, OutOfMemory};
-ghost use Rattle.sched_core.specs.declared.reason.Reason.TheVariants.{ReadFault};
+ghost use Rattle.build_outcome.specs.declared.reason.Reason.TheVariants.{NoStart, OutOfMemory};
+ghost use Rattle.build_outcome.specs.declared.reason.Reason.TheVariants.{ReadFault};
 
 use crate::failures::Failure;
-use sched_core::Reason;
+use build_outcome::Reason;
 use std::io;
 
 /// The reason of a failure before the builder has started.

@@ -12,7 +12,7 @@ use crate::environment::{set_environment, settings};
 use crate::failures::is_made_again;
 use crate::folders::BuildFolder;
 use crate::reasons::{no_start, read_fault};
-use sched_core::Reason;
+use build_outcome::Reason;
 use std::alloc::{AllocError, Global};
 use std::io;
 use std::io::ErrorKind;

@@ -5,17 +5,18 @@ use Rattle.std.proofs.Math.Dec.{eqb}
 use Rattle.nix_drv.proofs.Fixed.{eqb_same}
 use Rattle.nix_names.proofs.Lists.{All-from_contains}
 use Rattle.valid_table.specs.declared.entry.Entry.{Entry}
-use Rattle.sched_core.specs.Books.{BuildsOver, CanBegin, IsBooksLease}
-use Rattle.sched_core.specs.Jobs.{IsJob}
-use Rattle.sched_core.specs.Legal.{IsLegal, legal_begin, begins, begun, ended, failed, is_begin}
-use Rattle.sched_core.specs.Runs.{History, Run}
-use Rattle.sched_core.specs.States.{Phase, Idle, Begun, Ended, Broken, later, phase_of}
-use Rattle.sched_core.specs.declared.job.Job.{Job}
-use Rattle.sched_core.specs.declared.reason.Event.{Event}
-use Rattle.sched_core.specs.declared.reason.Event.TheVariants.{Begin, Done as Finish, Fail}
-use Rattle.sched_core.specs.declared.reason.Reason.{Reason}
+use Rattle.sched_core.specs.Books.{BuildsOver, IsBooksLease}
+use Rattle.run_states.specs.Courses.{CanBegin}
+use Rattle.build_outcome.specs.Jobs.{IsJob}
+use Rattle.run_states.specs.Legal.{IsLegal, legal_begin, begins, begun, ended, failed, is_begin}
+use Rattle.run_states.specs.Runs.{History, Run}
+use Rattle.run_states.specs.States.{Phase, Idle, Begun, Ended, Broken, later, phase_of}
+use Rattle.build_outcome.specs.declared.job.Job.{Job}
+use Rattle.run_states.specs.declared.state.Event.{Event}
+use Rattle.run_states.specs.declared.state.Event.TheVariants.{Begin, Done as Finish, Fail}
+use Rattle.build_outcome.specs.declared.reason.Reason.{Reason}
 use Rattle.sched_core.proofs.Permitting.{seeds_of_lease}
-use Rattle.sched_core.proofs.Seeds.{phase_push}
+use Rattle.run_states.proofs.Seeds.{phase_push}
 
 -- ---- over all entries
 

@@ -14,11 +14,11 @@ use Rattle.drv_graph.specs.PlanNodes.{drvs_of, output_paths_of}
 use Rattle.drv_graph.specs.Plans.{Graph}
 use Rattle.drv_graph.specs.declared.kinds.Kind.{Kind}
 use Rattle.drv_graph.proofs.KindAnswers.{one_kind}
-use Rattle.sched_core.specs.Jobs.{IsJob, seeds_of}
+use Rattle.build_outcome.specs.Jobs.{IsJob, seeds_of}
 use Rattle.sched_core.specs.SameJobs.{HasRecipe, MakesAt}
-use Rattle.sched_core.specs.declared.job.Job.{Job}
-use Rattle.sched_core.specs.declared.job.JobOutput.{JobOutput}
-use Rattle.sched_core.proofs.OwnStandings.{drv_is}
+use Rattle.build_outcome.specs.declared.job.Job.{Job}
+use Rattle.build_outcome.specs.declared.job.JobOutput.{JobOutput}
+use Rattle.run_states.proofs.OwnStandings.{drv_is}
 use Rattle.nix_names.proofs.Lists.{element_at, same_element}
 
 -- ---- lists, element by element

@@ -24,10 +24,10 @@ use Rattle.valid_table.specs.declared.entry.Entry.TheVariants.{Done}
 use Rattle.valid_table.specs.declared.entry.Registration.{Registration}
 use Rattle.sched_core.specs.Books.{AreNewRecords, IsNotAllowed}
 use Rattle.sched_core.specs.Dones.{AreFitting, HaveDigest, IsDoneEntry, IsDoneFault, infos_of}
-use Rattle.sched_core.specs.Legal.{AreNewOutputs, AreOutputRecords, IsEntryOf}
-use Rattle.sched_core.specs.Verdicts.{IsCyclic}
-use Rattle.sched_core.specs.declared.fault.BookFault.{BookFault}
-use Rattle.sched_core.specs.declared.fault.BookFault.TheVariants.{NoMemory}
+use Rattle.run_states.specs.Legal.{AreNewOutputs, AreOutputRecords, IsEntryOf}
+use Rattle.build_outcome.specs.Verdicts.{IsCyclic}
+use Rattle.run_states.specs.declared.fault.BookFault.{BookFault}
+use Rattle.run_states.specs.declared.fault.BookFault.TheVariants.{NoMemory}
 use Rattle.nix_names.proofs.Lists.{All-from_contains, Contains-from_get, element_at, get_from_contains, get_source, same_element, taken_more}
 
 -- ---- paths that are new

@@ -8,13 +8,13 @@ use Rattle.valid_table.specs.Valid.{HasDrvPath, IsJournal}
 use Rattle.valid_table.specs.declared.entry.Entry.{Entry}
 use Rattle.sched_core.specs.Books.{IsBooksLease, IsDone, IsFinishFault, IsFinishing, Ledger, MayAllRefer}
 use Rattle.sched_core.specs.Dones.{IsDoneEntry, IsDoneFault}
-use Rattle.sched_core.specs.Legal.{ArePermittedTo, MayRefer, ended}
-use Rattle.sched_core.specs.Runs.{History, Run}
-use Rattle.sched_core.specs.declared.fault.BookFault.{BookFault}
-use Rattle.sched_core.specs.declared.fault.BookFault.TheVariants.{ForeignLease, NoMemory, NoView, NotLawful}
-use Rattle.sched_core.specs.declared.job.Job.{Job}
+use Rattle.run_states.specs.Legal.{ArePermittedTo, MayRefer, ended}
+use Rattle.run_states.specs.Runs.{History, Run}
+use Rattle.run_states.specs.declared.fault.BookFault.{BookFault}
+use Rattle.run_states.specs.declared.fault.BookFault.TheVariants.{ForeignLease, NoMemory, NoView, NotLawful}
+use Rattle.build_outcome.specs.declared.job.Job.{Job}
 use Rattle.sched_core.proofs.DoneEntries.{entry_new}
-use Rattle.sched_core.proofs.Dones.{done_is_closed, done_is_journal, done_is_new}
+use Rattle.run_states.proofs.Dones.{done_is_closed, done_is_journal, done_is_new}
 
 -- the entry of a lease's derivation with records whose references are permitted to its job
 pub done_under_lease : (run : Run) (history : History) (job : Job) (number : ℕ)

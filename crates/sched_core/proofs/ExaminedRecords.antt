@@ -5,10 +5,10 @@ use Rattle.valid_table.specs.PathInfos.{PathInfo}
 use Rattle.valid_table.specs.declared.entry.Entry.{Entry}
 use Rattle.sched_core.specs.Books.{ArePermittedPaths, MayAllRefer}
 use Rattle.sched_core.specs.VerdictLaws.{VerdictsMayRefer}
-use Rattle.sched_core.specs.Verdicts.{IsExamining}
-use Rattle.sched_core.specs.declared.job.Answer.{Answer}
-use Rattle.sched_core.specs.declared.job.Job.{Job}
-use Rattle.sched_core.specs.declared.reason.Reason.{Reason}
+use Rattle.build_outcome.specs.Verdicts.{IsExamining}
+use Rattle.build_outcome.specs.declared.job.Answer.{Answer}
+use Rattle.build_outcome.specs.declared.job.Job.{Job}
+use Rattle.build_outcome.specs.declared.reason.Reason.{Reason}
 use Rattle.nix_names.proofs.Lists.{get_from_contains}
 
 pub examined_may_refer : (entries : List Entry) (job : Job) (permitted : List (List ℕ))

@@ -11,11 +11,11 @@ use Rattle.drv_graph.specs.Kinds.{HasKind}
 use Rattle.drv_graph.specs.Nodes.{Node}
 use Rattle.drv_graph.specs.Plans.{Graph}
 use Rattle.drv_graph.specs.PlanNodes.{drvs_of, output_paths_of}
-use Rattle.sched_core.specs.Jobs.{IsJob, seeds_of}
+use Rattle.build_outcome.specs.Jobs.{IsJob, seeds_of}
 use Rattle.sched_core.specs.Seeding.{named_texts, output_texts}
-use Rattle.sched_core.specs.declared.job.Job.{Job}
-use Rattle.sched_core.specs.declared.job.JobOutput.{JobOutput}
-use Rattle.sched_core.proofs.OwnStandings.{drv_is}
+use Rattle.build_outcome.specs.declared.job.Job.{Job}
+use Rattle.build_outcome.specs.declared.job.JobOutput.{JobOutput}
+use Rattle.run_states.proofs.OwnStandings.{drv_is}
 use Rattle.sched_core.proofs.SeedParts.{read_at, take_next}
 use Rattle.nix_names.proofs.Lists.{element_at}
 

@@ -15,17 +15,18 @@ use Rattle.valid_table.specs.PathInfos.{PathInfo}
 use Rattle.valid_table.specs.Valid.{IsJournal}
 use Rattle.valid_table.specs.declared.entry.Entry.{Entry}
 use Rattle.sched_core.specs.Booking.{IsRunKept, events_left, history_of, run_over}
-use Rattle.sched_core.specs.Books.{CanBegin, IsDone}
-use Rattle.sched_core.specs.Courses.{AreNearest, AreStandings, AreWanted, Course, HasBegun}
-use Rattle.sched_core.specs.Legal.{IsLegal, legal_begin, legal_opening, legal_done, legal_fail, begins, is_begin}
-use Rattle.sched_core.specs.Runs.{History, Run}
-use Rattle.sched_core.specs.States.{Phase, Idle, Begun, Ended, Broken, later, phase_by, phase_of}
-use Rattle.sched_core.specs.declared.reason.Event.{Event}
-use Rattle.sched_core.specs.declared.reason.Event.TheVariants.{Begin, Done as Finish, Fail}
-use Rattle.sched_core.specs.declared.reason.Reason.{Reason}
-use Rattle.sched_core.specs.declared.standing.Standing.{Standing}
-use Rattle.sched_core.proofs.Histories.{ready_is_idle}
-use Rattle.sched_core.proofs.Seeds.{phase_push}
+use Rattle.run_states.specs.Courses.{CanBegin}
+use Rattle.sched_core.specs.Books.{IsDone}
+use Rattle.run_states.specs.Courses.{AreNearest, AreStandings, AreWanted, Course, HasBegun}
+use Rattle.run_states.specs.Legal.{IsLegal, legal_begin, legal_opening, legal_done, legal_fail, begins, is_begin}
+use Rattle.run_states.specs.Runs.{History, Run}
+use Rattle.run_states.specs.States.{Phase, Idle, Begun, Ended, Broken, later, phase_by, phase_of}
+use Rattle.run_states.specs.declared.state.Event.{Event}
+use Rattle.run_states.specs.declared.state.Event.TheVariants.{Begin, Done as Finish, Fail}
+use Rattle.build_outcome.specs.declared.reason.Reason.{Reason}
+use Rattle.run_states.specs.declared.standing.Standing.{Standing}
+use Rattle.run_states.proofs.Histories.{ready_is_idle}
+use Rattle.run_states.proofs.Seeds.{phase_push}
 
 -- ---- what has begun
 
@@ -217,14 +218,6 @@ room_of_idle (p ∷ ps) idle =
     let rest = room_of_idle ps (λ d. idle (suc d)) in
     let own : events_left p ≡ 2 = ap events_left (idle 0) in
     omega (arith, rest, own, sum_by-cons events_left p ps)
-
--- of each derivation it is said whether it is wanted
-pub wanted_count : (run : Run) (entries : List Entry) (standings : List Standing)
-    (wanted : List Bool) → AreStandings run.system entries run.graph.nodes standings
-    → ((other : Run) (first : List Entry) → other.graph ≡ run.graph
-    → AreStandings other.system first run.graph.nodes standings → AreWanted other first wanted)
-    → length wanted ≡ length run.graph.nodes
-wanted_count run entries standings wanted stand want = (want run entries refl stand).count
 
 pub opening_kept : (system : List ℕ) (opening room : ℕ) (entries : List Entry) (events : List Event)
     (course : Course) (graph : Graph) (standings : List Standing) (wanted : List Bool)

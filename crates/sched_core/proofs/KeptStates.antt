@@ -9,25 +9,26 @@ use Rattle.std.proofs.lemmas.List.{get_or_past}
 use Rattle.std.proofs.lemmas.Option.{slice_get_past}
 use Rattle.nix_drv.proofs.Fixed.{eqb_same}
 use Rattle.sched_core.specs.Booking.{IsRunKept, run_over}
-use Rattle.sched_core.specs.Books.{CanBegin, IsRunSettled, IsUnsettled, opened}
-use Rattle.sched_core.specs.Counts.{HasCount}
-use Rattle.sched_core.specs.Courses.{Course, IsNext, IsOpen, IsSettled, IsUnsettledIn, all_of, awaited_at, course_rows, course_state, listed}
-use Rattle.sched_core.specs.Nearest.{last_alone, nearest}
-use Rattle.sched_core.specs.Reports.{IsReportIn, IsReportOf}
-use Rattle.sched_core.specs.Runs.{History, Run, earlier_twins, inputs_at, rows_of, standing_at, state_in}
-use Rattle.sched_core.specs.States.{Phase, Idle, Begun, Ended, Broken, by_first, by_hindrance, by_validity, is_done, is_open, phase_of}
-use Rattle.sched_core.specs.Steps.{awaited_by, edges_ahead, edges_ahead_in, told_in}
-use Rattle.sched_core.specs.ToldEdges.{course_ahead, course_told, rested}
-use Rattle.sched_core.specs.declared.reason.State.{State}
-use Rattle.sched_core.specs.declared.reason.State.TheVariants.{Blocked, Building, Reused}
-use Rattle.sched_core.specs.declared.standing.Standing.{Standing}
-use Rattle.sched_core.specs.declared.standing.Standing.TheVariants.{AllValid, Hindered, Free}
-use Rattle.sched_core.proofs.Counts.{same_count}
-use Rattle.sched_core.proofs.EarlierTwins.{run_twins, twins_past}
-use Rattle.sched_core.proofs.Histories.{building_from_begun, opening_legal}
-use Rattle.sched_core.proofs.NearestTwins.{all_good, any_twin, first_bad, nearest_told, stands_by, state_is}
-use Rattle.sched_core.proofs.RunReports.{report_in}
-use Rattle.sched_core.proofs.StateLaws.{AreSame, near_same}
+use Rattle.run_states.specs.Courses.{CanBegin, IsRunSettled, IsUnsettled}
+use Rattle.run_states.specs.Runs.{opened}
+use Rattle.run_states.specs.Counts.{HasCount}
+use Rattle.run_states.specs.Courses.{Course, IsNext, IsOpen, IsSettled, IsUnsettledIn, all_of, awaited_at, course_rows, course_state, listed}
+use Rattle.run_states.specs.Nearest.{last_alone, nearest}
+use Rattle.run_report.specs.Reports.{IsReportIn, IsReportOf}
+use Rattle.run_states.specs.Runs.{History, Run, earlier_twins, inputs_at, rows_of, standing_at, state_in}
+use Rattle.run_states.specs.States.{Phase, Idle, Begun, Ended, Broken, by_first, by_hindrance, by_validity, is_done, is_open, phase_of}
+use Rattle.run_states.specs.Steps.{awaited_by, edges_ahead, edges_ahead_in, told_in}
+use Rattle.run_states.specs.ToldEdges.{course_ahead, course_told, rested}
+use Rattle.run_states.specs.declared.state.State.{State}
+use Rattle.run_states.specs.declared.state.State.TheVariants.{Blocked, Building, Reused}
+use Rattle.run_states.specs.declared.standing.Standing.{Standing}
+use Rattle.run_states.specs.declared.standing.Standing.TheVariants.{AllValid, Hindered, Free}
+use Rattle.run_states.proofs.Counts.{same_count}
+use Rattle.run_states.proofs.EarlierTwins.{run_twins, twins_past}
+use Rattle.run_states.proofs.Histories.{building_from_begun, opening_legal}
+use Rattle.run_states.proofs.NearestTwins.{all_good, any_twin, first_bad, nearest_told, stands_by, state_is}
+use Rattle.run_report.proofs.RunReports.{report_in}
+use Rattle.run_states.proofs.StateLaws.{AreSame, near_same}
 
 -- ---- states follow from rows that are the same
 

@@ -13,13 +13,13 @@ use Rattle.valid_table.specs.declared.entry.Registration.{Registration}
 use Rattle.valid_table.specs.declared.fault.TableFault.{TableFault}
 use Rattle.valid_table.specs.declared.fault.TableFault.TheVariants.{AlreadyValid, BadLine, NoMemory, NotClosed, NotValid, TooLong, Twice, Unclosed, WrongVersion}
 use Rattle.sched_core.specs.Books.{IsBooksLease}
-use Rattle.sched_core.specs.Legal.{ArePermitted, IsLegal}
-use Rattle.sched_core.specs.Runs.{History, Run}
-use Rattle.sched_core.specs.States.{Phase, Idle, Begun, Ended, Broken, later, phase_by, phase_of}
-use Rattle.sched_core.specs.declared.job.Job.{Job}
-use Rattle.sched_core.specs.declared.reason.Event.{Event}
-use Rattle.sched_core.specs.declared.reason.Event.TheVariants.{Begin, Done as Finish, Fail}
-use Rattle.sched_core.proofs.Seeds.{seeds_are_valid}
+use Rattle.run_states.specs.Legal.{ArePermitted, IsLegal}
+use Rattle.run_states.specs.Runs.{History, Run}
+use Rattle.run_states.specs.States.{Phase, Idle, Begun, Ended, Broken, later, phase_by, phase_of}
+use Rattle.build_outcome.specs.declared.job.Job.{Job}
+use Rattle.run_states.specs.declared.state.Event.{Event}
+use Rattle.run_states.specs.declared.state.Event.TheVariants.{Begin, Done as Finish, Fail}
+use Rattle.run_states.proofs.Seeds.{seeds_are_valid}
 use Rattle.nix_names.proofs.Lists.{Contains-first, Contains-later}
 use Rattle.nix_names.specs.Firsts.{IsFirst}
 

@@ -20,10 +20,10 @@ use Rattle.drv_graph.specs.Nodes.{Node, inputs_of, paths_of}
 use Rattle.drv_graph.specs.Plans.{AreNumbers}
 use Rattle.drv_graph.specs.PlanNodes.{drvs_of, output_paths_of}
 use Rattle.drv_graph.proofs.Numbers.{numbers_length}
-use Rattle.sched_core.specs.Jobs.{named_outputs, paths_named, paths_of_found, seeds_of}
-use Rattle.sched_core.proofs.PlanInputs.{numbers_are}
-use Rattle.sched_core.proofs.OwnStandings.{drv_is}
-use Rattle.sched_core.proofs.Seeds.{found_by_number}
+use Rattle.build_outcome.specs.Jobs.{named_outputs, paths_named, paths_of_found, seeds_of}
+use Rattle.run_states.proofs.PlanInputs.{numbers_are}
+use Rattle.run_states.proofs.OwnStandings.{drv_is}
+use Rattle.run_states.proofs.Seeds.{found_by_number}
 use Rattle.nix_names.proofs.Lists.{Contains-from_get, element_at}
 
 -- ---- elements by their places

@@ -3,11 +3,11 @@ use Rattle.std.specs.Prelude.{◌≡◌, ◌≤◌, ◌+◌, ℕ, List, length, 
 use Rattle.std.specs.List.{slice_index_or}
 use Rattle.nix_names.specs.Bytes.{Bytes}
 use Rattle.valid_table.specs.declared.entry.Entry.{Entry}
-use Rattle.sched_core.specs.Courses.{AreNearest, AreStandings, AreWanted, Course}
-use Rattle.sched_core.specs.Legal.{IsLegal, begins}
-use Rattle.sched_core.specs.Runs.{History, Run}
-use Rattle.sched_core.specs.States.{Phase, Idle, Begun, Ended, Broken, phase_of}
-use Rattle.sched_core.specs.declared.reason.Event.{Event}
+use Rattle.run_states.specs.Courses.{AreNearest, AreStandings, AreWanted, Course}
+use Rattle.run_states.specs.Legal.{IsLegal, begins}
+use Rattle.run_states.specs.Runs.{History, Run}
+use Rattle.run_states.specs.States.{Phase, Idle, Begun, Ended, Broken, phase_of}
+use Rattle.run_states.specs.declared.state.Event.{Event}
 
 -- A run and its history, and how many more paths its journal can register without taking memory.
 pub record Progress : Type 0 where

@@ -9,17 +9,18 @@ use Rattle.valid_table.specs.Valid.{IsValid}
 use Rattle.valid_table.specs.declared.entry.Entry.{Entry}
 use Rattle.valid_table.specs.declared.fault.OutletFault.{OutletFault}
 use Rattle.valid_table.specs.declared.fault.OutletFault.TheVariants as outlet
-use Rattle.sched_core.specs.Courses.{IsOpen}
-use Rattle.sched_core.specs.Jobs.{IsJob}
-use Rattle.sched_core.specs.Legal.{AreNewOutputs, AreOutputRecords, ArePermitted, IsAllowed, IsEntryOf, MayRefer, begins, begun, ended, failed}
-use Rattle.sched_core.specs.Runs.{History, IsWanted, Run, state_in}
-use Rattle.sched_core.specs.States.{Begun, phase_of}
-use Rattle.sched_core.specs.Verdicts.{outputs_of}
-use Rattle.sched_core.specs.declared.fault.BookFault.{BookFault}
-use Rattle.sched_core.specs.declared.fault.BookFault.TheVariants.{NoMemory, NoView, ForeignLease, NotLawful}
-use Rattle.sched_core.specs.declared.job.Job.{Job}
-use Rattle.sched_core.specs.declared.reason.Reason.{Reason}
-use Rattle.sched_core.specs.declared.reason.State.TheVariants.{Ready}
+use Rattle.run_states.specs.Courses.{IsOpen}
+use Rattle.build_outcome.specs.Jobs.{IsJob}
+use Rattle.run_states.specs.Legal.{AreNewOutputs, AreOutputRecords, ArePermitted, IsAllowed, IsEntryOf, MayRefer, begins, begun, ended, failed}
+use Rattle.run_states.specs.Runs.{History, IsWanted, Run, state_in}
+use Rattle.run_states.specs.States.{Begun, phase_of}
+use Rattle.build_outcome.specs.Verdicts.{outputs_of}
+use Rattle.run_states.specs.declared.fault.BookFault.{BookFault}
+use Rattle.run_states.specs.declared.fault.BookFault.TheVariants.{NoMemory, NoView, ForeignLease, NotLawful}
+use Rattle.build_outcome.specs.declared.job.Job.{Job}
+use Rattle.build_outcome.specs.declared.reason.Reason.{Reason}
+use Rattle.run_states.specs.declared.state.State.TheVariants.{Ready}
+use Rattle.run_states.specs.Courses.{CanBegin}
 
 -- A book, as contracts see it: a run, its history, the entries that the outlet shows, and those
 -- that wait there to be published.
@@ -35,26 +36,6 @@ pub record Leased (Told : Type 0) : Type 0 where
   pub job : Job
   pub number : ℕ
   pub told : Option Told
-
--- the history that opens with some entries
-abbrev pub opened : List Entry → History
-opened entries = record { opening = entries; entries = entries; events = [] }
-
--- A derivation can be begun: it is wanted, and ready.
-pub record CanBegin (run : Run) (history : History) (d : ℕ) : Type 0 where
-  pub within : d < length run.graph.nodes
-  pub wanted : IsWanted run history.opening d
-  pub ready : state_in run history d ≡ Ready
-
--- a derivation is wanted, and Blocked, Ready or Building
-abbrev pub IsUnsettled : Run → History → ℕ → Type 0
-IsUnsettled run history d = (d < length run.graph.nodes) × IsWanted run history.opening d
-    × IsOpen (state_in run history d)
-
--- no wanted derivation is Blocked, Ready or Building
-abbrev pub IsRunSettled : Run → History → Type 0
-IsRunSettled run history = (d : ℕ) → d < length run.graph.nodes → IsWanted run history.opening d
-    → IsOpen (state_in run history d) → ⊥
 
 -- A lease is the book's: its derivation has begun under its number and not ended, and its job is
 -- that derivation's.
@@ -154,8 +135,3 @@ pub record IsFailing (before after : Ledger) (job : Job) (number : ℕ) (reason 
   pub history : after.history ≡ failed before.history job.derivation number reason
   pub shown : after.shown ≡ before.shown
   pub pending : after.pending ≡ before.pending
-
--- an outlet's fault, as a book tells it
-abbrev pub fault_of : OutletFault → BookFault
-fault_of outlet.NoMemory = NoMemory
-fault_of outlet.NoView = NoView

@@ -10,9 +10,9 @@ use Rattle.valid_table.specs.Valid.{IsNotValid}
 use Rattle.valid_table.specs.declared.entry.Entry.{Entry}
 use Rattle.valid_table.specs.declared.entry.Registration.{Registration}
 use Rattle.sched_core.specs.Books.{AreNewRecords, IsNotAllowed}
-use Rattle.sched_core.specs.Legal.{AreAcyclicRecords, AreNewOutputs, IsEntryOf}
-use Rattle.sched_core.specs.declared.fault.BookFault.{BookFault}
-use Rattle.sched_core.specs.declared.fault.BookFault.TheVariants.{NoMemory, NotLawful}
+use Rattle.run_states.specs.Legal.{AreAcyclicRecords, AreNewOutputs, IsEntryOf}
+use Rattle.run_states.specs.declared.fault.BookFault.{BookFault}
+use Rattle.run_states.specs.declared.fault.BookFault.TheVariants.{NoMemory, NotLawful}
 
 -- if outputs of this kind declare a digest, each record has it
 abbrev pub HaveDigest : Kind → List PathInfo → Type 0

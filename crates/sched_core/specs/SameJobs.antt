@@ -4,8 +4,8 @@ use Rattle.nix_names.specs.Bytes.{Path}
 use Rattle.nix_drv.specs.Derivation.{Drv}
 use Rattle.nix_drv.specs.Parts.{bytes_of, entry_of}
 use Rattle.nix_drv.specs.declared.derivation.Output.{Output as OutputStruct}
-use Rattle.sched_core.specs.declared.job.Job.{Job}
-use Rattle.sched_core.specs.declared.job.JobOutput.{JobOutput}
+use Rattle.build_outcome.specs.declared.job.Job.{Job}
+use Rattle.build_outcome.specs.declared.job.JobOutput.{JobOutput}
 
 -- A job has a derivation's builder, arguments and environment.
 pub record HasRecipe (drv : Drv) (job : Job) : Type 0 where

@@ -2,7 +2,7 @@
 use Rattle.std.specs.Prelude.{List, map}
 use Rattle.nix_names.specs.Bytes.{Name}
 use Rattle.nix_drv.specs.declared.derivation.Output.{Output as OutputStruct}
-use Rattle.sched_core.specs.declared.job.JobOutput.{JobOutput}
+use Rattle.build_outcome.specs.declared.job.JobOutput.{JobOutput}
 
 -- the names of outputs that are to be made
 abbrev pub named_texts : List JobOutput → List Name

@@ -6,11 +6,11 @@ use Rattle.drv_graph.specs.Plans.{Graph}
 use Rattle.valid_table.specs.PathInfos.{PathInfo}
 use Rattle.valid_table.specs.declared.entry.Entry.{Entry}
 use Rattle.sched_core.specs.Books.{ArePermittedPaths, MayAllRefer}
-use Rattle.sched_core.specs.Jobs.{IsJob}
-use Rattle.sched_core.specs.Legal.{AreAcyclicRecords}
-use Rattle.sched_core.specs.Verdicts.{IsVerdict}
-use Rattle.sched_core.specs.declared.job.Answer.{Answer}
-use Rattle.sched_core.specs.declared.job.Job.{Job}
+use Rattle.build_outcome.specs.Jobs.{IsJob}
+use Rattle.run_states.specs.Legal.{AreAcyclicRecords}
+use Rattle.build_outcome.specs.Verdicts.{IsVerdict}
+use Rattle.build_outcome.specs.declared.job.Answer.{Answer}
+use Rattle.build_outcome.specs.declared.job.Job.{Job}
 
 -- Records of a derivation's outputs, without a cycle, and with permitted references alone.
 pub record AreRegistrable (node : Node) (permitted : List Path) (infos : List PathInfo)

@@ -1,22 +1,23 @@
 //! Books: what is built, and what can be.
 ghost use Rattle.std.specs.Prelude.{◌≡◌, ◌<◌, ◌%◌, ◌^◌, ◌↔◌, ◌⊎◌, ◌++◌, ℕ, [], IfErr, IfOk, IsTrue, MatchOption, OnErr, OnOk, length, take, ⊤};
 ghost use Rattle.valid_table.specs.Valid.{IsJournal};
-ghost use Rattle.sched_core.specs.Books.{ArePermittedPaths, AreSeedsValid, BuildsOver, CanBegin, IsBeginning, IsBooksLease, IsFailing, IsFinishFault, IsFinishing, IsRunSettled, IsSameRun, IsUnsettled, MayAllRefer, opened};
-ghost use Rattle.sched_core.specs.Counts.{HasCount};
-ghost use Rattle.sched_core.specs.Legal.{IsLegal};
-ghost use Rattle.sched_core.specs.Reports.{IsReportIn};
-ghost use Rattle.sched_core.specs.Runs.{state_in};
-ghost use Rattle.sched_core.specs.Steps.{steps_in};
-ghost use Rattle.sched_core.specs.declared.fault.BookFault.TheVariants.{ForeignLease, NoMemory, NoView};
-ghost use Rattle.sched_core.specs.declared.reason.Reason.TheVariants.{OutOfMemory};
+ghost use Rattle.sched_core.specs.Books.{ArePermittedPaths, AreSeedsValid, BuildsOver, IsBeginning, IsBooksLease, IsFailing, IsFinishFault, IsFinishing, IsSameRun, MayAllRefer};
+ghost use Rattle.run_states.specs.Courses.{CanBegin, IsRunSettled, IsUnsettled};
+ghost use Rattle.run_states.specs.Runs.{opened};
+ghost use Rattle.run_states.specs.Counts.{HasCount};
+ghost use Rattle.run_states.specs.Legal.{IsLegal};
+ghost use Rattle.run_report.specs.Reports.{IsReportIn};
+ghost use Rattle.run_states.specs.Runs.{state_in};
+ghost use Rattle.run_states.specs.Steps.{steps_in};
+ghost use Rattle.run_states.specs.declared.fault.BookFault.TheVariants.{ForeignLease, NoMemory, NoView};
+ghost use Rattle.build_outcome.specs.declared.reason.Reason.TheVariants.{OutOfMemory};
 
-use crate::checked::Checked;
-use crate::fault::BookFault;
 use crate::lease::Lease;
 use crate::progress::{Prepared, Progress};
-use crate::reason::{Event, Reason, State};
+use build_outcome::{Checked, Reason};
 use drv_graph::Plan;
 use nix_names::StorePath;
+use run_states::{BookFault, Event, State};
 use std::alloc::Global;
 use std::marker::Model;
 use valid_table::{Journal, Outlet};

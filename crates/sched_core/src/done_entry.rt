@@ -6,11 +6,10 @@ ghost use Rattle.valid_table.specs.Valid.{HasDrvPath, IsNotValid};
 ghost use Rattle.valid_table.specs.declared.entry.Registration.{Registration};
 ghost use Rattle.sched_core.specs.Dones.{AreFitting, HaveDigest, IsDoneEntry, IsDoneFault, infos_of};
 
-use crate::checked::Checked;
-use crate::cycle::is_cyclic;
-use crate::fault::BookFault;
+use build_outcome::{Checked, is_cyclic};
 use drv_graph::{Kind, Plan};
 use nix_names::StorePath;
+use run_states::BookFault;
 use std::alloc::{AllocError, Global};
 use valid_table::{Entry, Journal, Outputs, Record, Registration};
 

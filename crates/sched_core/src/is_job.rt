@@ -1,11 +1,11 @@
 //! Whether a job is that of a derivation of a plan.
 ghost use Rattle.std.specs.Prelude.{◌≡◌, ◌<◌, ◌↔◌, IfSome, IsTrue, length, map, slice_get};
 ghost use Rattle.nix_drv.specs.Parts.{bytes_of, entry_of};
-ghost use Rattle.sched_core.specs.Jobs.{IsJob, seeds_of};
+ghost use Rattle.build_outcome.specs.Jobs.{IsJob, seeds_of};
 ghost use Rattle.sched_core.specs.SameJobs.{HasRecipe, MakesAt};
 
 use crate::has_seeds::has_seeds;
-use crate::job::{Job, JobOutput};
+use build_outcome::{Job, JobOutput};
 use drv_graph::{Kind, Plan};
 use nix_drv::{Derivation, EnvEntry, Output};
 use nix_names::StorePath;

@@ -1,15 +1,15 @@
 //! The job of a derivation of a plan.
 ghost use Rattle.std.specs.Prelude.{◌≡◌, ◌<◌, IfErr, IfOk, length, map, vec_capacity};
-ghost use Rattle.sched_core.specs.Jobs.{IsJob};
+ghost use Rattle.build_outcome.specs.Jobs.{IsJob};
 ghost use Rattle.sched_core.specs.Seeding.{named_texts, output_texts};
-ghost use Rattle.sched_core.specs.declared.job.JobOutput.{JobOutput};
+ghost use Rattle.build_outcome.specs.declared.job.JobOutput.{JobOutput};
 
-use crate::fault::BookFault;
-use crate::job::{Job, JobOutput};
 use crate::seeds_of::seeds_of;
+use build_outcome::{Job, JobOutput};
 use drv_graph::Plan;
 use nix_drv::{Output, Parts};
 use nix_names::StorePath;
+use run_states::BookFault;
 use std::alloc::{AllocError, Global};
 
 // The job of the derivation with this number. Costs a copy of the derivation's parts, and a look-up

@@ -1,11 +1,11 @@
 //! Laws over the definitions that contracts cite, each on the contract of a function that does
 //! nothing.
-ghost use Rattle.sched_core.specs.Headline.{BeginsOnce, DonesAreAllowed, EntriesAreJournal, LeasesApart, LeasesBelow, PermittedStays, SeedsAreValid};
-ghost use Rattle.sched_core.specs.PlanLaws.{RowsInOrder, WantedIsTold};
-ghost use Rattle.sched_core.specs.Reports.{ReportIsOne};
-ghost use Rattle.sched_core.specs.States.{StatesAgree, StatesAreOne};
+ghost use Rattle.run_states.specs.Headline.{BeginsOnce, DonesAreAllowed, EntriesAreJournal, LeasesApart, LeasesBelow, PermittedStays, SeedsAreValid};
+ghost use Rattle.run_states.specs.PlanLaws.{RowsInOrder, WantedIsTold};
+ghost use Rattle.run_report.specs.Reports.{ReportIsOne};
+ghost use Rattle.run_states.specs.States.{StatesAgree, StatesAreOne};
 ghost use Rattle.sched_core.specs.VerdictLaws.{VerdictsAreRegistrable, VerdictsMayRefer};
-ghost use Rattle.sched_core.specs.Verdicts.{HasOneVerdict};
+ghost use Rattle.build_outcome.specs.Verdicts.{HasOneVerdict};
 
 /// Where the inputs and the earlier twins of each derivation have smaller numbers, each has the
 /// state that the table gives from the states of all, and no other states do.

@@ -1,7 +1,7 @@
 //! Leases: derivations that were given out to be built.
 ghost use Rattle.std.specs.Prelude.{◌≡◌, None, Some};
 
-use crate::job::Job;
+use build_outcome::Job;
 use std::marker::Model;
 
 /// A derivation that a book gave out to be built: its job, its number among the book's leases,

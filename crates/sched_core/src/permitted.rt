@@ -6,13 +6,13 @@ ghost use Rattle.valid_table.specs.Closure.{IsClosure};
 ghost use Rattle.valid_table.specs.Entries.{registered};
 ghost use Rattle.valid_table.specs.Unions.{IsUnion};
 ghost use Rattle.valid_table.specs.Valid.{IsValid};
-ghost use Rattle.sched_core.specs.Verdicts.{outputs_of};
-ghost use Rattle.sched_core.specs.declared.fault.BookFault.TheVariants.{NoMemory};
+ghost use Rattle.build_outcome.specs.Verdicts.{outputs_of};
+ghost use Rattle.run_states.specs.declared.fault.BookFault.TheVariants.{NoMemory};
 
-use crate::fault::BookFault;
-use crate::job::Job;
 use crate::uniting::united;
+use build_outcome::Job;
 use nix_names::StorePath;
+use run_states::BookFault;
 use std::alloc::{AllocError, Global};
 use valid_table::{Journal, TableFault};
 

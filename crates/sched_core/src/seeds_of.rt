@@ -2,7 +2,7 @@
 ghost use Rattle.std.specs.Prelude.{◌≡◌, ◌<◌, ◌++◌, IfErr, IfOk, IfSome, OnOk, Some, length, slice_get};
 ghost use Rattle.nix_drv.specs.Derivation.{Input};
 ghost use Rattle.drv_graph.specs.PlanNodes.{output_paths_of};
-ghost use Rattle.sched_core.specs.Jobs.{paths_named, seeds_of};
+ghost use Rattle.build_outcome.specs.Jobs.{paths_named, seeds_of};
 
 use drv_graph::Plan;
 use nix_drv::Derivation;

@@ -19,20 +19,20 @@ use Rattle.valid_table.specs.declared.entry.Entry.{Entry}
 use Rattle.valid_table.specs.declared.entry.Registration.{Registration}
 use Rattle.valid_table.proofs.Following.{one_info}
 use Rattle.valid_table.proofs.JournalLists.{registered-append}
-use Rattle.sched_core.specs.Books.{IsRunSettled}
-use Rattle.sched_core.specs.Jobs.{named_outputs, seeds_of}
-use Rattle.sched_core.specs.Legal.{IsEntryOf}
-use Rattle.sched_core.specs.Runs.{History, IsWanted, Run, earlier_twins, input_numbers, inputs_at, is_valid, standing_at, state_in}
-use Rattle.sched_core.specs.States.{Phase, Idle, Begun, Ended, Broken, is_bad, is_good, phase_of}
-use Rattle.sched_core.specs.declared.job.Answer.{Answer}
-use Rattle.sched_core.specs.declared.job.Job.{Job}
-use Rattle.sched_core.specs.declared.reason.Reason.{Reason}
-use Rattle.sched_core.specs.declared.reason.State.{State}
-use Rattle.sched_core.specs.declared.reason.State.TheVariants.{Failed}
-use Rattle.sched_core.proofs.Dones.{part_with}
-use Rattle.sched_core.proofs.PlanInputs.{inputs_first}
-use Rattle.sched_core.proofs.Seeds.{named_at}
-use Rattle.sched_core.proofs.TwinLaws.{is_earlier_twin, is_there, path_of_twin}
+use Rattle.run_states.specs.Courses.{IsRunSettled}
+use Rattle.build_outcome.specs.Jobs.{named_outputs, seeds_of}
+use Rattle.run_states.specs.Legal.{IsEntryOf}
+use Rattle.run_states.specs.Runs.{History, IsWanted, Run, earlier_twins, input_numbers, inputs_at, is_valid, standing_at, state_in}
+use Rattle.run_states.specs.States.{Phase, Idle, Begun, Ended, Broken, is_bad, is_good, phase_of}
+use Rattle.build_outcome.specs.declared.job.Answer.{Answer}
+use Rattle.build_outcome.specs.declared.job.Job.{Job}
+use Rattle.build_outcome.specs.declared.reason.Reason.{Reason}
+use Rattle.run_states.specs.declared.state.State.{State}
+use Rattle.run_states.specs.declared.state.State.TheVariants.{Failed}
+use Rattle.run_states.proofs.Dones.{part_with}
+use Rattle.run_states.proofs.PlanInputs.{inputs_first}
+use Rattle.run_states.proofs.Seeds.{named_at}
+use Rattle.run_states.proofs.TwinLaws.{is_earlier_twin, is_there, path_of_twin}
 use Rattle.store_run.specs.Scheduling.{AreAlike, HasOneOutcome}
 use Rattle.store_run.proofs.Carried.{IsCarried, first_carried, outputs_carried}
 use Rattle.store_run.proofs.OneOutcome.{came_count, came_refers, one_verdict}

@@ -5,12 +5,12 @@ use Rattle.valid_table.specs.PathInfos.{PathInfo}
 use Rattle.valid_table.specs.declared.entry.Entry.{Entry}
 use Rattle.valid_view.specs.Shown.{IsShowable}
 use Rattle.sched_core.specs.Books.{AreSeedsValid, IsBeginning, IsBooksLease, IsFailing, IsFinishing, Leased, Ledger, MayAllRefer}
-use Rattle.sched_core.specs.Jobs.{IsJob}
-use Rattle.sched_core.specs.Runs.{History, Run}
-use Rattle.sched_core.specs.declared.job.Answer.{Answer}
-use Rattle.sched_core.specs.declared.job.Job.{Job}
-use Rattle.sched_core.specs.declared.reason.Reason.{Reason}
-use Rattle.sched_core.specs.declared.reason.Reason.TheVariants.{OutOfMemory}
+use Rattle.build_outcome.specs.Jobs.{IsJob}
+use Rattle.run_states.specs.Runs.{History, Run}
+use Rattle.build_outcome.specs.declared.job.Answer.{Answer}
+use Rattle.build_outcome.specs.declared.job.Job.{Job}
+use Rattle.build_outcome.specs.declared.reason.Reason.{Reason}
+use Rattle.build_outcome.specs.declared.reason.Reason.TheVariants.{OutOfMemory}
 use Rattle.sched_core.proofs.ExaminedRecords.{verdicts_may_refer}
 use Rattle.store_run.specs.Builders.{IsAnswered, IsOutcomeVerdict, IsVerdictBehind, MayComeTo, answered_begin, answered_done, answered_fail}
 use Rattle.store_run.specs.Finding.{IsFoundBy, IsToldOfSeeds, MayBeFound, StaysPermitted}

@@ -9,8 +9,8 @@ use Rattle.valid_table.specs.Valid.{AreReferencesValid, IsOnce, IsValid, Registe
 use Rattle.valid_table.specs.declared.entry.Registration.{Registration}
 use Rattle.valid_table.proofs.ClosureLaws.{leads_before, registers_from_valid}
 use Rattle.valid_table.proofs.Following.{one_info}
-use Rattle.sched_core.specs.Legal.{MayRefer}
-use Rattle.sched_core.proofs.Dones.{reached_is_valid}
+use Rattle.run_states.specs.Legal.{MayRefer}
+use Rattle.run_states.proofs.Dones.{reached_is_valid}
 use Rattle.valid_table.proofs.Reaching.{valid_from_registers}
 
 -- all that a path reaches among some registrations has the same record among others

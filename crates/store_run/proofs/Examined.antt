@@ -4,10 +4,10 @@ use Rattle.valid_table.specs.PathInfos.{PathInfo}
 use Rattle.valid_table.specs.declared.entry.Entry.{Entry}
 use Rattle.valid_view.specs.Shown.{IsShowable}
 use Rattle.sched_core.specs.Books.{ArePermittedPaths, AreSeedsValid}
-use Rattle.sched_core.specs.Verdicts.{IsExamining}
-use Rattle.sched_core.specs.declared.job.Answer.{Answer}
-use Rattle.sched_core.specs.declared.job.Job.{Job}
-use Rattle.sched_core.specs.declared.reason.Reason.{Reason}
+use Rattle.build_outcome.specs.Verdicts.{IsExamining}
+use Rattle.build_outcome.specs.declared.job.Answer.{Answer}
+use Rattle.build_outcome.specs.declared.job.Job.{Job}
+use Rattle.build_outcome.specs.declared.reason.Reason.{Reason}
 use Rattle.store_run.specs.Finding.{IsFoundBy}
 use Rattle.store_run.specs.declared.found.Found.TheVariants.{Examined}
 

@@ -6,17 +6,17 @@ use Rattle.nix_drv.proofs.Fixed.{eqb_same}
 use Rattle.drv_graph.specs.Plans.{Graph}
 use Rattle.valid_table.specs.PathInfos.{PathInfo}
 use Rattle.valid_table.specs.declared.entry.Entry.{Entry}
-use Rattle.sched_core.specs.Legal.{begins}
-use Rattle.sched_core.specs.Runs.{History, Run}
-use Rattle.sched_core.specs.States.{Phase, Idle, Begun, Ended, Broken, phase_of}
-use Rattle.sched_core.specs.declared.job.Answer.{Answer}
-use Rattle.sched_core.specs.declared.job.Job.{Job}
-use Rattle.sched_core.specs.declared.reason.Event.TheVariants.{Begin, Done as Finish}
-use Rattle.sched_core.specs.declared.reason.Reason.{Reason}
-use Rattle.sched_core.specs.declared.reason.Reason.TheVariants.{OutOfMemory}
-use Rattle.sched_core.proofs.Histories.{ready_is_idle}
-use Rattle.sched_core.proofs.OneVerdict.{has_one_verdict}
-use Rattle.sched_core.proofs.Seeds.{same_number}
+use Rattle.run_states.specs.Legal.{begins}
+use Rattle.run_states.specs.Runs.{History, Run}
+use Rattle.run_states.specs.States.{Phase, Idle, Begun, Ended, Broken, phase_of}
+use Rattle.build_outcome.specs.declared.job.Answer.{Answer}
+use Rattle.build_outcome.specs.declared.job.Job.{Job}
+use Rattle.run_states.specs.declared.state.Event.TheVariants.{Begin, Done as Finish}
+use Rattle.build_outcome.specs.declared.reason.Reason.{Reason}
+use Rattle.build_outcome.specs.declared.reason.Reason.TheVariants.{OutOfMemory}
+use Rattle.run_states.proofs.Histories.{ready_is_idle}
+use Rattle.build_outcome.proofs.OneVerdict.{has_one_verdict}
+use Rattle.run_states.proofs.Seeds.{same_number}
 use Rattle.store_run.specs.Builders.{IsAnswered, IsVerdictBehind, IsVerdictOn, answered_begin, answered_done, answered_fail, answered_opening}
 use Rattle.store_run.specs.GivenOutcomes.{EqualOutcomesAreAlike, GivesEach, OutcomesDecide}
 use Rattle.store_run.specs.Scheduling.{HasOneOutcome, IsEndedRun, IsWholeRun}
@@ -25,7 +25,7 @@ use Rattle.store_run.proofs.SameVerdicts.{same_kind, same_outputs, verdict_too}
 use Rattle.store_run.proofs.Schedules.{any_schedule, one_report_of, whole_runs_are_alike}
 use Rattle.store_run.proofs.Telling.{phase_broken, phase_ended}
 use Rattle.store_run.proofs.ToldRuns.{IsTold, told_begin, told_done, told_fail, told_from, told_opening}
-use Rattle.sched_core.proofs.OtherEvents.{phase_other, same_or_other}
+use Rattle.run_states.proofs.OtherEvents.{phase_other, same_or_other}
 
 -- ---- the outcomes that were given
 

@@ -15,15 +15,15 @@ use Rattle.valid_table.specs.declared.entry.Entry.{Entry}
 use Rattle.valid_table.specs.declared.entry.Registration.{Registration}
 use Rattle.valid_table.proofs.JournalLists.{registered-append}
 use Rattle.sched_core.specs.Books.{ArePermittedPaths}
-use Rattle.sched_core.specs.Jobs.{IsJob, seeds_of}
-use Rattle.sched_core.specs.Legal.{ArePermitted, ArePermittedTo, MayRefer}
-use Rattle.sched_core.specs.Runs.{History, Run}
-use Rattle.sched_core.specs.Verdicts.{IsVerdict, outputs_of}
-use Rattle.sched_core.specs.declared.job.Answer.{Answer}
-use Rattle.sched_core.specs.declared.job.Job.{Job}
-use Rattle.sched_core.specs.declared.job.JobOutput.{JobOutput}
-use Rattle.sched_core.specs.declared.reason.Reason.{Reason}
-use Rattle.sched_core.proofs.Seeds.{permitted_stays}
+use Rattle.build_outcome.specs.Jobs.{IsJob, seeds_of}
+use Rattle.run_states.specs.Legal.{ArePermitted, ArePermittedTo, MayRefer}
+use Rattle.run_states.specs.Runs.{History, Run}
+use Rattle.build_outcome.specs.Verdicts.{IsVerdict, outputs_of}
+use Rattle.build_outcome.specs.declared.job.Answer.{Answer}
+use Rattle.build_outcome.specs.declared.job.Job.{Job}
+use Rattle.build_outcome.specs.declared.job.JobOutput.{JobOutput}
+use Rattle.build_outcome.specs.declared.reason.Reason.{Reason}
+use Rattle.run_states.proofs.Seeds.{permitted_stays}
 use Rattle.store_run.specs.Builders.{IsOutcomeVerdict, IsVerdictBehind}
 use Rattle.store_run.specs.Scheduling.{HasOneOutcome}
 use Rattle.store_run.proofs.Answered.{came_may_refer}

@@ -7,17 +7,19 @@ use Rattle.valid_table.specs.Entries.{registered}
 use Rattle.valid_table.specs.PathInfos.{PathInfo}
 use Rattle.valid_table.specs.Valid.{IsOnce}
 use Rattle.valid_table.specs.declared.entry.Entry.{Entry}
-use Rattle.sched_core.specs.Books.{ArePermittedPaths, CanBegin, opened}
-use Rattle.sched_core.specs.Jobs.{seeds_of}
-use Rattle.sched_core.specs.Legal.{MayRefer, begins, begun, ended, failed}
-use Rattle.sched_core.specs.Runs.{History, IsWanted, Run}
-use Rattle.sched_core.specs.States.{Phase, Idle, Begun, Ended, Broken, phase_of}
-use Rattle.sched_core.specs.Verdicts.{outputs_of}
-use Rattle.sched_core.specs.declared.job.Answer.{Answer}
-use Rattle.sched_core.specs.declared.job.Job.{Job}
-use Rattle.sched_core.specs.declared.reason.Event.TheVariants.{Begin, Done as Finish, Fail}
-use Rattle.sched_core.specs.declared.reason.Reason.{Reason}
-use Rattle.sched_core.specs.declared.reason.Reason.TheVariants.{OutOfMemory}
+use Rattle.sched_core.specs.Books.{ArePermittedPaths}
+use Rattle.run_states.specs.Courses.{CanBegin}
+use Rattle.run_states.specs.Runs.{opened}
+use Rattle.build_outcome.specs.Jobs.{seeds_of}
+use Rattle.run_states.specs.Legal.{MayRefer, begins, begun, ended, failed}
+use Rattle.run_states.specs.Runs.{History, IsWanted, Run}
+use Rattle.run_states.specs.States.{Phase, Idle, Begun, Ended, Broken, phase_of}
+use Rattle.build_outcome.specs.Verdicts.{outputs_of}
+use Rattle.build_outcome.specs.declared.job.Answer.{Answer}
+use Rattle.build_outcome.specs.declared.job.Job.{Job}
+use Rattle.run_states.specs.declared.state.Event.TheVariants.{Begin, Done as Finish, Fail}
+use Rattle.build_outcome.specs.declared.reason.Reason.{Reason}
+use Rattle.build_outcome.specs.declared.reason.Reason.TheVariants.{OutOfMemory}
 use Rattle.store_run.specs.Builders.{IsOutcomeVerdict, IsVerdictBehind}
 use Rattle.store_run.specs.OneThread.{HadTurns, turn_done, turn_failed, turn_opening, turn_skipped}
 use Rattle.store_run.specs.Scheduling.{HasOneThread, IsWholeRun}
@@ -27,9 +29,9 @@ use Rattle.store_run.proofs.OneOutcome.{job_outputs, job_seeds, permitted_job, p
 use Rattle.store_run.proofs.Schedules.{opening_journal, run_accounted, run_told, turns_accounted}
 use Rattle.store_run.proofs.Telling.{CameTo, phase_broken, phase_ended}
 use Rattle.store_run.proofs.Turns.{HaveTurned, turned_is}
-use Rattle.sched_core.proofs.Unhindered.{ready_unhindered}
+use Rattle.run_states.proofs.Unhindered.{ready_unhindered}
 use Rattle.store_run.proofs.Unhindered.{IsUnhindered, unhindered_ready}
-use Rattle.sched_core.proofs.OtherEvents.{phase_other, same_or_other}
+use Rattle.run_states.proofs.OtherEvents.{phase_other, same_or_other}
 
 -- ---- what a derivation came to here it may come to there
 

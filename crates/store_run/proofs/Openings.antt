@@ -1,9 +1,9 @@
 -- The entries of a legal history begin with those that it opened with.
 use Rattle.std.proofs.Common.{◌≡◌, length, take, rules}
 use Rattle.std.proofs.Math.Seq.{take-append_seam}
-use Rattle.sched_core.specs.Legal.{IsLegal}
-use Rattle.sched_core.specs.Runs.{History, Run}
-use Rattle.sched_core.proofs.Seeds.{opened_with}
+use Rattle.run_states.specs.Legal.{IsLegal}
+use Rattle.run_states.specs.Runs.{History, Run}
+use Rattle.run_states.proofs.Seeds.{opened_with}
 
 -- as many of the first entries as it opened with are those
 pub opening_is_taken : (run : Run) (history : History) → IsLegal run history

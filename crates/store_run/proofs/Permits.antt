@@ -14,11 +14,11 @@ use Rattle.valid_table.proofs.JournalLists.{closed_references_valid, registered-
 use Rattle.valid_view.specs.Shown.{IsShowable}
 use Rattle.valid_view.proofs.Showable.{showable_front}
 use Rattle.sched_core.specs.Books.{ArePermittedPaths, AreSeedsValid}
-use Rattle.sched_core.specs.Legal.{MayRefer}
-use Rattle.sched_core.specs.Verdicts.{outputs_of}
-use Rattle.sched_core.specs.declared.job.Job.{Job}
+use Rattle.run_states.specs.Legal.{MayRefer}
+use Rattle.build_outcome.specs.Verdicts.{outputs_of}
+use Rattle.build_outcome.specs.declared.job.Job.{Job}
 use Rattle.sched_core.proofs.Permitting.{are_permitted}
-use Rattle.sched_core.proofs.Seeds.{permitted_stays}
+use Rattle.run_states.proofs.Seeds.{permitted_stays}
 use Rattle.store_run.specs.Finding.{StaysPermitted}
 
 -- what is valid stays so in each list that goes on

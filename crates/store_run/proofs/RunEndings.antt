@@ -6,12 +6,12 @@ use Rattle.std.specs.Prelude.{Option, Some, None, Result, Ok, Err}
 use Rattle.drv_graph.specs.Plans.{Graph}
 use Rattle.valid_table.specs.declared.entry.Entry.{Entry}
 use Rattle.sched_core.specs.Books.{Ledger}
-use Rattle.sched_core.specs.Legal.{IsLegal}
-use Rattle.sched_core.specs.declared.fault.BookFault.{BookFault}
-use Rattle.sched_core.specs.declared.fault.BookFault.TheVariants as book_fault
-use Rattle.sched_core.specs.declared.job.Answer.{Answer}
-use Rattle.sched_core.specs.declared.job.Job.{Job}
-use Rattle.sched_core.specs.declared.reason.Reason.{Reason}
+use Rattle.run_states.specs.Legal.{IsLegal}
+use Rattle.run_states.specs.declared.fault.BookFault.{BookFault}
+use Rattle.run_states.specs.declared.fault.BookFault.TheVariants as book_fault
+use Rattle.build_outcome.specs.declared.job.Answer.{Answer}
+use Rattle.build_outcome.specs.declared.job.Job.{Job}
+use Rattle.build_outcome.specs.declared.reason.Reason.{Reason}
 use Rattle.store_run.specs.Builders.{IsAnswered}
 use Rattle.store_run.specs.Ending.{IsHandedOut, IsRunEnd, IsRunEndFault, IsUnfinished, fault_of_stop, handed_out}
 use Rattle.store_run.specs.Realising.{IsCutOff, IsLeft, IsOverLent, IsRealised, IsRunFault}

@@ -5,12 +5,12 @@ use Rattle.drv_graph.specs.declared.kinds.Kind.{Kind}
 use Rattle.drv_graph.specs.declared.kinds.Kind.TheVariants.{Addressed, Fixed}
 use Rattle.ref_scan.specs.declared.tree.Tree.{Tree}
 use Rattle.valid_table.specs.PathInfos.{PathInfo}
-use Rattle.sched_core.specs.Verdicts.{AreRecords, IsFaulty, IsFirstFault, IsFirstNumber, IsRecordOf, IsTaken, AreOutputsThere, IsTreeFault, IsVerdict, tree_at}
-use Rattle.sched_core.specs.declared.job.Answer.{Answer}
-use Rattle.sched_core.specs.declared.job.Job.{Job}
-use Rattle.sched_core.specs.declared.reason.Reason.{Reason}
-use Rattle.sched_core.specs.declared.reason.Reason.TheVariants.{ExitStatus, NoStart, MissingOutput, NotFlatFile, HashMismatch, OutputCycle, TooLarge, ReadFault, OutOfMemory, Killed}
-use Rattle.sched_core.proofs.OneVerdict.{has_one_verdict}
+use Rattle.build_outcome.specs.Verdicts.{AreRecords, IsFaulty, IsFirstFault, IsFirstNumber, IsRecordOf, IsTaken, AreOutputsThere, IsTreeFault, IsVerdict, tree_at}
+use Rattle.build_outcome.specs.declared.job.Answer.{Answer}
+use Rattle.build_outcome.specs.declared.job.Job.{Job}
+use Rattle.build_outcome.specs.declared.reason.Reason.{Reason}
+use Rattle.build_outcome.specs.declared.reason.Reason.TheVariants.{ExitStatus, NoStart, MissingOutput, NotFlatFile, HashMismatch, OutputCycle, TooLarge, ReadFault, OutOfMemory, Killed}
+use Rattle.build_outcome.proofs.OneVerdict.{has_one_verdict}
 use Rattle.store_run.specs.Builders.{IsVerdictOn}
 use Rattle.store_run.specs.SameOutcomes.{AllowedIsOne, AreSameAnswers, AreSameOutcomes, AreSameTrees, HaveSameBytes}
 use Rattle.store_run.proofs.SameVerdicts.{same_kind, same_outputs, verdict_too}

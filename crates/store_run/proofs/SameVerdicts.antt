@@ -7,12 +7,12 @@ use Rattle.drv_graph.specs.declared.kinds.Kind.{Kind}
 use Rattle.drv_graph.proofs.KindAnswers.{one_kind}
 use Rattle.ref_scan.specs.declared.tree.Tree.{Tree}
 use Rattle.valid_table.specs.PathInfos.{PathInfo}
-use Rattle.sched_core.specs.Jobs.{IsJob}
-use Rattle.sched_core.specs.Verdicts.{AreRecords, IsCyclic, IsFirstFault, IsFirstNumber, IsTaken, AreOutputsThere, IsTreeFault, IsVerdict, outputs_of, tree_at}
-use Rattle.sched_core.specs.declared.job.Answer.{Answer}
-use Rattle.sched_core.specs.declared.job.Job.{Job}
-use Rattle.sched_core.specs.declared.reason.Reason.{Reason}
-use Rattle.sched_core.specs.declared.reason.Reason.TheVariants.{ExitStatus, NoStart, MissingOutput, NotFlatFile, HashMismatch, OutputCycle, TooLarge, ReadFault, OutOfMemory, Killed}
+use Rattle.build_outcome.specs.Jobs.{IsJob}
+use Rattle.build_outcome.specs.Verdicts.{AreRecords, IsCyclic, IsFirstFault, IsFirstNumber, IsTaken, AreOutputsThere, IsTreeFault, IsVerdict, outputs_of, tree_at}
+use Rattle.build_outcome.specs.declared.job.Answer.{Answer}
+use Rattle.build_outcome.specs.declared.job.Job.{Job}
+use Rattle.build_outcome.specs.declared.reason.Reason.{Reason}
+use Rattle.build_outcome.specs.declared.reason.Reason.TheVariants.{ExitStatus, NoStart, MissingOutput, NotFlatFile, HashMismatch, OutputCycle, TooLarge, ReadFault, OutOfMemory, Killed}
 
 -- what lies at the output with this number isn't taken for a job of this kind
 abbrev FaultyFor : Kind → Answer → Reason → ℕ → Type 0

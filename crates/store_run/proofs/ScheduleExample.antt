@@ -16,20 +16,22 @@ use Rattle.valid_table.specs.Valid.{IsJournal}
 use Rattle.valid_table.specs.declared.entry.Entry.{Entry}
 use Rattle.valid_table.specs.declared.entry.Entry.TheVariants.{Done as Entered}
 use Rattle.valid_table.specs.declared.entry.Registration.{Registration}
-use Rattle.sched_core.specs.Books.{ArePermittedPaths, IsRunSettled, opened}
-use Rattle.sched_core.specs.Courses.{IsOpen}
-use Rattle.sched_core.specs.Jobs.{IsJob, seeds_of}
-use Rattle.sched_core.specs.Legal.{AreNewOutputs, AreOutputRecords, IsAllowed, IsEntryOf, IsLegal, begun, ended, failed, legal_begin, legal_done, legal_fail, legal_opening}
-use Rattle.sched_core.specs.Runs.{History, IsWanted, earlier_twins, state_in, wanted_root}
-use Rattle.sched_core.specs.States.{Broken, Ended}
-use Rattle.sched_core.specs.declared.job.Job.{Job}
-use Rattle.sched_core.specs.declared.reason.Event.TheVariants.{Begin, Done as Finish, Fail}
-use Rattle.sched_core.specs.declared.reason.Reason.{Reason}
-use Rattle.sched_core.specs.declared.reason.Reason.TheVariants.{ExitStatus}
-use Rattle.sched_core.specs.declared.reason.State.{State}
-use Rattle.sched_core.specs.declared.reason.State.TheVariants.{Done, Failed, Ready}
-use Rattle.sched_core.specs.declared.standing.Standing.TheVariants.{Free}
-use Rattle.sched_core.proofs.TwinLaws.{is_earlier_twin, is_there, turned, twins_path}
+use Rattle.sched_core.specs.Books.{ArePermittedPaths}
+use Rattle.run_states.specs.Courses.{IsRunSettled}
+use Rattle.run_states.specs.Runs.{opened}
+use Rattle.run_states.specs.Courses.{IsOpen}
+use Rattle.build_outcome.specs.Jobs.{IsJob, seeds_of}
+use Rattle.run_states.specs.Legal.{AreNewOutputs, AreOutputRecords, IsAllowed, IsEntryOf, IsLegal, begun, ended, failed, legal_begin, legal_done, legal_fail, legal_opening}
+use Rattle.run_states.specs.Runs.{History, IsWanted, earlier_twins, state_in, wanted_root}
+use Rattle.run_states.specs.States.{Broken, Ended}
+use Rattle.build_outcome.specs.declared.job.Job.{Job}
+use Rattle.run_states.specs.declared.state.Event.TheVariants.{Begin, Done as Finish, Fail}
+use Rattle.build_outcome.specs.declared.reason.Reason.{Reason}
+use Rattle.build_outcome.specs.declared.reason.Reason.TheVariants.{ExitStatus}
+use Rattle.run_states.specs.declared.state.State.{State}
+use Rattle.run_states.specs.declared.state.State.TheVariants.{Done, Failed, Ready}
+use Rattle.run_states.specs.declared.standing.Standing.TheVariants.{Free}
+use Rattle.run_states.proofs.TwinLaws.{is_earlier_twin, is_there, turned, twins_path}
 use Rattle.store_run.specs.Builders.{IsAnswered, IsVerdictBehind, answered_begin, answered_done, answered_fail, answered_opening}
 use Rattle.store_run.specs.OneThread.{IsOneThread, turn_done, turn_failed, turn_opening}
 use Rattle.store_run.specs.Scheduling.{HasMemory, IsWholeRun}

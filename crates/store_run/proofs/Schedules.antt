@@ -4,19 +4,19 @@ use Rattle.drv_graph.specs.SoundGraphs.{IsSound}
 use Rattle.valid_table.specs.Valid.{IsJournal}
 use Rattle.valid_table.specs.declared.entry.Entry.{Entry}
 use Rattle.valid_table.proofs.JournalLists.{closed_references_valid}
-use Rattle.sched_core.specs.Legal.{IsLegal}
-use Rattle.sched_core.specs.Reports.{IsReport, IsReportIn}
-use Rattle.sched_core.specs.Runs.{History, IsWanted, Run, state_in}
-use Rattle.sched_core.specs.States.{Broken, Idle, phase_of}
-use Rattle.sched_core.specs.declared.job.Answer.{Answer}
-use Rattle.sched_core.specs.declared.job.Job.{Job}
-use Rattle.sched_core.specs.declared.reason.Reason.{Reason}
-use Rattle.sched_core.specs.declared.reason.Reason.TheVariants.{OutOfMemory}
-use Rattle.sched_core.specs.declared.reason.State.{State}
-use Rattle.sched_core.specs.declared.reason.State.TheVariants.{Failed}
-use Rattle.sched_core.proofs.OneReport.{one_report}
-use Rattle.sched_core.proofs.Registering.{entries_are_journal}
-use Rattle.sched_core.proofs.Seeds.{opened_with}
+use Rattle.run_states.specs.Legal.{IsLegal}
+use Rattle.run_report.specs.Reports.{IsReport, IsReportIn}
+use Rattle.run_states.specs.Runs.{History, IsWanted, Run, state_in}
+use Rattle.run_states.specs.States.{Broken, Idle, phase_of}
+use Rattle.build_outcome.specs.declared.job.Answer.{Answer}
+use Rattle.build_outcome.specs.declared.job.Job.{Job}
+use Rattle.build_outcome.specs.declared.reason.Reason.{Reason}
+use Rattle.build_outcome.specs.declared.reason.Reason.TheVariants.{OutOfMemory}
+use Rattle.run_states.specs.declared.state.State.{State}
+use Rattle.run_states.specs.declared.state.State.TheVariants.{Failed}
+use Rattle.run_report.proofs.OneReport.{one_report}
+use Rattle.run_states.proofs.Registering.{entries_are_journal}
+use Rattle.run_states.proofs.Seeds.{opened_with}
 use Rattle.store_run.specs.OneThread.{HadTurns}
 use Rattle.store_run.specs.Scheduling.{AlikeReportTheSame, AnySchedule, HasOneOutcome, IsWholeRun, OneReport, RealisedIsEnded, RealisedIsWhole, SameReports, WholeRunsAreAlike}
 use Rattle.store_run.proofs.Alike.{IsAccounted, are_alike}

@@ -5,12 +5,12 @@ use Rattle.std.specs.List.{position}
 use Rattle.nix_drv.specs.Derivation.{Drv}
 use Rattle.drv_graph.specs.PlanNodes.{output_paths_of}
 use Rattle.valid_table.specs.declared.entry.Entry.{Entry}
-use Rattle.sched_core.specs.Runs.{cause_at, is_valid, or_else, standing_of}
-use Rattle.sched_core.specs.declared.reason.Refusal.{Refusal}
-use Rattle.sched_core.specs.declared.reason.Refusal.TheVariants.{MissingSource, PartlyValid}
-use Rattle.sched_core.specs.declared.standing.Standing.TheVariants.{AllValid, Free}
-use Rattle.sched_core.proofs.Seeds.{cause_none, none_found, not_false, or_else_none, standing_all, standing_free}
-use Rattle.sched_core.proofs.Tests.{list_all_has}
+use Rattle.run_states.specs.Runs.{cause_at, is_valid, or_else, standing_of}
+use Rattle.run_states.specs.declared.state.Refusal.{Refusal}
+use Rattle.run_states.specs.declared.state.Refusal.TheVariants.{MissingSource, PartlyValid}
+use Rattle.run_states.specs.declared.standing.Standing.TheVariants.{AllValid, Free}
+use Rattle.run_states.proofs.Seeds.{cause_none, none_found, not_false, or_else_none, standing_all, standing_free}
+use Rattle.run_states.proofs.Tests.{list_all_has}
 
 or_else_first : (a b : Option Refusal) → or_else a b ≡ None → a ≡ None
 or_else_first (Some cause) b is = absurd cc

@@ -14,26 +14,26 @@ use Rattle.valid_table.specs.declared.entry.Entry.{Entry}
 use Rattle.valid_table.specs.declared.entry.Registration.{Registration}
 use Rattle.valid_table.proofs.AddedEntries.{registered_push}
 use Rattle.valid_table.proofs.JournalLists.{closed_references_valid, registered-append}
-use Rattle.sched_core.specs.Headline.{AreDrvPaths}
-use Rattle.sched_core.specs.Jobs.{seeds_of}
-use Rattle.sched_core.specs.Legal.{IsEntryOf, IsLegal, begins, begun, ended, failed}
-use Rattle.sched_core.specs.Runs.{History, IsWanted, Run, rows_of, state_in}
-use Rattle.sched_core.specs.States.{Phase, Idle, Begun, Ended, Broken, is_open, phase_of}
-use Rattle.sched_core.specs.declared.job.Answer.{Answer}
-use Rattle.sched_core.specs.declared.job.Job.{Job}
-use Rattle.sched_core.specs.declared.reason.Event.{Event}
-use Rattle.sched_core.specs.declared.reason.Event.TheVariants.{Begin, Done as Finish, Fail}
-use Rattle.sched_core.specs.declared.reason.Reason.{Reason}
-use Rattle.sched_core.proofs.Dones.{registered_output}
-use Rattle.sched_core.proofs.Histories.{ready_is_idle}
+use Rattle.run_states.specs.Headline.{AreDrvPaths}
+use Rattle.build_outcome.specs.Jobs.{seeds_of}
+use Rattle.run_states.specs.Legal.{IsEntryOf, IsLegal, begins, begun, ended, failed}
+use Rattle.run_states.specs.Runs.{History, IsWanted, Run, rows_of, state_in}
+use Rattle.run_states.specs.States.{Phase, Idle, Begun, Ended, Broken, is_open, phase_of}
+use Rattle.build_outcome.specs.declared.job.Answer.{Answer}
+use Rattle.build_outcome.specs.declared.job.Job.{Job}
+use Rattle.run_states.specs.declared.state.Event.{Event}
+use Rattle.run_states.specs.declared.state.Event.TheVariants.{Begin, Done as Finish, Fail}
+use Rattle.build_outcome.specs.declared.reason.Reason.{Reason}
+use Rattle.run_states.proofs.Dones.{registered_output}
+use Rattle.run_states.proofs.Histories.{ready_is_idle}
 use Rattle.sched_core.proofs.Permitting.{begun_event}
-use Rattle.sched_core.proofs.Registering.{entries_are_journal}
-use Rattle.sched_core.proofs.Seeds.{phase_push, seeds_are_valid}
+use Rattle.run_states.proofs.Registering.{entries_are_journal}
+use Rattle.run_states.proofs.Seeds.{phase_push, seeds_are_valid}
 use Rattle.store_run.specs.Builders.{IsVerdictBehind}
 use Rattle.store_run.proofs.ToldRuns.{IsTold, told_begin, told_done, told_fail, told_opening}
-use Rattle.sched_core.proofs.Unhindered.{IsUnhindered as IsUnhinderedIn, ready_unhindered, behind_event, building_is_open}
+use Rattle.run_states.proofs.Unhindered.{IsUnhindered as IsUnhinderedIn, ready_unhindered, behind_event, building_is_open}
 use Rattle.store_run.proofs.Unhindered.{IsUnhindered}
-use Rattle.sched_core.proofs.OtherEvents.{number_of, same_or_other, phase_other, begun_not_idle}
+use Rattle.run_states.proofs.OtherEvents.{number_of, same_or_other, phase_other, begun_not_idle}
 
 -- ---- where a derivation stands behind one event more
 

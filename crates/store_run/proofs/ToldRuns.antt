@@ -6,14 +6,15 @@ use Rattle.drv_graph.specs.Nodes.{Node}
 use Rattle.valid_table.specs.PathInfos.{PathInfo}
 use Rattle.valid_table.specs.Valid.{IsJournal}
 use Rattle.valid_table.specs.declared.entry.Entry.{Entry}
-use Rattle.sched_core.specs.Books.{CanBegin, opened}
-use Rattle.sched_core.specs.Legal.{IsEntryOf, IsLegal, legal_opening, legal_begin, legal_done, legal_fail, begun, ended, failed}
-use Rattle.sched_core.specs.Runs.{History, Run}
-use Rattle.sched_core.specs.States.{Begun, phase_of}
-use Rattle.sched_core.specs.declared.job.Answer.{Answer}
-use Rattle.sched_core.specs.declared.job.Job.{Job}
-use Rattle.sched_core.specs.declared.reason.Reason.{Reason}
-use Rattle.sched_core.specs.declared.reason.Reason.TheVariants.{OutOfMemory}
+use Rattle.run_states.specs.Courses.{CanBegin}
+use Rattle.run_states.specs.Runs.{opened}
+use Rattle.run_states.specs.Legal.{IsEntryOf, IsLegal, legal_opening, legal_begin, legal_done, legal_fail, begun, ended, failed}
+use Rattle.run_states.specs.Runs.{History, Run}
+use Rattle.run_states.specs.States.{Begun, phase_of}
+use Rattle.build_outcome.specs.declared.job.Answer.{Answer}
+use Rattle.build_outcome.specs.declared.job.Job.{Job}
+use Rattle.build_outcome.specs.declared.reason.Reason.{Reason}
+use Rattle.build_outcome.specs.declared.reason.Reason.TheVariants.{OutOfMemory}
 use Rattle.store_run.specs.Builders.{IsAnswered, IsVerdictBehind, answered_begin, answered_done, answered_fail, answered_opening}
 
 -- A legal history, each event of which tells what it follows from. A Fail may be excused.

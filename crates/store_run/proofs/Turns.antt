@@ -15,28 +15,28 @@ use Rattle.valid_table.specs.PathInfos.{PathInfo}
 use Rattle.valid_table.specs.Valid.{IsValid}
 use Rattle.valid_table.specs.declared.entry.Entry.{Entry}
 use Rattle.valid_table.proofs.ClosureLaws.{registers_from_valid}
-use Rattle.sched_core.specs.Books.{CanBegin, IsRunSettled}
-use Rattle.sched_core.specs.Courses.{IsOpen}
-use Rattle.sched_core.specs.Legal.{IsAllowed, IsLegal, legal_begin, legal_done, legal_fail, legal_opening, begins, begun, ended, failed}
-use Rattle.sched_core.specs.Runs.{History, IsWanted, Run, is_valid, is_wanted, standing_at, state_in, wanted_input}
-use Rattle.sched_core.specs.States.{Idle, Ended, Broken, by_first, by_hindrance, by_phase, by_validity, is_bad, is_done, is_good, is_open, phase_of}
+use Rattle.run_states.specs.Courses.{CanBegin, IsRunSettled}
+use Rattle.run_states.specs.Courses.{IsOpen}
+use Rattle.run_states.specs.Legal.{IsAllowed, IsLegal, legal_begin, legal_done, legal_fail, legal_opening, begins, begun, ended, failed}
+use Rattle.run_states.specs.Runs.{History, IsWanted, Run, is_valid, is_wanted, standing_at, state_in, wanted_input}
+use Rattle.run_states.specs.States.{Idle, Ended, Broken, by_first, by_hindrance, by_phase, by_validity, is_bad, is_done, is_good, is_open, phase_of}
 use Rattle.drv_graph.specs.Twins.{are_twins_at}
-use Rattle.sched_core.specs.declared.job.Answer.{Answer}
-use Rattle.sched_core.specs.declared.job.Job.{Job}
-use Rattle.sched_core.specs.declared.reason.Event.TheVariants.{Begin, Done as Finish, Fail}
-use Rattle.sched_core.specs.declared.reason.Reason.{Reason}
-use Rattle.sched_core.specs.declared.reason.State.{State}
-use Rattle.sched_core.specs.declared.reason.State.TheVariants.{Blocked, Building, Done, Failed, Ready, Refused, Reused}
-use Rattle.sched_core.specs.declared.standing.Standing.{Standing}
-use Rattle.sched_core.specs.declared.standing.Standing.TheVariants.{AllValid, Hindered, Free}
-use Rattle.sched_core.proofs.EarlierTwins.{twins_from}
+use Rattle.build_outcome.specs.declared.job.Answer.{Answer}
+use Rattle.build_outcome.specs.declared.job.Job.{Job}
+use Rattle.run_states.specs.declared.state.Event.TheVariants.{Begin, Done as Finish, Fail}
+use Rattle.build_outcome.specs.declared.reason.Reason.{Reason}
+use Rattle.run_states.specs.declared.state.State.{State}
+use Rattle.run_states.specs.declared.state.State.TheVariants.{Blocked, Building, Done, Failed, Ready, Refused, Reused}
+use Rattle.run_states.specs.declared.standing.Standing.{Standing}
+use Rattle.run_states.specs.declared.standing.Standing.TheVariants.{AllValid, Hindered, Free}
+use Rattle.run_states.proofs.EarlierTwins.{twins_from}
 use Rattle.sched_core.proofs.SharedOutputs.{sharers}
-use Rattle.sched_core.proofs.Histories.{ready_is_idle}
-use Rattle.sched_core.proofs.NearestTwins.{legal_ended, none_from}
-use Rattle.sched_core.proofs.PlanInputs.{inputs_first}
+use Rattle.run_states.proofs.Histories.{ready_is_idle}
+use Rattle.run_states.proofs.NearestTwins.{legal_ended, none_from}
+use Rattle.run_states.proofs.PlanInputs.{inputs_first}
 use Rattle.sched_core.proofs.Registrable.{verdicts_are_registrable}
-use Rattle.sched_core.proofs.TwinLaws.{is_earlier_twin, turned}
-use Rattle.sched_core.proofs.Wanting.{wanted_told}
+use Rattle.run_states.proofs.TwinLaws.{is_earlier_twin, turned}
+use Rattle.run_states.proofs.Wanting.{wanted_told}
 use Rattle.sched_core.specs.VerdictLaws.{AreRegistrable}
 use Rattle.store_run.specs.Builders.{IsOutcomeVerdict, IsVerdictBehind}
 use Rattle.store_run.specs.OneThread.{HadTurns, IsOneThread, turn_done, turn_failed, turn_opening, turn_skipped}
@@ -44,9 +44,9 @@ use Rattle.store_run.proofs.OneOutcome.{refers_behind}
 use Rattle.store_run.proofs.Standings.{output_of_free}
 use Rattle.store_run.proofs.Telling.{IsFrom, begun_is, from_built, from_is, from_opening, phase_begun, phase_broken, phase_ended}
 use Rattle.store_run.proofs.ToldRuns.{IsTold, told_begin, told_done, told_fail, told_opening}
-use Rattle.sched_core.proofs.Unhindered.{ready_unhindered}
+use Rattle.run_states.proofs.Unhindered.{ready_unhindered}
 use Rattle.store_run.proofs.Unhindered.{aside_same, inputs_in, standing_in, state_by, twins_in}
-use Rattle.sched_core.proofs.OtherEvents.{phase_other, same_or_other}
+use Rattle.run_states.proofs.OtherEvents.{phase_other, same_or_other}
 use Rattle.valid_table.proofs.Reaching.{valid_from_registers}
 
 -- ---- states of the first derivations

@@ -13,18 +13,19 @@ use Rattle.drv_graph.proofs.FirstTwins.{twins_are_told}
 use Rattle.drv_graph.proofs.KindAnswers.{one_kind}
 use Rattle.valid_table.specs.PathInfos.{PathInfo}
 use Rattle.valid_table.specs.declared.entry.Entry.{Entry}
-use Rattle.sched_core.specs.Books.{CanBegin, IsRunSettled, opened}
-use Rattle.sched_core.specs.Legal.{AreNewOutputs, IsAllowed, IsEntryOf, IsLegal, begun, ended, failed, legal_begin, legal_done, legal_fail, legal_opening}
-use Rattle.sched_core.specs.Runs.{History, IsWanted, earlier_twins, state_in, wanted_root}
-use Rattle.sched_core.specs.States.{Begun, Broken, Ended, is_bad, is_done, is_open, phase_of}
-use Rattle.sched_core.specs.declared.reason.Event.{Event}
-use Rattle.sched_core.specs.declared.reason.Event.TheVariants.{Begin, Done as Finish, Fail}
-use Rattle.sched_core.specs.declared.reason.Reason.{Reason}
-use Rattle.sched_core.specs.declared.reason.Reason.TheVariants.{ExitStatus}
-use Rattle.sched_core.specs.declared.reason.State.TheVariants.{Blocked, Building, Done, Failed, Ready}
-use Rattle.sched_core.proofs.EarlierTwins.{twins_from}
-use Rattle.sched_core.proofs.TwinLaws.{is_earlier_twin, twins_path}
-use Rattle.sched_core.proofs.Wanting.{wanted_told}
+use Rattle.run_states.specs.Courses.{CanBegin, IsRunSettled}
+use Rattle.run_states.specs.Runs.{opened}
+use Rattle.run_states.specs.Legal.{AreNewOutputs, IsAllowed, IsEntryOf, IsLegal, begun, ended, failed, legal_begin, legal_done, legal_fail, legal_opening}
+use Rattle.run_states.specs.Runs.{History, IsWanted, earlier_twins, state_in, wanted_root}
+use Rattle.run_states.specs.States.{Begun, Broken, Ended, is_bad, is_done, is_open, phase_of}
+use Rattle.run_states.specs.declared.state.Event.{Event}
+use Rattle.run_states.specs.declared.state.Event.TheVariants.{Begin, Done as Finish, Fail}
+use Rattle.build_outcome.specs.declared.reason.Reason.{Reason}
+use Rattle.build_outcome.specs.declared.reason.Reason.TheVariants.{ExitStatus}
+use Rattle.run_states.specs.declared.state.State.TheVariants.{Blocked, Building, Done, Failed, Ready}
+use Rattle.run_states.proofs.EarlierTwins.{twins_from}
+use Rattle.run_states.proofs.TwinLaws.{is_earlier_twin, twins_path}
+use Rattle.run_states.proofs.Wanting.{wanted_told}
 use Rattle.store_run.specs.Builders.{IsAnswered, IsVerdictBehind, answered_begin, answered_done, answered_fail, answered_opening}
 use Rattle.store_run.specs.OneThread.{IsOneThread, turn_done, turn_failed, turn_opening}
 use Rattle.store_run.specs.Scheduling.{HasMemory, IsWholeRun}

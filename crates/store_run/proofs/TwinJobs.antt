@@ -21,12 +21,12 @@ use Rattle.ref_scan.specs.Scan.{IsFoundIn, OccursIn}
 use Rattle.ref_scan.specs.Trees.{Fits}
 use Rattle.ref_scan.specs.declared.tree.Tree.{Tree, File, Pieces, Dir'}
 use Rattle.valid_table.specs.PathInfos.{PathInfo}
-use Rattle.sched_core.specs.Jobs.{IsJob}
-use Rattle.sched_core.specs.Verdicts.{IsRecordOf, IsTreeFault, IsVerdict, algorithm_for, digest_by, digest_of, tree_at}
-use Rattle.sched_core.specs.declared.job.Answer.{Answer}
-use Rattle.sched_core.specs.declared.job.Job.{Job}
-use Rattle.sched_core.specs.declared.reason.Reason.{Reason}
-use Rattle.sched_core.specs.declared.reason.Reason.TheVariants.{ExitStatus, HashMismatch, Killed, MissingOutput, NoStart, NotFlatFile, OutOfMemory, OutputCycle, ReadFault, TooLarge}
+use Rattle.build_outcome.specs.Jobs.{IsJob}
+use Rattle.build_outcome.specs.Verdicts.{IsRecordOf, IsTreeFault, IsVerdict, algorithm_for, digest_by, digest_of, tree_at}
+use Rattle.build_outcome.specs.declared.job.Answer.{Answer}
+use Rattle.build_outcome.specs.declared.job.Job.{Job}
+use Rattle.build_outcome.specs.declared.reason.Reason.{Reason}
+use Rattle.build_outcome.specs.declared.reason.Reason.TheVariants.{ExitStatus, HashMismatch, Killed, MissingOutput, NoStart, NotFlatFile, OutOfMemory, OutputCycle, ReadFault, TooLarge}
 use Rattle.store_run.specs.SameOutcomes.{AllowsOneOutcome, AreSameAnswers, AreSameTrees, HaveSameBytes}
 use Rattle.store_run.specs.Scheduling.{HasOneOutcome}
 use Rattle.store_run.specs.ScheduleExample.{IsEmptyFolder, Leaves, right}

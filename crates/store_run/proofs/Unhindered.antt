@@ -3,18 +3,18 @@ use Rattle.std.proofs.Common.{◌≡◌, ◌∙◌, ℕ, Bool, true, false, List
 use Rattle.std.specs.Prelude.{Contains, slice_get}
 use Rattle.std.specs.List.{list_any}
 use Rattle.drv_graph.specs.SoundGraphs.{IsSound}
-use Rattle.sched_core.specs.Runs.{History, Run, earlier_twins, inputs_at, rows_of, standing_at, state_in}
-use Rattle.sched_core.specs.States.{Phase, Rows, Idle, Begun, Ended, Broken, by_first, by_hindrance, by_inputs, by_phase, by_validity, is_done, is_good, is_open, phase_of}
-use Rattle.sched_core.specs.declared.reason.State.{State}
-use Rattle.sched_core.specs.declared.reason.State.TheVariants.{Blocked, Ready, Reused}
-use Rattle.sched_core.specs.declared.standing.Standing.{Standing}
-use Rattle.sched_core.specs.declared.standing.Standing.TheVariants.{AllValid, Hindered, Free}
-use Rattle.sched_core.proofs.Aside.{aside, aside_same as rows_same, state_aside}
-use Rattle.sched_core.proofs.Unhindered.{IsUnhindered as IsUnhinderedIn, unhindered_ready as ready_aside}
-use Rattle.sched_core.proofs.NearestTwins.{none_from}
-use Rattle.sched_core.proofs.PlanInputs.{rows_in_order}
-use Rattle.sched_core.proofs.Seeds.{done_is_ended, not_good_by_first}
-use Rattle.sched_core.proofs.Tests.{any_passes, one_passes}
+use Rattle.run_states.specs.Runs.{History, Run, earlier_twins, inputs_at, rows_of, standing_at, state_in}
+use Rattle.run_states.specs.States.{Phase, Rows, Idle, Begun, Ended, Broken, by_first, by_hindrance, by_inputs, by_phase, by_validity, is_done, is_good, is_open, phase_of}
+use Rattle.run_states.specs.declared.state.State.{State}
+use Rattle.run_states.specs.declared.state.State.TheVariants.{Blocked, Ready, Reused}
+use Rattle.run_states.specs.declared.standing.Standing.{Standing}
+use Rattle.run_states.specs.declared.standing.Standing.TheVariants.{AllValid, Hindered, Free}
+use Rattle.run_states.proofs.Aside.{aside, aside_same as rows_same, state_aside}
+use Rattle.run_states.proofs.Unhindered.{IsUnhindered as IsUnhinderedIn, unhindered_ready as ready_aside}
+use Rattle.run_states.proofs.NearestTwins.{none_from}
+use Rattle.run_states.proofs.PlanInputs.{rows_in_order}
+use Rattle.run_states.proofs.Seeds.{done_is_ended, not_good_by_first}
+use Rattle.run_states.proofs.Tests.{any_passes, one_passes}
 use Rattle.valid_table.specs.declared.entry.Entry.{Entry}
 
 -- the rows of a history

@@ -1,9 +1,9 @@
 -- How a lease ends where the book wanted memory to register records.
 use Rattle.std.proofs.Common.{ℕ, List}
 use Rattle.valid_table.specs.PathInfos.{PathInfo}
-use Rattle.sched_core.specs.declared.fault.BookFault.TheVariants.{NoMemory, NoView, ForeignLease, NotLawful}
-use Rattle.sched_core.specs.declared.job.Job.{Job}
-use Rattle.sched_core.specs.declared.reason.Reason.TheVariants.{OutOfMemory}
+use Rattle.run_states.specs.declared.fault.BookFault.TheVariants.{NoMemory, NoView, ForeignLease, NotLawful}
+use Rattle.build_outcome.specs.declared.job.Job.{Job}
+use Rattle.build_outcome.specs.declared.reason.Reason.TheVariants.{OutOfMemory}
 use Rattle.store_run.specs.Sharing.{IsNoting, IsLeaseRegistering, IsWanting, Share}
 use Rattle.store_run.specs.declared.found.LeaseEnd.{LeaseEnd}
 use Rattle.store_run.specs.declared.found.LeaseEnd.TheVariants.{Registered, Failed, Stopped}

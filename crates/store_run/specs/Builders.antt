@@ -5,15 +5,16 @@ use Rattle.nix_names.specs.Bytes.{Path}
 use Rattle.drv_graph.specs.Nodes.{Node}
 use Rattle.valid_table.specs.PathInfos.{PathInfo}
 use Rattle.valid_table.specs.declared.entry.Entry.{Entry}
-use Rattle.sched_core.specs.Books.{ArePermittedPaths, opened}
-use Rattle.sched_core.specs.Jobs.{IsJob}
-use Rattle.sched_core.specs.Legal.{IsEntryOf, begun, ended, failed}
-use Rattle.sched_core.specs.Runs.{History, Run}
-use Rattle.sched_core.specs.Verdicts.{IsVerdict}
-use Rattle.sched_core.specs.declared.job.Answer.{Answer}
-use Rattle.sched_core.specs.declared.job.Job.{Job}
-use Rattle.sched_core.specs.declared.reason.Reason.{Reason}
-use Rattle.sched_core.specs.declared.reason.Reason.TheVariants.{OutOfMemory}
+use Rattle.sched_core.specs.Books.{ArePermittedPaths}
+use Rattle.run_states.specs.Runs.{opened}
+use Rattle.build_outcome.specs.Jobs.{IsJob}
+use Rattle.run_states.specs.Legal.{IsEntryOf, begun, ended, failed}
+use Rattle.run_states.specs.Runs.{History, Run}
+use Rattle.build_outcome.specs.Verdicts.{IsVerdict}
+use Rattle.build_outcome.specs.declared.job.Answer.{Answer}
+use Rattle.build_outcome.specs.declared.job.Job.{Job}
+use Rattle.build_outcome.specs.declared.reason.Reason.{Reason}
+use Rattle.build_outcome.specs.declared.reason.Reason.TheVariants.{OutOfMemory}
 
 -- *Verdict* on an outcome by permitted paths: the reason why there is no answer, or the verdict on
 -- the answer

@@ -3,9 +3,10 @@ use Rattle.std.specs.Prelude.{◌≡◌, ◌⊎◌, Option, Some, None, List, Re
 use Rattle.nix_names.specs.Bytes.{Bytes}
 use Rattle.drv_graph.specs.Plans.{Graph}
 use Rattle.valid_table.specs.declared.entry.Entry.{Entry}
-use Rattle.sched_core.specs.Books.{IsRunSettled, Ledger}
-use Rattle.sched_core.specs.declared.fault.BookFault.{BookFault}
-use Rattle.sched_core.specs.declared.fault.BookFault.TheVariants.{NoMemory as RefusedMemory}
+use Rattle.run_states.specs.Courses.{IsRunSettled}
+use Rattle.sched_core.specs.Books.{Ledger}
+use Rattle.run_states.specs.declared.fault.BookFault.{BookFault}
+use Rattle.run_states.specs.declared.fault.BookFault.TheVariants.{NoMemory as RefusedMemory}
 use Rattle.store_run.specs.Realising.{IsOverLent}
 use Rattle.store_run.specs.Sharing.{Share}
 use Rattle.store_run.specs.declared.fault.RunFault.{RunFault}

@@ -8,12 +8,12 @@ use Rattle.valid_view.specs.Shown.{IsShowable}
 use Rattle.valid_view.specs.declared.fault.ViewFault.{ViewFault}
 use Rattle.valid_view.specs.declared.fault.ViewFault.TheVariants as view
 use Rattle.sched_core.specs.Books.{ArePermittedPaths, AreSeedsValid, IsBooksLease, Leased, Ledger}
-use Rattle.sched_core.specs.declared.fault.BookFault.{BookFault}
-use Rattle.sched_core.specs.declared.fault.BookFault.TheVariants.{NoMemory, NoView}
-use Rattle.sched_core.specs.declared.job.Answer.{Answer}
-use Rattle.sched_core.specs.declared.job.Job.{Job}
-use Rattle.sched_core.specs.declared.reason.Reason.{Reason}
-use Rattle.sched_core.specs.declared.reason.Reason.TheVariants.{OutOfMemory}
+use Rattle.run_states.specs.declared.fault.BookFault.{BookFault}
+use Rattle.run_states.specs.declared.fault.BookFault.TheVariants.{NoMemory, NoView}
+use Rattle.build_outcome.specs.declared.job.Answer.{Answer}
+use Rattle.build_outcome.specs.declared.job.Job.{Job}
+use Rattle.build_outcome.specs.declared.reason.Reason.{Reason}
+use Rattle.build_outcome.specs.declared.reason.Reason.TheVariants.{OutOfMemory}
 use Rattle.store_run.specs.Builders.{IsOutcomeVerdict}
 use Rattle.store_run.specs.declared.found.Found.{Found}
 use Rattle.store_run.specs.declared.found.Found.TheVariants.{Examined, Unanswered, Refused}

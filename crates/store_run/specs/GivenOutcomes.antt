@@ -3,11 +3,11 @@
 -- product's own).
 use Rattle.std.specs.Prelude.{◌≡◌, ℕ, Result}
 use Rattle.nix_names.specs.Bytes.{Bytes}
-use Rattle.sched_core.specs.Reports.{IsReportIn}
-use Rattle.sched_core.specs.Runs.{History, Run}
-use Rattle.sched_core.specs.declared.job.Answer.{Answer}
-use Rattle.sched_core.specs.declared.job.Job.{Job}
-use Rattle.sched_core.specs.declared.reason.Reason.{Reason}
+use Rattle.run_report.specs.Reports.{IsReportIn}
+use Rattle.run_states.specs.Runs.{History, Run}
+use Rattle.build_outcome.specs.declared.job.Answer.{Answer}
+use Rattle.build_outcome.specs.declared.job.Job.{Job}
+use Rattle.build_outcome.specs.declared.reason.Reason.{Reason}
 use Rattle.store_run.specs.Builders.{IsAnswered}
 use Rattle.store_run.specs.OneThread.{IsOneThread}
 use Rattle.store_run.specs.Scheduling.{AreAlike, IsEndedRun}

@@ -5,12 +5,13 @@ use Rattle.drv_graph.specs.Nodes.{Node}
 use Rattle.valid_table.specs.PathInfos.{PathInfo}
 use Rattle.valid_table.specs.Valid.{IsJournal}
 use Rattle.valid_table.specs.declared.entry.Entry.{Entry}
-use Rattle.sched_core.specs.Books.{CanBegin, opened}
-use Rattle.sched_core.specs.Legal.{IsEntryOf, begins, begun, ended, failed}
-use Rattle.sched_core.specs.Runs.{History, Run}
-use Rattle.sched_core.specs.declared.job.Answer.{Answer}
-use Rattle.sched_core.specs.declared.job.Job.{Job}
-use Rattle.sched_core.specs.declared.reason.Reason.{Reason}
+use Rattle.run_states.specs.Courses.{CanBegin}
+use Rattle.run_states.specs.Runs.{opened}
+use Rattle.run_states.specs.Legal.{IsEntryOf, begins, begun, ended, failed}
+use Rattle.run_states.specs.Runs.{History, Run}
+use Rattle.build_outcome.specs.declared.job.Answer.{Answer}
+use Rattle.build_outcome.specs.declared.job.Job.{Job}
+use Rattle.build_outcome.specs.declared.reason.Reason.{Reason}
 use Rattle.store_run.specs.Builders.{IsVerdictBehind}
 
 -- The derivations below a number had their turns, in plan order. Each derivation that could begin

@@ -5,11 +5,12 @@ use Rattle.drv_graph.specs.Plans.{Graph}
 use Rattle.valid_table.specs.declared.entry.Entry.{Entry}
 use Rattle.valid_view.specs.declared.refusal.OpenFault.{OpenFault}
 use Rattle.valid_view.specs.declared.refusal.OpenFault.TheVariants as refused
-use Rattle.sched_core.specs.Books.{IsRunSettled, Ledger}
-use Rattle.sched_core.specs.Legal.{IsLegal}
-use Rattle.sched_core.specs.declared.job.Answer.{Answer}
-use Rattle.sched_core.specs.declared.job.Job.{Job}
-use Rattle.sched_core.specs.declared.reason.Reason.{Reason}
+use Rattle.run_states.specs.Courses.{IsRunSettled}
+use Rattle.sched_core.specs.Books.{Ledger}
+use Rattle.run_states.specs.Legal.{IsLegal}
+use Rattle.build_outcome.specs.declared.job.Answer.{Answer}
+use Rattle.build_outcome.specs.declared.job.Job.{Job}
+use Rattle.build_outcome.specs.declared.reason.Reason.{Reason}
 use Rattle.store_run.specs.Builders.{IsAnswered}
 use Rattle.store_run.specs.Workers.{AreWorkers}
 use Rattle.store_run.specs.declared.fault.RunFault.{RunFault}

@@ -5,11 +5,11 @@ use Rattle.nix_names.specs.declared.digest.Algorithm.{Algorithm}
 use Rattle.drv_graph.specs.Plans.{Graph}
 use Rattle.ref_scan.specs.Trees.{Fits, pieces}
 use Rattle.ref_scan.specs.declared.tree.Tree.{Tree}
-use Rattle.sched_core.specs.Jobs.{IsJob}
-use Rattle.sched_core.specs.Verdicts.{digest_of, tree_at}
-use Rattle.sched_core.specs.declared.job.Answer.{Answer}
-use Rattle.sched_core.specs.declared.job.Job.{Job}
-use Rattle.sched_core.specs.declared.reason.Reason.{Reason}
+use Rattle.build_outcome.specs.Jobs.{IsJob}
+use Rattle.build_outcome.specs.Verdicts.{digest_of, tree_at}
+use Rattle.build_outcome.specs.declared.job.Answer.{Answer}
+use Rattle.build_outcome.specs.declared.job.Job.{Job}
+use Rattle.build_outcome.specs.declared.reason.Reason.{Reason}
 use Rattle.store_run.specs.Scheduling.{HasOneOutcome}
 
 -- Two trees have the same bytes in their files and names, and the same digest by each algorithm.

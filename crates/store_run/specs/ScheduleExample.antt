@@ -15,15 +15,15 @@ use Rattle.ref_scan.specs.Trees.{entry_count}
 use Rattle.ref_scan.specs.declared.tree.Tree.{Tree}
 use Rattle.valid_table.specs.declared.entry.Entry.{Entry}
 use Rattle.valid_table.specs.declared.entry.Entry.TheVariants.{Done}
-use Rattle.sched_core.specs.Runs.{History, Run}
-use Rattle.sched_core.specs.States.{Begun, phase_of}
-use Rattle.sched_core.specs.Verdicts.{digest_of}
-use Rattle.sched_core.specs.declared.job.Answer.{Answer}
-use Rattle.sched_core.specs.declared.job.Job.{Job}
-use Rattle.sched_core.specs.declared.reason.Event.{Event}
-use Rattle.sched_core.specs.declared.reason.Event.TheVariants.{Begin, Done as Finish, Fail}
-use Rattle.sched_core.specs.declared.reason.Reason.{Reason}
-use Rattle.sched_core.specs.declared.reason.Reason.TheVariants.{ExitStatus}
+use Rattle.run_states.specs.Runs.{History, Run}
+use Rattle.run_states.specs.States.{Begun, phase_of}
+use Rattle.build_outcome.specs.Verdicts.{digest_of}
+use Rattle.build_outcome.specs.declared.job.Answer.{Answer}
+use Rattle.build_outcome.specs.declared.job.Job.{Job}
+use Rattle.run_states.specs.declared.state.Event.{Event}
+use Rattle.run_states.specs.declared.state.Event.TheVariants.{Begin, Done as Finish, Fail}
+use Rattle.build_outcome.specs.declared.reason.Reason.{Reason}
+use Rattle.build_outcome.specs.declared.reason.Reason.TheVariants.{ExitStatus}
 
 -- How a derivation is built: its name, the program and its arguments.
 pub record Recipe : Type 0 where

@@ -8,16 +8,17 @@ use Rattle.valid_table.specs.Entries.{registered}
 use Rattle.valid_table.specs.PathInfos.{PathInfo}
 use Rattle.valid_table.specs.Valid.{Registers}
 use Rattle.valid_table.specs.declared.entry.Entry.{Entry}
-use Rattle.sched_core.specs.Books.{IsRunSettled, Ledger}
-use Rattle.sched_core.specs.Jobs.{IsJob}
-use Rattle.sched_core.specs.Legal.{IsLegal}
-use Rattle.sched_core.specs.Reports.{IsReportIn}
-use Rattle.sched_core.specs.Runs.{History, IsWanted, Run, state_in}
-use Rattle.sched_core.specs.declared.job.Answer.{Answer}
-use Rattle.sched_core.specs.declared.job.Job.{Job}
-use Rattle.sched_core.specs.declared.reason.Reason.{Reason}
-use Rattle.sched_core.specs.declared.reason.Reason.TheVariants.{OutOfMemory}
-use Rattle.sched_core.specs.declared.reason.State.TheVariants.{Failed}
+use Rattle.run_states.specs.Courses.{IsRunSettled}
+use Rattle.sched_core.specs.Books.{Ledger}
+use Rattle.build_outcome.specs.Jobs.{IsJob}
+use Rattle.run_states.specs.Legal.{IsLegal}
+use Rattle.run_report.specs.Reports.{IsReportIn}
+use Rattle.run_states.specs.Runs.{History, IsWanted, Run, state_in}
+use Rattle.build_outcome.specs.declared.job.Answer.{Answer}
+use Rattle.build_outcome.specs.declared.job.Job.{Job}
+use Rattle.build_outcome.specs.declared.reason.Reason.{Reason}
+use Rattle.build_outcome.specs.declared.reason.Reason.TheVariants.{OutOfMemory}
+use Rattle.run_states.specs.declared.state.State.TheVariants.{Failed}
 use Rattle.store_run.specs.Builders.{IsAnswered, IsVerdictOn}
 use Rattle.store_run.specs.OneThread.{IsOneThread}
 use Rattle.store_run.specs.Realising.{IsRealised}

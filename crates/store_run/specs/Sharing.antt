@@ -1,12 +1,13 @@
 -- What the workers of a run share, and what becomes of it (this product's own).
 use Rattle.std.specs.Prelude.{◌≡◌, ◌⊎◌, ℕ, Option, Some, None, List, Result, Ok, Err}
 use Rattle.valid_table.specs.PathInfos.{PathInfo}
-use Rattle.sched_core.specs.Books.{CanBegin, IsBeginning, IsBooksLease, IsFailing, IsFinishFault, IsFinishing, IsNotAllowed, IsRunSettled, IsSameRun, Leased, Ledger}
-use Rattle.sched_core.specs.declared.fault.BookFault.{BookFault}
-use Rattle.sched_core.specs.declared.fault.BookFault.TheVariants.{NoMemory, NoView, ForeignLease, NotLawful}
-use Rattle.sched_core.specs.declared.job.Job.{Job}
-use Rattle.sched_core.specs.declared.reason.Reason.{Reason}
-use Rattle.sched_core.specs.declared.reason.Reason.TheVariants.{OutOfMemory}
+use Rattle.run_states.specs.Courses.{CanBegin, IsRunSettled}
+use Rattle.sched_core.specs.Books.{IsBeginning, IsBooksLease, IsFailing, IsFinishFault, IsFinishing, IsNotAllowed, IsSameRun, Leased, Ledger}
+use Rattle.run_states.specs.declared.fault.BookFault.{BookFault}
+use Rattle.run_states.specs.declared.fault.BookFault.TheVariants.{NoMemory, NoView, ForeignLease, NotLawful}
+use Rattle.build_outcome.specs.declared.job.Job.{Job}
+use Rattle.build_outcome.specs.declared.reason.Reason.{Reason}
+use Rattle.build_outcome.specs.declared.reason.Reason.TheVariants.{OutOfMemory}
 use Rattle.store_run.specs.declared.found.Found.{Found}
 use Rattle.store_run.specs.declared.found.Found.TheVariants as found
 use Rattle.store_run.specs.declared.found.LeaseEnd.{LeaseEnd}

@@ -20,13 +20,13 @@ use Rattle.ref_scan.specs.Trees.{pieces}
 use Rattle.ref_scan.specs.declared.tree.Tree.{Tree}
 use Rattle.valid_table.specs.declared.entry.Entry.{Entry}
 use Rattle.valid_table.specs.declared.entry.Entry.TheVariants.{Done}
-use Rattle.sched_core.specs.Runs.{History, Run}
-use Rattle.sched_core.specs.Verdicts.{digest_by, digest_of}
-use Rattle.sched_core.specs.declared.job.Answer.{Answer}
-use Rattle.sched_core.specs.declared.job.Job.{Job}
-use Rattle.sched_core.specs.declared.reason.Event.TheVariants.{Begin, Done as Finish, Fail}
-use Rattle.sched_core.specs.declared.reason.Reason.{Reason}
-use Rattle.sched_core.specs.declared.reason.Reason.TheVariants.{ExitStatus}
+use Rattle.run_states.specs.Runs.{History, Run}
+use Rattle.build_outcome.specs.Verdicts.{digest_by, digest_of}
+use Rattle.build_outcome.specs.declared.job.Answer.{Answer}
+use Rattle.build_outcome.specs.declared.job.Job.{Job}
+use Rattle.run_states.specs.declared.state.Event.TheVariants.{Begin, Done as Finish, Fail}
+use Rattle.build_outcome.specs.declared.reason.Reason.{Reason}
+use Rattle.build_outcome.specs.declared.reason.Reason.TheVariants.{ExitStatus}
 use Rattle.store_run.specs.ScheduleExample.{Leaves, Recipe, drv_alone, made, right, text_of}
 
 -- the SHA-256 digest of an empty file

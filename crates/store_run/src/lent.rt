@@ -1,6 +1,6 @@
 //! Whether a book is over the plan, system and entries that were lent.
 ghost use Rattle.std.specs.Prelude.{◌↔◌, IsTrue};
-ghost use Rattle.sched_core.specs.Legal.{IsLegal};
+ghost use Rattle.run_states.specs.Legal.{IsLegal};
 ghost use Rattle.store_run.specs.Realising.{IsOverLent};
 
 use drv_graph::Plan;

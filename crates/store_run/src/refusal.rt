@@ -5,9 +5,10 @@ ghost use Rattle.valid_table.specs.Closure.{IsClosure};
 ghost use Rattle.valid_table.specs.Entries.{registered};
 ghost use Rattle.valid_view.specs.Shown.{IsShowable};
 ghost use Rattle.valid_view.specs.declared.fault.ViewFault.TheVariants.{NotValid};
-ghost use Rattle.sched_core.specs.Books.{AreSeedsValid, CanBegin, IsBeginning, IsBooksLease, IsFailing, IsFinishFault, IsFinishing, IsSameRun, MayAllRefer};
-ghost use Rattle.sched_core.specs.Verdicts.{outputs_of};
-ghost use Rattle.sched_core.specs.declared.fault.BookFault.TheVariants.{ForeignLease, NoMemory, NoView};
+ghost use Rattle.sched_core.specs.Books.{AreSeedsValid, IsBeginning, IsBooksLease, IsFailing, IsFinishFault, IsFinishing, IsSameRun, MayAllRefer};
+ghost use Rattle.run_states.specs.Courses.{CanBegin};
+ghost use Rattle.build_outcome.specs.Verdicts.{outputs_of};
+ghost use Rattle.run_states.specs.declared.fault.BookFault.TheVariants.{ForeignLease, NoMemory, NoView};
 ghost use Rattle.valid_table.specs.Unions.{IsUnion};
 ghost use Rattle.nix_names.specs.Bytes.{Path};
 ghost use Rattle.nix_names.specs.Rising.{IsRising};
@@ -28,7 +29,7 @@ pub struct Refusal {
 }
 
 impl Model for Refusal {
-    ghost use Rattle.sched_core.specs.declared.fault.BookFault.{BookFault};
+    ghost use Rattle.run_states.specs.declared.fault.BookFault.{BookFault};
 
     ghost Value = { BookFault };
 

@@ -1,7 +1,7 @@
 //! A run: from a plan and a journal to a settled book.
 ghost use Rattle.std.specs.Prelude.{◌≡◌, ◌⊎◌, ◌++◌, Err, IfErr, IfOk, MatchResult, vec_len};
-ghost use Rattle.sched_core.specs.Books.{opened};
-ghost use Rattle.sched_core.specs.Legal.{IsLegal};
+ghost use Rattle.run_states.specs.Runs.{opened};
+ghost use Rattle.run_states.specs.Legal.{IsLegal};
 ghost use Rattle.store_run.specs.Builders.{IsAnswered};
 ghost use Rattle.store_run.specs.Ending.{IsHandedOut, IsRunEnd, fault_of_stop};
 ghost use Rattle.store_run.specs.Realising.{IsOverLent, IsRealised, IsRunFault, fault_of_opening};

@@ -1,10 +1,11 @@
 //! What the workers of a run share.
 ghost use Rattle.std.specs.Prelude.{◌≡◌, ◌⊎◌, Err, IfErr, List, None, Ok, OnOk};
 ghost use Rattle.valid_table.specs.declared.entry.Entry.{Entry};
-ghost use Rattle.sched_core.specs.Books.{IsBooksLease, IsUnsettled};
-ghost use Rattle.sched_core.specs.Counts.{HasCount};
-ghost use Rattle.sched_core.specs.declared.fault.BookFault.TheVariants.{NoView};
-ghost use Rattle.sched_core.specs.declared.reason.Reason.TheVariants.{OutOfMemory};
+ghost use Rattle.sched_core.specs.Books.{IsBooksLease};
+ghost use Rattle.run_states.specs.Courses.{IsUnsettled};
+ghost use Rattle.run_states.specs.Counts.{HasCount};
+ghost use Rattle.run_states.specs.declared.fault.BookFault.TheVariants.{NoView};
+ghost use Rattle.build_outcome.specs.declared.reason.Reason.TheVariants.{OutOfMemory};
 ghost use Rattle.store_run.specs.Builders.{IsAnswered, MayComeTo};
 ghost use Rattle.store_run.specs.Finding.{HasCaughtUp, IsToldOfSeeds, MayBeFound};
 ghost use Rattle.store_run.specs.Sharing.{IfGiven, IsEnding, IsNoting, IsNotingVerdict, IsLeaseRegistering, IsStep, IsStopping, IsWake};

@@ -6,7 +6,7 @@ use Rattle.nix_names.specs.declared.fault.NameFault.TheVariants as name
 use Rattle.nix_drv.specs.Strings.{string_text}
 use Rattle.nix_drv.specs.declared.fault.DrvFault.{DrvFault}
 use Rattle.nix_drv.specs.declared.fault.DrvFault.TheVariants as drv
-use Rattle.sched_core.specs.Words.{with_value}
+use Rattle.run_report.specs.Words.{with_value}
 use Rattle.store_run.specs.declared.fault.RunFault.{RunFault}
 use Rattle.store_run.specs.declared.fault.RunFault.TheVariants as run
 use Rattle.valid_table.specs.declared.fault.TableFault.{TableFault}

@@ -6,7 +6,7 @@ use Rattle.drv_graph.specs.declared.fault.NodeFault.{NodeFault}
 use Rattle.drv_graph.specs.declared.fault.NodeFault.TheVariants as node
 use Rattle.drv_graph.specs.declared.fault.OutputFault.{OutputFault}
 use Rattle.drv_graph.specs.declared.fault.OutputFault.TheVariants as output
-use Rattle.sched_core.specs.Words.{with_value}
+use Rattle.run_report.specs.Words.{with_value}
 use Rattle.subcommands.specs.FaultWords.{drv_fault_words}
 
 -- the words of a fault with two values

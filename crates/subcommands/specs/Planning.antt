@@ -3,7 +3,7 @@ use Rattle.std.specs.Prelude.{◌≡◌, ◌⊎◌, Bool, true, false, List, Opt
 use Rattle.std.specs.Io.KnownBytes.{Appends}
 use Rattle.nix_names.specs.Bytes.{Bytes}
 use Rattle.valid_table.specs.declared.entry.Entry.{Entry}
-use Rattle.sched_core.specs.Runs.{Run as RunOver}
+use Rattle.run_states.specs.Runs.{Run as RunOver}
 use Rattle.forecast.specs.Pictures.{IsPicture}
 use Rattle.forecast.specs.Texts.{IsForecast, is_whole}
 use Rattle.command_line.specs.declared.options.PlanRequest.{PlanRequest}

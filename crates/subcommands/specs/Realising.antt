@@ -4,12 +4,12 @@ use Rattle.std.specs.Io.KnownBytes.{Appends}
 use Rattle.std.specs.List.{list_all}
 use Rattle.nix_names.specs.Bytes.{Bytes}
 use Rattle.sched_core.specs.Books.{Ledger}
-use Rattle.sched_core.specs.Reports.{IsReportIn}
-use Rattle.sched_core.specs.Runs.{History, Run as RunOver, state_in}
-use Rattle.sched_core.specs.States.{is_good}
-use Rattle.sched_core.specs.declared.job.Answer.{Answer}
-use Rattle.sched_core.specs.declared.job.Job.{Job}
-use Rattle.sched_core.specs.declared.reason.Reason.{Reason}
+use Rattle.run_report.specs.Reports.{IsReportIn}
+use Rattle.run_states.specs.Runs.{History, Run as RunOver, state_in}
+use Rattle.run_states.specs.States.{is_good}
+use Rattle.build_outcome.specs.declared.job.Answer.{Answer}
+use Rattle.build_outcome.specs.declared.job.Job.{Job}
+use Rattle.build_outcome.specs.declared.reason.Reason.{Reason}
 use Rattle.store_run.specs.Realising.{IsRealised, IsRunFault}
 use Rattle.store_run.specs.declared.fault.RunFault.{RunFault}
 use Rattle.command_line.specs.declared.options.RealiseRequest.{RealiseRequest}

@@ -1,6 +1,6 @@
 //! The subcommand `realise`.
 ghost use Rattle.std.specs.Prelude.{◌≡◌, All, is_some, length, string_bytes, true};
-ghost use Rattle.sched_core.specs.Books.{IsRunSettled};
+ghost use Rattle.run_states.specs.Courses.{IsRunSettled};
 ghost use Rattle.subcommands.specs.Realising.{BookEnds, IsCutShort, RealiseEnds, RunEnds};
 
 use crate::builders::make_all;

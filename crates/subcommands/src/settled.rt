@@ -1,9 +1,9 @@
 //! The status, the journal's bytes and the report at the end of a run, by its book.
 ghost use Rattle.std.specs.Prelude.{◌≡◌, IfErr, IfOk};
 ghost use Rattle.valid_table.specs.Written.{written_text};
-ghost use Rattle.sched_core.specs.Books.{IsRunSettled};
-ghost use Rattle.sched_core.specs.Reports.{IsReportIn};
-ghost use Rattle.sched_core.specs.States.{is_good};
+ghost use Rattle.run_states.specs.Courses.{IsRunSettled};
+ghost use Rattle.run_report.specs.Reports.{IsReportIn};
+ghost use Rattle.run_states.specs.States.{is_good};
 ghost use Rattle.subcommands.specs.Realising.{roots_status};
 
 use crate::status::Status;

@@ -1,7 +1,7 @@
 use Rattle.std.proofs.Common.{List, ℕ, subst, sym}
 use Rattle.sched_core.specs.Books.{ArePermittedPaths}
-use Rattle.sched_core.specs.Verdicts.{IsExamining}
-use Rattle.sched_core.specs.declared.job.Job.{Job}
+use Rattle.build_outcome.specs.Verdicts.{IsExamining}
+use Rattle.build_outcome.specs.declared.job.Job.{Job}
 use Rattle.sched_core.proofs.ExaminedRecords.{examined_may_refer}
 use Rattle.book_tests.proofs.builders.verdict.Goals as goal
 

@@ -1,6 +1,6 @@
 use Rattle.std.proofs.Common.{List, ℕ, subst, sym}
 use Rattle.sched_core.specs.Books.{ArePermittedPaths}
-use Rattle.sched_core.specs.declared.job.Job.{Job}
+use Rattle.build_outcome.specs.declared.job.Job.{Job}
 use Rattle.book_tests.proofs.OtherJobs.{may_refer_by_permitted}
 use Rattle.book_tests.proofs.refusals.other_verdict.Goals as goal
 

@@ -1,4 +1,4 @@
-use Rattle.sched_core.specs.Listing.{numbers_of}
+use Rattle.run_report.specs.Listing.{numbers_of}
 use Rattle.forecast.specs.Holding.{state_at}
 use Rattle.forecast.proofs.Drawn.{drawn}
 use Rattle.forecast.proofs.picture.picture_of.Goals as goal

@@ -1,5 +1,5 @@
 use Rattle.std.proofs.Common.{◌≡◌, ◌∙◌, ap, arith, get_or, refl, sym, true}
-use Rattle.sched_core.specs.States.{is_bad}
+use Rattle.run_states.specs.States.{is_bad}
 use Rattle.forecast.specs.Holding.{state_at}
 use Rattle.forecast.proofs.Passing.{bad_unless_good, built_behind, refused_behind}
 use Rattle.forecast.proofs.prospect.behind.Goals as goal

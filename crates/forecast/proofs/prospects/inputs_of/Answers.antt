@@ -1,4 +1,4 @@
-use Rattle.sched_core.proofs.PlanInputs.{numbers_at}
+use Rattle.run_states.proofs.PlanInputs.{numbers_at}
 use Rattle.forecast.proofs.prospects.inputs_of.Goals as goal
 
 pub returns-clause-numbers : goal.returns-clause-numbers

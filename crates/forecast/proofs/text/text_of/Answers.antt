@@ -1,7 +1,7 @@
 use Rattle.std.specs.List.{flat_map}
-use Rattle.sched_core.specs.Listing.{numbers_of}
-use Rattle.sched_core.specs.Reports.{outputs_at}
-use Rattle.sched_core.proofs.Listings.{lines_made}
+use Rattle.run_report.specs.Listing.{numbers_of}
+use Rattle.run_report.specs.Reports.{outputs_at}
+use Rattle.run_report.proofs.Listings.{lines_made}
 use Rattle.forecast.specs.Holding.{state_at}
 use Rattle.forecast.specs.Texts.{line_at}
 use Rattle.forecast.proofs.text.text_of.Goals as goal

@@ -1,4 +1,4 @@
-use Rattle.sched_core.specs.Reports.{outputs_at}
+use Rattle.run_report.specs.Reports.{outputs_at}
 use Rattle.forecast.specs.Holding.{state_at}
 use Rattle.forecast.proofs.Writing.{AreWritten}
 use Rattle.forecast.proofs.text.write_roots.Given as goal

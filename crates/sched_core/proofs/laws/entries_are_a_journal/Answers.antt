@@ -1,4 +1,4 @@
-use Rattle.sched_core.proofs.Registering.{entries_are_journal}
+use Rattle.run_states.proofs.Registering.{entries_are_journal}
 use Rattle.sched_core.proofs.laws.entries_are_a_journal.Goals as goal
 
 pub returns : goal.returns

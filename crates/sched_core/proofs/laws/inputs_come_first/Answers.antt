@@ -1,4 +1,4 @@
-use Rattle.sched_core.proofs.PlanInputs.{rows_in_order}
+use Rattle.run_states.proofs.PlanInputs.{rows_in_order}
 use Rattle.sched_core.proofs.laws.inputs_come_first.Goals as goal
 
 pub returns : goal.returns

@@ -1,4 +1,4 @@
-use Rattle.sched_core.proofs.Histories.{begins_once, leases_apart, leases_below}
+use Rattle.run_states.proofs.Histories.{begins_once, leases_apart, leases_below}
 use Rattle.sched_core.proofs.laws.leases_are_apart.Goals as goal
 
 pub returns-clause-begins : goal.returns-clause-begins

@@ -1,5 +1,5 @@
 use Rattle.std.proofs.Common.{rules}
-use Rattle.sched_core.proofs.OneReport.{one_report}
+use Rattle.run_report.proofs.OneReport.{one_report}
 use Rattle.sched_core.proofs.laws.report_is_one.Goals as goal
 
 pub returns : goal.returns

@@ -1,4 +1,4 @@
-use Rattle.sched_core.proofs.Seeds.{seeds_are_valid}
+use Rattle.run_states.proofs.Seeds.{seeds_are_valid}
 use Rattle.sched_core.proofs.laws.seeds_are_valid.Goals as goal
 
 pub returns : goal.returns

@@ -1,4 +1,4 @@
-use Rattle.sched_core.proofs.StateLaws.{states_agree, states_are_one}
+use Rattle.run_states.proofs.StateLaws.{states_agree, states_are_one}
 use Rattle.sched_core.proofs.laws.states_solve_the_table.Goals as goal
 
 pub returns-clause-agree : goal.returns-clause-agree

@@ -1,4 +1,4 @@
-use Rattle.sched_core.proofs.OneVerdict.{has_one_verdict}
+use Rattle.build_outcome.proofs.OneVerdict.{has_one_verdict}
 use Rattle.sched_core.proofs.laws.verdict_is_one.Goals as goal
 
 pub returns : goal.returns

@@ -1,6 +1,6 @@
 -- The copies so far are the first outputs' paths, and there is room for all.
 use Rattle.std.proofs.Common.{◌≡◌, length, map, take, vec_capacity}
-use Rattle.sched_core.specs.declared.job.JobOutput.{JobOutput}
+use Rattle.build_outcome.specs.declared.job.JobOutput.{JobOutput}
 use Rattle.sched_core.proofs.permitted.sorted_outputs.Given as goal
 
 abbrev pub invariant-loop-output : goal.invariant-loop-output

@@ -1,7 +1,7 @@
 use Rattle.std.proofs.Common.{◌≡◌, drop}
 use Rattle.std.specs.List.{list_all}
-use Rattle.sched_core.specs.Runs.{state_in}
-use Rattle.sched_core.specs.States.{is_good}
+use Rattle.run_states.specs.Runs.{state_in}
+use Rattle.run_states.specs.States.{is_good}
 use Rattle.subcommands.proofs.settled.roots_status.Given as goal
 
 -- whether all roots were realised, by those that are left

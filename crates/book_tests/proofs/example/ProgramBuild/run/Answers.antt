@@ -6,7 +6,7 @@ use Rattle.ref_scan.specs.declared.tree.Tree.{Dir}
 use Rattle.ref_scan.specs.declared.tree.Member.{Member}
 use Rattle.ref_scan.specs.Walk.{count_below}
 use Rattle.ref_scan.proofs.Folders.{count_dir}
-use Rattle.sched_core.specs.declared.job.Answer.{Answer}
+use Rattle.build_outcome.specs.declared.job.Answer.{Answer}
 use Rattle.store_run.specs.ScheduleExample.{IsEmptyFolder, Leaves}
 use Rattle.book_tests.proofs.example.ProgramBuild.run.Goals as goal
 

@@ -1,5 +1,5 @@
 use Rattle.std.proofs.Common.{◌∙◌, ap, arith, get_or, length, sym}
-use Rattle.sched_core.specs.States.{is_good}
+use Rattle.run_states.specs.States.{is_good}
 use Rattle.forecast.specs.Holding.{state_at}
 use Rattle.forecast.proofs.Held.{all_whole, held_count, not_whole}
 use Rattle.forecast.proofs.forecast.Forecast.is_whole.Goals as goal

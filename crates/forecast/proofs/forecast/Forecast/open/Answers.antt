@@ -1,6 +1,6 @@
 use Rattle.std.proofs.Common.{◌∙◌, ap, length}
-use Rattle.sched_core.specs.Runs.{Run}
-use Rattle.sched_core.proofs.Keeping.{wanted_count}
+use Rattle.run_states.specs.Runs.{Run}
+use Rattle.run_states.proofs.Wanting.{wanted_count}
 use Rattle.forecast.proofs.Held.{are_held}
 use Rattle.forecast.proofs.forecast.Forecast.open.Goals as goal
 

@@ -1,6 +1,6 @@
 use Rattle.std.proofs.Common.{refl, subst}
 use Rattle.sched_core.specs.Books.{AreSeedsValid, Ledger}
-use Rattle.sched_core.specs.Legal.{begins}
+use Rattle.run_states.specs.Legal.{begins}
 use Rattle.sched_core.proofs.Building.{all_shown, begun_lease, builds_behind_begin, builds_over_all, builds_still}
 use Rattle.sched_core.proofs.book.Book.next.Goals as goal
 

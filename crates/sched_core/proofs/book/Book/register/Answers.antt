@@ -2,10 +2,11 @@ use Rattle.std.proofs.Common.{◌≡◌, ◌∙◌, ℕ, List, ap, refl, subst, 
 use Rattle.std.proofs.lemmas.Result.{err_from_is_err_and}
 use Rattle.valid_table.specs.PathInfos.{PathInfo}
 use Rattle.valid_table.specs.declared.entry.Entry.{Entry}
-use Rattle.sched_core.specs.Books.{IsBooksLease, IsDone, Ledger, MayAllRefer, fault_of}
+use Rattle.sched_core.specs.Books.{IsBooksLease, IsDone, Ledger, MayAllRefer}
+use Rattle.run_states.specs.Numbers.{fault_of}
 use Rattle.sched_core.specs.Dones.{IsDoneEntry}
-use Rattle.sched_core.specs.Runs.{History, Run}
-use Rattle.sched_core.specs.declared.job.Job.{Job}
+use Rattle.run_states.specs.Runs.{History, Run}
+use Rattle.build_outcome.specs.declared.job.Job.{Job}
 use Rattle.sched_core.proofs.Building.{builds_behind_done, builds_still}
 use Rattle.sched_core.proofs.Ending.{append_fault, done_under_lease, entry_fault, finishing, holding, journal_behind, may_append}
 use Rattle.sched_core.proofs.book.Book.register.Goals as goal

@@ -4,8 +4,8 @@ use Rattle.valid_table.specs.PathInfos.{PathInfo}
 use Rattle.valid_table.specs.declared.entry.Entry.{Entry}
 use Rattle.sched_core.specs.Booking.{Progress}
 use Rattle.sched_core.specs.Books.{IsDone}
-use Rattle.sched_core.specs.Runs.{History, Run}
-use Rattle.sched_core.specs.States.{Begun, phase_of}
+use Rattle.run_states.specs.Runs.{History, Run}
+use Rattle.run_states.specs.States.{Begun, phase_of}
 use Rattle.sched_core.proofs.Ending.{may_append}
 use Rattle.sched_core.proofs.Keeping.{finish_kept, has_begun, room_to_end}
 use Rattle.sched_core.proofs.progress.Progress.finish.Goals as goal

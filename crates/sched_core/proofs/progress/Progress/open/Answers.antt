@@ -1,5 +1,6 @@
 use Rattle.std.proofs.Common.{◌∙◌, ap, length, arith}
-use Rattle.sched_core.proofs.Keeping.{opening_kept, wanted_count}
+use Rattle.sched_core.proofs.Keeping.{opening_kept}
+use Rattle.run_states.proofs.Wanting.{wanted_count}
 use Rattle.sched_core.proofs.progress.Progress.open.Goals as goal
 
 pub nearest_twins-requires : goal.nearest_twins-requires

@@ -5,9 +5,9 @@ use Rattle.valid_table.specs.PathInfos.{PathInfo}
 use Rattle.valid_table.specs.declared.entry.Entry.{Entry}
 use Rattle.sched_core.specs.Booking.{Progress}
 use Rattle.sched_core.specs.Dones.{IsDoneEntry, IsDoneFault}
-use Rattle.sched_core.specs.Runs.{History, Run}
-use Rattle.sched_core.specs.declared.fault.BookFault.{BookFault}
-use Rattle.sched_core.specs.declared.fault.BookFault.TheVariants.{NoMemory}
+use Rattle.run_states.specs.Runs.{History, Run}
+use Rattle.run_states.specs.declared.fault.BookFault.{BookFault}
+use Rattle.run_states.specs.declared.fault.BookFault.TheVariants.{NoMemory}
 use Rattle.sched_core.proofs.DoneEntries.{entry_new}
 use Rattle.sched_core.proofs.progress.Progress.prepare.Goals as goal
 

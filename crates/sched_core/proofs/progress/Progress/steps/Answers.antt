@@ -1,7 +1,7 @@
 use Rattle.std.proofs.Common.{◌≡◌, ◌∙◌, ◌+◌, ◌*◌, ◌%◌, ◌^◌, ap, arith, length}
 use Rattle.std.proofs.Math.Nat.{add-mod-mod}
 use Rattle.sched_core.specs.Booking.{history_of, run_over}
-use Rattle.sched_core.specs.Steps.{told_in}
+use Rattle.run_states.specs.Steps.{told_in}
 use Rattle.sched_core.proofs.KeptStates.{told_kept}
 use Rattle.sched_core.proofs.progress.Progress.steps.Goals as goal
 

@@ -1,6 +1,6 @@
 use Rattle.std.proofs.Common.{subst}
 use Rattle.std.specs.Prelude.{OnOk}
-use Rattle.sched_core.specs.declared.job.Job.{Job}
+use Rattle.build_outcome.specs.declared.job.Job.{Job}
 use Rattle.store_run.specs.Finding.{HasCaughtUp}
 use Rattle.store_run.proofs.locked.Locked.end.Goals as goal
 

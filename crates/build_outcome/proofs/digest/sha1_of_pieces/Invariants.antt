@@ -1,0 +1,8 @@
+-- The hasher holds the pieces so far.
+use Rattle.std.proofs.Common.{take}
+use Rattle.sha1.specs.Sha1.{Holds}
+use Rattle.ref_scan.specs.Trees.{joined}
+use Rattle.build_outcome.proofs.digest.sha1_of_pieces.Given as goal
+
+abbrev pub invariant-parts : goal.invariant-parts
+invariant-parts l = Holds l.hasher (joined (take l.part-index l.parts))

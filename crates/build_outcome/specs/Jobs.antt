@@ -1,0 +1,48 @@
+-- *Job*: what is to be built for a derivation of a plan, and the paths that it is built from (Nix
+-- manual, "Building"; Dolstra's thesis, section 5.5).
+use Rattle.std.specs.Prelude.{◌≡◌, ℕ, Option, Some, None, List, [], ◌++◌, map, flat_map, filter, find, slice_get}
+use Rattle.std.specs.List.{list_any}
+use Rattle.nix_names.specs.Bytes.{Path, Name}
+use Rattle.nix_names.specs.Names.{same_bytes}
+use Rattle.nix_drv.specs.Derivation.{Drv, Input, Output}
+use Rattle.nix_drv.specs.Parts.{bytes_of, entry_of}
+use Rattle.drv_graph.specs.Kinds.{HasKind}
+use Rattle.drv_graph.specs.Nodes.{Node}
+use Rattle.drv_graph.specs.PlanNodes.{output_paths_of}
+use Rattle.drv_graph.specs.Plans.{Graph}
+use Rattle.build_outcome.specs.declared.job.Job.{Job}
+use Rattle.build_outcome.specs.declared.job.JobOutput.{JobOutput}
+
+-- the paths of those of a derivation's outputs that have one of these names
+abbrev pub paths_named : (names : List Name) → Drv → List Path
+paths_named names drv = map (λ (o : Output). o.path)
+    (filter (λ (o : Output). list_any (same_bytes o.name) names) drv.outputs)
+
+-- the paths of the outputs with these names, of a node if there is one
+abbrev pub paths_of_found : (names : List Name) → Option Node → List Path
+paths_of_found names (Some node) = paths_named names node.drv
+paths_of_found names None = []
+
+-- the outputs that an input names, of the derivation at its path
+abbrev pub named_outputs : List Node → Input → List Path
+named_outputs nodes input = paths_of_found input.names
+    (find (λ (n : Node). same_bytes input.path n.path) nodes)
+
+-- the paths that a derivation is built from: its sources, then the named outputs of each input, in
+-- the text's order
+abbrev pub seeds_of : List Node → Drv → List Path
+seeds_of nodes drv = drv.sources ++ flat_map (named_outputs nodes) drv.inputs
+
+-- The job of the derivation with this number.
+pub record IsJob (graph : Graph) (d : ℕ) (job : Job) : Type 0 where
+  pub node : Node
+  pub is_node : slice_get graph.nodes d ≡ Some node
+  pub derivation : job.derivation ≡ d
+  pub builder : job.builder.items ≡ node.drv.builder
+  pub args : map bytes_of job.args.items ≡ node.drv.args
+  pub env : map entry_of job.env.items ≡ node.drv.env
+  pub names : map (λ (o : JobOutput). o.name.items) job.outputs.items
+      ≡ map (λ (o : Output). o.name) node.drv.outputs
+  pub paths : map (λ (o : JobOutput). o.path) job.outputs.items ≡ output_paths_of node.drv
+  pub kind : HasKind node.drv job.kind
+  pub seeds : job.seeds.items ≡ seeds_of graph.nodes node.drv

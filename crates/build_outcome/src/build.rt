@@ -1,0 +1,36 @@
+//! Builders, and the calls by which a builder hears of the jobs of its worker.
+ghost use Rattle.std.specs.Prelude.{◌≡◌, ◌⊎◌, Result, Err};
+ghost use Rattle.build_outcome.specs.declared.job.Answer.{Answer};
+ghost use Rattle.build_outcome.specs.declared.job.Job.{Job};
+ghost use Rattle.build_outcome.specs.declared.reason.Reason.{Reason};
+ghost use Rattle.build_outcome.specs.declared.reason.Reason.TheVariants.{OutOfMemory};
+
+use crate::job::{Answer, Job};
+use crate::reason::Reason;
+
+/// Builds what a job asks for.
+pub trait Build {
+    // The outcomes of a job, whichever builder of the type builds it: an exit status with what lies
+    // at the outputs' paths, or the reason why there is none.
+    ghost may: { Job → Result Answer Reason → Type 0 };
+
+    /// Builds a job, whose lease has this number. Answers the exit status with what lies at each
+    /// output's path, or the reason why there is no answer; `OutOfMemory` where memory was refused.
+    fn run(&self, number: u64, job: &Job) -> Result<Answer, Reason>
+        ensures { (result ≡ Err OutOfMemory) ⊎ may job.now result };
+}
+
+/// Hears of the jobs that a worker runs. This is no part of building, and nothing is promised of
+/// it. The calls have no default bodies, so that a builder around another builder can't forget to
+/// pass them on.
+pub trait Watch {
+    /// Hears that a job is run next. `unsettled` is the number of wanted derivations that were
+    /// blocked, ready or building once its lease was taken. No lock is held. Calls of other workers
+    /// may come before this one, with newer numbers.
+    fn begun(&self, unsettled: usize);
+
+    /// Hears that the lease of the job that was run has ended. `is_good` says whether its outputs
+    /// were registered; `unsettled` is the number of wanted derivations that were blocked, ready or
+    /// building then. No lock is held, as for `begun`.
+    fn ended(&self, is_good: bool, unsettled: usize);
+}

@@ -1,0 +1,28 @@
+//! What a build left: what a builder is given and answers, and the verdict on an answer.
+//!
+//! | Module | What is in it |
+//! |---|---|
+//! | `job` | what a builder is given, and what it answers |
+//! | `build` | builders, which build jobs and hear of them |
+//! | `verdict`, `checked` | the verdict on an answer, and the records that it gives |
+//! | `digest` | the digest of a file by each algorithm |
+//! | `cycle`, `links`, `walk` | whether outputs refer to each other in a cycle |
+//! | `reason` | why building a derivation failed |
+#![tactic(auto)]
+
+mod build;
+mod checked;
+mod cycle;
+mod digest;
+mod job;
+mod links;
+mod reason;
+mod verdict;
+mod walk;
+
+pub use build::{Build, Watch};
+pub use checked::Checked;
+pub use cycle::is_cyclic;
+pub use job::{Answer, Job, JobOutput};
+pub use reason::Reason;
+pub use verdict::examine;

@@ -1,0 +1,78 @@
+//! Why a derivation was not built: the reason of a failure.
+ghost use Rattle.std.specs.Prelude.{◌≡◌};
+ghost use Rattle.build_outcome.specs.Numbers.{reason_number_of};
+ghost use Rattle.build_outcome.specs.declared.reason.Reason.TheVariants.{OutOfMemory};
+
+use ref_scan::ScanFault;
+use std::alloc::{AllocError, AllocFailed};
+
+/// Why the building of a derivation failed.
+#[derive(Clone, Copy, Debug, PartialEq, Eq)]
+pub enum Reason {
+    /// The builder ended with this exit status, which isn't 0.
+    ExitStatus(i32),
+    /// The builder could not be started.
+    NoStart,
+    /// The output with this number, counted from 0, is missing.
+    MissingOutput(usize),
+    /// A fixed output isn't one file.
+    NotFlatFile,
+    /// A fixed output's content hasn't the declared hash.
+    HashMismatch,
+    /// Different outputs refer to each other.
+    OutputCycle,
+    /// An output passes the limits of an output's tree.
+    TooLarge,
+    /// An output could not be read.
+    ReadFault,
+    /// Memory was refused.
+    OutOfMemory,
+    /// A signal ended the builder.
+    Killed,
+}
+
+impl Reason {
+    /// The reason's number in the table of faults.
+    pub fn number(&self) -> u8
+        ensures { result ≡ reason_number_of self.now }
+    {
+        match self {
+            Reason::ExitStatus(_) => 50,
+            Reason::NoStart => 51,
+            Reason::MissingOutput(_) => 52,
+            Reason::NotFlatFile => 53,
+            Reason::HashMismatch => 54,
+            Reason::OutputCycle => 55,
+            Reason::TooLarge => 56,
+            Reason::ReadFault => 57,
+            Reason::OutOfMemory => 58,
+            Reason::Killed => 59,
+        }
+    }
+}
+
+impl From<AllocError> for Reason {
+    ghost from_gives = { λ _ reason. reason ≡ OutOfMemory };
+
+    fn from(_: AllocError) -> Self {
+        Reason::OutOfMemory
+    }
+}
+
+impl<T: Drop> From<AllocFailed<T>> for Reason {
+    ghost from_gives = { λ _ reason. reason ≡ OutOfMemory };
+
+    fn from(_: AllocFailed<T>) -> Self {
+        Reason::OutOfMemory
+    }
+}
+
+impl From<ScanFault> for Reason {
+    ghost from_gives = { λ _ reason. reason ≡ OutOfMemory };
+
+    fn from(fault: ScanFault) -> Self {
+        match fault {
+            ScanFault::NoMemory => Reason::OutOfMemory,
+        }
+    }
+}

@@ -1,0 +1,4 @@
+pub mod Listings
+pub mod OneReport
+pub mod RunReports
+pub mod Wordings

@@ -1,0 +1,90 @@
+-- *Texts out*, the report of a run: what became of each wanted derivation, and the outputs of the
+-- roots (this product's own).
+use Rattle.std.specs.Prelude.{◌≡◌, ◌<◌, ◌↔◌, true, false, ℕ, Option, Some, None, List, [], ◌++◌, length, map, flat_map, codes, slice_get, Contains, if◌then◌else◌}
+use Rattle.std.specs.List.{slice_index_or}
+use Rattle.nix_names.specs.Bytes.{Bytes, Path}
+use Rattle.nix_names.specs.Rising.{IsRising}
+use Rattle.drv_graph.specs.Nodes.{Node, paths_of}
+use Rattle.drv_graph.specs.PlanNodes.{output_paths_of}
+use Rattle.drv_graph.specs.Plans.{Graph}
+use Rattle.run_states.specs.Courses.{Course, course_state}
+use Rattle.run_states.specs.Runs.{History, IsWanted, Run, state_in}
+use Rattle.run_states.specs.States.{is_good}
+use Rattle.run_report.specs.Words.{reason_words, refusal_words}
+use Rattle.run_states.specs.declared.state.State.{State}
+use Rattle.run_states.specs.declared.state.State.TheVariants.{Done, Failed, Reused, Refused}
+
+-- a line of a word and a path
+abbrev pub path_line : (word : Bytes) → (path : Path) → Bytes
+path_line word path = word ++ path ++ codes "\n"
+
+-- a line of a word, a path, and why
+abbrev pub why_line : (word : Bytes) → (path : Path) → (why : Bytes) → Bytes
+why_line word path why = word ++ path ++ codes ": " ++ why ++ codes "\n"
+
+-- the line of a derivation of a plan, which has these nodes; none while it is Blocked, Ready or
+-- Building
+abbrev pub line_of : List Node → Node → State → Bytes
+line_of nodes node Done = path_line (codes "built ") node.path
+line_of nodes node Reused = path_line (codes "reused ") node.path
+line_of nodes node (Failed reason) = why_line (codes "failed ") node.path
+    (reason_words node.drv reason)
+line_of nodes node (Refused cause) = why_line (codes "refused ") node.path
+    (refusal_words nodes node.drv cause)
+line_of nodes node state = []
+
+-- a line for each output of a derivation that was built or reused, in its text's order
+abbrev pub output_lines : Node → State → Bytes
+output_lines node state = if is_good state then flat_map (path_line (codes "output "))
+    (output_paths_of node.drv) else []
+
+-- the lines of a node, if there is one
+abbrev pub lines_if_some : (Node → Bytes) → Option Node → Bytes
+lines_if_some lines (Some node) = lines node
+lines_if_some lines None = []
+
+-- the line of the derivation with this number
+abbrev pub line_at : List Node → (state : ℕ → State) → ℕ → Bytes
+line_at nodes state d = lines_if_some (λ node. line_of nodes node (state d)) (slice_get nodes d)
+
+-- the lines of the outputs of the derivation with this number
+abbrev pub outputs_at : List Node → (state : ℕ → State) → ℕ → Bytes
+outputs_at nodes state d = lines_if_some (λ node. output_lines node (state d)) (slice_get nodes d)
+
+-- the path of the derivation with this number
+abbrev pub path_at : List Node → ℕ → Path
+path_at nodes d = slice_index_or (paths_of nodes) d []
+
+-- The numbers are just those of the wanted derivations, in the order of their paths.
+pub record AreByPath (nodes : List Node) (is_wanted : ℕ → Type 0) (numbers : List ℕ) : Type 0 where
+  pub just : (d : ℕ) → Contains numbers d ↔ is_wanted d
+  pub rising : IsRising (map (path_at nodes) numbers)
+
+-- The text is the report of a plan, of which these derivations are wanted, in these states: the
+-- lines of the wanted ones, by path, then the lines of each root's outputs, in the order of the
+-- roots.
+pub record IsReport (graph : Graph) (is_wanted : ℕ → Type 0) (state : ℕ → State) (text : Bytes)
+    : Type 0 where
+  pub wanted : List ℕ
+  pub by_path : AreByPath graph.nodes is_wanted wanted
+  pub is_text : text ≡ flat_map (line_at graph.nodes state) wanted
+      ++ flat_map (outputs_at graph.nodes state) graph.roots
+
+-- a derivation of a course is wanted
+abbrev pub IsWantedIn : Course → ℕ → Type 0
+IsWantedIn course d = (d < length course.graph.nodes)
+    × (slice_index_or course.wanted d false ≡ true)
+
+-- the text is the report of a course
+abbrev pub IsReportOf : Course → (text : Bytes) → Type 0
+IsReportOf course text = IsReport course.graph (IsWantedIn course) (course_state course) text
+
+-- the text is the report of a run with this history
+abbrev pub IsReportIn : Run → History → (text : Bytes) → Type 0
+IsReportIn run history text = IsReport run.graph (IsWanted run history.opening)
+    (state_in run history) text
+
+-- a run with this history has one report
+abbrev pub ReportIsOne : Type 0
+ReportIsOne = (run : Run) (history : History) (a b : Bytes) → IsReportIn run history a
+    → IsReportIn run history b → a ≡ b

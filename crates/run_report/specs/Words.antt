@@ -1,0 +1,55 @@
+-- The words for why a derivation was not built: the name of the reason or the refusal, and its
+-- value in parentheses (this product's own).
+use Rattle.std.specs.Prelude.{ℕ, Option, Some, None, List, ◌++◌, map, codes, decimal, slice_get}
+use Rattle.std.specs.Fmt.{signed_decimal}
+use Rattle.nix_names.specs.Bytes.{Bytes}
+use Rattle.nix_drv.specs.Derivation.{Drv, Output}
+use Rattle.nix_drv.specs.Strings.{string_text}
+use Rattle.drv_graph.specs.Nodes.{Node, paths_of}
+use Rattle.drv_graph.specs.PlanNodes.{output_paths_of}
+use Rattle.build_outcome.specs.declared.reason.Reason.{Reason}
+use Rattle.build_outcome.specs.declared.reason.Reason.TheVariants.{ExitStatus, NoStart, MissingOutput, NotFlatFile, HashMismatch, OutputCycle, TooLarge, ReadFault, OutOfMemory, Killed}
+use Rattle.run_states.specs.declared.state.Refusal.{Refusal}
+use Rattle.run_states.specs.declared.state.Refusal.TheVariants.{WrongSystem, Unsupported, MissingSource, InputNotRealised, PartlyValid}
+
+-- a name and its value
+abbrev pub with_value : (name value : Bytes) → Bytes
+with_value name value = name ++ codes "(" ++ value ++ codes ")"
+
+-- the text with a number, or the number itself where there is no such text
+abbrev pub text_or_number : Option Bytes → (number : ℕ) → Bytes
+text_or_number (Some text) number = text
+text_or_number None number = decimal number
+
+-- a name, and the one of some texts that has this number, counted from 0
+abbrev pub with_text : (name : Bytes) → (texts : List Bytes) → (number : ℕ) → Bytes
+with_text name texts number = with_value name (text_or_number (slice_get texts number) number)
+
+-- the names of a derivation's outputs, as its text spells them, with their quotes
+abbrev pub spelled_names : Drv → List Bytes
+spelled_names drv = map (λ (o : Output). string_text o.name) drv.outputs
+
+-- why the building of a derivation failed
+abbrev pub reason_words : Drv → Reason → Bytes
+reason_words drv (ExitStatus status) = with_value (codes "ExitStatus") (signed_decimal status)
+reason_words drv NoStart = codes "NoStart"
+reason_words drv (MissingOutput output) = with_text (codes "MissingOutput") (spelled_names drv)
+    output
+reason_words drv NotFlatFile = codes "NotFlatFile"
+reason_words drv HashMismatch = codes "HashMismatch"
+reason_words drv OutputCycle = codes "OutputCycle"
+reason_words drv TooLarge = codes "TooLarge"
+reason_words drv ReadFault = codes "ReadFault"
+reason_words drv OutOfMemory = codes "OutOfMemory"
+reason_words drv Killed = codes "Killed"
+
+-- why a derivation of a plan, which has these nodes, is not begun
+abbrev pub refusal_words : List Node → Drv → Refusal → Bytes
+refusal_words nodes drv WrongSystem = codes "WrongSystem"
+refusal_words nodes drv Unsupported = codes "Unsupported"
+refusal_words nodes drv (MissingSource source) =
+    with_text (codes "MissingSource") drv.sources source
+refusal_words nodes drv (InputNotRealised input) =
+    with_text (codes "InputNotRealised") (paths_of nodes) input
+refusal_words nodes drv (PartlyValid output) =
+    with_text (codes "PartlyValid") (output_paths_of drv) output

@@ -1,0 +1,377 @@
+-- Users are told, one after the other.
+use Rattle.std.proofs.Common.{◌≡◌, ◌≢◌, ◌∙◌, ⊎_elim, ℕ, zero, suc, ◌+◌, ◌<◌, ◌≤◌, ◌==◌, ◌&&◌, not, Bool, true, false, List, [], ◌∷◌, ◌++◌, length, map, drop, get_or, Option, Some, None, refl, sym, ap, subst, arith, if◌then◌else◌, eqb-true, eq-eqb, rules}
+use Rattle.std.specs.Prelude.{slice_get, slice_set}
+use Rattle.std.proofs.Math.ListN.{set}
+use Rattle.std.proofs.lemmas.Bool.{false≢true}
+use Rattle.std.proofs.lemmas.List.{append-nil, append_assoc, drop_more, get_or-map, get_or-set_other, length-append, length-set, map-set}
+use Rattle.std.proofs.lemmas.List.Elements.{All-drop}
+use Rattle.std.proofs.lemmas.Option.{get_or_from_slice_get, slice_get-get_or, slice_get_within}
+use Rattle.nix_names.proofs.Lists.{Contains-from_get}
+use Rattle.run_states.specs.Agendas.{Agenda, AreSameElse, IsAgenda, IsFresh, IsSpreading, IsSteady, alone_if, ends, noted, phases_in, settles, standings_in, to_end, twins_in, wanted_in}
+use Rattle.run_states.specs.Courses.{Awaited, all_of}
+use Rattle.run_states.specs.Coursing.{kept, phase_in}
+use Rattle.run_states.specs.Nearest.{News, Open, news_of}
+use Rattle.run_states.specs.States.{Idle, is_good, is_open}
+use Rattle.run_states.specs.Tallies.{CanHear, HaveHeard, IsSameElse, IsTally, Turns, are_news, news_by, states_in, to_tell}
+use Rattle.run_states.specs.ToldEdges.{open_edges, sizes}
+use Rattle.run_states.specs.Users.{AreUsers, once_at, times, users_of, users_of_all}
+use Rattle.run_states.specs.declared.state.State.{State}
+use Rattle.run_states.specs.declared.state.State.TheVariants.{Done, Failed, Building, Reused, Refused, Ready, Blocked}
+use Rattle.run_states.specs.declared.tally.Tally.{Tally}
+use Rattle.run_states.specs.declared.users.Edge.{Edge}
+use Rattle.run_states.proofs.Agendas.{noted_agenda, noted_measure, one, settles_most, turn_open}
+use Rattle.run_states.proofs.Hearing.{can_hear, heard_told, heard_turned}
+use Rattle.run_states.proofs.KnownNews.{known_news}
+
+-- ---- edges
+
+times_has : (row : List Edge) (i : ℕ) (edge : Edge) → slice_get row i ≡ Some edge
+    → 0 < times edge.user edge.place row
+times_has [] i edge at = absurd cc
+times_has (x ∷ row) zero edge at = search (rules, edge, eq-eqb)
+times_has (x ∷ row) (suc i) edge at = omega (arith, times_has row i edge at)
+
+once_is : (o : Option ℕ) (w : ℕ) → 0 < once_at o w → o ≡ Some w
+once_is None w has = absurd (omega (arith, has))
+once_is (Some n) w has = by (n == w) refl
+  where
+    by : (same : Bool) → (n == w) ≡ same → Some n ≡ Some w
+    by true is = ap Some (eqb-true n w is)
+    by false is = search rules
+
+-- the input stands where an edge to its user says
+edge_is : (inputs : ℕ → List ℕ) (users : List (List Edge)) (count w i : ℕ) (edge : Edge)
+    → AreUsers inputs count users → w < count → slice_get (users_of users w) i ≡ Some edge
+    → (edge.user < count) × (slice_get (inputs edge.user) edge.place ≡ Some w)
+edge_is inputs users count w i edge edges low at =
+    let user : edge.user < count =
+    subst (λ (e : Edge). e.user < count) (get_or_from_slice_get _ i _ _ at)
+    (edges.within w i edge (slice_get_within (users_of users w) i edge at)) in (
+      user,
+      once_is _ w
+          (subst (λ n. 0 < n) (edges.each w edge.user edge.place low user)
+          (times_has _ i _ at)),
+    )
+
+users_of_more : (users : List (List Edge)) (xs ys : List ℕ)
+    → users_of_all users (xs ++ ys) ≡ users_of_all users xs ++ users_of_all users ys
+users_of_more users [] ys = refl
+users_of_more users (x ∷ xs) ys = search (rules, append_assoc, users_of_more users xs ys)
+
+users_alone : (users : List (List Edge)) (is : Bool) (u : ℕ)
+    → users_of_all users (alone_if is u) ≡ (if is then users_of users u else [])
+users_alone users true u = append-nil (users_of users u)
+users_alone users false u = refl
+
+-- the edges that lead from those with something before them, as a tally changes
+edges_set : (size : ℕ → ℕ) (tallies : List Tally) (d : ℕ) (before after : Tally)
+    → slice_get tallies d ≡ Some before
+    → open_edges size (set tallies d after) + (if is_open before.state then size d else 0)
+    ≡ open_edges size tallies + (if is_open after.state then size d else 0)
+edges_set size [] d before after at = absurd cc
+edges_set size (tally ∷ tallies) zero before after at = search (rules, before)
+edges_set size (tally ∷ tallies) (suc d) before after at =
+    omega (arith, edges_set (λ e. size (suc e)) tallies d before after at)
+
+edges_one : (o p : Bool) (n : ℕ) → (p ≡ true → o ≡ true)
+    → (if o && not p then n else 0) + (if p then n else 0) ≡ (if o then n else 0)
+edges_one true true n from = omega arith
+edges_one true false n from = omega arith
+edges_one false true n from = absurd (false≢true (from refl))
+edges_one false false n from = refl
+
+length_of_alone : (users : List (List Edge)) (is : Bool) (u : ℕ)
+    → length (users_of_all users (alone_if is u)) ≡ (if is then sizes users u else 0)
+length_of_alone users true u = ap length (append-nil (users_of users u))
+length_of_alone users false u = refl
+
+-- those that lead from what is on the work come in their place
+pub noted_edges : (users : List (List Edge)) (tallies : List Tally) (agenda : Agenda) (u : ℕ)
+    (before after : Tally) → slice_get tallies u ≡ Some before → Turns before.state after.state
+    → open_edges (sizes users) (set tallies u after)
+    + length (users_of_all users (noted agenda u before after).work)
+    ≡ open_edges (sizes users) tallies + length (users_of_all users agenda.work)
+noted_edges users tallies agenda u before after at turns =
+    omega (
+      arith,
+      edges_set (sizes users) tallies u before after at,
+      ap length (users_of_more users agenda.work (alone_if (ends before after) u)),
+      length-append (users_of_all users agenda.work)
+          (users_of_all users (alone_if (ends before after) u)),
+      length_of_alone users (ends before after) u,
+      edges_one (is_open before.state) (is_open after.state) (sizes users u)
+          (turn_open _ _ turns),
+    )
+
+-- what is news to users ends a derivation
+news_end : (s t : State) → are_news (news_of s) (news_of t) ≡ (is_open s && not (is_open t))
+news_end Blocked t = after t
+  where
+    after : (t : State) → are_news Open (news_of t) ≡ not (is_open t)
+    after Blocked = refl
+    after Ready = refl
+    after (Building lease) = refl
+    after Done = refl
+    after Reused = refl
+    after (Failed reason) = refl
+    after (Refused cause) = refl
+news_end Ready t = after t
+  where
+    after : (t : State) → are_news Open (news_of t) ≡ not (is_open t)
+    after Blocked = refl
+    after Ready = refl
+    after (Building lease) = refl
+    after Done = refl
+    after Reused = refl
+    after (Failed reason) = refl
+    after (Refused cause) = refl
+news_end (Building lease) t = after t
+  where
+    after : (t : State) → are_news Open (news_of t) ≡ not (is_open t)
+    after Blocked = refl
+    after Ready = refl
+    after (Building lease) = refl
+    after Done = refl
+    after Reused = refl
+    after (Failed reason) = refl
+    after (Refused cause) = refl
+news_end Done t = refl
+news_end Reused t = refl
+news_end (Failed reason) t = refl
+news_end (Refused cause) t = refl
+
+-- what is left to tell once a tally was noted
+left_noted : (users : List (List Edge)) (agenda : Agenda) (u : ℕ) (before after : Tally)
+    (left : List Edge)
+    → (left ++ users_of_all users agenda.work) ++ to_tell before.state after.state
+    (users_of users u) ≡ left ++ users_of_all users (noted agenda u before after).work
+left_noted users agenda u before after left =
+    search (rules, append_assoc, users_of_more, before, after, users_alone, news_end)
+
+-- ---- what telling leaves as it was
+
+pub same_then : (a b c : List Tally) → AreSameElse a b → AreSameElse b c → AreSameElse a c
+same_then a b c first second = search rules
+
+-- a part of tallies that a new tally has as the old one
+part_stays : {X : Type 0} (part : Tally → X) (tallies : List Tally) (u : ℕ) (before after : Tally)
+    → slice_get tallies u ≡ Some before → part after ≡ part before
+    → map part (set tallies u after) ≡ map part tallies
+part_stays part [] u before after at same = refl
+part_stays part (t ∷ tallies) zero before after at same = search (rules, before)
+part_stays part (t ∷ tallies) (suc u) before after at same =
+    ap (λ l. part t ∷ l) (part_stays part tallies u _ _ at same)
+
+phases_are : (tallies : List Tally)
+    → phases_in tallies ≡ map (λ (t : Tally). phase_in t.state) tallies
+phases_are [] = refl
+phases_are (t ∷ tallies) = ap (λ l. phase_in t.state ∷ l) (phases_are tallies)
+
+pub same_set : (tallies : List Tally) (u : ℕ) (before after : Tally)
+    → slice_get tallies u ≡ Some before → IsSameElse before after
+    → AreSameElse tallies (set tallies u after)
+same_set tallies u before after at same =
+    search (rules, part_stays, before, after, at, phases_are, set)
+
+-- ---- one user is told
+
+module _ (inputs : ℕ → Awaited) (users : List (List Edge)) (tallies : List Tally)
+    (agenda : Agenda) (w i : ℕ) (no_edge : Edge) (no_tally : Tally) (row : List Edge)
+    (low : w < length tallies) (row_is : row ≡ users_of users w) (here : i < length row)
+    (is : IsSpreading inputs users tallies agenda (drop i (users_of users w))) where
+  abbrev edge : Edge
+  edge = get_or row i no_edge
+
+  abbrev before : Tally
+  before = get_or tallies edge.user no_tally
+
+  its : (edge.user < length tallies) × (slice_get (all_of (inputs edge.user)) edge.place ≡ Some w)
+  its = edge_is (λ e. all_of (inputs e)) _ _ w i _ is.edges low
+      (subst (λ l. slice_get l i ≡ Some edge) row_is (slice_get-get_or _ i _ here))
+
+  pub user_within : edge.user < length tallies
+  user_within = its.0
+
+  at : slice_get tallies edge.user ≡ Some before
+  at = slice_get-get_or _ _ _ user_within
+
+  abbrev rest : List Edge
+  rest = drop (i + 1) (users_of users w) ++ users_of_all users agenda.work
+
+  heard : HaveHeard inputs tallies (edge ∷ rest)
+  heard = search (rules, drop_more, edge)
+
+  -- what `told` requires
+  pub can_tell : (ins : Awaited) × (heard : List News) × CanHear ins heard before edge.place w
+  can_tell =
+      let can = can_hear inputs tallies edge w _ _ at its.1 heard in
+      (inputs edge.user, can.0, can.1)
+
+  user_apart : w ≢ edge.user
+  user_apart same =
+      let less = is.first edge.user w (Contains-from_get _ _ w its.1) in omega (arith, less, same)
+
+  has_news : news_of (kept (states_in tallies) w) ≡ Open → ⊥
+  has_news none = ⊎_elim
+      (λ heard_it. absurd (omega (
+        arith,
+        heard_it.1,
+        times_has (edge ∷ rest) 0 _ refl,
+      )))
+      (λ unheard. unheard.1 none)
+      ((heard.each edge.user before at).knows edge.place w its.1)
+
+  module _ (after : Tally) (turns : Turns before.state after.state)
+      (same : IsSameElse before after) where
+    -- the agenda, noted
+    pub told_agenda : IsAgenda (set tallies edge.user after)
+        (noted agenda edge.user before after)
+    told_agenda = noted_agenda _ _ _ _ _ at turns same.wanted is.listed
+
+    pub told_room : length (noted agenda edge.user before after).ring ≤ agenda.room
+    told_room = omega (arith, told_agenda.room)
+
+    pub told_space : length (noted agenda edge.user before after).work ≤ agenda.space
+    told_space = omega (arith, told_agenda.space)
+
+    pub told_settles : one (settles before after) ≤ agenda.unsettled
+    told_settles = search (rules, settles_most, before, after, at)
+
+    pub told_good : kept (states_in (set tallies edge.user after)) w
+        ≡ kept (states_in tallies) w
+    told_good = search (rules, map-set, after, get_or-set_other, user_apart)
+
+    pub told_same : AreSameElse tallies (set tallies edge.user after)
+    told_same = same_set _ _ _ _ at same
+
+    pub told_measure : to_end (set tallies edge.user after)
+        (noted agenda edge.user before after) ≡ to_end tallies agenda
+    told_measure = noted_measure tallies agenda edge.user before after at turns
+
+    pub told_edges : open_edges (sizes users) (set tallies edge.user after)
+        + length (users_of_all users (noted agenda edge.user before after).work)
+        ≡ open_edges (sizes users) tallies + length (users_of_all users agenda.work)
+    told_edges = noted_edges _ _ agenda _ _ _ at turns
+
+    pub told_user : (good : Bool) → good ≡ is_good (kept (states_in tallies) w)
+        → ((ins : Awaited) (heard : List News) → CanHear ins heard before edge.place w
+        → IsTally ins (slice_set heard edge.place (news_by good)) after)
+        → IsSpreading inputs users (set tallies edge.user after)
+        (noted agenda edge.user before after) (drop (i + 1) (users_of users w))
+    told_user good good_is told = record {
+      first = is.first;
+      edges = subst (λ n. AreUsers (λ e. all_of (inputs e)) n users)
+          (sym (length-set tallies edge.user after)) is.edges;
+      heard = subst (HaveHeard inputs (set tallies edge.user after))
+          (left_noted users agenda edge.user before after _)
+          (heard_told inputs _ users tallies edge w before after rest refl is.edges
+          at its.1 heard
+          (λ known can. subst
+          (λ news. IsTally (inputs edge.user) (slice_set known edge.place news) after)
+          (ap news_by good_is ∙ known_news (kept (states_in tallies) w) has_news)
+          (told (inputs edge.user) known can)) turns);
+      listed = told_agenda;
+    }
+
+-- ---- the next whose users are to be told
+
+first_work : (xs : List ℕ) (w : ℕ) → slice_get xs 0 ≡ Some w → xs ≡ w ∷ drop 1 xs
+first_work [] w at = absurd cc
+first_work (x ∷ xs) w at = search rules
+
+pub work_taken : (inputs : ℕ → Awaited) (users : List (List Edge)) (tallies : List Tally)
+    (agenda : Agenda) (w : ℕ) → slice_get agenda.work 0 ≡ Some w
+    → IsSpreading inputs users tallies agenda []
+    → IsSpreading inputs users tallies (record agenda { work = drop 1 agenda.work })
+    (users_of users w)
+work_taken inputs users tallies agenda w at is = record {
+  first = is.first;
+  edges = is.edges;
+  heard = subst (λ l. HaveHeard inputs tallies (users_of_all users l)) (first_work _ w at)
+      is.heard;
+  listed = record {
+    ready = is.listed.ready;
+    ring = is.listed.ring;
+    room = is.listed.room;
+    work = All-drop (λ d. d < length tallies) 1 _ is.listed.work;
+    space = omega (arith, is.listed.space, ap length (first_work _ w at));
+    unsettled = is.listed.unsettled;
+  };
+}
+
+-- its edges are followed
+pub work_edges : (users : List (List Edge)) (agenda : Agenda) (w : ℕ)
+    → slice_get agenda.work 0 ≡ Some w → length (users_of_all users agenda.work)
+    ≡ sizes users w + length (users_of_all users (drop 1 agenda.work))
+work_edges users agenda w at = search (rules, first_work, at, length-append)
+
+-- ---- an event
+
+-- what is known of a derivation's state by the tallies
+pub state_read : (tallies : List Tally) (d : ℕ) (none : Tally) → d < length tallies
+    → kept (states_in tallies) d ≡ (get_or tallies d none).state
+state_read tallies d none low = search (rules, get_or-map)
+
+module _ (tallies : List Tally) (agenda : Agenda) (d : ℕ) (none : Tally) (state : State)
+    (low : d < length tallies) (turns : Turns (kept (states_in tallies) d) state) where
+  abbrev old : Tally
+  old = get_or tallies d none
+
+  abbrev now : Tally
+  now = record old { state = state }
+
+  old_at : slice_get tallies d ≡ Some old
+  old_at = slice_get-get_or _ d _ low
+
+  turned : Turns old.state state
+  turned = search (rules, state_read)
+
+  module _ (listed : IsAgenda tallies agenda) where
+    pub turned_agenda : IsAgenda (set tallies d now) (noted agenda d old now)
+    turned_agenda = noted_agenda _ _ d _ _ old_at turned refl listed
+
+    pub turned_room : length (noted agenda d old now).ring ≤ agenda.room
+    turned_room = omega (arith, turned_agenda.room)
+
+    pub turned_space : length (noted agenda d old now).work ≤ agenda.space
+    turned_space = omega (arith, turned_agenda.space)
+
+    pub turned_settles : one (settles old now) ≤ agenda.unsettled
+    turned_settles = settles_most _ _ d old now old_at turned refl listed
+
+  pub turned_standings : standings_in (set tallies d now) ≡ standings_in tallies
+  turned_standings = search (rules, part_stays, old, now, old_at)
+
+  pub turned_wanted : wanted_in (set tallies d now) ≡ wanted_in tallies
+  turned_wanted = search (rules, part_stays, old, now, old_at)
+
+  pub turned_twins : twins_in (set tallies d now) ≡ twins_in tallies
+  turned_twins = search (rules, part_stays, old, now, old_at)
+
+  pub turned_phases : phases_in (set tallies d now) ≡ set (phases_in tallies) d (phase_in state)
+  turned_phases = search (rules, map-set, now)
+
+  pub turned_edges : (users : List (List Edge)) → open_edges (sizes users) (set tallies d now)
+      + length (users_of_all users (noted agenda d old now).work)
+      ≡ open_edges (sizes users) tallies + length (users_of_all users agenda.work)
+  turned_edges users = noted_edges _ _ agenda d old now old_at turned
+
+  pub turned_spreading : (inputs : ℕ → Awaited) (users : List (List Edge))
+      → (phase_in state ≡ Idle → ⊥) → IsSpreading inputs users tallies agenda []
+      → IsSpreading inputs users (set tallies d now) (noted agenda d old now) []
+  turned_spreading inputs users begun is = record {
+    first = is.first;
+    edges = subst (λ n. AreUsers (λ e. all_of (inputs e)) n users) (sym (length-set tallies d now))
+        is.edges;
+    heard = subst (HaveHeard inputs (set tallies d now)) (left_noted users agenda d old now [])
+        (heard_turned inputs (length tallies) users tallies d old state
+        (users_of_all users agenda.work) refl is.edges old_at turned begun is.heard);
+    listed = turned_agenda is.listed;
+  }
+
+-- all users were told, and what has begun was taken off the ring's front
+pub steady_after : (inputs : ℕ → Awaited) (users : List (List Edge)) (tallies : List Tally)
+    (agenda later : Agenda) → IsSpreading inputs users tallies agenda [] → agenda.work ≡ []
+    → IsAgenda tallies later → IsFresh tallies later → later.work ≡ agenda.work
+    → IsSteady inputs users tallies later
+steady_after inputs users tallies agenda later is none listed fresh same = search (rules, heard)

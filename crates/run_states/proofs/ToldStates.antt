@@ -1,0 +1,573 @@
+-- The states of derivations that are told of one that they wait for.
+use Rattle.std.proofs.Common.{◌≡◌, ◌∙◌, ◌⊎◌, inl, inr, ⊎_elim, ℕ, ◌+◌, ◌-◌, ◌<◌, ◌≤◌, ◌==◌, ◌++◌, Bool, true, false, List, [], ◌∷◌, drop, length, map, take, get_or, set, Option, Some, None, zero, suc, refl, sym, ap, subst, ne_eqb, arith, Bor, option_copied, if◌then◌else◌, rules}
+use Rattle.std.proofs.lemmas.Bool.{false≢true}
+use Rattle.std.specs.Prelude.{All, slice_get, slice_set}
+use Rattle.std.specs.List.{position_or_len}
+use Rattle.std.specs.Slice.{IsItemAt}
+use Rattle.std.proofs.lemmas.List.{append-nil, drop-set, drop_more, get_or-map, get_or-set_other, get_or-set_same, length-append, length-map, length-set, take-set}
+use Rattle.std.proofs.lemmas.List.Folds.{position_or_len-set}
+use Rattle.std.proofs.lemmas.List.Sums.{fails_before_first, passes_at_first, position_or_len_is}
+use Rattle.std.proofs.lemmas.Option.{get_or_from_slice_get, none-some, same_Some, slice_get_past, slice_get_read, slice_get_within}
+use Rattle.run_states.specs.Courses.{Awaited, all_of, listed}
+use Rattle.run_states.specs.Coursing.{kept, phase_in}
+use Rattle.run_states.specs.Nearest.{News, Open, Good, Bad, news_of}
+use Rattle.run_states.specs.States.{Idle, by_first, by_hindrance, by_phase, by_validity, is_good, is_open}
+use Rattle.run_states.specs.Tallies.{CanHear, Hears, IsTally, by_all, by_news, is_bad_news, is_held, news_by, news_in, of_inputs, of_twins, states_in, waiting}
+use Rattle.run_states.specs.declared.state.State.{State}
+use Rattle.run_states.specs.declared.state.State.TheVariants.{Blocked, Building, Done, Failed, Ready, Refused, Reused}
+use Rattle.run_states.specs.declared.standing.Standing.{Standing}
+use Rattle.run_states.specs.declared.tally.Tally.{Tally}
+use Rattle.run_states.proofs.CountedNews.{AreCounted, all_counted}
+use Rattle.run_states.proofs.KnownNews.{by_news_counted}
+use Rattle.run_states.proofs.OneStates.{not_released, released_now}
+use Rattle.run_states.proofs.Tabled.{opening_is_idle, own_is_idle}
+
+-- ---- parts of a list of news
+
+take_set : {X : Type 0} (xs : List X) (n i : ℕ) (y : X) → i < n
+    → take n (set xs i y) ≡ set (take n xs) i y
+take_set [] zero i y low = absurd (omega (arith, low))
+take_set [] (suc n) i y low = refl
+take_set (x ∷ xs) zero i y low = absurd (omega (arith, low))
+take_set (x ∷ xs) (suc n) zero y low = refl
+take_set (x ∷ xs) (suc n) (suc i) y low = ap (λ l. x ∷ l) (take_set xs n i y (omega (arith, low)))
+
+drop_set : {X : Type 0} (xs : List X) (n i : ℕ) (y : X) → i < n → drop n (set xs i y) ≡ drop n xs
+drop_set [] zero i y low = absurd (omega (arith, low))
+drop_set [] (suc n) i y low = refl
+drop_set (x ∷ xs) zero i y low = absurd (omega (arith, low))
+drop_set (x ∷ xs) (suc n) zero y low = refl
+drop_set (x ∷ xs) (suc n) (suc i) y low = drop_set xs n i y (omega (arith, low))
+
+get_taken : {X : Type 0} (xs : List X) (n i : ℕ) → i < n
+    → slice_get (take n xs) i ≡ slice_get xs i
+get_taken [] zero i low = absurd (omega (arith, low))
+get_taken [] (suc n) i low = refl
+get_taken (x ∷ xs) zero i low = absurd (omega (arith, low))
+get_taken (x ∷ xs) (suc n) zero low = refl
+get_taken (x ∷ xs) (suc n) (suc i) low = get_taken xs n i (omega (arith, low))
+
+pub get_front : {X : Type 0} (xs ys : List X) (i : ℕ) → i < length xs
+    → slice_get (xs ++ ys) i ≡ slice_get xs i
+get_front [] ys i low = absurd (omega (arith, low))
+get_front (x ∷ xs) ys zero low = refl
+get_front (x ∷ xs) ys (suc i) low = get_front xs ys i (omega (arith, low))
+
+length_taken : {X : Type 0} (xs : List X) (n : ℕ) → n ≤ length xs → length (take n xs) ≡ n
+length_taken xs zero low = refl
+length_taken [] (suc n) low = absurd (omega (arith, low))
+length_taken (x ∷ xs) (suc n) low = ap suc (length_taken xs n (omega (arith, low)))
+
+taken : {X : Type 0} (xs ys : List X) (n : ℕ) → n ≡ length xs → take n (xs ++ ys) ≡ xs
+taken [] ys zero same = refl
+taken [] ys (suc n) same = absurd (omega (arith, same))
+taken (x ∷ xs) ys zero same = absurd (omega (arith, same))
+taken (x ∷ xs) ys (suc n) same = ap (λ l. x ∷ l) (taken xs ys n (omega (arith, same)))
+
+dropped : {X : Type 0} (xs ys : List X) (n : ℕ) → n ≡ length xs → drop n (xs ++ ys) ≡ ys
+dropped [] ys zero same = refl
+dropped [] ys (suc n) same = absurd (omega (arith, same))
+dropped (x ∷ xs) ys zero same = absurd (omega (arith, same))
+dropped (x ∷ xs) ys (suc n) same = dropped xs ys n (omega (arith, same))
+
+-- ---- news of one more input
+
+waiting-set : (heard : List News) (place : ℕ) (news : News) → slice_get heard place ≡ Some Open
+    → waiting (set heard place news) + 1 ≡ waiting heard + waiting (news ∷ [])
+waiting-set [] place news at = absurd (none-some Open at)
+waiting-set (n ∷ heard) zero news at = search (rules, n, same_Some)
+waiting-set (n ∷ heard) (suc place) news at = omega (arith, waiting-set heard place news at)
+
+module _ (heard : List News) (place : ℕ) (at : slice_get heard place ≡ Some Open) where
+  low : place < length heard
+  low = slice_get_within heard place Open at
+
+  here_now : (news : News) → get_or (set heard place news) place Open ≡ news
+  here_now news = get_or-set_same heard place news Open low
+
+  first-good : position_or_len is_bad_news (set heard place Good)
+      ≡ position_or_len is_bad_news heard
+  first-good = position_or_len-set is_bad_news heard place Good Open
+      (sym (ap is_bad_news (get_or_from_slice_get heard place Open Open at)))
+
+  first-bad : place < position_or_len is_bad_news heard
+      → position_or_len is_bad_news (set heard place Bad) ≡ place
+  first-bad sooner = position_or_len_is is_bad_news (set heard place Bad) place Open
+      (omega (arith, low, length-set heard place Bad))
+      (λ k under.
+      ap is_bad_news (get_or-set_other heard place k Bad Open (λ same. omega (arith, same, under)))
+      ∙ fails_before_first is_bad_news heard k Open (omega (arith, under, sooner)))
+      (λ inside. ap is_bad_news (here_now Bad))
+
+  first-later : position_or_len is_bad_news heard ≤ place
+      → position_or_len is_bad_news (set heard place Bad) ≡ position_or_len is_bad_news heard
+  first-later past =
+      let first = position_or_len is_bad_news heard in
+      let inside : position_or_len is_bad_news heard < length heard = omega (arith, past, low) in
+      let bad = passes_at_first is_bad_news heard Open inside in
+      let apart : position_or_len is_bad_news heard ≡ place → ⊥ =
+      λ same. false≢true (sym (ap is_bad_news (get_or_from_slice_get heard place Open Open at))
+      ∙ ap (λ n. is_bad_news (get_or heard n Open)) (sym same) ∙ bad) in
+      position_or_len_is is_bad_news (set heard place Bad) (position_or_len is_bad_news heard) Open
+      (omega (arith, past, low, length-set heard place Bad))
+      (λ k under.
+      ap is_bad_news (get_or-set_other heard place k Bad Open
+      (λ same. omega (arith, same, under, past)))
+      ∙ fails_before_first is_bad_news heard k Open under)
+      (λ within.
+      ap is_bad_news (get_or-set_other heard place (position_or_len is_bad_news heard) Bad Open
+      apart) ∙ bad)
+
+-- ---- a tally by what it counts
+
+-- the state that it has by its counts
+abbrev pub IsCounted : (awaited : Awaited) → List News → Tally → Type 0
+IsCounted awaited heard tally = tally.state
+    ≡ by_phase (phase_in tally.state) (by_all tally.standing (of_twins awaited heard)
+    (by_first (slice_get awaited.inputs tally.first) (tally.waits == 0)))
+
+by_counts : (inputs : List ℕ) (heard : List News) (tally : Tally) → length heard ≡ length inputs
+    → tally.waits ≡ waiting heard → tally.first ≡ position_or_len is_bad_news heard
+    → by_news inputs heard ≡ by_first (slice_get inputs tally.first) (tally.waits == 0)
+by_counts inputs heard tally same waits first = search (rules, by_news_counted, same)
+
+-- of so much is known, of the inputs at least
+inputs_known : (awaited : Awaited) (heard : List News) → length heard ≡ length (all_of awaited)
+    → length awaited.inputs ≤ length heard
+inputs_known awaited heard count = search (rules, count, length-append)
+
+count_of_inputs : (awaited : Awaited) (heard : List News) → length heard ≡ length (all_of awaited)
+    → length (of_inputs awaited heard) ≡ length awaited.inputs
+count_of_inputs awaited heard count = search (rules, length_taken, inputs_known, count)
+
+pub tally_from_counts : (awaited : Awaited) (heard : List News) (tally : Tally)
+    → length awaited.twins ≤ 1 → length heard ≡ length (all_of awaited)
+    → tally.inputs ≡ length awaited.inputs → tally.waits ≡ waiting (of_inputs awaited heard)
+    → tally.first ≡ position_or_len is_bad_news (of_inputs awaited heard)
+    → tally.failed ≡ slice_get awaited.inputs tally.first
+    → tally.held ≡ is_held (of_twins awaited heard) → IsCounted awaited heard tally
+    → IsTally awaited heard tally
+tally_from_counts awaited heard tally one count inputs waits first failed held is =
+    search (rules, count, by_counts, count_of_inputs)
+
+-- the element that a slice lends
+pub read_at : (xs : List ℕ) (i : ℕ) (r : Option (Bor ℕ)) → IsItemAt xs i r
+    → option_copied r ≡ slice_get xs i
+read_at xs i None lent = sym (slice_get_past xs i lent.3)
+read_at xs i (Some x) lent = search (rules, slice_get_read)
+
+-- ---- a tally that is told of an input
+
+-- a place that isn't the twin's is an input's
+pub is_input : (tally : Tally) (awaited : Awaited) (heard : List News) (place one : ℕ)
+    → CanHear awaited heard tally place one → (place ≡ tally.inputs → ⊥) → place < tally.inputs
+is_input tally awaited heard place one can apart =
+    let within : place < length (all_of awaited) =
+    slice_get_within (all_of awaited) place one can.is_awaited in
+    ⊎_elim (λ same. absurd (apart same))
+    (λ other. ⊎_elim (λ low. low)
+    (λ past. absurd (omega (
+      arith,
+      past,
+      within,
+      can.is.one,
+      can.is.inputs,
+      length-append awaited.inputs awaited.twins,
+    ))) other)
+    (either place tally.inputs)
+  where
+    either : (a b : ℕ) → (a ≡ b) ⊎ ((a < b) ⊎ (b < a))
+    either zero zero = inl refl
+    either zero (suc b) = inr (inl (omega arith))
+    either (suc a) zero = inr (inr (omega arith))
+    either (suc a) (suc b) = search (rules, either a b)
+
+module _ (tally : Tally) (awaited : Awaited) (heard : List News) (place input : ℕ)
+    (can : CanHear awaited heard tally place input) (low : place < tally.inputs) where
+  abbrev ins : List News
+  ins = of_inputs awaited heard
+
+  abbrev tws : List News
+  tws = of_twins awaited heard
+
+  inside : place < length awaited.inputs
+  inside = omega (arith, low, can.is.inputs)
+
+  input_is : slice_get awaited.inputs place ≡ Some input
+  input_is = search (rules, get_front, inside)
+
+  unknown : slice_get ins place ≡ Some Open
+  unknown = search (rules, get_taken, inside)
+
+  ins_now : (news : News) → of_inputs awaited (set heard place news) ≡ set ins place news
+  ins_now news = search (rules, take_set, inside)
+
+  tws_now : (news : News) → of_twins awaited (set heard place news) ≡ tws
+  tws_now news = search (rules, drop_set, inside)
+
+  number : (news : News)
+      → waiting (of_inputs awaited (set heard place news)) + 1 ≡ tally.waits + waiting (news ∷ [])
+  number news = search (rules, ins_now, waiting-set, ins, unknown)
+
+  count : (news : News) → length (set heard place news) ≡ length (all_of awaited)
+  count news = length-set heard place news ∙ can.is.count
+
+  held_now : (news : News) → tally.held ≡ is_held (of_twins awaited (set heard place news))
+  held_now news = search (rules, tws_now)
+
+  -- an input isn't built yet
+  pub told_waits : 1 ≤ tally.waits
+  told_waits =
+      let none : waiting (Good ∷ []) ≡ 0 = refl in
+      omega (arith, number Good, none)
+
+  pub told_held : tally.held ≡ is_held tws
+  told_held = can.is.held
+
+  pub told_before : tally.state ≡ by_phase (phase_in tally.state)
+      (by_all tally.standing tws (by_first (slice_get awaited.inputs tally.first) false))
+  told_before = can.is.state
+      ∙ ap (λ s. by_phase (phase_in tally.state) (by_all tally.standing tws s))
+      (by_counts awaited.inputs ins tally (count_of_inputs awaited heard can.is.count) can.is.waits
+      can.is.first
+      ∙ ap (by_first (slice_get awaited.inputs tally.first))
+      (ne_eqb tally.waits 0 (λ none. omega (arith, none, told_waits))))
+
+  pub told_good : (good : Bool) → good ≡ true → (state : State)
+      → state ≡ by_phase (phase_in state) (by_all tally.standing tws
+      (by_first (slice_get awaited.inputs tally.first) ((tally.waits - 1) == 0)))
+      → IsTally awaited (slice_set heard place (news_by good))
+      (record tally { state = state; waits = tally.waits - 1 })
+  told_good good built state is =
+      let none : waiting (Good ∷ []) ≡ 0 = refl in
+      rw built (tally_from_counts awaited (set heard place Good)
+      (record tally { state = state; waits = tally.waits - 1 }) can.is.one (count Good)
+      can.is.inputs
+      (omega (arith, number Good, none))
+      (can.is.first ∙ sym (ap (position_or_len is_bad_news) (ins_now Good)
+      ∙ first-good ins place unknown)) can.is.failed (held_now Good)
+      (is ∙ ap (λ t. by_phase (phase_in state) (by_all tally.standing t
+      (by_first (slice_get awaited.inputs tally.first) ((tally.waits - 1) == 0))))
+      (sym (tws_now Good))))
+
+  pub told_bad : (good : Bool) → good ≡ false → place < tally.first → (state : State)
+      → state ≡ by_phase (phase_in state)
+      (by_all tally.standing tws (by_first (Some input) false))
+      → IsTally awaited (slice_set heard place (news_by good))
+      (record tally { state = state; first = place; failed = Some input })
+  told_bad good failed sooner state is =
+      let one : waiting (Bad ∷ []) ≡ 1 = refl in
+      rw failed (tally_from_counts awaited (set heard place Bad)
+      (record tally { state = state; first = place; failed = Some input }) can.is.one (count Bad)
+      can.is.inputs
+      (omega (arith, number Bad, one))
+      (sym (ap (position_or_len is_bad_news) (ins_now Bad)
+      ∙ first-bad ins place unknown (omega (arith, sooner, can.is.first))))
+      (sym input_is) (held_now Bad)
+      (is ∙ ap (λ t. by_phase (phase_in state)
+      (by_all tally.standing t (by_first (Some input) false))) (sym (tws_now Bad))
+      ∙ ap (λ s. by_phase (phase_in state)
+      (by_all tally.standing (of_twins awaited (set heard place Bad)) s))
+      (sym (ap (λ o. by_first o (tally.waits == 0)) input_is
+      ∙ ap (by_first (Some input)) (ne_eqb tally.waits 0
+      (λ none. omega (arith, none, told_waits)))))))
+
+  pub told_later : (good : Bool) → good ≡ false → tally.first ≤ place
+      → IsTally awaited (slice_set heard place (news_by good)) tally
+  told_later good failed past =
+      search (
+        rules,
+        tally_from_counts,
+        set,
+        count,
+        number,
+        ins_now,
+        first-later,
+        ins,
+        unknown,
+        held_now,
+        tws,
+        by_counts,
+        count_of_inputs,
+        tws_now,
+      )
+
+-- ---- a tally that is told of its twin
+
+module _ (tally : Tally) (awaited : Awaited) (heard : List News) (twin : ℕ)
+    (can : CanHear awaited heard tally tally.inputs twin) where
+  abbrev n : ℕ
+  n = length awaited.inputs
+
+  abbrev behind : List News
+  behind = drop (n + 1) heard
+
+  unknown_twin : slice_get heard n ≡ Some Open
+  unknown_twin = search rules
+
+  twin_within : n < length heard
+  twin_within = slice_get_within heard n Open unknown_twin
+
+  told_now : (news : News) → set heard tally.inputs news ≡ set heard n news
+  told_now news = search (rules, set)
+
+  abbrev by_own : State
+  by_own = by_first (slice_get awaited.inputs tally.first) (tally.waits == 0)
+
+  pub released_before : tally.state
+      ≡ by_phase (phase_in tally.state) (by_all tally.standing (Open ∷ behind) by_own)
+  released_before = can.is.state
+      ∙ ap (λ t. by_phase (phase_in tally.state) (by_all tally.standing t
+      (by_news awaited.inputs (of_inputs awaited heard)))) (drop_more heard n Open twin_within
+      ∙ ap (λ x. x ∷ behind) (get_or_from_slice_get heard n Open Open unknown_twin))
+      ∙ ap (λ s. by_phase (phase_in tally.state) (by_all tally.standing (Open ∷ behind) s))
+      (by_counts awaited.inputs (of_inputs awaited heard) tally
+      (count_of_inputs awaited heard can.is.count) can.is.waits can.is.first)
+
+  pub released_is : (good : Bool) (state : State)
+      → state ≡ by_phase (phase_in state) (by_all tally.standing (news_by good ∷ behind) by_own)
+      → IsTally awaited (slice_set heard tally.inputs (news_by good))
+      (record tally { state = state; held = false })
+  released_is good state is =
+      subst (λ l. IsTally awaited l (record tally { state = state; held = false }))
+      (sym (told_now (news_by good)))
+      (tally_from_counts awaited (set heard n (news_by good))
+      (record tally { state = state; held = false }) can.is.one
+      (length-set heard n (news_by good) ∙ can.is.count) can.is.inputs
+      (can.is.waits ∙ sym (ap waiting same))
+      (can.is.first ∙ sym (ap (position_or_len is_bad_news) same)) can.is.failed
+      (sym (ap is_held front ∙ ended good))
+      (is ∙ ap (λ t. by_phase (phase_in state) (by_all tally.standing t by_own)) (sym front)))
+    where
+      same : of_inputs awaited (set heard n (news_by good)) ≡ of_inputs awaited heard
+      same = take-set heard n (news_by good)
+
+      front : of_twins awaited (set heard n (news_by good)) ≡ news_by good ∷ behind
+      front = drop-set heard n (news_by good) twin_within
+
+      ended : (good : Bool) → is_held (news_by good ∷ behind) ≡ false
+      ended true = refl
+      ended false = refl
+
+  blocked_before : tally.state ≡ Blocked
+      → Blocked ≡ by_all tally.standing (Open ∷ behind) by_own
+  blocked_before blocked = search (rules, behind, by_own, released_before)
+
+  pub released_good : (good : Bool) → good ≡ true → tally.state ≡ Blocked
+      → IsTally awaited (slice_set heard tally.inputs (news_by good))
+      (record tally { state = Reused; held = false })
+  released_good good built blocked = released_is good Reused
+      (sym (ap (λ b. if b then Reused else by_hindrance tally.standing by_own) built)
+      ∙ released_now tally.standing behind by_own good (blocked_before blocked))
+
+  pub released_bad : (good : Bool) (state : State) → good ≡ false → tally.state ≡ Blocked
+      → state ≡ by_hindrance tally.standing (by_first tally.failed (tally.waits == 0))
+      → IsTally awaited (slice_set heard tally.inputs (news_by good))
+      (record tally { state = state; held = false })
+  released_bad good state failed blocked own = released_is good state
+      (same ∙ sym (ap (λ p. by_phase p (by_all tally.standing (news_by good ∷ behind) by_own))
+      (ap phase_in same ∙ rests)))
+    where
+      own_here : state ≡ by_hindrance tally.standing by_own
+      own_here = search (rules, own)
+
+      same : state ≡ by_all tally.standing (news_by good ∷ behind) by_own
+      same = search (rules, own_here, by_own, released_now, behind, blocked_before)
+
+      rests : phase_in (by_all tally.standing (news_by good ∷ behind) by_own) ≡ Idle
+      rests = search (rules, same, own_here, own_is_idle)
+
+  pub released_else : (good : Bool) → (tally.state ≡ Blocked → ⊥)
+      → IsTally awaited (slice_set heard tally.inputs (news_by good))
+      (record tally { held = false })
+  released_else good apart =
+      search (rules, released_is, not_released, behind, by_own, released_before)
+
+-- ---- a tally that was counted
+
+module _ (standing : Standing) (wanted : Bool) (twin : Option ℕ) (inputs : List ℕ)
+    (state_of : ℕ → State) (place waits first : ℕ) (state : State) (held : Bool)
+    (past : length inputs ≤ place) (within : place ≤ length inputs)
+    (are : AreCounted (news_in state_of inputs) place waits first)
+    (says : held ≡ is_held (map (λ t. Open) (listed twin)))
+    (is : state ≡ by_validity standing (if held then Blocked
+    else by_hindrance standing (by_first (slice_get inputs first) (waits == 0)))) where
+  abbrev awaited_here : Awaited
+  awaited_here = record { inputs = inputs; twins = listed twin }
+
+  abbrev known : List News
+  known = news_in state_of inputs
+
+  abbrev unheard : List News
+  unheard = map (λ t. Open) (listed twin)
+
+  abbrev own : State
+  own = by_first (slice_get inputs first) (waits == 0)
+
+  long : length known ≡ length inputs
+  long = length-map inputs (λ i. news_of (state_of i))
+
+  counts : (waits ≡ waiting known) × (first ≡ position_or_len is_bad_news known)
+  counts = all_counted known place waits first (omega (arith, long, past))
+      (omega (arith, long, within)) are
+
+  front : of_inputs awaited_here (known ++ unheard) ≡ known
+  front = taken known unheard (length inputs) (sym long)
+
+  back : of_twins awaited_here (known ++ unheard) ≡ unheard
+  back = dropped known unheard (length inputs) (sym long)
+
+  idle : phase_in state ≡ Idle
+  idle = search (rules, opening_is_idle)
+
+  at_most_one : (twin : Option ℕ) → length (listed twin) ≤ 1
+  at_most_one None = omega arith
+  at_most_one (Some t) = omega arith
+
+  by_twin : (twin : Option ℕ) (held : Bool) → held ≡ is_held (map (λ t. Open) (listed twin))
+      → by_validity standing (if held then Blocked else by_hindrance standing own)
+      ≡ by_all standing (map (λ t. Open) (listed twin)) own
+  by_twin None held says = rw says refl
+  by_twin (Some t) held says = rw says refl
+
+  -- the tally of one that waits for these, of all but the twin of which the news are known
+  pub counted_tally : IsTally awaited_here (known ++ unheard) (record {
+    standing = standing;
+    wanted = wanted;
+    twin = twin;
+    state = state;
+    inputs = length inputs;
+    waits = waits;
+    first = first;
+    failed = slice_get inputs first;
+    held = held;
+  })
+  counted_tally =
+      tally_from_counts awaited_here (known ++ unheard) (record {
+        standing = standing;
+        wanted = wanted;
+        twin = twin;
+        state = state;
+        inputs = length inputs;
+        waits = waits;
+        first = first;
+        failed = slice_get inputs first;
+        held = held;
+      }) (at_most_one twin)
+      (length-append known unheard ∙ ap (λ k. k + length unheard) long
+      ∙ ap (λ k. length inputs + k) (length-map (listed twin) (λ t. Open))
+      ∙ sym (length-append inputs (listed twin)))
+      refl (counts.0 ∙ sym (ap waiting front))
+      (counts.1 ∙ sym (ap (position_or_len is_bad_news) front))
+      refl (says ∙ sym (ap is_held back))
+      (is ∙ by_twin twin held says ∙ ap (λ t. by_all standing t own) (sym back)
+      ∙ ap (λ p. by_phase p (by_all standing (of_twins awaited_here (known ++ unheard)) own))
+      (sym idle))
+
+-- where all is known, each place has the news of what stands there
+pub hears_all : (awaited : Awaited) (state_of : ℕ → State) (heard : List News) (tally : Tally)
+    → IsTally awaited heard tally → heard ≡ news_in state_of (all_of awaited)
+    → Hears awaited state_of (λ place. 0) tally
+hears_all awaited state_of heard tally is all = record {
+  heard = heard;
+  is = is;
+  knows = λ place one at. inl (
+    ap (λ l. get_or l place Open) all
+        ∙ get_or-map (λ i. news_of (state_of i)) (all_of awaited) place 0 Open
+        (slice_get_within (all_of awaited) place one at)
+        ∙ ap (λ i. news_of (state_of i)) (get_or_from_slice_get (all_of awaited) place one 0 at),
+    refl,
+  );
+}
+
+-- ---- a tally that was counted, and is told of its twin
+
+get_last : {X : Type 0} (xs : List X) (y : X) (n : ℕ) → n ≡ length xs
+    → slice_get (xs ++ y ∷ []) n ≡ Some y
+get_last [] y zero same = refl
+get_last [] y (suc n) same = absurd (omega (arith, same))
+get_last (x ∷ xs) y zero same = absurd (omega (arith, same))
+get_last (x ∷ xs) y (suc n) same = get_last xs y n (omega (arith, same))
+
+set_last : {X : Type 0} (xs : List X) (y z : X) (n : ℕ) → n ≡ length xs
+    → set (xs ++ y ∷ []) n z ≡ xs ++ z ∷ []
+set_last [] y z zero same = refl
+set_last [] y z (suc n) same = absurd (omega (arith, same))
+set_last (x ∷ xs) y z zero same = absurd (omega (arith, same))
+set_last (x ∷ xs) y z (suc n) same = ap (λ l. x ∷ l) (set_last xs y z n (omega (arith, same)))
+
+news_push : (state_of : ℕ → State) (inputs : List ℕ) (t : ℕ)
+    → news_in state_of inputs ++ news_of (state_of t) ∷ [] ≡ news_in state_of (inputs ++ t ∷ [])
+news_push state_of [] t = refl
+news_push state_of (i ∷ is) t = search (rules, news_push state_of is t)
+
+-- of one that has nothing before it there is news
+news_closed : (s : State) → is_open s ≡ false → news_by (is_good s) ≡ news_of s
+news_closed Done closed = refl
+news_closed Reused closed = refl
+news_closed (Failed reason) closed = refl
+news_closed (Refused cause) closed = refl
+news_closed (Building lease) closed = absurd (false≢true (sym closed))
+news_closed Ready closed = absurd (false≢true (sym closed))
+news_closed Blocked closed = absurd (false≢true (sym closed))
+
+news_open : (s : State) → is_open s ≡ true → Open ≡ news_of s
+news_open Done is = absurd (false≢true is)
+news_open Reused is = absurd (false≢true is)
+news_open (Failed reason) is = absurd (false≢true is)
+news_open (Refused cause) is = absurd (false≢true is)
+news_open (Building lease) is = refl
+news_open Ready is = refl
+news_open Blocked is = refl
+
+module _ (inputs : List ℕ) (t : ℕ) (state_of : ℕ → State) (tally : Tally)
+    (is : IsTally (record { inputs = inputs; twins = t ∷ [] })
+    (news_in state_of inputs ++ Open ∷ []) tally) where
+  abbrev with_twin : Awaited
+  with_twin = record { inputs = inputs; twins = t ∷ [] }
+
+  abbrev opened : List News
+  opened = news_in state_of inputs ++ Open ∷ []
+
+  at_end : tally.inputs ≡ length (news_in state_of inputs)
+  at_end = search (rules, length-map)
+
+  pub can_release : CanHear with_twin opened tally tally.inputs t
+  can_release = search (rules, unknown, get_last, at_end)
+
+  pub hears_open : is_open (state_of t) ≡ true
+      → Hears with_twin state_of (λ place. 0) tally
+  hears_open still = hears_all with_twin state_of opened tally is
+      (ap (λ n. news_in state_of inputs ++ n ∷ []) (news_open (state_of t) still)
+      ∙ news_push state_of inputs t)
+
+  pub hears_released : (good : Bool) (result : Tally) → good ≡ is_good (state_of t)
+      → is_open (state_of t) ≡ false
+      → ((awaited : Awaited) (heard : List News) (twin : ℕ)
+      → CanHear awaited heard tally tally.inputs twin
+      → IsTally awaited (slice_set heard tally.inputs (news_by good)) result)
+      → Hears with_twin state_of (λ place. 0) result
+  hears_released good result says closed told =
+      hears_all with_twin state_of (set opened tally.inputs (news_by good)) result
+      (told with_twin opened t can_release)
+      (set_last (news_in state_of inputs) Open (news_by good) tally.inputs at_end
+      ∙ ap (λ n. news_in state_of inputs ++ n ∷ [])
+      (ap news_by says ∙ news_closed (state_of t) closed)
+      ∙ news_push state_of inputs t)
+
+-- one that waits for its inputs alone
+pub hears_inputs : (inputs : List ℕ) (state_of : ℕ → State) (tally : Tally)
+    → IsTally (record { inputs = inputs; twins = [] }) (news_in state_of inputs ++ []) tally
+    → Hears (record { inputs = inputs; twins = [] }) state_of (λ place. 0) tally
+hears_inputs inputs state_of tally is = search (rules, hears_all, append-nil)
+
+-- the state that a tally holds, as it is kept
+pub tally_state : (tallies : List Tally) (t : ℕ) (none : Tally) → t < length tallies
+    → (get_or tallies t none).state ≡ kept (states_in tallies) t
+tally_state tallies t none low = search (rules, get_or-map, low)
+
+-- what is listed of a number that is there
+pub listed_low : (twin : Option ℕ) (t bound : ℕ) → twin ≡ Some t
+    → All (λ u. u < bound) (listed twin)
+    → t < bound
+listed_low twin t bound is low = search (rules, low)

@@ -1,0 +1,6 @@
+use Rattle.std.proofs.Common.{rules}
+use Rattle.run_states.proofs.Tallied.{next_told}
+use Rattle.run_states.proofs.course.Course.next.Goals as goal
+
+pub returns : goal.returns
+returns c = search (rules, next_told)

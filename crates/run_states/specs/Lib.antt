@@ -1,0 +1,17 @@
+-- What public contracts cite, and what that rests on.
+pub mod Agendas
+pub mod Counts
+pub mod Courses
+pub mod Coursing
+pub mod Headline
+pub mod Legal
+pub mod Nearest
+pub mod Numbers
+pub mod PlanLaws
+pub mod Runs
+pub mod States
+pub mod Steps
+pub mod Tallies
+pub mod ToldEdges
+pub mod UserSpans
+pub mod Users

@@ -1,0 +1,208 @@
+//! The state of each derivation of a plan.
+ghost use Rattle.std.specs.Prelude.{◌≡◌, ◌<◌, ◌↔◌, ℕ, All, IfErr, IfOk, IsTrue, MatchOption, None, length, slice_set, vec_capacity};
+ghost use Rattle.std.specs.List.{slice_index_or};
+ghost use Rattle.run_states.specs.Agendas.{AreOpening, wanted_in};
+ghost use Rattle.run_states.specs.Counts.{HasCount};
+ghost use Rattle.run_states.specs.Courses.{HasBegun, IsNext, IsSettled, IsUnsettledIn, course_state, listed};
+ghost use Rattle.run_states.specs.Coursing.{phase_in};
+ghost use Rattle.run_states.specs.States.{Begun, Broken, Ended, Idle};
+ghost use Rattle.run_states.specs.Tallies.{Turns};
+ghost use Rattle.run_states.specs.ToldEdges.{course_told};
+ghost use Rattle.run_states.specs.declared.fault.BookFault.TheVariants.{NoMemory};
+
+use crate::agenda::Agenda;
+use crate::fault::BookFault;
+use crate::spreading::turn;
+use crate::standing::Standing;
+use crate::state::State;
+use crate::states::inputs_of;
+use crate::tally::{Tally, tally_of};
+use crate::users::Users;
+use build_outcome::Reason;
+use drv_graph::Plan;
+use std::alloc::{AllocError, Global};
+use std::marker::Model;
+
+/// A plan, and the state of each of its derivations: of each a tally and the edges to those that
+/// wait for it; and what is still to be done. An event costs a step for each edge along which an end
+/// is told, and along each edge an end is told at most once.
+#[derive(Debug, Drop)]
+pub struct Course {
+    plan: Plan,
+    tallies: Vec<Tally>,
+    users: Users,
+    agenda: Agenda,
+    // Along how many edges an end was told.
+    told: usize,
+}
+
+impl Model for Course {
+    ghost use Rattle.run_states.specs.Courses.{Course};
+    ghost use Rattle.run_states.specs.Agendas.{IsCourse, course_by};
+    ghost use Rattle.run_states.specs.ToldEdges.{HasTold};
+
+    ghost Value = { Course };
+
+    ghost view = { λ c. course_by c.plan c.tallies.items };
+
+    ghost invariant = { λ c. IsCourse c.plan c.tallies.items c.users c.agenda
+        × HasTold c.plan c.tallies.items c.users c.told };
+}
+
+impl Course {
+    /// A course on which nothing has begun. `NoMemory`, the only fault, where memory is refused.
+    pub fn open(
+        alloc: Global,
+        plan: Plan,
+        standings: Vec<Standing>,
+        wanted: Vec<bool>,
+        twins: Vec<Option<usize>>,
+    ) -> Result<Course, BookFault>
+        requires standings { length standings.items ≡ length plan.nodes }
+        requires wanted { length wanted.items ≡ length plan.nodes }
+        requires twins { length twins.items ≡ length plan.nodes }
+        requires smaller { (d : ℕ) → All (λ t. t < d) (listed (slice_index_or twins.items d None)) }
+        ensures graph { IfOk result (λ course. course.graph ≡ plan) }
+        ensures standings { IfOk result (λ course. course.standings ≡ standings.items) }
+        ensures wanted { IfOk result (λ course. course.wanted ≡ wanted.items) }
+        ensures twins { IfOk result (λ course. course.twins ≡ twins.items) }
+        ensures phases { IfOk result (λ course. length course.phases ≡ length plan.nodes) }
+        ensures idle { IfOk result (λ course. (d : ℕ) → slice_index_or course.phases d Idle
+            ≡ Idle) }
+        ensures err { IfErr result (λ fault. fault ≡ NoMemory) }
+    {
+        let users = Users::open(alloc, &plan, &twins)?;
+        let tallies = tallies_of(alloc, &plan, &standings, &wanted, &twins)?;
+        let agenda = Agenda::open(alloc, &tallies)?;
+        Ok(Course {
+            plan,
+            tallies,
+            users,
+            agenda,
+            told: 0,
+        })
+    }
+
+    /// The plan.
+    pub fn plan(&self) -> &Plan
+        ensures { result.now ≡ self.now.graph }
+    {
+        &self.plan
+    }
+
+    /// Of each derivation, whether it is wanted.
+    pub fn wanted(&self, alloc: Global) -> Result<Vec<bool>, AllocError>
+        ensures marks { IfOk result (λ marks. marks.items ≡ self.now.wanted) }
+        ensures count { IfOk result (λ marks. length marks.items ≡ length self.now.graph.nodes) }
+    {
+        wanted_in(alloc, &self.tallies)
+    }
+
+    /// The state of the derivation with this number.
+    pub fn state(&self, d: usize) -> State
+        requires { d < length self.now.graph.nodes }
+        ensures { result ≡ course_state self.now d }
+    {
+        self.tallies[d].state
+    }
+
+    /// A derivation that is wanted and can be begun, if there is one.
+    pub fn next(&self) -> Option<usize>
+        ensures { MatchOption result ((d : ℕ) → IsNext self.now d → ⊥) (λ d. IsNext self.now d) }
+    {
+        self.agenda.first()
+    }
+
+    /// Begins a derivation under the lease with this number. Takes no memory.
+    pub fn begin(&mut self, d: usize, lease: u64)
+        requires { IsNext self.old d }
+        ensures { self.new
+            ≡ record self.old { phases = slice_set self.old.phases d (Begun lease) } }
+    {
+        self.note(d, State::Building(lease));
+    }
+
+    /// Notes that a derivation was built. Takes no memory.
+    pub fn done(&mut self, d: usize)
+        requires { HasBegun self.old d }
+        ensures { self.new ≡ record self.old { phases = slice_set self.old.phases d Ended } }
+    {
+        self.note(d, State::Done);
+    }
+
+    /// Notes that building a derivation failed. Takes no memory.
+    pub fn fail(&mut self, d: usize, reason: Reason)
+        requires { HasBegun self.old d }
+        ensures { self.new
+            ≡ record self.old { phases = slice_set self.old.phases d (Broken reason) } }
+    {
+        self.note(d, State::Failed(reason));
+    }
+
+    /// Whether no wanted derivation is Blocked, Ready or Building.
+    pub fn settled(&self) -> bool
+        ensures { IsTrue result ↔ IsSettled self.now }
+    {
+        self.agenda.is_settled()
+    }
+
+    /// How many wanted derivations are Blocked, Ready or Building.
+    pub fn unsettled(&self) -> usize
+        ensures { HasCount (IsUnsettledIn self.now) result }
+    {
+        self.agenda.unsettled()
+    }
+
+    /// Along how many edges an end was told.
+    pub fn told(&self) -> usize
+        ensures { result ≡ course_told self.now }
+    {
+        self.told
+    }
+
+    // Notes the state of a derivation, by its last event.
+    fn note(&mut self, d: usize, state: State)
+        requires within { d < length self.old.graph.nodes }
+        requires turns { Turns (course_state self.old d) state }
+        requires begun { phase_in state ≡ Idle → ⊥ }
+        ensures { self.new
+            ≡ record self.old { phases = slice_set self.old.phases d (phase_in state) } }
+    {
+        let told = turn(&self.users, &mut self.tallies, &mut self.agenda, d, state);
+        self.told += told;
+    }
+}
+
+// Of each of some derivations, whether it is wanted.
+fn wanted_in(alloc: Global, tallies: &[Tally]) -> Result<Vec<bool>, AllocError>
+    ensures { IfOk result (λ marks. marks.items ≡ wanted_in tallies.now) }
+{
+    tallies.iter().map(|tally| tally.wanted).collect(alloc)
+}
+
+// The tallies of a plan on which nothing has begun, by one pass in plan order. Costs a step for
+// each derivation and each pair of one and what it waits for.
+fn tallies_of(
+    alloc: Global,
+    plan: &Plan,
+    standings: &[Standing],
+    wanted: &[bool],
+    twins: &[Option<usize>],
+) -> Result<Vec<Tally>, BookFault>
+    requires standings { length standings.now ≡ length plan.now.nodes }
+    requires wanted { length wanted.now ≡ length plan.now.nodes }
+    requires twins { length twins.now ≡ length plan.now.nodes }
+    requires smaller { (d : ℕ) → All (λ t. t < d) (listed (slice_index_or twins.now d None)) }
+    ensures ok { IfOk result
+        (λ tallies. AreOpening plan.now standings.now wanted.now twins.now tallies.items) }
+    ensures room { IfOk result (λ tallies. vec_capacity tallies ≡ length plan.now.nodes) }
+    ensures err { IfErr result (λ fault. fault ≡ NoMemory) }
+{
+    let mut tallies = Vec::with_capacity(alloc, plan.len())?;
+    for d in 0..plan.len() {
+        let inputs = inputs_of(plan, d);
+        let tally = tally_of(standings[d], wanted[d], twins[d], inputs, &tallies);
+        tallies.push_reserved(tally);
+    }
+    Ok(tallies)
+}

@@ -1,0 +1,49 @@
+//! Which derivations of a plan are wanted.
+ghost use Rattle.std.specs.Prelude.{◌≡◌, ◌<◌, ◌↔◌, ◌⊎◌, All, Contains, IfErr, IfOk, IsTrue, List, false, length, true};
+ghost use Rattle.std.specs.List.{slice_index_or};
+ghost use Rattle.valid_table.specs.declared.entry.Entry.{Entry};
+ghost use Rattle.run_states.specs.Courses.{AreStandings, AreWanted};
+ghost use Rattle.run_states.specs.Runs.{Run};
+
+use crate::fault::BookFault;
+use crate::standing::Standing;
+use drv_graph::Plan;
+use std::alloc::{AllocError, Global};
+
+/// Whether each derivation is wanted, by the standings of all. `NoMemory`, the only fault, where
+/// memory is refused. Linear in the pairs of a user and an input.
+pub fn wanted_of(alloc: Global, plan: &Plan, standings: &[Standing]) -> Result<Vec<bool>, BookFault>
+    requires { length standings.now ≡ length plan.now.nodes }
+    ensures ok { IfOk result (λ wanted. (run : Run) (opening : List Entry) → run.graph ≡ plan.now
+        → AreStandings run.system opening plan.now.nodes standings.now
+        → AreWanted run opening wanted.items) }
+    ensures err { IfErr result (λ fault. fault ≡ BookFault.NoMemory) }
+{
+    let mut wanted = vec![in alloc; false; plan.len()]?;
+    mark(&mut wanted, plan.roots());
+    for d in (0..plan.len()).rev() {
+        if wanted[d] && is_free(standings[d]) {
+            mark(&mut wanted, plan.inputs(d));
+        }
+    }
+    Ok(wanted)
+}
+
+// Whether a standing is `Free`.
+fn is_free(standing: Standing) -> bool
+    ensures { IsTrue result ↔ (standing ≡ Standing.Free) }
+{
+    matches!(standing, Standing::Free)
+}
+
+/// Sets the marks at these numbers, and no others. Costs a step for each number.
+pub fn mark(wanted: &mut [bool], numbers: &[usize])
+    requires { All (λ number. number < length wanted.old) numbers.now }
+    ensures count { length wanted.new ≡ length wanted.old }
+    ensures each { (d : _) → (slice_index_or wanted.new d false ≡ true)
+        ↔ ((slice_index_or wanted.old d false ≡ true) ⊎ Contains numbers.now d) }
+{
+    for number in numbers {
+        wanted[*number] = true;
+    }
+}

@@ -1,6 +1,0 @@
--- The links of the outputs so far stand there.
-use Rattle.sched_core.specs.Linking.{AreLinks}
-use Rattle.sched_core.proofs.links.fill_links.Given as goal
-
-abbrev pub invariant-loop-n : goal.invariant-loop-n
-invariant-loop-n l = AreLinks l.outputs l.records l.paths.keys l.n l.links.items

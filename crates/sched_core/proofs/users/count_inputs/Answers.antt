@@ -1,7 +1,0 @@
-use Rattle.std.proofs.Common.{rules}
-use Rattle.std.proofs.lemmas.List.Sums.{sum_by-set}
-use Rattle.sched_core.proofs.UserCounts.{counted}
-use Rattle.sched_core.proofs.users.count_inputs.Goals as goal
-
-pub loop-input-preserved : goal.loop-input-preserved
-loop-input-preserved c = search (rules, sum_by-set, counted)

@@ -1,6 +1,0 @@
--- At the outputs so far something lies.
-use Rattle.sched_core.proofs.Verdicts.{ThereSoFar}
-use Rattle.sched_core.proofs.verdict.check_complete.Given as goal
-
-abbrev pub invariant-loop-n : goal.invariant-loop-n
-invariant-loop-n l = ThereSoFar l.answer l.n

@@ -1,6 +1,0 @@
-use Rattle.std.proofs.Common.{take}
-use Rattle.sched_core.proofs.Wanting.{Marks}
-use Rattle.sched_core.proofs.wanted.mark.Given as goal
-
-abbrev pub invariant-loop-number : goal.invariant-loop-number
-invariant-loop-number l = Marks l.fn.wanted l.wanted (take l.number-index l.numbers)

@@ -1,5 +1,0 @@
-use Rattle.sched_core.proofs.Wanting.{AreMarked}
-use Rattle.sched_core.proofs.wanted.wanted_of.Given as goal
-
-abbrev pub invariant-loop-d : goal.invariant-loop-d
-invariant-loop-d l = AreMarked l.plan l.standings l.wanted.items l.d
