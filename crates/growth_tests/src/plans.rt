@@ -55,9 +55,9 @@ fn wanted(rt: HostRuntime) -> Result<(), Fail> {
 #[test]
 fn marks_without_memory(rt: HostRuntime) -> Result<(), Fail> {
     let mut marks = [false, false];
-    begins(&rt, "sched_core");
+    begins(&rt, "run_states");
     mark(&mut marks, &[1]);
-    ends(&rt, "sched_core");
+    ends(&rt, "run_states");
     assert_eq!(rt; marks, [false, true]);
     Ok(())
 }

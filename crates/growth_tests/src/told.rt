@@ -32,16 +32,6 @@ fn is_lease_told<R: Print>(rt: &R, lease: &mut Lease<usize>) -> bool {
     is_first(rt, lease) && are_values(rt, &told, &[Some(5), None])
 }
 
-// Whether the numbers of faults are right.
-fn are_numbers<R: Print>(rt: &R) -> bool {
-    let numbers = [
-        BookFault::NotLawful.number(),
-        Reason::Killed.number(),
-        Refusal::Unsupported.number(),
-    ];
-    are_values(rt, &numbers, &[66, 59, 61])
-}
-
 // Ends a lease by a failure of its derivation. Says whether the lease was the book's.
 fn is_ended(book: &mut Book<ListOutlet>, lease: Lease<usize>, reason: Reason) -> bool {
     let answer = match reason {
@@ -74,7 +64,7 @@ fn is_idle(book: &mut Book<ListOutlet>) -> bool {
 fn tells<R: Print>(rt: &R, book: &mut Book<ListOutlet>, reason: Reason) -> Result<bool, Fail> {
     let mut lease = lease(book)?;
     begins(rt, "sched_core");
-    let is_told = is_book_told(rt, book) && is_lease_told(rt, &mut lease) && are_numbers(rt);
+    let is_told = is_book_told(rt, book) && is_lease_told(rt, &mut lease);
     let ends_idle = [is_ended(book, lease, reason), is_idle(book)];
     let is_failed = are_values(
         rt,
@@ -103,20 +93,25 @@ fn abandoned_without_memory(rt: HostRuntime) -> Result<(), Fail> {
     Ok(())
 }
 
-// Gives up a lease and closes its book, between two printed lines. Says whether the records were
-// right.
-fn is_closed<R: Print>(
-    rt: &R,
-    book: Book<ListOutlet>,
-    lease: Lease<usize>,
-    checked: &Checked,
-) -> bool {
+#[test]
+fn numbers_without_memory(rt: HostRuntime) -> Result<(), Fail> {
+    begins(&rt, "run_states");
+    let faults = [BookFault::NotLawful.number(), Refusal::Unsupported.number()];
+    ends(&rt, "run_states");
+    begins(&rt, "build_outcome");
+    let reason = Reason::Killed.number();
+    ends(&rt, "build_outcome");
+    assert_eq!(rt; faults, [66, 61]);
+    assert_eq!(rt; reason, 59);
+    Ok(())
+}
+
+// Gives up a lease and closes its book, between two printed lines.
+fn closes_both<R: Print>(rt: &R, book: Book<ListOutlet>, lease: Lease<usize>) {
     begins(rt, "sched_core");
-    let are_records = are_records(rt, checked);
     lease.give_up();
     book.close();
     ends(rt, "sched_core");
-    are_records
 }
 
 // The lease of `LEFT`, and the records of what its builder leaves.
@@ -135,10 +130,22 @@ fn checked<R: Print>(
     }
 }
 
-// Whether a lease is given up and a book closed without memory.
+// Whether the records that a builder left are right, read between two printed lines.
+fn has_records<R: Print>(rt: &R, checked: &Checked) -> bool {
+    begins(rt, "build_outcome");
+    let are_right = are_records(rt, checked);
+    ends(rt, "build_outcome");
+    are_right
+}
+
+// Whether records are read, a lease is given up and a book closed without memory.
 fn closes<R: Print>(rt: &R, alloc: Global, mut book: Book<ListOutlet>) -> Result<bool, Fail> {
     match checked(rt, alloc, &mut book) {
-        Ok((lease, checked)) => Ok(is_closed(rt, book, lease, &checked)),
+        Ok((lease, checked)) => {
+            let are_right = has_records(rt, &checked);
+            closes_both(rt, book, lease);
+            Ok(are_right)
+        }
         Err(fault) => {
             book.close();
             Err(fault)
