@@ -5,8 +5,11 @@ mark, and other words for what earlier steps name. `put any` writes a draft to `
 `add-drv` add it under the name `any`: then `<any>` stands for the derivation's path, and
 `<any.out>` for the path of its output `out`. `twins` does so with two drafts, of which the second
 may name the first: `<try>` is the first number with which the first path is the lesser, so both
-paths have to vary with it. `order` names the lesser and the greater of two paths `<lesser>` and
-`<greater>`.
+paths have to vary with it. `rising` does as `put` does, with the first number with which the paths
+of the outputs rise. `order` names the lesser and the greater of two paths `<lesser>` and
+`<greater>`. `digest <word>` lets a word stand for the SHA-256 digest of a text.
+
+`has-lines` compares the lines of a file in any order, `holds` its whole text.
 
 Below a run stand what it writes to standard output (`out`) and to standard error (`err`), and its
 status. Lines of `by path` come before those of `out`, in the order of the paths in them.
@@ -30,7 +33,8 @@ from store_paths import make_path, text_path
 WORD = re.compile(r"<[^<>\s]+>")
 # The seconds that a run may take.
 MOST_SECONDS = 120
-# How many numbers are tried at most for twins: each gives the right order in one of two cases.
+# How many numbers are tried at most for an order of paths. Each gives the order of two paths in one
+# of two cases, and that of three in one of six.
 MOST_TRIES = 64
 # The greatest size of the files of a run whose standard output has little room: that has it at the
 # end of a file of this size.
@@ -168,6 +172,18 @@ class Scene:
             os.remove(second)
         raise Fault("a number with which the first path is the lesser", "none")
 
+    def take_rising(self, step):
+        """Puts a derivation into the store folder, whose outputs' paths rise."""
+        (name,) = step.words
+        for number in range(MOST_TRIES):
+            self.names["<try>"] = str(number)
+            path = self.put_named(name, name, step.texts.get("", ""))
+            paths = list(outputs_in(pathlib.Path(path).read_text()).values())
+            if paths == sorted(paths):
+                return
+            os.remove(path)
+        raise Fault("a number with which the outputs' paths rise", "none")
+
     def put_named(self, name, word, draft):
         """Puts a derivation into the store folder, and names its paths by a word."""
         path = self.put(name, self.said(draft))
@@ -194,6 +210,11 @@ class Scene:
         word, count, letter = step.words
         self.names[word] = letter * int(count)
 
+    def take_digest(self, step):
+        """Lets a word stand for the SHA-256 digest of a text."""
+        (word,) = step.words
+        self.names[word] = hashlib.sha256(self.text(step).encode()).hexdigest()
+
     # Files.
 
     def write(self, path, step):
@@ -210,6 +231,11 @@ class Scene:
         """Compares the text of a file."""
         wanted = self.text(step)
         expect(wanted, text_at(path, wanted))
+
+    def has_lines(self, path, step):
+        """Compares the lines of a file, in any order."""
+        wanted = self.text(step)
+        expect(in_order(wanted), in_order(text_at(path, wanted)))
 
     def ends(self, path, step):
         """Compares the end of a file's text."""
@@ -242,6 +268,11 @@ def ended(run):
         os.killpg(run.pid, signal.SIGKILL)
         run.wait()
         return f"none after {MOST_SECONDS} seconds"
+
+
+def in_order(text):
+    """A text with its lines sorted."""
+    return "".join(sorted(text.splitlines(keepends=True)))
 
 
 def text_at(path, wanted):
@@ -280,6 +311,8 @@ NAMING = {
     "output-path": Scene.take_output_path,
     "order": Scene.take_order,
     "repeat": Scene.take_repeat,
+    "digest": Scene.take_digest,
+    "rising": Scene.take_rising,
 }
 FILES = {
     "write": Scene.write,
@@ -292,6 +325,7 @@ FILES = {
     "remove": lambda scene, path, step: path.unlink(),
     "holds": Scene.holds,
     "ends": Scene.ends,
+    "has-lines": Scene.has_lines,
     "has-mode": lambda scene, path, step: expect(step.words[1], mode_at(path)),
     "is-link": lambda scene, path, step: expect("a link", kind_of(path)),
     "is-pipe": lambda scene, path, step: expect("a pipe", kind_of(path)),
