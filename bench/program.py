@@ -1,51 +1,19 @@
-"""Builds programs that measure, each proved in a repository of its own, and runs them."""
+"""Finds the program that measures, and runs programs."""
 
 import os
-import shutil
 import subprocess
 import sys
 import time
 
-BENCH = os.path.dirname(os.path.abspath(__file__))
-TOP = os.path.dirname(BENCH)
-CRATES = os.path.join(TOP, "crates")
+TOP = os.path.dirname(os.path.dirname(os.path.abspath(__file__)))
+PROGRAM = os.path.join(TOP, "crates", "bench_program", "out", "bench_program")
 
 
-def copy_program(name, to):
-    """Copies a program's files to a crate's folder, without the `.txt` that ends their names here."""
-    source = os.path.join(BENCH, name)
-    for folder, _, names in os.walk(source):
-        target = os.path.join(to, os.path.relpath(folder, source))
-        os.makedirs(target, exist_ok=True)
-        for file in names:
-            shutil.copy(os.path.join(folder, file), os.path.join(target, file.removesuffix(".txt")))
-
-
-def crates_txt(crates, name, uses):
-    """The lines of the repository's own crates.txt for these crates, and the program's."""
-    with open(os.path.join(TOP, "crates.txt"), encoding="ascii") as file:
-        lines = [line for line in file if line.split(":")[0] in crates]
-    return "".join(lines) + f"{name}: {uses}\n"
-
-
-def build(repository, crates, name, uses, shared=()):
-    """Proves and builds the program in a new repository of copies of the crates that it stands on, and gives its path.
-
-    `uses` are the libraries of its line in crates.txt; of the modules that programs share it has those that are named.
-    """
-    for crate in crates:
-        shutil.copytree(os.path.join(CRATES, crate), os.path.join(repository, "crates", crate))
-    program = os.path.join(repository, "crates", name)
-    copy_program(name, program)
-    for module in shared:
-        shutil.copy(os.path.join(BENCH, "shared", "src", module + ".rt.txt"), os.path.join(program, "src", module + ".rt"))
-    with open(os.path.join(repository, "crates.txt"), "w", encoding="ascii") as crates_file:
-        crates_file.write(crates_txt(crates, name, uses))
-    run = subprocess.run(["rt", "run"], cwd=program, capture_output=True, text=True, check=False)
-    built = os.path.join(program, "out", name)
-    if not os.path.exists(built):
-        sys.exit(run.stdout + run.stderr)
-    return built
+def bench_program():
+    """The path of the program whose words measure the parts of a run. It is built by hand, as the program of a run is."""
+    if not os.path.exists(PROGRAM):
+        sys.exit("build the program first: (cd crates/bench_program && rt run)")
+    return PROGRAM
 
 
 def measured(command, **options):
