@@ -188,6 +188,18 @@ def picture(rows, roots):
     return "\n".join(["digraph plan {", *drawn, "}", ""]).encode()
 
 
+def wide(place, rows):
+    """A draft of 64 outputs with these inputs; the filled text, and the outputs' paths in order."""
+    names = [f"o{number}" for number in range(10, 74)]
+    outputs = lambda paths: ",".join(f'("{name}","{paths.get(name, "")}","","")' for name in names)
+    inputs = lambda texts: ",".join(map(used, sorted(texts)))
+    of_paths = inputs(row.path for row in rows)
+    digest = hashlib.sha256(text_of(outputs({}), inputs(row.modulo for row in rows))).hexdigest()
+    path_of = lambda name: make_path(f"output:{name}", digest, place.folder, f"many-{name}")
+    paths = {name: path_of(name) for name in names}
+    return text_of(outputs({}), of_paths), text_of(outputs(paths), of_paths), [*paths.values()]
+
+
 # What makes the outputs of `many_outputs`: each has the paths of so many before it.
 BEFORE = 300
 WRITER = """

@@ -17,7 +17,14 @@ STEPS = {
     "put": [1],
     "twins": [1],
     "text-path": [2],
-    "output-path": [2],
+    "output-path": [2, 3],
+    "fixed-path": [3],
+    "drv": [2],
+    "check": [2],
+    "beginnings": [0],
+    "plan": range(2, 6),
+    "add-drv": range(2, 6),
+    "journal": [1],
     "order": [2],
     "repeat": [3],
     "digest": [1],
@@ -79,6 +86,8 @@ class Step:
             known = labels <= RUN_TEXTS and {"status"} <= numbers <= RUN_NUMBERS
         elif self.kind == "twins":
             known = len(labels) == 2 and "" not in labels and not numbers
+        elif self.kind == "journal":
+            known = labels <= {"", "kept"} and not numbers
         else:
             known = labels <= {""} and not numbers
         if not known:

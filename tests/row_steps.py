@@ -1,14 +1,17 @@
 """Takes the steps of a row in a store folder of its own.
 
 A word in angle brackets stands for a text: `<dir>` for the store folder, `<bom>` for a byte order
-mark, and other words for what earlier steps name. `put any` writes a draft to `<dir>/file` and lets
-`add-drv` add it under the name `any`: then `<any>` stands for the derivation's path, and
-`<any.out>` for the path of its output `out`. `twins` does so with two drafts, of which the second
-may name the first: `<try>` is the first number with which the first path is the lesser, so both
-paths have to vary with it. `rising` does as `put` does, with the first number with which the paths
-of the outputs rise. `order` names the lesser and the greater of two paths `<lesser>` and
-`<greater>`. `digest <word>` lets a word stand for the SHA-256 digest of a text.
+mark, `<tab>` and `<cr>` for a tab and a carriage return, and other words for what earlier steps
+name. `put any` writes a draft to `<dir>/file` and lets `add-drv` add it under the name `any`: then
+`<any>` stands for the derivation's path, and `<any.out>` for the path of its output `out`. `twins`
+does so with two drafts, of which the second may name the first: `<try>` is the first number with
+which the first path is the lesser, so both paths have to vary with it. `rising` does as `put` does,
+with the first number with which the paths of the outputs rise. `order` names the lesser and the
+greater of two paths `<lesser>` and `<greater>`. `drv <any> any.drv` writes a derivation to its own
+path, which is computed here, as are those of `text-path`, `output-path` and `fixed-path`. `digest
+<word>` lets a word stand for the SHA-256 digest of a text.
 
+Steps of one line give a text to the program, and say what it tells of that (`row_texts.py`).
 `has-lines` compares the lines of a file in any order, `holds` its whole text.
 
 Below a run stand what it writes to standard output (`out`) and to standard error (`err`), and its
@@ -26,7 +29,9 @@ import signal
 import stat
 import subprocess
 
+from reading import own_path
 from row_faults import Fault, expect, told
+from row_texts import TEXTS
 from scenes import outputs_in
 from store_paths import make_path, text_path
 
@@ -60,7 +65,7 @@ class Scene:
         self.program, self.folder, self.texts = program, folder, texts
         self.dir = folder / "store"
         self.dir.mkdir()
-        self.names = {"<dir>": str(self.dir), "<bom>": "\ufeff"}
+        self.names = {"<dir>": str(self.dir), "<bom>": "\ufeff", "<tab>": "\t", "<cr>": "\r"}
 
     def said(self, text):
         """A text in which each word is replaced by its text."""
@@ -88,6 +93,8 @@ class Scene:
             self.take_run(step)
         elif step.kind in NAMING:
             NAMING[step.kind](self, step)
+        elif step.kind in TEXTS:
+            TEXTS[step.kind](self, step)
         else:
             FILES[step.kind](self, self.path(step.words[0]), step)
 
@@ -193,13 +200,37 @@ class Scene:
     def take_text_path(self, step):
         """Names the path that a text gets under a name."""
         word, name = step.words
-        self.names[word] = text_path(str(self.dir), name, self.text(step).encode())
+        self.names[word] = self.text_path(self.said(name), self.text(step))
+
+    def text_path(self, name, text):
+        """The path that a text gets under a name."""
+        return text_path(str(self.dir), name, text.encode())
 
     def take_output_path(self, step):
-        """Names the path of the output `out` of a draft without inputs."""
-        word, name = step.words
+        """Names the path of an output, `out` if no other is given, of a draft without inputs."""
+        word, name, output = [*step.words, "out"][:3]
+        name = self.said(name) if output == "out" else f"{self.said(name)}-{output}"
         digest = hashlib.sha256(self.text(step).encode()).hexdigest()
-        self.names[word] = make_path("output:out", digest, str(self.dir), name)
+        self.names[word] = make_path(f"output:{output}", digest, str(self.dir), name)
+
+    def take_fixed_path(self, step):
+        """Names the path of the output `out` that is fixed by a method, a colon and a digest."""
+        _, name, fixed = map(self.said, step.words)
+        kind, digest = "source", fixed.removeprefix("r:sha256:")
+        if digest == fixed:
+            kind, digest = "output:out", hashlib.sha256(f"fixed:out:{fixed}:".encode()).hexdigest()
+        self.names[step.words[0]] = make_path(kind, digest, str(self.dir), name)
+
+    def take_drv(self, step):
+        """Writes a derivation to its own path, and names that."""
+        word, name = step.words
+        self.names[word] = self.write_drv(self.said(name), self.text(step))
+
+    def write_drv(self, name, text):
+        """Writes a derivation to its own path under a name, and gives that path."""
+        path = own_path(os.fsencode(self.dir), name.encode(), text.encode()).decode()
+        pathlib.Path(path).write_text(text, newline="")
+        return path
 
     def take_order(self, step):
         """Names the lesser and the greater of two paths."""
@@ -208,7 +239,7 @@ class Scene:
     def take_repeat(self, step):
         """Lets a word stand for a letter that is repeated."""
         word, count, letter = step.words
-        self.names[word] = letter * int(count)
+        self.names[word] = self.said(letter) * int(count)
 
     def take_digest(self, step):
         """Lets a word stand for the SHA-256 digest of a text."""
@@ -309,6 +340,8 @@ NAMING = {
     "twins": Scene.take_twins,
     "text-path": Scene.take_text_path,
     "output-path": Scene.take_output_path,
+    "fixed-path": Scene.take_fixed_path,
+    "drv": Scene.take_drv,
     "order": Scene.take_order,
     "repeat": Scene.take_repeat,
     "digest": Scene.take_digest,

@@ -1,4 +1,4 @@
-//! Base-32 texts, and the words of a fault of names.
+//! Base-32 texts.
 use nix_names::{NameFault, from_base32, to_base32};
 use std::alloc::Global;
 use std::test::Fail;
@@ -61,11 +61,4 @@ fn texts_of_no_byte(rt: HostRuntime) {
     for (text, fault) in &REFUSED {
         assert!(rt; is_refused(rt.alloc(), text, *fault), "at {text}");
     }
-}
-
-#[test]
-fn words_of_a_fault(rt: HostRuntime) -> Result<(), Fail> {
-    let text = format!(in rt.alloc(); "{}", NameFault::BadChar(4))?;
-    assert!(rt; text.as_str() == "byte 4 is no base-32 digit");
-    Ok(())
 }

@@ -1,8 +1,6 @@
 //! Derivations read, made of parts, copied and written.
-ghost use Rattle.std.specs.Prelude.{◌≤◌};
-
 use crate::nix_derivations::derivations;
-use nix_drv::{Derivation, DrvFault, EnvEntry, MAX_LEN, Parts, read, write};
+use nix_drv::{Derivation, DrvFault, EnvEntry, Parts, read, write};
 use std::alloc::{AllocError, Global};
 use std::test::*;
 
@@ -152,116 +150,6 @@ fn elements_of_a_derivation(rt: HostRuntime) -> Result<(), Fail> {
     Ok(())
 }
 
-// A text, and the place at which it leaves the language or breaks the order of a list.
-struct PlaceRow {
-    text: &'static [u8],
-    is_order: bool,
-    place: usize,
-}
-
-static PLACE_ROWS: [PlaceRow; 12] = [
-    PlaceRow {
-        text: b"Derive([(\"out\",\"\",\"\",\"\")],[],[],\"x86_64-linux\",\"/bin/sh\",[\"-c\",\"echo hello > $out\"],[(\"out\",\"\")]))",
-        is_order: false,
-        place: 97,
-    },
-    PlaceRow {
-        text: b"Derive([],[],[],\"\\a\",\"\",[],[])",
-        is_order: false,
-        place: 18,
-    },
-    PlaceRow {
-        text: b"DrvWithVersion(",
-        is_order: false,
-        place: 1,
-    },
-    PlaceRow {
-        text: b"",
-        is_order: false,
-        place: 0,
-    },
-    PlaceRow {
-        text: b"Derive([],[],[\"/s\",],\"\",\"\",[],[])",
-        is_order: false,
-        place: 19,
-    },
-    PlaceRow {
-        text: b"Derive([],[],[\"/t\",\"/s\"],\"\",\"\",[],[)",
-        is_order: false,
-        place: 35,
-    },
-    PlaceRow {
-        text: b"Derive([],[],[],\"ab\n\",\"\",[],[])",
-        is_order: false,
-        place: 19,
-    },
-    PlaceRow {
-        text: b"Derive([],[],[],\"ab\r\",\"\",[],[])",
-        is_order: false,
-        place: 19,
-    },
-    PlaceRow {
-        text: b"Derive([],[],[],\"ab\t\",\"\",[],[])",
-        is_order: false,
-        place: 19,
-    },
-    PlaceRow {
-        text: b"Derive([],[],[],\"\",\"\",[],[(\"b\",\"\"),(\"a\",\"\")])",
-        is_order: true,
-        place: 35,
-    },
-    PlaceRow {
-        text: b"Derive([],[],[],\"\",\"\",[],[(\"a\",\"\"),(\"a\",\"\")])",
-        is_order: true,
-        place: 35,
-    },
-    PlaceRow {
-        text: b"Derive([],[(\"/p\",[\"out\",\"dev\"])],[],\"\",\"\",[],[])",
-        is_order: true,
-        place: 24,
-    },
-];
-
-fn place_rows() -> &'static [PlaceRow] {
-    &PLACE_ROWS
-}
-
-// Whether an answer is a fault at this place, of an order or of the syntax.
-fn is_placed(answer: &Result<Derivation, DrvFault>, is_order: bool, place: usize) -> bool {
-    match answer {
-        Err(DrvFault::Syntax(at)) => !is_order && *at == place,
-        Err(DrvFault::Order(at)) => is_order && *at == place,
-        _ => false,
-    }
-}
-
-// Whether the bytes are refused at this place, for an order or for the syntax.
-fn is_refused_at(alloc: Global, text: &[u8], is_order: bool, place: usize) -> bool {
-    let answer = read(alloc, text);
-    is_placed(&answer, is_order, place)
-}
-
-#[test]
-fn places_of_faults(rt: HostRuntime) {
-    for row in place_rows() {
-        assert!(rt;
-            is_refused_at(rt.alloc(), row.text, row.is_order, row.place),
-            "at {}",
-            row.place
-        );
-    }
-}
-
-#[test]
-fn each_beginning_of_a_draft(rt: HostRuntime) {
-    for len in 0..97 {
-        assert!(rt;
-            is_refused_at(rt.alloc(), &GREET[..len], false, len),
-            "{len} bytes"
-        );
-    }
-}
-
 // Whether an answer is a derivation that has this text, or a fault at a place of at most 97.
 fn is_written_or_placed(alloc: Global, answer: &Result<Derivation, DrvFault>, text: &[u8]) -> bool {
     match answer {
@@ -363,35 +251,6 @@ fn keys_must_rise_and_arguments_need_not(rt: HostRuntime) -> Result<(), Fail> {
     for (keys, args, count) in &PARTS_ROWS {
         let parts = with_texts(rt.alloc(), keys, args)?;
         assert!(rt; sorted_args(parts)? == *count);
-    }
-    Ok(())
-}
-
-// A derivation's text of `len` bytes, with a long system.
-fn long_text(alloc: Global, len: usize) -> Result<Vec<u8>, AllocError>
-    requires { 28 ≤ len }
-{
-    let mut text = Vec::new(alloc);
-    text.extend_from_slice(b"Derive([],[],[],\"")?;
-    text.resize(len - 11, b'a')?;
-    text.extend_from_slice(b"\",\"\",[],[])")?;
-    Ok(text)
-}
-
-// The length of a text's system, if the text isn't too long.
-fn system_length(alloc: Global, text: &[u8]) -> Result<Option<usize>, Fail> {
-    match read(alloc, text) {
-        Ok(drv) => Ok(Some(drv.system().len())),
-        Err(DrvFault::TooLong) => Ok(None),
-        Err(_) => Err("the bytes are a derivation".into()),
-    }
-}
-
-#[test]
-fn limit(rt: HostRuntime) -> Result<(), Fail> {
-    for (len, system) in [(MAX_LEN, Some(MAX_LEN - 28)), (MAX_LEN + 1, None)] {
-        let text = long_text(rt.alloc(), len)?;
-        assert!(rt; system_length(rt.alloc(), &text)? == system, "{len} bytes");
     }
     Ok(())
 }

@@ -3,12 +3,12 @@
 //!
 //! | Module | What is tested |
 //! |---|---|
-//! | `base32` | base-32 texts, and the words of a fault of names |
-//! | `store_paths` | store folders, and store paths parsed, made, copied and compared |
+//! | `base32` | base-32 texts |
+//! | `store_paths` | store paths made, copied and compared |
 //! | `derivations`, `parts`, `places` | derivations read, taken apart, made and written |
-//! | `checks` | derivations at their own paths and at other paths, sources, and numbers of faults |
+//! | `checks` | texts and derivations at the paths that Nix gave them, and sources of files |
 //! | `modulo_texts` | modulo texts |
-//! | `loads` | plans loaded, the faults of others, and drafts filled |
+//! | `loads` | plans loaded, their outputs and twins, and drafts filled |
 //! | `nix_derivations` | derivations that Nix wrote |
 #![tactic(auto)]
 

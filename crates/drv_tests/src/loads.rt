@@ -1,26 +1,20 @@
 //! Tests of loading.
-use drv_graph::Plan;
+use drv_graph::{GraphFault, NodeFault, Plan};
 use files::*;
-use nix_drv::{ListSource, ListedFile, read, references, text_path};
+use nix_drv::{ListSource, ListedFile};
 use nix_files::nix_files;
-use nix_names::{StoreDir, StorePath, make_path, parse_path};
+use nix_names::{StoreDir, StorePath, parse_path};
 use output_files::output_files;
 use std::alloc::{AllocError, Global};
 use std::test::*;
-use told::{told_from, told_of};
 use twin_files::*;
 
-mod chains;
-mod digests;
 mod files;
 mod filling;
-mod large;
 mod nix_files;
-mod orders;
 mod output_files;
 mod outputs;
 mod plans;
-mod told;
 mod twin_files;
 mod twins;
 mod words;
@@ -232,87 +226,6 @@ fn plans_of_roots(rt: HostRuntime) -> Result<(), Fail> {
     Ok(())
 }
 
-// Roots, the path at which loading them finds a fault, the fault's number, and the path that the
-// fault names, a text's own path.
-struct FaultRow {
-    label: &'static str,
-    roots: &'static [&'static [u8]],
-    at: &'static [u8],
-    number: u8,
-    named: &'static [u8],
-}
-
-static FAULT_ROWS: [FaultRow; 7] = [
-    FaultRow {
-        label: "a missing root",
-        roots: &[LEAF, GONE],
-        at: GONE,
-        number: 20,
-        named: b"",
-    },
-    FaultRow {
-        label: "an input of an input is missing",
-        roots: &[FAR],
-        at: GONE,
-        number: 20,
-        named: b"",
-    },
-    FaultRow {
-        label: "no outputs",
-        roots: &[NOTHING],
-        at: NOTHING,
-        number: 24,
-        named: b"",
-    },
-    FaultRow {
-        label: "the text of another path",
-        roots: &[MOVED],
-        at: MOVED,
-        number: 13,
-        named: OWN,
-    },
-    FaultRow {
-        label: "an output that the input hasn't",
-        roots: &[LEAF, ASKING],
-        at: ASKING,
-        number: 25,
-        named: b"",
-    },
-    FaultRow {
-        label: "an input with another path than its own",
-        roots: &[OVER],
-        at: WRONG,
-        number: 23,
-        named: b"",
-    },
-    FaultRow {
-        label: "the first of two faults",
-        roots: &[OVER, FAR],
-        at: WRONG,
-        number: 23,
-        named: b"",
-    },
-];
-
-fn fault_rows() -> &'static [FaultRow] {
-    &FAULT_ROWS
-}
-
-// Whether loading finds the row's fault. What faults of outputs name isn't looked into.
-fn has_fault(alloc: Global, row: &FaultRow) -> Result<bool, Fail> {
-    let told = told_of(alloc, row.roots, row.at, (b"", row.named))?;
-    let is_named = told.is_named || row.named.is_empty();
-    Ok(told.number == row.number && told.is_at && is_named)
-}
-
-#[test]
-fn faults_at_paths(rt: HostRuntime) -> Result<(), Fail> {
-    for row in fault_rows() {
-        assert!(rt; has_fault(rt.alloc(), row)?, "{}", row.label);
-    }
-    Ok(())
-}
-
 // The fetches for the root `BOTH`: their numbers and paths.
 static FETCHES: [(u64, &[u8]); 6] = [
     (0, BOTH),
@@ -323,11 +236,26 @@ static FETCHES: [(u64, &[u8]); 6] = [
     (5, SPLIT),
 ];
 
+// Whether an answer is that the file at the path can't be read.
+fn is_unreadable(answer: &Result<Plan, GraphFault>, path: &[u8]) -> bool {
+    match answer {
+        Err(GraphFault::At(at, NodeFault::Unreadable)) => at.text() == path,
+        _ => false,
+    }
+}
+
+// Whether loading `BOTH` by the source answers that the file at the path can't be read.
+fn is_blamed(alloc: Global, source: &mut ListSource, path: &[u8]) -> Result<bool, Fail> {
+    let dir = StoreDir::new(alloc, b"/nix/store")?;
+    let roots = parse_all(alloc, &dir, &[BOTH])?;
+    let answer = Plan::load(alloc, source, &dir, &roots);
+    Ok(is_unreadable(&answer, path))
+}
+
 // Whether loading `BOTH` fails at the path, if the fetch with this number fails; once.
 fn is_failed_fetch(alloc: Global, number: u64, path: &[u8]) -> Result<bool, Fail> {
     let mut source = all_but(alloc, &[number])?;
-    let told = told_from(alloc, &mut source, &[BOTH], path, (b"", b""))?;
-    Ok(told.number == 20 && told.is_at && source.failures() == 1)
+    Ok(is_blamed(alloc, &mut source, path)? && source.failures() == 1)
 }
 
 #[test]
@@ -352,63 +280,4 @@ fn failures_past(alloc: Global, number: u64) -> Result<u64, Fail> {
 fn each_path_is_fetched_once(rt: HostRuntime) -> Result<(), Fail> {
     assert!(rt; failures_past(rt.alloc(), 6)? == 0);
     Ok(())
-}
-
-// A digest's hex digits.
-fn digits_of(digest: &[u8; 32]) -> [u8; 64] {
-    let mut digits = [0; 64];
-    let _ = hex::encode_to_slice(digest, &mut digits);
-    digits
-}
-
-// Adds inputs to a text, each with its output `out`.
-fn add_inputs(text: &mut Vec<u8>, inputs: &[StorePath]) -> Result<(), AllocError> {
-    for (place, input) in inputs.iter().enumerate() {
-        if place > 0 {
-            text.extend_from_slice(b",")?;
-        }
-        text.extend_from_slice(b"(\"")?;
-        text.extend_from_slice(input.text())?;
-        text.extend_from_slice(b"\",[\"out\"])")?;
-    }
-    Ok(())
-}
-
-// The text of a derivation with these inputs and one fixed output, whose hash begins with the
-// place.
-fn link_text(
-    alloc: Global,
-    dir: &StoreDir,
-    place: u32,
-    inputs: &[StorePath],
-) -> Result<Vec<u8>, Fail> {
-    let mut digest = [0; 32];
-    digest[..4].copy_from_slice(&place.to_be_bytes());
-    let output = make_path(alloc, b"source", &digest, dir, b"link")?;
-    let parts: [&[u8]; 5] = [
-        b"Derive([(\"out\",\"",
-        output.text(),
-        b"\",\"r:sha256\",\"",
-        &digits_of(&digest),
-        b"\")],[",
-    ];
-    let mut text = parts.concat(alloc)?;
-    add_inputs(&mut text, inputs)?;
-    text.extend_from_slice(b"],[],\"s\",\"b\",[],[])")?;
-    Ok(text)
-}
-
-// Adds a derivation's text at its own path, and gives the path.
-fn add_text(
-    alloc: Global,
-    dir: &StoreDir,
-    files: &mut Vec<ListedFile>,
-    name: &[u8],
-    text: Vec<u8>,
-) -> Result<StorePath, Fail> {
-    let drv = read(alloc, &text)?;
-    let refs = references(alloc, dir, &drv)?;
-    let path = text_path(alloc, dir, name, &text, &refs)?;
-    push_file(alloc, files, path.text(), text)?;
-    Ok(path)
 }

@@ -1,4 +1,4 @@
-//! Store folders, and store paths parsed, made, copied and compared.
+//! Store paths made, copied and compared.
 use nix_names::{NameFault, StoreDir, StorePath, fold20, make_path, parse_path, to_base32};
 use std::alloc::Global;
 use std::collections::HashMap;
@@ -28,44 +28,6 @@ fn fold_of_empty(rt: HostRuntime) -> Result<(), Fail> {
     assert!(rt; digits.as_str() == "872b570e3c69850fe2a94c9d996fb92427ae41e4");
     let text = to_base32(rt.alloc(), &folded)?;
     assert!(rt; text.as_bytes() == EMPTY_HASH);
-    Ok(())
-}
-
-// A text, and the reason why it is no path in `/nix/store`; none where it is one.
-static PARSED: [(&[u8], Option<NameFault>); 6] = [
-    (EMPTY, None),
-    (
-        b"/nix/store/wi0sw9r4p5prk7acm7i0z1b97h75faw7",
-        Some(NameFault::BadHashPart),
-    ),
-    (
-        b"/nix/store/wi0sw9r4p5prk7acm7i0z1b97h75faw7-",
-        Some(NameFault::BadName),
-    ),
-    (
-        b"/nix/store/wi0sw9r4p5prk7acm7i0z1b97h75faw7-.-x",
-        Some(NameFault::BadName),
-    ),
-    (
-        b"/nix/store/ei0sw9r4p5prk7acm7i0z1b97h75faw7-empty",
-        Some(NameFault::BadHashPart),
-    ),
-    (
-        b"/nix/stor/aaaaaaaaaaaaaaaaaaaaaaaaaaaaaaaa-x",
-        Some(NameFault::NotInStore),
-    ),
-];
-
-fn is_parsed(alloc: Global, dir: &StoreDir, text: &[u8], fault: Option<NameFault>) -> bool {
-    parse_path(alloc, dir, text).err() == fault
-}
-
-#[test]
-fn texts_of_paths(rt: HostRuntime) -> Result<(), Fail> {
-    let dir = StoreDir::new(rt.alloc(), b"/nix/store")?;
-    for (text, fault) in &PARSED {
-        assert!(rt; is_parsed(rt.alloc(), &dir, text, *fault));
-    }
     Ok(())
 }
 
@@ -140,31 +102,6 @@ fn paths_of_fingerprints(rt: HostRuntime) -> Result<(), Fail> {
     let bad = is_made(rt.alloc(), &dir, b"text", b"..", b"");
     assert!(rt; bad.err() == Some(NameFault::BadName));
     Ok(())
-}
-
-// Folders, and whether they may hold a store.
-static FOLDERS: [(&[u8], bool); 7] = [
-    (b"/gnu/store", true),
-    (b"", false),
-    (b"/", false),
-    (b"nix", false),
-    (b"/nix/", false),
-    (b"/nix//store", false),
-    (b"/nix/../store", false),
-];
-
-fn is_answered(alloc: Global, text: &[u8], is_good: bool) -> bool {
-    match StoreDir::new(alloc, text) {
-        Ok(dir) => is_good && dir.text() == text,
-        Err(fault) => !is_good && fault == NameFault::BadStoreDir,
-    }
-}
-
-#[test]
-fn store_folders(rt: HostRuntime) {
-    for (text, is_good) in &FOLDERS {
-        assert!(rt; is_answered(rt.alloc(), text, *is_good));
-    }
 }
 
 // A map that holds 1 at the path.

@@ -19,35 +19,8 @@ pub(crate) const RIGHT: &[u8] = b"/nix/store/9hn5y3i0n94gfb2s1zr5z79jkx977sip-ri
 /// A user of `LEFT` and `RIGHT`.
 pub(crate) const TOP: &[u8] = b"/nix/store/c06xh9pi0srqydn095mvfy782dpgak6v-top.drv";
 
-/// A user of `GONE`.
-pub(crate) const NEAR: &[u8] = b"/nix/store/acr9nzg4vmdr9s6fkv9wxyhxh49lxxqn-near.drv";
-
-/// A user of `NEAR`.
-pub(crate) const FAR: &[u8] = b"/nix/store/09dln05jj1anwsfp0ijlxf2nfcshbz2c-far.drv";
-
 /// Another derivation with the output of `LEAF`.
 pub(crate) const TWIN: &[u8] = b"/nix/store/3kncmmxnrnj6rfaszzg2jp40n520irpc-leaf.drv";
-
-/// Names the output `doc` of `LEAF`, which `LEAF` hasn't.
-pub(crate) const ASKING: &[u8] = b"/nix/store/w6fiin11k3l6n2fr6khbvwv6y4f54ky0-asking.drv";
-
-/// A user of `LEAF`, with the path of another output.
-pub(crate) const WRONG: &[u8] = b"/nix/store/93ka8jzjx2rnzqal3zyh3c0gsk58hnwj-wrong.drv";
-
-/// A user of `WRONG`.
-pub(crate) const OVER: &[u8] = b"/nix/store/blvss0qcq2jlx0abwg69fqqkgl9b7b2w-over.drv";
-
-/// The derivation of nothing.
-pub(crate) const NOTHING: &[u8] = b"/nix/store/5lhp9n6nphjda2gcbmin4vshljbil6kq-nothing.drv";
-
-/// A path without a file.
-pub(crate) const GONE: &[u8] = b"/nix/store/w2izfm307infjbsm5nrnqlvm5gvqmf3s-gone.drv";
-
-/// The text of `LEAF`, at another path than its own.
-pub(crate) const MOVED: &[u8] = b"/nix/store/00000000000000000000000000000000-moved.drv";
-
-/// The path of that text under that name.
-pub(crate) const OWN: &[u8] = b"/nix/store/5j091d4jr6i1hgv0cm4qwb73fj9g8kdr-moved.drv";
 
 /// A user of `UNICODE`, `USER` and `SPLIT`.
 pub(crate) const BOTH: &[u8] = b"/nix/store/s667mngmigv270rpvh08nih0jmkw5268-both.drv";
@@ -64,7 +37,7 @@ pub(crate) const SRC: &[u8] = b"/nix/store/cjq8n83qy5g1f7zaap1rwm9433s8lq8q-src.
 
 pub(crate) const GREET: &[u8] = b"/nix/store/kdc81748wrwf717c0gr4rxm3yy21gxpx-greet.drv";
 
-static FILES: [File; 18] = [
+static FILES: [File; 11] = [
     File {
         path: LEAF,
         text: b"Derive([(\"out\",\"/nix/store/dc3r1sz1nl2lzh0gh17nh592yg586zir-leaf\",\"r:sha256\",\"9f91161f43433e49a6de6db680d79f60159f2e4ac9172621a12846428158440b\")],[],[],\"s\",\"b\",[],[])",
@@ -82,36 +55,8 @@ static FILES: [File; 18] = [
         text: b"Derive([(\"out\",\"/nix/store/pqpsfr49sp4knw01ppv3nkvxx2qksa9i-top\",\"r:sha256\",\"28720365c5e7476a011e4f43ac003ee5f16247a263b9d623aa85ed311d73bf39\")],[(\"/nix/store/9hn5y3i0n94gfb2s1zr5z79jkx977sip-right.drv\",[\"out\"]),(\"/nix/store/mnhc9rxw2dy5n8j3g5yavi11w7r2n2ay-left.drv\",[\"out\"])],[],\"s\",\"b\",[],[])",
     },
     File {
-        path: NEAR,
-        text: b"Derive([(\"out\",\"/nix/store/c2cdamajzpxhwp98z05zvkwsrykpxcnc-near\",\"r:sha256\",\"46ba34770bccfde756708d47d83fb7c8257fe8a4b3a35f25d385a8284021f476\")],[(\"/nix/store/w2izfm307infjbsm5nrnqlvm5gvqmf3s-gone.drv\",[\"out\"])],[],\"s\",\"b\",[],[])",
-    },
-    File {
-        path: FAR,
-        text: b"Derive([(\"out\",\"/nix/store/633w08ihqqqcbh68dj8j9b6a71i1w6ax-far\",\"r:sha256\",\"512eea46ceb3921dff4363c7069d89d4964d1d9fccaa0f411851a7aa60a5c868\")],[(\"/nix/store/acr9nzg4vmdr9s6fkv9wxyhxh49lxxqn-near.drv\",[\"out\"])],[],\"s\",\"b\",[],[])",
-    },
-    File {
         path: TWIN,
         text: b"Derive([(\"out\",\"/nix/store/dc3r1sz1nl2lzh0gh17nh592yg586zir-leaf\",\"r:sha256\",\"9f91161f43433e49a6de6db680d79f60159f2e4ac9172621a12846428158440b\")],[],[],\"s\",\"other\",[],[])",
-    },
-    File {
-        path: ASKING,
-        text: b"Derive([(\"out\",\"/nix/store/yf9dmsfr03019vfw6s07ym7dw89mgxiq-asking\",\"r:sha256\",\"8636c9478370900bee1ac6a093769b8d042c307e9ab94fcb7b2a41fdd19cd00b\")],[(\"/nix/store/qhjk3ym55bxb3xbjjrgrjjpcm8rgrggf-leaf.drv\",[\"doc\"])],[],\"s\",\"b\",[],[])",
-    },
-    File {
-        path: WRONG,
-        text: b"Derive([(\"out\",\"/nix/store/74vdi03gb2gb9qaaf2qsdljwbdiwr58h-wrong\",\"r:sha256\",\"8810ad581e59f2bc3928b261707a71308f7e139eb04820366dc4d5c18d980225\")],[(\"/nix/store/qhjk3ym55bxb3xbjjrgrjjpcm8rgrggf-leaf.drv\",[\"out\"])],[],\"s\",\"b\",[],[])",
-    },
-    File {
-        path: OVER,
-        text: b"Derive([(\"out\",\"/nix/store/42qkjz2k073s4xngdxciv57agc09idjy-over\",\"r:sha256\",\"5fb6a47e368e12e5d8b19280796e6a3d146fe391ed2e967d5f95c55bfb0f9c2f\")],[(\"/nix/store/93ka8jzjx2rnzqal3zyh3c0gsk58hnwj-wrong.drv\",[\"out\"])],[],\"s\",\"b\",[],[])",
-    },
-    File {
-        path: NOTHING,
-        text: b"Derive([],[],[],\"\",\"\",[],[])",
-    },
-    File {
-        path: MOVED,
-        text: b"Derive([(\"out\",\"/nix/store/dc3r1sz1nl2lzh0gh17nh592yg586zir-leaf\",\"r:sha256\",\"9f91161f43433e49a6de6db680d79f60159f2e4ac9172621a12846428158440b\")],[],[],\"s\",\"b\",[],[])",
     },
     File {
         path: BOTH,
