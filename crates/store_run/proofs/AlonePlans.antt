@@ -32,7 +32,7 @@ store = codes "/nix/store"
 pub one_of : {X : Type 0} (x y : X) → Contains (x ∷ []) y → x ≡ y
 one_of x y has = search (rules, Contains-nothing, Contains-cons_cases)
 
-all_one : {X : Type 0} (P : X → Type 0) (x : X) → P x → All P (x ∷ [])
+pub all_one : {X : Type 0} (P : X → Type 0) (x : X) → P x → All P (x ∷ [])
 all_one P x is = All-cons P x [] is (All-nil P)
 
 pub all_two : {X : Type 0} (P : X → Type 0) (x y : X) → P x → P y → All P (x ∷ y ∷ [])
@@ -74,7 +74,7 @@ module _ (recipe : Recipe) (out algo hash : List ℕ) where
   }
 
   -- the entry of its environment under the output's name is the output's path
-  env_value : (entry : EnvEntry) → Contains drv_with.env entry → entry.key ≡ codes "out"
+  pub env_value : (entry : EnvEntry) → Contains drv_with.env entry → entry.key ≡ codes "out"
       → entry.value ≡ out
   env_value entry (zero, low, is) key = search rules
   env_value entry (suc zero, low, is) key = search rules

@@ -212,7 +212,7 @@ making_args = vec_of (codes "-c") (omega arith)
 module _ (recipe : Recipe) (short : length recipe.name < 256)
     (few : length recipe.builder < 2 ^ 63) (args : List (Vec ℕ Global))
     (few_args : length args < 2 ^ 63) (out : List ℕ) (out_few : length out < 1000) (kind : Kind)
-    (d : ℕ) where
+    (d : ℕ) (seeds : List (List ℕ)) (few_seeds : length seeds < 2 ^ 63) where
   env_entries : List EnvEntryStruct
   env_entries =
       env_of (codes "builder") recipe.builder (omega arith) few
@@ -232,7 +232,7 @@ module _ (recipe : Recipe) (short : length recipe.name < 256)
     env = vec_of env_entries (omega arith);
     outputs = vec_of (job_output ∷ []) (omega arith);
     kind = kind;
-    seeds = vec_of [] (omega arith);
+    seeds = vec_of seeds few_seeds;
   }
 
   pub is_job_of : (graph : Graph) (node : Node) → slice_get graph.nodes d ≡ Some node
@@ -240,9 +240,9 @@ module _ (recipe : Recipe) (short : length recipe.name < 256)
       → (drv_alone recipe out).env ≡ node.drv.env
       → codes "out" ∷ [] ≡ map (λ (o : Output). o.name) node.drv.outputs
       → out ∷ [] ≡ output_paths_of node.drv → HasKind node.drv kind
-      → [] ≡ seeds_of graph.nodes node.drv → IsJob graph d job_of
+      → seeds ≡ seeds_of graph.nodes node.drv → IsJob graph d job_of
   unfolding job_of env_entries env_of job_output
-  is_job_of graph node at builder same env names paths has_kind seeds = record {
+  is_job_of graph node at builder same env names paths has_kind are = record {
     node = node;
     is_node = at;
     derivation = refl;
@@ -252,13 +252,13 @@ module _ (recipe : Recipe) (short : length recipe.name < 256)
     names = names;
     paths = paths;
     kind = has_kind;
-    seeds = seeds;
+    seeds = are;
   }
 
 -- the job of right, by its number
 pub job_of_right : ℕ → Job
 job_of_right d = job_of making (omega arith) (omega arith) making_args (omega arith)
-    (out_alone making) (out_short _ (omega arith)) Addressed d
+    (out_alone making) (out_short _ (omega arith)) Addressed d [] (omega arith)
 
 pub is_job_of_right : (graph : Graph) (d : ℕ) → slice_get graph.nodes d ≡ Some right
     → IsJob graph d (job_of_right d)
@@ -269,14 +269,14 @@ is_job_of_right graph d at = search (rules, is_job_of, making_args, out_short, k
 
 pub left_job : Job
 left_job = job_of failing (omega arith) (omega arith) [] (omega arith) (out_alone failing)
-    (out_short _ (omega arith)) Addressed 0
+    (out_short _ (omega arith)) Addressed 0 [] (omega arith)
 
 pub left_is_job : IsJob both.graph 0 left_job
 unfolding left_job
 left_is_job =
     is_job_of _ _ (omega arith) [] (omega arith) (out_alone failing)
-    (out_short _ (omega arith)) Addressed 0 both.graph left refl refl refl refl refl refl
-    (kind_alone _) refl
+    (out_short _ (omega arith)) Addressed 0 [] (omega arith) both.graph left refl refl refl refl
+    refl refl (kind_alone _) refl
 
 pub left_answer : Answer
 left_answer = record { status = Some (pos 1); trees = vec_of [] (omega arith) }

@@ -30,7 +30,7 @@ use Rattle.run_states.proofs.OtherEvents.{phase_other, same_or_other}
 -- ---- the outcomes that were given
 
 -- something has become of a derivation
-abbrev IsOver : Phase → Type 0
+abbrev pub IsOver : Phase → Type 0
 IsOver Idle = ⊥
 IsOver (Begun lease) = ⊥
 IsOver Ended = Unit {0}
@@ -54,7 +54,7 @@ module _ (excused : Reason → Type 0) (may : Job → Result Answer Reason → T
   outcome_failed entries d reason (inr behind) = outcome_behind entries d (Err reason) behind
 
   -- what each derivation was given, where anything became of it
-  abbrev outcomes_in : (history : History) → IsTold excused may run history → ℕ
+  abbrev pub outcomes_in : (history : History) → IsTold excused may run history → ℕ
       → Result Answer Reason
   outcomes_in _ (told_opening entries journal) d = Err OutOfMemory
   outcomes_in _ (told_begin history e told legal can) d = outcomes_in history told d
@@ -102,7 +102,7 @@ module _ (excused : Reason → Type 0) (may : Job → Result Answer Reason → T
         by false same is = is
 
     -- where the listed outcomes are those that were given
-    given_in : (history : History) (told : IsTold excused may run history)
+    pub given_in : (history : History) (told : IsTold excused may run history)
         → ((d : ℕ) → IsOver (phase_of history.events d) → outcomes_in history told d ≡ outcomes d)
         → IsTold excused (GivesEach may outcomes) run history
     given_in _ (told_opening entries journal) are = told_opening entries journal
@@ -146,7 +146,7 @@ module _ (excused : Reason → Type 0) (may : Job → Result Answer Reason → T
         (are e (subst IsOver (sym (phase_broken history.events e lease reason)) tt))))
 
 -- a told history is answered
-answered_from : (may : Job → Result Answer Reason → Type 0) (run : Run) (history : History)
+pub answered_from : (may : Job → Result Answer Reason → Type 0) (run : Run) (history : History)
     → IsTold (λ reason. reason ≡ OutOfMemory) may run history → IsAnswered may run history
 answered_from may run _ (told_opening entries journal) = answered_opening entries
 answered_from may run _ (told_begin history d told legal can) =
@@ -173,7 +173,7 @@ one_outcome may outcomes graph d job again permitted x y a b is is' gives gives'
     by (Err reason) on on' = on ∙ sym on'
 
 -- such a run is a whole one
-whole_by : (may : Job → Result Answer Reason → Type 0) (run : Run) (history : History)
+pub whole_by : (may : Job → Result Answer Reason → Type 0) (run : Run) (history : History)
     (outcomes : ℕ → Result Answer Reason) → IsEndedRun (GivesEach may outcomes) run history
     → IsWholeRun (GivesEach may outcomes) run history
 whole_by may run history outcomes end = search (rules, one_outcome, outcomes)

@@ -2,9 +2,17 @@ pub mod Alike
 pub mod AlonePlans
 pub mod Answered
 pub mod Carried
+pub mod CutOpenings
+pub mod CutReports
+pub mod CutStates
+pub mod CutsJoined
+pub mod DiamondJobs
+pub mod DiamondPlan
+pub mod DiamondRuns
 pub mod ExampleJobs
 pub mod Examined
 pub mod GivenOutcomes
+pub mod Interruptions
 pub mod OneOutcome
 pub mod OneThreads
 pub mod Openings

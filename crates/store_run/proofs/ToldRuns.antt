@@ -46,7 +46,7 @@ same_history a b opening entries events = search rules
 
 module _ (may : Job → Result Answer Reason → Type 0) (run : Run) where
   -- what is answered behind a Begin was so before it
-  answered_before_begin : (g : History) → IsAnswered may run g → (history : History) (d : ℕ)
+  pub answered_before_begin : (g : History) → IsAnswered may run g → (history : History) (d : ℕ)
       → g ≡ begun history d → IsAnswered may run history
   answered_before_begin _ (answered_opening entries) history d is = search (rules, no_push)
   answered_before_begin _ (answered_begin before e answered) history d is =
@@ -57,15 +57,15 @@ module _ (may : Job → Result Answer Reason → Type 0) (run : Run) where
       search (rules, same_from_push)
 
   -- what an answered Done tells
-  record WasDone (history : History) (d : ℕ) (entry : Entry) : Type 0 where
-    before : IsAnswered may run history
-    node : Node
-    infos : List PathInfo
-    is_node : slice_get run.graph.nodes d ≡ Some node
-    came : IsVerdictBehind may run history.entries d (Ok infos)
-    is_entry : IsEntryOf node infos entry
+  pub record WasDone (history : History) (d : ℕ) (entry : Entry) : Type 0 where
+    pub before : IsAnswered may run history
+    pub node : Node
+    pub infos : List PathInfo
+    pub is_node : slice_get run.graph.nodes d ≡ Some node
+    pub came : IsVerdictBehind may run history.entries d (Ok infos)
+    pub is_entry : IsEntryOf node infos entry
 
-  answered_by_done : (g : History) → IsAnswered may run g
+  pub answered_by_done : (g : History) → IsAnswered may run g
       → (history : History) (d lease : ℕ) (entry : Entry)
       → g ≡ ended history d lease entry → WasDone history d entry
   answered_by_done _ (answered_opening entries) history d lease entry is = search (rules, no_push)
@@ -94,11 +94,11 @@ module _ (may : Job → Result Answer Reason → Type 0) (run : Run) where
       search (rules, same_from_push)
 
   -- what an answered Fail tells
-  record WasFailed (history : History) (d : ℕ) (reason : Reason) : Type 0 where
-    before : IsAnswered may run history
-    why : (reason ≡ OutOfMemory) ⊎ IsVerdictBehind may run history.entries d (Err reason)
+  pub record WasFailed (history : History) (d : ℕ) (reason : Reason) : Type 0 where
+    pub before : IsAnswered may run history
+    pub why : (reason ≡ OutOfMemory) ⊎ IsVerdictBehind may run history.entries d (Err reason)
 
-  answered_by_fail : (g : History) → IsAnswered may run g
+  pub answered_by_fail : (g : History) → IsAnswered may run g
       → (history : History) (d lease : ℕ) (reason : Reason)
       → g ≡ failed history d lease reason → WasFailed history d reason
   answered_by_fail _ (answered_opening entries) history d lease reason is = search (rules, no_push)

@@ -79,7 +79,7 @@ not_open (Building lease) closed = absurd (closed (inr (inr (lease, refl))))
 not_open Ready closed = absurd (closed (inr (inl refl)))
 not_open Blocked closed = absurd (closed (inl refl))
 
-closed_is : (s : State) → (IsOpen s → ⊥) → is_open s ≡ false
+pub closed_is : (s : State) → (IsOpen s → ⊥) → is_open s ≡ false
 closed_is Done closed = refl
 closed_is Reused closed = refl
 closed_is (Failed reason) closed = refl

@@ -94,7 +94,7 @@ third_behind entries = record {
 
 -- ---- what is registered
 
-same_digest : (method other : Method) (a b : Digest) → Fixed method a ≡ Fixed other b → a ≡ b
+pub same_digest : (method other : Method) (a b : Digest) → Fixed method a ≡ Fixed other b → a ≡ b
 same_digest method other a b same = cc
 
 second_allowed : IsAllowed three.graph [] second_twin (file_in ∷ [])

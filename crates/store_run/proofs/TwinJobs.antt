@@ -47,17 +47,18 @@ file_fits (Dir' shape entries) is = absurd (let clash = is.0 in cc)
 abbrev pub file_in : PathInfo
 file_in = record { references = []; digest = Some empty_digest }
 
-no_fault : (tree : Tree) → IsEmptyFile tree → (why : Reason) → IsTreeFault empty_kind tree why → ⊥
-no_fault tree is TooLarge unfit = unfit (file_fits _ is)
-no_fault tree is NotFlatFile fault = search rules
-no_fault tree is HashMismatch fault = search rules
-no_fault tree is (ExitStatus n) none = none
-no_fault tree is NoStart none = none
-no_fault tree is (MissingOutput n) none = none
-no_fault tree is OutputCycle none = none
-no_fault tree is ReadFault none = none
-no_fault tree is OutOfMemory none = none
-no_fault tree is Killed none = none
+pub no_file_fault : (tree : Tree) → IsEmptyFile tree → (why : Reason)
+    → IsTreeFault empty_kind tree why → ⊥
+no_file_fault tree is TooLarge unfit = unfit (file_fits _ is)
+no_file_fault tree is NotFlatFile fault = search rules
+no_file_fault tree is HashMismatch fault = search rules
+no_file_fault tree is (ExitStatus n) none = none
+no_file_fault tree is NoStart none = none
+no_file_fault tree is (MissingOutput n) none = none
+no_file_fault tree is OutputCycle none = none
+no_file_fault tree is ReadFault none = none
+no_file_fault tree is OutOfMemory none = none
+no_file_fault tree is Killed none = none
 
 -- the output's path has a hash part, which stands in no empty file
 hash_long : length (hash_part_of (out_empty (codes "src"))) ≡ 32
@@ -69,7 +70,7 @@ none_within part before after long is =
     let sum : 0 ≡ length (before ++ (part ++ after)) = ap length is in
     omega (arith, sum, long, length-append before (part ++ after), length-append part after)
 
-none_occurs : (part : List ℕ) → length part ≡ 32 → OccursIn part ([] ∷ []) → ⊥
+pub none_occurs : (part : List ℕ) → length part ≡ 32 → OccursIn part ([] ∷ []) → ⊥
 none_occurs part long (k, bytes, low, is, within) = search (rules, none_within, one_of)
 
 record_of_file : (tree : Tree) → IsEmptyFile tree
@@ -109,7 +110,7 @@ module _ (job : Job) (is_job : IsJob three.graph 1 job) where
   second_verdict answer left_behind =
       let file = left_behind.1.0 in
       one_verdict _ second_one_output _ _ left_behind.0 left_behind.1.2
-      (λ why fault. no_fault _ left_behind.1.1 _
+      (λ why fault. no_file_fault _ left_behind.1.1 _
       (subst (λ (k : Kind). IsTreeFault k file why) second_kind fault))
       _ _ refl
       (subst (λ (k : Kind). IsRecordOf (algorithm_for k) (out_empty (codes "src") ∷ []) file
@@ -201,28 +202,28 @@ three_outcome = allowed_is_one may_leave_file three.graph allows_one
 
 -- ---- a job and an answer for each
 
-abbrev script_args : List (Vec ℕ Global)
+abbrev pub script_args : List (Vec ℕ Global)
 script_args = vec_of (codes "-c") (omega arith) ∷ vec_of script (omega arith) ∷ []
 
 pub first_job : Job
 first_job = job_of failing_twin (omega arith) (omega arith) [] (omega arith)
-    (out_empty (codes "src")) output_short empty_kind 0
+    (out_empty (codes "src")) output_short empty_kind 0 [] (omega arith)
 
 pub first_is_job : IsJob three.graph 0 first_job
 unfolding first_job
 first_is_job =
     is_job_of _ _ _ [] (omega arith)
-    (out_empty (codes "src")) output_short empty_kind 0 three.graph first_twin refl refl refl
-    refl refl refl (kind_empty failing_twin) refl
+    (out_empty (codes "src")) output_short empty_kind 0 [] (omega arith) three.graph first_twin
+    refl refl refl refl refl refl (kind_empty failing_twin) refl
 
 pub second_job : Job
 second_job = job_of making_twin (omega arith) (omega arith) script_args (omega arith)
-    (out_empty (codes "src")) output_short empty_kind 1
+    (out_empty (codes "src")) output_short empty_kind 1 [] (omega arith)
 
 pub second_is_job : IsJob three.graph 1 second_job
 unfolding second_job
 second_is_job =
-    is_job_of _ _ _ _ _ _ _ _ 1 _ _ refl refl refl refl refl refl (kind_empty making_twin) refl
+    is_job_of _ _ _ _ _ _ _ _ 1 _ _ _ _ refl refl refl refl refl refl (kind_empty making_twin) refl
 
 pub second_answer : Answer
 second_answer = record {

@@ -1,6 +1,8 @@
 -- What public contracts cite, and what that rests on.
 pub mod Builders
+pub mod DiamondExample
 pub mod GivenOutcomes
+pub mod Interruptions
 pub mod Numbers
 pub mod OneThread
 pub mod Realising

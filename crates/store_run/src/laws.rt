@@ -6,8 +6,10 @@ ghost use Rattle.drv_graph.specs.Nodes.{output_paths_of};
 ghost use Rattle.drv_graph.specs.Plans.{AreTwins, IsPlan};
 ghost use Rattle.run_states.specs.Runs.{state_in};
 ghost use Rattle.build_outcome.specs.declared.reason.Reason.TheVariants.{ExitStatus};
-ghost use Rattle.run_states.specs.declared.state.State.TheVariants.{Blocked, Done, Failed, Ready};
+ghost use Rattle.run_states.specs.declared.state.State.TheVariants.{Blocked, Done, Failed, Ready, Reused};
+ghost use Rattle.store_run.specs.DiamondExample.{cut_behind_left, diamond, may_make, taken_up};
 ghost use Rattle.store_run.specs.GivenOutcomes.{EqualOutcomesAreAlike, OutcomesDecide};
+ghost use Rattle.store_run.specs.Interruptions.{AnyInterruption, CutsAreOne, IsTakenUp};
 ghost use Rattle.store_run.specs.OneThread.{IsOneThread};
 ghost use Rattle.store_run.specs.SameOutcomes.{AllowedIsOne};
 ghost use Rattle.store_run.specs.ScheduleExample.{Overlap, both, in_turn, left, may_leave, right, side_by_side, two_files};
@@ -65,6 +67,21 @@ pub fn equal_outcomes_are_alike<B: Build>()
     ensures { EqualOutcomesAreAlike B.may }
 {}
 
+/// Outcomes, one for each derivation, decide what a run comes to that was cut, and started again
+/// over what it had registered: what it was given before the cut where it built something, else
+/// what it was given behind it. One thread that was not cut, and is given the same outcomes,
+/// registers the same records, tells of the same failures and refusals, and has the same outputs of
+/// the roots. The plan has no twins, and no source is an output of it.
+pub fn any_interruption<B: Build>()
+    ensures { AnyInterruption B.may }
+{}
+
+/// Two such cuts, one behind the other, are as one. So the law holds of a run that was cut any
+/// number of times.
+pub fn cuts_are_one<B: Build>()
+    ensures { CutsAreOne B.may }
+{}
+
 /// There are whole runs in which builds overlap and one of them fails. The plan is loaded from two
 /// files; both derivations are under way at once, the first fails, and the second is built. One
 /// thread leaves the events in another order.
@@ -101,4 +118,16 @@ pub fn twin_is_built_after_the_first_failed()
     ensures built { state_in three tried_again 1 ≡ Done }
     ensures third { state_in three tried_again 2 ≡ Done }
     ensures in_turn { IsOneThread may_leave_file three [] one_by_one }
+{}
+
+/// There are runs that were cut and taken up. The plan is a diamond. Before the cut base and left
+/// are built, and right fails. Over what that run registered right is built, since its builder
+/// answers otherwise the second time, and then top; base and left are reused.
+pub fn diamond_is_cut_and_taken_up()
+    ensures taken_up { IsTakenUp may_make diamond cut_behind_left taken_up }
+    ensures failed { state_in diamond cut_behind_left 2 ≡ Failed (ExitStatus (pos 1)) }
+    ensures base { state_in diamond taken_up 0 ≡ Reused }
+    ensures left { state_in diamond taken_up 1 ≡ Reused }
+    ensures right { state_in diamond taken_up 2 ≡ Done }
+    ensures top { state_in diamond taken_up 3 ≡ Done }
 {}
