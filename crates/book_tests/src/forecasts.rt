@@ -1,6 +1,5 @@
-//! Forecasts, each beside the report of a run whose builders make their outputs.
-use crate::books::{Pieces, joined, journal, open, plan, report, system};
-use crate::builders::{Script, build_all};
+//! The texts of forecasts. Rows of `tests/rows` say them beside the reports of the runs.
+use crate::books::{Pieces, joined, journal, plan, system};
 use crate::files::*;
 use crate::hindered::ASKING;
 use crate::rows::{BEHIND, CLOSED, END, NONE, OUTPUT, VERSION};
@@ -8,10 +7,9 @@ use crate::twin_files::*;
 use crate::twin_rows::WRONG_SYSTEM;
 use drv_graph::Plan;
 use forecast::Forecast;
-use sched_core::Book;
-use std::alloc::{AllocError, Global};
+use std::alloc::Global;
 use std::test::*;
-use valid_table::{Journal, ListOutlet};
+use valid_table::Journal;
 
 // A run: its roots, the lines of its journal, its forecast, and whether the forecast is whole.
 struct Row {
@@ -200,13 +198,6 @@ static ROWS: [Row; 15] = [
     },
 ];
 
-// With it every builder makes its outputs, also that of `BROKEN`.
-static MAKING: [Script; 1] = [Script {
-    output: MADE_OUT,
-    status: Some(0),
-    files: &[Some(b"")],
-}];
-
 // The forecast of a run over a plan that opens with a journal.
 fn forecast_of(alloc: Global, plan: Plan, journal: Journal) -> Result<Forecast, Fail> {
     let system = system(alloc)?;
@@ -224,40 +215,6 @@ fn text_of(alloc: Global, row: &Row) -> Result<(Vec<u8>, bool), Fail> {
     Ok((forecast.text()?, forecast.is_whole()))
 }
 
-// A report's piece in place of this piece of a forecast.
-fn reported(piece: &'static [u8]) -> &'static [u8] {
-    if piece == BUILD {
-        return b"built ";
-    }
-    if piece == REUSE {
-        return b"reused ";
-    }
-    if piece == REFUSE { b"refused " } else { piece }
-}
-
-// The report that is forecast.
-fn report_of(alloc: Global, told: Pieces) -> Result<Vec<u8>, AllocError> {
-    let mut text = Vec::new(alloc);
-    for piece in told {
-        text.extend_from_slice(reported(piece))?;
-    }
-    Ok(text)
-}
-
-// The report of a book, when every derivation that can be built is built.
-fn report_at_end(alloc: Global, book: &mut Book<ListOutlet>) -> Result<Vec<u8>, Fail> {
-    build_all(alloc, book, &MAKING)?;
-    report(book)
-}
-
-// The report of a run whose builders make their outputs.
-fn run(alloc: Global, row: &Row) -> Result<Vec<u8>, Fail> {
-    let mut book = open(alloc, row.roots, row.before)?;
-    let report = report_at_end(alloc, &mut book);
-    book.close();
-    report
-}
-
 #[test]
 fn texts_of_forecasts(rt: HostRuntime) -> Result<(), Fail> {
     for row in &ROWS {
@@ -265,15 +222,6 @@ fn texts_of_forecasts(rt: HostRuntime) -> Result<(), Fail> {
         let told = joined(rt.alloc(), row.told)?;
         assert_eq!(rt; text, told, "{}", row.label);
         assert_eq!(rt; is_whole, row.whole, "{}", row.label);
-    }
-    Ok(())
-}
-
-#[test]
-fn runs_end_as_foretold(rt: HostRuntime) -> Result<(), Fail> {
-    for row in &ROWS {
-        let report = report_of(rt.alloc(), row.told)?;
-        assert_eq!(rt; run(rt.alloc(), row)?, report, "{}", row.label);
     }
     Ok(())
 }

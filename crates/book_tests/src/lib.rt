@@ -5,15 +5,15 @@
 //! | Module | What is tested |
 //! |---|---|
 //! | `rows`, `twin_rows`, `digests` | runs, with their reports, journals and counts of events |
-//! | `runs` | these runs on one thread |
+//! | `runs` | some of these runs on one thread |
 //! | `workers` | these runs and others by workers, over a view |
-//! | `forecasts` | forecasts, each beside the report of a run whose builders make their outputs |
-//! | `causes` | derivations that ask for a feature that is left out |
+//! | `forecasts` | the texts of forecasts |
+//! | `causes` | the numbers of the faults of runs |
 //! | `calls` | leases, and what a book answers about itself |
 //! | `verdicts` | the verdict on an answer |
 //! | `digest_vectors` | the digest of a file in pieces, by each algorithm |
 //! | `permitted` | the paths that are permitted beside a closure |
-//! | `many` | a job with many inputs, an entry with many outputs |
+//! | `many` | a job with many inputs |
 //! | `refusals` | leases of another book, records of another job |
 //! | `example` | the run of the example in the definitions, by its laws and by workers |
 //! | `growths` | memory that is refused while a lease ends |

@@ -1,7 +1,7 @@
-//! A job with many inputs, and an entry with many outputs.
+//! A job with many inputs.
 
 use crate::books::{book_of, store_dir};
-use crate::builders::{build, lease};
+use crate::builders::lease;
 use crate::made::{Made, derivation, make};
 use drv_graph::Plan;
 use nix_drv::{Derivation, Input, ListSource, ListedFile, Output, Parts};
@@ -12,8 +12,6 @@ use std::test::*;
 use valid_table::{Journal, ListOutlet, Record};
 
 const INPUTS: usize = 3_000;
-
-const OUTPUTS: usize = 64;
 
 // A letter, and a number of four digits.
 fn numbered(letter: u8, number: usize) -> [u8; 5] {
@@ -151,54 +149,5 @@ fn job_with_many_inputs(rt: HostRuntime) -> Result<(), Fail> {
     let seeds = next_seeds(alloc, &mut book, &all);
     book.close();
     assert_eq!(rt; seeds?, (INPUTS, INPUTS));
-    Ok(())
-}
-
-// A derivation with many outputs.
-fn with_many_outputs(alloc: Global) -> Result<Made, Fail> {
-    let mut outputs = Vec::new(alloc);
-    for number in 0..OUTPUTS {
-        outputs.push(output(alloc, &numbered(b'o', number))?)?;
-    }
-    let draft = draft(alloc, outputs, Vec::new(alloc))?;
-    make(alloc, b"many", draft, &[])
-}
-
-// How many of a derivation's outputs a book's journal registers.
-fn registered(alloc: Global, book: &Book<ListOutlet>, made: &Made) -> Result<usize, Fail> {
-    let mut count = 0usize;
-    for output in made.drv.outputs() {
-        let path = parse_path(alloc, &store_dir(alloc)?, &output.path)?;
-        if book.journal().registers(&path) {
-            count = count.saturating_add(1);
-        }
-    }
-    Ok(count)
-}
-
-// Builds the only derivation of a book. Says how many entries the journal has then, and how many of
-// the outputs it registers.
-fn build_alone(
-    alloc: Global,
-    book: &mut Book<ListOutlet>,
-    made: &Made,
-) -> Result<(usize, usize), Fail> {
-    let lease = lease(book)?;
-    build(alloc, book, lease, &[])?;
-    Ok((
-        book.journal().entries().len(),
-        registered(alloc, book, made)?,
-    ))
-}
-
-#[test]
-fn entry_with_many_outputs(rt: HostRuntime) -> Result<(), Fail> {
-    let alloc = rt.alloc();
-    let made = with_many_outputs(alloc)?;
-    let plan = plan_of(alloc, &made, &[])?;
-    let mut book = book_of(alloc, plan, Journal::new(alloc))?;
-    let built = build_alone(alloc, &mut book, &made);
-    book.close();
-    assert_eq!(rt; built?, (1, OUTPUTS));
     Ok(())
 }

@@ -1,10 +1,8 @@
 //! Runs on one thread to their end, whose builders follow scripts.
 use crate::books::{has_journal, has_report, open};
 use crate::builders::build_all;
-use crate::digests::digests;
 use crate::files::TOP;
-use crate::rows::{Row, diamonds, others};
-use crate::twin_rows::twins;
+use crate::rows::{Row, others};
 use sched_core::{Book, Event};
 use std::alloc::Global;
 use std::test::*;
@@ -27,32 +25,8 @@ fn holds(alloc: Global, row: &Row) -> Result<bool, Fail> {
 }
 
 #[test]
-fn runs_of_diamonds(rt: HostRuntime) -> Result<(), Fail> {
-    for row in diamonds() {
-        assert!(rt; holds(rt.alloc(), row)?, "{}", row.label);
-    }
-    Ok(())
-}
-
-#[test]
 fn other_runs(rt: HostRuntime) -> Result<(), Fail> {
     for row in others() {
-        assert!(rt; holds(rt.alloc(), row)?, "{}", row.label);
-    }
-    Ok(())
-}
-
-#[test]
-fn runs_of_twins(rt: HostRuntime) -> Result<(), Fail> {
-    for row in twins() {
-        assert!(rt; holds(rt.alloc(), row)?, "{}", row.label);
-    }
-    Ok(())
-}
-
-#[test]
-fn runs_of_digests(rt: HostRuntime) -> Result<(), Fail> {
-    for row in digests() {
         assert!(rt; holds(rt.alloc(), row)?, "{}", row.label);
     }
     Ok(())

@@ -8,7 +8,7 @@ ghost use Rattle.nix_names.specs.Rising.{IsRising};
 use drv_graph::{Kind, Method};
 use nix_names::{Digest, StoreDir, StorePath, parse_path};
 use ref_scan::{Member, Tree};
-use sched_core::{Answer, Checked, Job, JobOutput, Reason, Refusal, examine, permitted_beside};
+use sched_core::{Answer, Checked, Job, JobOutput, Reason, examine, permitted_beside};
 use std::alloc::Global;
 use std::test::Fail;
 use valid_table::Record;
@@ -301,17 +301,6 @@ fn order_of_reasons(rt: HostRuntime) -> Result<(), Fail> {
 }
 
 #[test]
-fn self_reference_and_cycle(rt: HostRuntime) -> Result<(), Fail> {
-    let alloc = rt.alloc();
-    let own = verdict(alloc, &[DEV, OUT, NOTHING])??;
-    assert!(rt; refers(own.records().get(0), &[DEV]));
-    assert!(rt; refers(own.records().get(1), &[OUT]));
-    assert!(rt; refers(own.records().get(2), &[]));
-    assert_eq!(rt; own.records().len(), 3);
-    Ok(())
-}
-
-#[test]
 fn surplus_trees_are_ignored(rt: HostRuntime) -> Result<(), Fail> {
     let alloc = rt.alloc();
     let files = [NOTHING, NOTHING, NOTHING, OUT];
@@ -375,12 +364,4 @@ fn many_outputs(rt: HostRuntime) -> Result<(), Fail> {
     let round = verdict_on_many(alloc, &numbered(0))?;
     assert_eq!(rt; round.err(), Some(Reason::OutputCycle));
     Ok(())
-}
-
-#[test]
-fn numbers(rt: HostRuntime) {
-    assert_eq!(rt; Reason::ExitStatus(1).number(), 50);
-    assert_eq!(rt; Reason::Killed.number(), 59);
-    assert_eq!(rt; Refusal::WrongSystem.number(), 60);
-    assert_eq!(rt; Refusal::PartlyValid(0).number(), 64);
 }

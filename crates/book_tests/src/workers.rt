@@ -3,10 +3,8 @@ ghost use Rattle.std.specs.Prelude.{◌≡◌};
 
 use crate::books::{book_of, joined, journal, plan};
 use crate::builders::Script;
-use crate::digests::digests;
 use crate::files::*;
-use crate::rows::{END, FAILED, Row, diamonds, others};
-use crate::twin_rows::twins;
+use crate::rows::{END, FAILED, Row, others};
 use builders::{Hungry, Scripted};
 use drv_graph::Plan;
 use sched_core::Event;
@@ -19,21 +17,16 @@ use traces::{Traces, fault_of, realised};
 use valid_table::{Journal, ListOutlet};
 
 mod builders;
-mod calls;
 mod closing;
-mod folders;
-mod gates;
 mod heard;
 mod heard_runs;
 mod hearing;
 mod leases;
 mod locking;
 mod many;
-mod meanwhile;
 mod refusing;
 mod stops;
 mod traces;
-mod waking;
 
 // `count` builders that follow these scripts.
 fn scripted(
@@ -66,41 +59,8 @@ fn holds<R: Threads + Wait + Sync>(
 }
 
 #[test]
-fn runs_of_diamonds(rt: HostRuntime) -> Result<(), Fail> {
-    for row in diamonds() {
-        for workers in [1, 2, 4, 64] {
-            let holds = holds(&rt, rt.alloc(), row, workers)?;
-            assert!(rt; holds, "{} by {workers}", row.label);
-        }
-    }
-    Ok(())
-}
-
-#[test]
 fn other_runs(rt: HostRuntime) -> Result<(), Fail> {
     for row in others() {
-        for workers in [1, 2, 4, 64] {
-            let holds = holds(&rt, rt.alloc(), row, workers)?;
-            assert!(rt; holds, "{} by {workers}", row.label);
-        }
-    }
-    Ok(())
-}
-
-#[test]
-fn runs_of_twins(rt: HostRuntime) -> Result<(), Fail> {
-    for row in twins() {
-        for workers in [1, 2, 4, 64] {
-            let holds = holds(&rt, rt.alloc(), row, workers)?;
-            assert!(rt; holds, "{} by {workers}", row.label);
-        }
-    }
-    Ok(())
-}
-
-#[test]
-fn runs_of_digests(rt: HostRuntime) -> Result<(), Fail> {
-    for row in digests() {
         for workers in [1, 2, 4, 64] {
             let holds = holds(&rt, rt.alloc(), row, workers)?;
             assert!(rt; holds, "{} by {workers}", row.label);

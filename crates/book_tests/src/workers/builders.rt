@@ -4,7 +4,6 @@ ghost use Rattle.std.specs.Prelude.{⊤};
 use crate::builders::{Script, answer, left, left_nothing};
 use sched_core::{Answer, Build, Job, Reason, Watch};
 use std::alloc::Global;
-use std::sync::atomic::{AtomicU64, Ordering};
 use std::thread;
 
 /// A builder that follows these scripts.
@@ -41,65 +40,6 @@ impl Build for Hungry {
 }
 
 impl Watch for Hungry {
-    fn begun(&self, _unsettled: usize) {}
-
-    fn ended(&self, _is_good: bool, _unsettled: usize) {}
-}
-
-// How often a gate tests whether enough builds have begun.
-const TURNS: u64 = 1_000_000;
-
-/// A builder that makes a job's outputs once `enough` builds have begun, with its own. After
-/// 1,000,000 tests it ends with the status 99.
-#[derive(Clone, Copy)]
-pub(super) struct Gate<'a> {
-    pub alloc: Global,
-    pub begun: &'a AtomicU64,
-    pub enough: u64,
-}
-
-impl<'a> Build for Gate<'a> {
-    ghost may = { λ job outcome. ⊤ };
-
-    fn run(&self, _number: u64, job: &Job) -> Result<Answer, Reason> {
-        self.begun.fetch_add(1, Ordering::SeqCst);
-        for _ in 0..TURNS {
-            if self.begun.load(Ordering::SeqCst) >= self.enough {
-                return Ok(left(self.alloc, job, b"")?);
-            }
-            thread::yield_now();
-        }
-        Ok(left_nothing(self.alloc, 99))
-    }
-}
-
-impl<'a> Watch for Gate<'a> {
-    fn begun(&self, _unsettled: usize) {}
-
-    fn ended(&self, _is_good: bool, _unsettled: usize) {}
-}
-
-/// A builder that shares a counter of calls, from 0, with others. A signal ends the call with this
-/// number; every other call leaves empty files.
-#[derive(Clone, Copy)]
-pub(super) struct Counting<'a> {
-    pub alloc: Global,
-    pub calls: &'a AtomicU64,
-    pub fails: u64,
-}
-
-impl<'a> Build for Counting<'a> {
-    ghost may = { λ job outcome. ⊤ };
-
-    fn run(&self, _number: u64, job: &Job) -> Result<Answer, Reason> {
-        if self.calls.fetch_add(1, Ordering::SeqCst) == self.fails {
-            return Err(Reason::Killed);
-        }
-        Ok(left(self.alloc, job, b"")?)
-    }
-}
-
-impl<'a> Watch for Counting<'a> {
     fn begun(&self, _unsettled: usize) {}
 
     fn ended(&self, _is_good: bool, _unsettled: usize) {}

@@ -1,9 +1,8 @@
-//! Runs by workers over many random derivations.
-use super::all_built;
+//! Runs by workers over a random plan.
 use super::builders::Wild;
 use super::traces::{Traces, realised};
 use crate::random::Random;
-use crate::random_plans::{buildable_plan, made_up, random_plan};
+use crate::random_plans::{made_up, random_plan};
 use crate::random_runs::{Ends, ends_of};
 use crate::rows::{BUILT, FAILED, REFUSED, REUSED};
 use drv_graph::Plan;
@@ -11,42 +10,14 @@ use std::alloc::{AllocError, Global};
 use std::sync::Wait;
 use std::test::*;
 use std::thread::Threads;
-use valid_table::{Entry, Journal};
+use valid_table::Journal;
 
-/// How many lines of a report begin with these bytes.
-pub(super) fn lines(report: &[u8], start: &[u8]) -> usize {
+// How many lines of a report begin with these bytes.
+fn lines(report: &[u8], start: &[u8]) -> usize {
     report
         .split(|&byte| byte == b'\n')
         .filter(|line| line.starts_with(start))
         .count()
-}
-
-// Many derivations by one worker, and one derivation by 64 workers.
-#[test]
-fn one_worker_or_one_derivation(rt: HostRuntime) -> Result<(), Fail> {
-    for (count, workers) in [(64, 1), (1, 64)] {
-        let plan = buildable_plan(rt.alloc(), count, 0)?;
-        let report = all_built(&rt, rt.alloc(), &plan, workers)?.report;
-        assert_eq!(rt; lines(&report, BUILT), count);
-    }
-    Ok(())
-}
-
-// Whether two journals hold the same entries, each once.
-fn are_alike(some: &[Entry], others: &[Entry]) -> bool {
-    some.len() == others.len() && some.iter().all(|entry| others.contains(entry))
-}
-
-// One worker and eight workers have the same report, and register the same records.
-#[test]
-fn one_worker_or_eight(rt: HostRuntime) -> Result<(), Fail> {
-    let plan = buildable_plan(rt.alloc(), 200, 3)?;
-    let alone = all_built(&rt, rt.alloc(), &plan, 1)?;
-    let together = all_built(&rt, rt.alloc(), &plan, 8)?;
-    assert_eq!(rt; lines(&alone.report, BUILT), 200);
-    assert!(rt; alone.report == together.report);
-    assert!(rt; are_alike(&alone.entries, &together.entries));
-    Ok(())
 }
 
 // Builders that yield differently often.
@@ -69,27 +40,6 @@ fn after_wild<R: Threads + Wait + Sync>(
 ) -> Result<Traces, Fail> {
     let builders = wild(alloc, workers)?;
     realised(rt, alloc, plan, journal, builders)
-}
-
-// Whatever the outcomes of a run's builds, any number of workers has the same report, and registers
-// the same records.
-#[test]
-fn some_builds_fail(rt: HostRuntime) -> Result<(), Fail> {
-    let plan = buildable_plan(rt.alloc(), 300, 2)?;
-    let journal = Journal::new(rt.alloc());
-    let alone = after_wild(&rt, rt.alloc(), &plan, &journal, 1)?;
-    for start in [BUILT, FAILED, REFUSED] {
-        assert!(rt; lines(&alone.report, start) > 10);
-    }
-    for workers in [3, 64] {
-        let together = after_wild(&rt, rt.alloc(), &plan, &journal, workers)?;
-        assert!(rt; alone.report == together.report, "by {workers}");
-        assert!(rt;
-            are_alike(&alone.entries, &together.entries),
-            "by {workers}"
-        );
-    }
-    Ok(())
 }
 
 // How many lines a report has for each way to end.

@@ -94,16 +94,6 @@ pub(super) fn realised<R: Threads + Wait + Sync, B: Build + Watch + Send + Drop>
     run_named::<Brand, _, _>(rt, alloc, Name::new(), plan, journal, builders)
 }
 
-/// The report of a run by these builders, over an empty journal.
-pub(super) fn report_of<R: Threads + Wait + Sync, B: Build + Watch + Send + Drop>(
-    rt: &R,
-    alloc: Global,
-    plan: &Plan,
-    builders: Vec<B>,
-) -> Result<Vec<u8>, Fail> {
-    Ok(realised(rt, alloc, plan, &Journal::new(alloc), builders)?.report)
-}
-
 // How a run without a book ended.
 fn fault_without_book<O: Outlet>(
     ended: Result<Book<O>, (RunFault, Option<Book<O>>)>,
