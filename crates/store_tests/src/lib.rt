@@ -3,8 +3,8 @@
 //!
 //! | Module | What is tested |
 //! |---|---|
-//! | `journal_texts` | which texts are journals, and where the others are wrong |
-//! | `journal_digests` | digests in both versions of a journal's text |
+//! | `journal_texts` | beginnings of journals, and journals with one byte changed |
+//! | `journal_digests` | the same of a journal with digests |
 //! | `journals` | journals, their copies and their tables |
 //! | `registering` | entries registered in a table, or added where there is room |
 //! | `closures` | closures of small tables |
