@@ -14,6 +14,7 @@
 #include <stdio.h>
 #include <stdlib.h>
 #include <string.h>
+#include <sys/file.h>
 #include <sys/stat.h>
 #include <sys/syscall.h>
 #include <sys/uio.h>
@@ -177,6 +178,12 @@ int fchmod(int fd, mode_t mode) {
 int chmod(const char *path, mode_t mode) {
     REFUSE("permissions", path, -1);
     return (int)syscall(SYS_chmod, path, mode);
+}
+
+int flock(int fd, int operation) {
+    char room[LONG];
+    REFUSE("lock", path_of(fd, 0, room), -1);
+    return (int)syscall(SYS_flock, fd, operation);
 }
 
 int rename(const char *from, const char *to) {

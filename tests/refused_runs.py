@@ -126,6 +126,10 @@ class Realise(Runs):
         path = call.path.split(" > ")[-1]
         if call.kind in ("print", "wait", "thread"):
             return {"print": "", "wait": "end", "thread": self.threads()}[call.kind]
+        if self.is_of_lock(call):
+            return "lock"
+        if path.endswith("/var/nix/db/db.sqlite"):
+            return "database of Nix"
         if path in self.drv.values():
             return "derivation"
         if "/.nix_realise-left-" in path:

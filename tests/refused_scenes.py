@@ -15,6 +15,7 @@ TOLD = {
     "derivation": (2, "", "DRV: Unreadable"),
     "unread": (3, "", "journal: Unreadable"),
     "unwritten": (3, "", "journal: Unwritable"),
+    "unlocked": (3, "", "STORE: Unwritable"),
     "unregistered": (3, "PATH\n", "journal: Unwritable"),
     "no text": (3, "PATH\n", "PATH: Unwritable"),
     "no derivation": (3, "", "PATH: Unwritable"),
@@ -33,6 +34,7 @@ READING = "look open read"
 ROWS = [
     ("check", READING, "derivation", "bad", "old"),
     ("add-text", "open read", "file", "file", "old"),
+    ("add-text realise", "open lock", "lock", "unlocked", "old"),
     ("add-text", READING, "journal read", "unread", "old"),
     ("add-text", "print", "", "unprinted", "old"),
     ("add-text", WRITING, "path", "no text", "old"),
@@ -44,6 +46,7 @@ ROWS = [
     ("plan realise", READING, "derivation", "derivation", "old"),
     ("plan realise", READING, "journal read", "unread", "old"),
     ("check plan", "print", "", "unprinted", "old"),
+    ("realise", "look", "database of Nix", "ever", "new"),
     ("realise", "look create", "journal tried", "unwritten", "old"),
     ("realise", "remove", "journal tried", "unwritten", "left"),
     ("realise", "thread", "only", "no thread", "old"),
@@ -59,7 +62,6 @@ ROWS = [
     ("realise", WRITING, "journal written", "unwritten", "outputs"),
     ("realise", "print", "", "unprinted", "new"),
     ("words", "open read", "file", "file", "old"),
-    ("words", "look", "journal", "ever", "old"),
     ("words", "tell", "", "untold", "old"),
     ("help", "print", "", "unprinted", "old"),
 ]
@@ -142,12 +144,21 @@ class Scene:
         """Where a call was made."""
         return ""
 
+    def is_of_lock(self, call):
+        """Whether a call opens the store folder for its lock, or asks for that."""
+        return call.kind == "lock" or call.path == f"{self.store}/."
+
+    def passes(self, call, name):
+        """Whether a run goes on as ever where a call is refused with an error."""
+        return name == "EINTR" or (name == "EACCES" and self.is_of_lock(call))
+
     def told_of(self, told, calls, at):
         """What is told: status, standard output, standard error."""
         if told == "ever":
             return self.good_status, self.good_out, self.good_err
         status, out, err = TOLD[told]
         err = err.replace("FILE", str(self.file)).replace("PATH", self.path)
+        err = err.replace("STORE", str(self.store))
         if at is not None:
             err = err.replace("DRV", calls[at].path)
         return status, out.replace("PATH", self.path), f"nix_realise: {err}\n" if err else ""
@@ -281,6 +292,8 @@ class AddText(Scene):
         made = [c.kind for c in calls[: at + 1]].count("create")
         if call.kind == "print":
             return ""
+        if self.is_of_lock(call):
+            return "lock"
         if call.path == str(self.file):
             return "file"
         if call.path.endswith(str(self.journal)) and call.kind != "rename":
@@ -351,7 +364,7 @@ class Words(Scene):
         return ["add-text", "--store-dir", self.store, "a/name", self.file]
 
     def place_of(self, calls, at):
-        return {str(self.file): "file", str(self.journal): "journal"}.get(calls[at].path, "")
+        return "file" if calls[at].path == str(self.file) else ""
 
     def good(self):
         return 2, "", "nix_realise: a/name: BadName\n"

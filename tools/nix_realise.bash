@@ -3,9 +3,9 @@
 _nix_realise_options() {
     case $1 in
         check | add-drv) echo "--store-dir --help" ;;
-        add-text) echo "--store-dir --journal --help" ;;
+        add-text) echo "--store-dir --journal --wait --help" ;;
         plan) echo "--store-dir --journal --system --dot --help" ;;
-        realise) echo "--store-dir --journal --system --jobs --help" ;;
+        realise) echo "--store-dir --journal --system --jobs --wait --in-nix-store --help" ;;
         help) ;;
         *) echo "--help --version" ;;
     esac

@@ -43,6 +43,14 @@ flag name = record (new_rule name) { long = Some name; action = Some SetTrue }
 abbrev pub dot_flag : Rule
 dot_flag = flag (codes "dot")
 
+-- the flag that asks to wait for another run
+abbrev pub wait_flag : Rule
+wait_flag = flag (codes "wait")
+
+-- the flag that asks to go on in a store that Nix manages
+abbrev pub in_nix_store_flag : Rule
+in_nix_store_flag = flag (codes "in-nix-store")
+
 -- one or more words DRV
 abbrev pub drv_words : Rule
 drv_words = record (required_word (codes "DRV")) { action = Some Append }
@@ -55,7 +63,9 @@ check_line = with_rule (with_rule (new_app (codes "check")) store_dir_option) dr
 abbrev pub add_text_line : App
 add_text_line =
     with_rule
-    (with_rule (with_rule (with_rule (new_app (codes "add-text")) store_dir_option) journal_option)
+    (with_rule
+    (with_rule
+    (with_rule (with_rule (new_app (codes "add-text")) store_dir_option) journal_option) wait_flag)
     (required_word (codes "NAME"))) (required_word (codes "FILE"))
 
 -- the subcommand `add-drv`
@@ -76,7 +86,11 @@ plan_line = with_rule (with_rule (run_options (codes "plan")) dot_flag) drv_word
 
 -- the subcommand `realise`
 abbrev pub realise_line : App
-realise_line = with_rule (with_rule (run_options (codes "realise")) jobs_option) drv_words
+realise_line =
+    with_rule
+    (with_rule
+    (with_rule (with_rule (run_options (codes "realise")) jobs_option) wait_flag) in_nix_store_flag)
+    drv_words
 
 -- the program, which has a version and wants a subcommand
 abbrev pub top_line : App

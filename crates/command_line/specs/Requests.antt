@@ -42,9 +42,9 @@ abbrev pub is_yes : Option Bytes → Bool
 is_yes (Some text) = same_bytes text (codes "true")
 is_yes None = false
 
--- whether a graph is asked for
-abbrev pub dot_in : List Row → Bool
-dot_in rows = is_yes (first_of (codes "dot") rows)
+-- whether the flag with this name was given
+abbrev pub is_flagged : (name : Name) → List Row → Bool
+is_flagged name rows = is_yes (first_of name rows)
 
 -- the text is this number in decimal, without a sign or behind a plus
 abbrev pub IsNumber : (text : Bytes) → ℕ → Type 0
@@ -71,6 +71,7 @@ pub record IsAddText (rows : List Row) (request : AddTextRequest) : Type 0 where
   pub journal : option_map (λ f. f.now) request.journal ≡ first_of (codes "journal") rows
   pub name : request.name.now ≡ word_in (codes "NAME") rows
   pub file : request.file.now ≡ word_in (codes "FILE") rows
+  pub wait : request.wait ≡ is_flagged (codes "wait") rows
 
 -- what is asked of `add-drv`
 pub record IsAddDrv (rows : List Row) (request : AddDrvRequest) : Type 0 where
@@ -89,12 +90,14 @@ pub record IsRunRequest (rows : List Row) (request : RunRequest) : Type 0 where
 -- what is asked of `plan`
 pub record IsPlanned (rows : List Row) (request : PlanRequest) : Type 0 where
   pub run : IsRunRequest rows request.run
-  pub dot : request.dot ≡ dot_in rows
+  pub dot : request.dot ≡ is_flagged (codes "dot") rows
 
 -- what is asked of `realise`
 pub record IsRealise (rows : List Row) (request : RealiseRequest) : Type 0 where
   pub run : IsRunRequest rows request.run
   pub jobs : AreJobs (jobs_in rows) request.jobs
+  pub wait : request.wait ≡ is_flagged (codes "wait") rows
+  pub in_nix_store : request.in_nix_store ≡ is_flagged (codes "in-nix-store") rows
 
 -- what is asked by a subcommand with this name and these words and options
 abbrev pub IsAskedBy : (name : Name) → List Row → Request → Type 0

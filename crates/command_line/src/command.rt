@@ -2,7 +2,8 @@
 ghost use Rattle.std.specs.Prelude.{◌≡◌, IfOk, false};
 ghost use Rattle.clap.specs.Words.{app_of, new_app, rule_of, with_subcommand};
 ghost use Rattle.command_line.specs.CommandLine.{add_drv_line, add_text_line, check_line};
-ghost use Rattle.command_line.specs.CommandLine.{command_line, dot_flag, drv_words, jobs_option};
+ghost use Rattle.command_line.specs.CommandLine.{command_line, dot_flag, drv_words};
+ghost use Rattle.command_line.specs.CommandLine.{in_nix_store_flag, jobs_option, wait_flag};
 ghost use Rattle.command_line.specs.CommandLine.{journal_option, plan_line, realise_line, run_options};
 ghost use Rattle.command_line.specs.CommandLine.{store_dir_option};
 ghost use Rattle.command_line.specs.CommandLine.{system_option, top_line};
@@ -23,6 +24,10 @@ pub const SYSTEM: &str = "system";
 pub const JOBS: &str = "jobs";
 
 pub const DOT: &str = "dot";
+
+pub const WAIT: &str = "wait";
+
+pub const IN_NIX_STORE: &str = "in-nix-store";
 
 pub const DRVS: &str = "DRV";
 
@@ -112,6 +117,7 @@ fn add_text_command<'a>(alloc: Global) -> Result<Command<'a>, AllocError>
     )
     .arg(store_dir(alloc))?
     .arg(journal(alloc))?
+    .arg(wait(alloc))?
     .arg(word(alloc, NAME, "The name that the text gets in the store"))?
     .arg(word(alloc, FILE, "The file whose bytes are the text"))
 }
@@ -153,6 +159,8 @@ fn realise_command<'a>(alloc: Global) -> Result<Command<'a>, AllocError>
         "Builds what is wanted of derivations, and tells what became of it",
     )?
     .arg(jobs(alloc))?
+    .arg(wait(alloc))?
+    .arg(in_nix_store(alloc))?
     .arg(wanted_drvs(alloc))
 }
 
@@ -228,6 +236,28 @@ fn dot<'a>(alloc: Global) -> Arg<'a>
     Arg::new(alloc, DOT)
         .long(DOT)
         .help("Print the same as a graph in Graphviz's language")
+        .action(ArgAction::SetTrue)
+}
+
+// The flag that asks to wait for another run.
+fn wait<'a>(alloc: Global) -> Arg<'a>
+    ensures rule { rule_of result ≡ wait_flag }
+    ensures local { result.global ≡ false }
+{
+    Arg::new(alloc, WAIT)
+        .long(WAIT)
+        .help("Wait while another run uses the store folder")
+        .action(ArgAction::SetTrue)
+}
+
+// The flag that asks to go on in a store that Nix manages.
+fn in_nix_store<'a>(alloc: Global) -> Arg<'a>
+    ensures rule { rule_of result ≡ in_nix_store_flag }
+    ensures local { result.global ≡ false }
+{
+    Arg::new(alloc, IN_NIX_STORE)
+        .long(IN_NIX_STORE)
+        .help("Go on in a store that Nix manages, and replace what Nix made")
         .action(ArgAction::SetTrue)
 }
 

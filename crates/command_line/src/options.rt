@@ -34,6 +34,8 @@ pub struct AddTextRequest<'a> {
     pub name: &'a str,
     /// The path of the file whose bytes are the text.
     pub file: &'a str,
+    /// Whether it waits while another run uses the store folder.
+    pub wait: bool,
 }
 
 /// The words of `add-drv`.
@@ -77,4 +79,8 @@ pub struct RealiseRequest<'a> {
     pub run: RunRequest<'a>,
     /// How many builders run at a time, from 1 to 64.
     pub jobs: u8,
+    /// Whether it waits while another run uses the store folder.
+    pub wait: bool,
+    /// Whether it goes on in a store folder that Nix manages.
+    pub in_nix_store: bool,
 }

@@ -5,12 +5,12 @@ ghost use Rattle.command_line.specs.Found.{HasJobs, IsFound, IsSubcommand};
 ghost use Rattle.command_line.specs.Usage.{IsAsked, IsUsageFault};
 ghost use Rattle.command_line.specs.Requests.{AreJobs, IsAddDrv, IsAddText, IsAskedBy};
 ghost use Rattle.command_line.specs.Requests.{IsAskedIn, IsCheckRequest};
-ghost use Rattle.command_line.specs.Requests.{IsPlanned, IsRealise, IsRunRequest, dot_in, drvs_in};
-ghost use Rattle.command_line.specs.Requests.{jobs_in, store_dir_in, system_in, word_in};
+ghost use Rattle.command_line.specs.Requests.{IsPlanned, IsRealise, IsRunRequest, drvs_in};
+ghost use Rattle.command_line.specs.Requests.{is_flagged, jobs_in, store_dir_in, system_in, word_in};
 
 use crate::command::{
     ADD_DRV, ADD_TEXT, CHECK, DEFAULT_JOBS, DEFAULT_STORE_DIR, DEFAULT_SYSTEM, DOT, DRVS, FILE,
-    JOBS, JOURNAL, NAME, PLAN, REALISE, STORE_DIR, SYSTEM, command,
+    IN_NIX_STORE, JOBS, JOURNAL, NAME, PLAN, REALISE, STORE_DIR, SYSTEM, WAIT, command,
 };
 use crate::options::{
     AddDrvRequest, AddTextRequest, CheckRequest, PlanRequest, RealiseRequest, Request, RunRequest,
@@ -90,6 +90,7 @@ fn add_text_request<'a>(found: &ArgMatches<'a>) -> AddTextRequest<'a>
         journal: journal_of(found),
         name: word_of(found, NAME),
         file: word_of(found, FILE),
+        wait: is_flagged(found, WAIT),
     }
 }
 
@@ -110,7 +111,7 @@ fn plan_request<'a>(alloc: Global, found: &ArgMatches<'a>) -> Result<PlanRequest
 {
     Ok(PlanRequest {
         run: run_request(alloc, found)?,
-        dot: has_dot(found),
+        dot: is_flagged(found, DOT),
     })
 }
 
@@ -125,6 +126,8 @@ fn realise_request<'a>(
     Ok(RealiseRequest {
         run: run_request(alloc, found)?,
         jobs: jobs_of(found),
+        wait: is_flagged(found, WAIT),
+        in_nix_store: is_flagged(found, IN_NIX_STORE),
     })
 }
 
@@ -173,12 +176,12 @@ fn journal_of<'a>(found: &ArgMatches<'a>) -> Option<&'a str>
     found.get_str(JOURNAL)
 }
 
-// Whether the matches ask for a graph.
+// Whether the matches have the flag with this id.
 #[tactic(auto, using(crate::proofs::Rows::first_row))]
-fn has_dot(found: &ArgMatches<'_>) -> bool
-    ensures { result ≡ dot_in (rows_of (found_of found.now)) }
+fn is_flagged(found: &ArgMatches<'_>, id: &str) -> bool
+    ensures { result ≡ is_flagged id.now (rows_of (found_of found.now)) }
 {
-    match found.get_str(DOT) {
+    match found.get_str(id) {
         Some(text) => text == "true",
         None => false,
     }

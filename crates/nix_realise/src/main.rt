@@ -1,4 +1,4 @@
-//! The program `nix_realise`: its terminal, and the builders of a run.
+//! The program `nix_realise`: its terminal, and the builders and the locks of a run.
 #![tactic(auto)]
 
 use process_build::{ByProcesses, Progress, Watching};
@@ -6,16 +6,17 @@ use std::env;
 use std::io::IsTerminal;
 use std::process::ExitCode;
 use std::rt::Env;
-use subcommands::run_process;
+use subcommands::{Telling, run_process};
 
 fn main(rt: HostRuntime) -> ExitCode {
     let make = ByProcesses::new(&rt, &rt);
     let mut err = rt.stderr();
     let ending = if err.is_terminal() && !is_dumb(&rt) {
         let progress = Progress::new(err);
-        run_process(&rt, &Watching::new(&rt, &make, &progress), &mut err)
+        let make = Watching::new(&rt, &make, &progress);
+        run_process(&rt, &make, &Telling::new(&rt, err), &mut err)
     } else {
-        run_process(&rt, &make, &mut err)
+        run_process(&rt, &make, &rt, &mut err)
     };
     ExitCode::from(ending.code())
 }

@@ -11,6 +11,7 @@ use std::rt::Files;
 use std::sync::Wait;
 use std::test::Fail;
 use std::thread::Threads;
+use subcommands::Locks;
 
 // The kinds of error with which each call is refused.
 const KINDS: [ErrorKind; 5] = [
@@ -66,6 +67,7 @@ fn told(letter: u8) -> (&'static str, &'static str, u8) {
         b'j' => ("<text>\n", "nix_realise: journal: Unwritable\n", 3),
         b'w' => ("<text>\n", "nix_realise: <text>: Unwritable\n", 3),
         b'W' => ("", "nix_realise: <any>: Unwritable\n", 3),
+        b'L' => ("", "nix_realise: <dir>: Unwritable\n", 3),
         b'F' => ("", "nix_realise: <dir>/file: Unreadable\n", 2),
         b'U' => ("", "nix_realise: <up>/file: Unreadable\n", 2),
         b'f' => ("", "nix_realise: <dir>/draft: Unreadable\n", 2),
@@ -109,15 +111,15 @@ static ADDING: [Row; 6] = [
         before: &[FILE, TEXT],
         line: "nix_realise add-text --store-dir <dir> --journal <up>/journal greeting <up>/file",
         calls: &[
-            "open <up>/file\nread \nread \nstat <up>/journal\n\
+            "open <up>/file\nread \nread \nlock <dir>\nstat <up>/journal\n\
             lstat <text>\ncreate <dir>/.nix_realise-0\nwrite \nsync \n\
             rename <dir>/.nix_realise-0 <text>\n\
             lstat <up>/journal\ncreate <up>/.nix_realise-0\nwrite \nsync \n\
             rename <up>/.nix_realise-0 <up>/journal\n",
         ],
         refusals: &[
-            b"ttttt", b"UUUMU", b"UUUMU", b"UUUMU", b"tRRMR", b"twwmw", b"wtwmw", b"wwwmw",
-            b"wwwmw", b"wwwmw", b"tjjmj", b"jtjmj", b"jjjmj", b"jjjmj", b"jjjmj",
+            b"ttttt", b"UUUMU", b"UUUMU", b"UUUMU", b"tLtML", b"tRRMR", b"twwmw", b"wtwmw",
+            b"wwwmw", b"wwwmw", b"wwwmw", b"tjjmj", b"jtjmj", b"jjjmj", b"jjjmj", b"jjjmj",
         ],
         kept: &[
             NO_JOURNAL,
@@ -130,15 +132,15 @@ static ADDING: [Row; 6] = [
         before: &[FILE, TEXT],
         line: "nix_realise add-text --store-dir <dir> greeting <dir>/file",
         calls: &[
-            "open <dir>/file\nread \nread \nstat <dir>/realiser-journal\n\
+            "open <dir>/file\nread \nread \nlock <dir>\nstat <dir>/realiser-journal\n\
             lstat <text>\ncreate <dir>/.nix_realise-0\nwrite \nsync \n\
             rename <dir>/.nix_realise-0 <text>\n\
             lstat <dir>/realiser-journal\ncreate <dir>/.nix_realise-0\nwrite \nsync \n\
             rename <dir>/.nix_realise-0 <dir>/realiser-journal\n",
         ],
         refusals: &[
-            b"ttttt", b"FFFMF", b"FFFMF", b"FFFMF", b"tRRMR", b"twwmw", b"wtwmw", b"wwwmw",
-            b"wwwmw", b"wwwmw", b"tjjmj", b"jtjmj", b"jjjmj", b"jjjmj", b"jjjmj",
+            b"ttttt", b"FFFMF", b"FFFMF", b"FFFMF", b"tLtML", b"tRRMR", b"twwmw", b"wtwmw",
+            b"wwwmw", b"wwwmw", b"wwwmw", b"tjjmj", b"jtjmj", b"jjjmj", b"jjjmj", b"jjjmj",
         ],
         kept: &[NO_JOURNAL, NO_TEMPORARY],
     },
@@ -148,7 +150,7 @@ static ADDING: [Row; 6] = [
         before: &[FILE, TEXT, Step::Write(JOURNAL, EMPTY_JOURNAL)],
         line: "nix_realise add-text --store-dir <dir> greeting <dir>/file",
         calls: &[
-            "open <dir>/file\nread \nread \nstat <dir>/realiser-journal\n\
+            "open <dir>/file\nread \nread \nlock <dir>\nstat <dir>/realiser-journal\n\
             open <dir>/realiser-journal\nread \nread \n\
             lstat <text>\ncreate <dir>/.nix_realise-0\nwrite \nsync \n\
             rename <dir>/.nix_realise-0 <text>\n\
@@ -156,9 +158,9 @@ static ADDING: [Row; 6] = [
             rename <dir>/.nix_realise-0 <dir>/realiser-journal\n",
         ],
         refusals: &[
-            b"ttttt", b"FFFMF", b"FFFMF", b"FFFMF", b"tRRMR", b"tRRMR", b"RRRMR", b"RRRMR",
-            b"twwmw", b"wtwmw", b"wwwmw", b"wwwmw", b"wwwmw", b"tjjmj", b"jtjmj", b"jjjmj",
-            b"jjjmj", b"jjjmj", b"jjjmj",
+            b"ttttt", b"FFFMF", b"FFFMF", b"FFFMF", b"tLtML", b"tRRMR", b"tRRMR", b"RRRMR",
+            b"RRRMR", b"twwmw", b"wtwmw", b"wwwmw", b"wwwmw", b"wwwmw", b"tjjmj", b"jtjmj",
+            b"jjjmj", b"jjjmj", b"jjjmj", b"jjjmj",
         ],
         kept: &[Step::Holds(JOURNAL, EMPTY_JOURNAL), NO_TEMPORARY],
     },
@@ -180,6 +182,9 @@ static ADDING: [Row; 6] = [
 
 // The calls of `realise` before it builds anything: the plan is read,
 const LOADED: &str = "stat <any>\nopen <any>\nread \nread \n";
+
+// Nix does not manage the store folder, whose lock is free,
+const ENTERED: &str = "lstat <nix>\nlock <dir>\n";
 
 // there is no journal, and it is tried out whether one can be written.
 const TRIED: &str = "stat <dir>/realiser-journal\n\
@@ -224,6 +229,7 @@ static RUN: [Row; 3] = [
         calls: &[
             LOADED,
             "read \n",
+            ENTERED,
             TRIED,
             "lstat <any.dev>\nlstat <any.out>\nlstat <dir>/.build-0\n",
             TWO_BUILT,
@@ -231,11 +237,11 @@ static RUN: [Row; 3] = [
             WRITTEN,
         ],
         refusals: &[
-            b"ppppp", b"DDDMD", b"DDDMD", b"DDDMD", b"DDDMD", b"DDDMD", b"pRRMR", b"pJJMJ",
-            b"JpJMJ", b"JJJMJ", b"pNNON", b"pNNON", b"pNNON", b"NNNON", b"NNNON", b"XXXOX",
-            b"dXXOX", b"XXXOX", b"XXXOX", b"XXXOX", b"XXXOX", b"XXXOX", b"XXXOX", b"XXXOX",
-            b"XXXOX", b"XXXOX", b"XXXOX", b"0XXOX", b"XXXOX", b"XXXOX", b"ppppp", b"ppppp",
-            b"ppppp", b"pJJMJ", b"JpJMJ", b"JJJMJ", b"JJJMJ", b"JJJMJ",
+            b"ppppp", b"DDDMD", b"DDDMD", b"DDDMD", b"DDDMD", b"DDDMD", b"pppMp", b"pLpML",
+            b"pRRMR", b"pJJMJ", b"JpJMJ", b"JJJMJ", b"pNNON", b"pNNON", b"pNNON", b"NNNON",
+            b"NNNON", b"XXXOX", b"dXXOX", b"XXXOX", b"XXXOX", b"XXXOX", b"XXXOX", b"XXXOX",
+            b"XXXOX", b"XXXOX", b"XXXOX", b"XXXOX", b"XXXOX", b"0XXOX", b"XXXOX", b"XXXOX",
+            b"ppppp", b"ppppp", b"ppppp", b"pJJMJ", b"JpJMJ", b"JJJMJ", b"JJJMJ", b"JJJMJ",
         ],
         kept: &[NO_JOURNAL],
     },
@@ -245,6 +251,7 @@ static RUN: [Row; 3] = [
         line: "nix_realise realise --store-dir <dir> <any>",
         calls: &[
             LOADED,
+            ENTERED,
             TRIED,
             "lstat <any.out>\nlstat <dir>/.build-0\n",
             BUILT,
@@ -252,10 +259,10 @@ static RUN: [Row; 3] = [
             WRITTEN,
         ],
         refusals: &[
-            b"rrrrr", b"DDDMD", b"DDDMD", b"DDDMD", b"DDDMD", b"rRRMR", b"rJJMJ", b"JrJMJ",
-            b"JJJMJ", b"rNNON", b"rNNON", b"NNNON", b"NNNON", b"XXXOX", b"0XXOX", b"XXXOX",
-            b"XXXOX", b"XXXOX", b"rrrrr", b"rrrrr", b"rrrrr", b"rJJMJ", b"JrJMJ", b"JJJMJ",
-            b"JJJMJ", b"JJJMJ",
+            b"rrrrr", b"DDDMD", b"DDDMD", b"DDDMD", b"DDDMD", b"rrrMr", b"rLrML", b"rRRMR",
+            b"rJJMJ", b"JrJMJ", b"JJJMJ", b"rNNON", b"rNNON", b"NNNON", b"NNNON", b"XXXOX",
+            b"0XXOX", b"XXXOX", b"XXXOX", b"XXXOX", b"rrrrr", b"rrrrr", b"rrrrr", b"rJJMJ",
+            b"JrJMJ", b"JJJMJ", b"JJJMJ", b"JJJMJ",
         ],
         kept: &[NO_JOURNAL],
     },
@@ -271,6 +278,7 @@ static RUN: [Row; 3] = [
         line: "nix_realise realise --store-dir <dir> <any>",
         calls: &[
             LOADED,
+            ENTERED,
             TRIED,
             "lstat <any.out>\nlstat <dir>/.build-0\nlist <dir>/.build-0\nrmdir <dir>/.build-0\n\
                 lstat <dir>/.nix_realise-left-0\nrename <dir>/.build-0 <dir>/.nix_realise-left-0\n",
@@ -280,10 +288,11 @@ static RUN: [Row; 3] = [
             WRITTEN,
         ],
         refusals: &[
-            b"rrrrr", b"DDDMD", b"DDDMD", b"DDDMD", b"DDDMD", b"rRRMR", b"rJJMJ", b"JrJMJ",
-            b"JJJMJ", b"rNNON", b"NrrOr", b"rrrrr", b"NrrOr", b"rNNON", b"NNNON", b"NNNON",
-            b"NNNON", b"XXXOX", b"0XXOX", b"XXXOX", b"XXXOX", b"XXXOX", b"rrrrr", b"rrrrr",
-            b"rrrrr", b"rrrrr", b"rJJMJ", b"JrJMJ", b"JJJMJ", b"JJJMJ", b"JJJMJ",
+            b"rrrrr", b"DDDMD", b"DDDMD", b"DDDMD", b"DDDMD", b"rrrMr", b"rLrML", b"rRRMR",
+            b"rJJMJ", b"JrJMJ", b"JJJMJ", b"rNNON", b"NrrOr", b"rrrrr", b"NrrOr", b"rNNON",
+            b"NNNON", b"NNNON", b"NNNON", b"XXXOX", b"0XXOX", b"XXXOX", b"XXXOX", b"XXXOX",
+            b"rrrrr", b"rrrrr", b"rrrrr", b"rrrrr", b"rJJMJ", b"JrJMJ", b"JJJMJ", b"JJJMJ",
+            b"JJJMJ",
         ],
         kept: &[NO_JOURNAL],
     },
@@ -341,7 +350,7 @@ fn add_cases<'a>(cases: &mut Vec<Case<'a>>, row: &'a Row) -> Result<(), AllocErr
 /// What a run wrote, and its status.
 pub fn ran<R, M>(rt: &R, make: &M, line: &str) -> Result<Outcome, Fail>
 where
-    R: Files + AllocGlobal + Threads + Wait + Sync,
+    R: Files + Locks + AllocGlobal + Threads + Wait + Sync,
     M: Builders,
 {
     let words: Vec<&str> = line.split(' ').collect(rt.alloc())?;

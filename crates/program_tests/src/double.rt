@@ -9,6 +9,7 @@ use std::rt::Files;
 use std::sync::{Arc, Mutex, Wait};
 use std::thread::Threads;
 use std::{fs, io};
+use subcommands::Locks;
 
 /// What happens in a run besides its calls, which are counted from 1.
 #[derive(Drop)]
@@ -32,6 +33,9 @@ pub enum Event {
     /// Right before the call with this number another process moves what lies at the second path,
     /// if anything does, and makes a link to the first path there.
     Linked(usize, String, String),
+    /// Right before the call with this number another process asks for the lock of this folder. If
+    /// it gets it, the call is refused.
+    Asked(usize, String),
 }
 
 impl Event {
@@ -46,6 +50,7 @@ impl Event {
             Event::Made(number, path) if *number == count => fs::create_dir(rt, path.as_str()),
             Event::Filled(number, path) if *number == count => fill(rt, path),
             Event::Linked(number, to, at) if *number == count => swap(rt, to, at),
+            Event::Asked(number, dir) if *number == count => ask(rt, dir),
             _ => Ok(()),
         }
     }
@@ -66,6 +71,14 @@ fn swap<R: Plain>(rt: &R, to: &str, at: &str) -> io::Result<()> {
         fs::rename(rt, at, moved.as_str())?;
     }
     rt.symlink(to, at)
+}
+
+// Asks for the lock of a folder; an error where it is free.
+fn ask<R: Plain>(rt: &R, dir: &str) -> io::Result<()> {
+    match rt.lock(dir, false) {
+        Ok(_) => Err(io::Error::other("the lock is free")),
+        Err(_) => Ok(()),
+    }
 }
 
 /// The calls so far, and the event of the run.
@@ -217,6 +230,16 @@ impl<R: Plain> Files for Double<R> {
     fn set_permissions(&self, path: &str, permissions: Permissions) -> io::Result<()> {
         self.shared.note("chmod", path)?;
         self.shared.rt.set_permissions(path, permissions)
+    }
+}
+
+impl<R: Plain> Locks for Double<R> {
+    type Lock = R::Lock;
+
+    fn lock(&self, dir: &str, waits: bool) -> io::Result<R::Lock> {
+        let call = if waits { "wait for" } else { "lock" };
+        self.shared.note(call, dir)?;
+        self.shared.rt.lock(dir, waits)
     }
 }
 

@@ -2,6 +2,7 @@
 //! process changes files.
 use crate::calls::DRAFT;
 use crate::double::Event;
+use crate::locked;
 use crate::running::{Host, Outcome};
 use crate::scene::Scene;
 use crate::steps::Step;
@@ -27,6 +28,11 @@ pub enum Way {
     FillsFolder(usize, &'static str),
     /// It moves what lies at the second path and makes a link to the first path there.
     Links(usize, &'static str, &'static str),
+    /// Right before a call another process asks for the lock of the store folder. If it gets it,
+    /// the call is refused.
+    AsksForTheLock(usize),
+    /// A call is refused with an error of this kind.
+    Refuses(usize, ErrorKind),
 }
 
 /// The steps before a run, its command line, what hinders it, the texts that it writes to standard
@@ -40,15 +46,17 @@ pub struct Row {
     pub line: &'static str,
     /// What hinders the run.
     pub way: Way,
-    told: (&'static str, &'static str, u8),
-    after: &'static [Step],
+    /// The texts that it writes, and its status.
+    pub told: (&'static str, &'static str, u8),
+    /// The steps after it.
+    pub after: &'static [Step],
 }
 
-const PUT: Step = Step::Put("any", DRAFT);
+pub const PUT: Step = Step::Put("any", DRAFT);
 
-const FILE: Step = Step::Write("<dir>/file", "hello\n");
+pub const FILE: Step = Step::Write("<dir>/file", "hello\n");
 
-const TEXT: Step = Step::TextPath("text", "greeting", "hello\n");
+pub const TEXT: Step = Step::TextPath("text", "greeting", "hello\n");
 
 const KEPT: Step = Step::Folder("<dir>/kept");
 
@@ -56,18 +64,18 @@ const KEPT_FILE: Step = Step::Write("<dir>/kept/file", "hello\n");
 
 const STILL_KEPT: Step = Step::Holds("<dir>/kept/file", "hello\n");
 
-const JOURNAL: &str = "<dir>/realiser-journal";
+pub const JOURNAL: &str = "<dir>/realiser-journal";
 
 const TEMPORARY: &str = "<dir>/.nix_realise-0";
 
 const CHECK: &str = "nix_realise check --store-dir <dir> <any>";
 
-const ADD: &str = "nix_realise add-text --store-dir <dir> greeting <dir>/file";
+pub const ADD: &str = "nix_realise add-text --store-dir <dir> greeting <dir>/file";
 
-const REALISE: &str = "nix_realise realise --store-dir <dir> <any>";
+pub const REALISE: &str = "nix_realise realise --store-dir <dir> <any>";
 
 // The digests here are the SHA-256 digests of `hello` with a newline, and of `made` with a newline.
-const WITH_TEXT: &str = "realiser-journal 2\nA <text> \
+pub const WITH_TEXT: &str = "realiser-journal 2\nA <text> \
     sha256:5891b5b522d5df086d0ff0b110fbd9d21bb4fc7163af34d08286a2e846f6be03\n";
 
 const ANOTHER: &str = "realiser-journal 2\nA <dir>/aaaaaaaaaaaaaaaaaaaaaaaaaaaaaaaa-x -\n";
@@ -78,7 +86,7 @@ const WITH_BOTH: &str = "realiser-journal 2\nA <dir>/aaaaaaaaaaaaaaaaaaaaaaaaaaa
 const WITH_LINKED_OUTPUT: &str = "realiser-journal 2\nD <any>\nO <any.out> \
     sha256:5891b5b522d5df086d0ff0b110fbd9d21bb4fc7163af34d08286a2e846f6be03\n";
 
-const WITH_OUTPUT: &str = "realiser-journal 2\nD <any>\nO <any.out> \
+pub const WITH_OUTPUT: &str = "realiser-journal 2\nD <any>\nO <any.out> \
     sha256:9ccbd3f1b19a1cdfd8d7c6ae48e9e822e2345f5be1a6187b19e41486c6941004\n";
 
 // A draft whose builder makes an output of 70,000 zero bytes, and their digest.
@@ -88,9 +96,9 @@ const LARGE: &str = "Derive([(\"out\",\"\",\"\",\"\")],[],[],\"x86_64-linux\",\"
 const WITH_LARGE_OUTPUT: &str = "realiser-journal 2\nD <any>\nO <any.out> \
     sha256:f51b279903037b37ea1828a1021499995718d38016cad6c0da30962a41be052f\n";
 
-const GREETED: (&str, &str, u8) = ("<text>\n", "", 0);
+pub const GREETED: (&str, &str, u8) = ("<text>\n", "", 0);
 
-const BUILT: (&str, &str, u8) = ("built <any>\noutput <any.out>\n", "", 0);
+pub const BUILT: (&str, &str, u8) = ("built <any>\noutput <any.out>\n", "", 0);
 
 // Each file is read and written byte by byte, and a run ends the same.
 static SHORT: [Row; 5] = [
@@ -148,7 +156,7 @@ static INTERRUPTED: [Row; 4] = [
         name: "interrupted-start",
         before: &[PUT],
         line: REALISE,
-        way: Way::Interrupts(12),
+        way: Way::Interrupts(14),
         told: BUILT,
         after: &[
             Step::Holds("<any.out>", "made\n"),
@@ -160,7 +168,7 @@ static INTERRUPTED: [Row; 4] = [
         name: "interrupted-read-of-an-output",
         before: &[PUT],
         line: REALISE,
-        way: Way::Interrupts(16),
+        way: Way::Interrupts(18),
         told: BUILT,
         after: &[Step::Holds(JOURNAL, WITH_OUTPUT), Step::Left(4)],
     },
@@ -176,7 +184,7 @@ static INTERRUPTED: [Row; 4] = [
         name: "interrupted-write-of-a-text",
         before: &[FILE, TEXT],
         line: ADD,
-        way: Way::Interrupts(7),
+        way: Way::Interrupts(8),
         told: GREETED,
         after: &[
             Step::Holds("<text>", "hello\n"),
@@ -209,7 +217,7 @@ static READ: [Row; 5] = [
         name: "journal-removed-unread",
         before: &[FILE, TEXT, Step::Write(JOURNAL, ANOTHER)],
         line: ADD,
-        way: Way::Removes(5, JOURNAL),
+        way: Way::Removes(6, JOURNAL),
         told: GREETED,
         after: &[Step::Holds(JOURNAL, WITH_TEXT)],
     },
@@ -219,7 +227,7 @@ static READ: [Row; 5] = [
         name: "output-removed",
         before: &[PUT],
         line: REALISE,
-        way: Way::Removes(14, "<any.out>"),
+        way: Way::Removes(16, "<any.out>"),
         told: ("failed <any>: MissingOutput(\"out\")\n", "", 1),
         after: &[Step::Holds(JOURNAL, "realiser-journal 2\n")],
     },
@@ -227,7 +235,7 @@ static READ: [Row; 5] = [
         name: "output-removed-unread",
         before: &[PUT],
         line: REALISE,
-        way: Way::Removes(15, "<any.out>"),
+        way: Way::Removes(17, "<any.out>"),
         told: ("failed <any>: ReadFault\n", "", 1),
         after: &[Step::Holds(JOURNAL, "realiser-journal 2\n")],
     },
@@ -239,7 +247,7 @@ static WRITTEN: [Row; 5] = [
         name: "journal-removed",
         before: &[FILE, TEXT, Step::Write(JOURNAL, ANOTHER)],
         line: ADD,
-        way: Way::Removes(13, JOURNAL),
+        way: Way::Removes(14, JOURNAL),
         told: GREETED,
         after: &[Step::Holds(JOURNAL, WITH_BOTH), Step::Left(3)],
     },
@@ -247,7 +255,7 @@ static WRITTEN: [Row; 5] = [
         name: "journal-made",
         before: &[FILE, TEXT],
         line: ADD,
-        way: Way::Writes(10, JOURNAL, ANOTHER),
+        way: Way::Writes(11, JOURNAL, ANOTHER),
         told: GREETED,
         after: &[Step::Holds(JOURNAL, WITH_TEXT), Step::Left(3)],
     },
@@ -257,7 +265,7 @@ static WRITTEN: [Row; 5] = [
         name: "folder-for-the-journal",
         before: &[FILE, TEXT],
         line: ADD,
-        way: Way::MakesFolder(10, JOURNAL),
+        way: Way::MakesFolder(11, JOURNAL),
         told: ("<text>\n", "nix_realise: journal: Unwritable\n", 3),
         after: &[Step::Holds("<text>", "hello\n"), Step::Left(3)],
     },
@@ -265,7 +273,7 @@ static WRITTEN: [Row; 5] = [
         name: "folder-for-the-text",
         before: &[FILE, TEXT],
         line: ADD,
-        way: Way::MakesFolder(9, "<text>"),
+        way: Way::MakesFolder(10, "<text>"),
         told: ("<text>\n", "nix_realise: <text>: Unwritable\n", 3),
         after: &[Step::Stands(JOURNAL, false), Step::Left(2)],
     },
@@ -274,7 +282,7 @@ static WRITTEN: [Row; 5] = [
         name: "temporary-name-taken",
         before: &[FILE, TEXT],
         line: ADD,
-        way: Way::Writes(6, TEMPORARY, "other"),
+        way: Way::Writes(7, TEMPORARY, "other"),
         told: GREETED,
         after: &[
             Step::Holds("<text>", "hello\n"),
@@ -297,7 +305,7 @@ static TAKEN: [Row; 2] = [
         name: "free-name-taken-for-a-folder",
         before: &[PUT, LEFT_FOLDER, LEFT_FILE],
         line: REALISE,
-        way: Way::FillsFolder(14, "<dir>/.nix_realise-left-0"),
+        way: Way::FillsFolder(16, "<dir>/.nix_realise-left-0"),
         told: BUILT,
         after: &[
             Step::Holds("<dir>/.nix_realise-left-0/file", "other"),
@@ -309,7 +317,7 @@ static TAKEN: [Row; 2] = [
         name: "free-name-taken-for-a-file",
         before: &[PUT, LEFT_FOLDER, LEFT_FILE],
         line: REALISE,
-        way: Way::Writes(14, "<dir>/.nix_realise-left-0", "other"),
+        way: Way::Writes(16, "<dir>/.nix_realise-left-0", "other"),
         told: BUILT,
         after: &[
             Step::Holds("<dir>/.nix_realise-left-0", "other"),
@@ -326,7 +334,7 @@ static RUN: [Row; 4] = [
         name: "build-folder-made",
         before: &[PUT],
         line: REALISE,
-        way: Way::MakesFolder(11, "<dir>/.build-0"),
+        way: Way::MakesFolder(13, "<dir>/.build-0"),
         told: ("failed <any>: NoStart\n", "", 1),
         after: &[Step::Run(REALISE, "built <any>\noutput <any.out>\n", "", 0)],
     },
@@ -334,7 +342,7 @@ static RUN: [Row; 4] = [
         name: "output-made",
         before: &[PUT],
         line: REALISE,
-        way: Way::Writes(12, "<any.out>", "other\n"),
+        way: Way::Writes(14, "<any.out>", "other\n"),
         told: BUILT,
         after: &[
             Step::Holds("<any.out>", "made\n"),
@@ -347,7 +355,7 @@ static RUN: [Row; 4] = [
         name: "folder-for-the-journal-of-a-run",
         before: &[PUT],
         line: REALISE,
-        way: Way::MakesFolder(13, JOURNAL),
+        way: Way::MakesFolder(15, JOURNAL),
         told: ("", "nix_realise: journal: Unwritable\n", 3),
         after: &[
             Step::Holds("<any.out>", "made\n"),
@@ -362,7 +370,7 @@ static RUN: [Row; 4] = [
         name: "journal-of-a-run-made",
         before: &[PUT],
         line: REALISE,
-        way: Way::Writes(13, JOURNAL, ANOTHER),
+        way: Way::Writes(15, JOURNAL, ANOTHER),
         told: BUILT,
         after: &[Step::Holds(JOURNAL, WITH_OUTPUT), Step::Left(4)],
     },
@@ -374,7 +382,7 @@ static LINKED: [Row; 5] = [
         name: "old-output-linked",
         before: &[PUT, KEPT, KEPT_FILE, Step::Folder("<any.out>")],
         line: REALISE,
-        way: Way::Links(10, "<dir>/kept", "<any.out>"),
+        way: Way::Links(12, "<dir>/kept", "<any.out>"),
         told: BUILT,
         after: &[STILL_KEPT, Step::Holds("<any.out>", "made\n")],
     },
@@ -382,7 +390,7 @@ static LINKED: [Row; 5] = [
         name: "build-folder-linked",
         before: &[PUT, KEPT, KEPT_FILE],
         line: REALISE,
-        way: Way::Links(19, "<dir>/kept", "<dir>/.build-0"),
+        way: Way::Links(21, "<dir>/kept", "<dir>/.build-0"),
         told: BUILT,
         after: &[
             STILL_KEPT,
@@ -395,7 +403,7 @@ static LINKED: [Row; 5] = [
         name: "output-linked-unread",
         before: &[PUT, KEPT, KEPT_FILE],
         line: REALISE,
-        way: Way::Links(15, "<dir>/kept/file", "<any.out>"),
+        way: Way::Links(17, "<dir>/kept/file", "<any.out>"),
         told: BUILT,
         after: &[STILL_KEPT, Step::Holds(JOURNAL, WITH_LINKED_OUTPUT)],
     },
@@ -403,7 +411,7 @@ static LINKED: [Row; 5] = [
         name: "journal-linked",
         before: &[PUT, KEPT, KEPT_FILE],
         line: REALISE,
-        way: Way::Links(25, "<dir>/kept/file", JOURNAL),
+        way: Way::Links(27, "<dir>/kept/file", JOURNAL),
         told: BUILT,
         after: &[STILL_KEPT, Step::Holds(JOURNAL, WITH_OUTPUT)],
     },
@@ -411,7 +419,7 @@ static LINKED: [Row; 5] = [
         name: "text-linked",
         before: &[FILE, TEXT, KEPT, Step::Write("<dir>/kept/file", "kept")],
         line: ADD,
-        way: Way::Links(9, "<dir>/kept/file", "<text>"),
+        way: Way::Links(10, "<dir>/kept/file", "<text>"),
         told: GREETED,
         after: &[
             Step::Holds("<dir>/kept/file", "kept"),
@@ -422,8 +430,18 @@ static LINKED: [Row; 5] = [
 ];
 
 /// The tables of all rows.
-pub fn tables() -> [&'static [Row]; 7] {
-    [&SHORT, &INTERRUPTED, &READ, &WRITTEN, &TAKEN, &RUN, &LINKED]
+pub fn tables() -> [&'static [Row]; 9] {
+    [
+        &SHORT,
+        &INTERRUPTED,
+        &READ,
+        &WRITTEN,
+        &TAKEN,
+        &RUN,
+        &LINKED,
+        &locked::LOCKED,
+        &locked::HOLDING,
+    ]
 }
 
 /// The event that hinders a run, in a scene.
@@ -442,6 +460,8 @@ pub fn event_of(alloc: Global, scene: &Scene, way: &Way) -> Result<Event, Fail> 
             let to = scene.said(alloc, to)?;
             Ok(Event::Linked(*number, to, scene.said(alloc, at)?))
         }
+        Way::AsksForTheLock(number) => Ok(Event::Asked(*number, scene.said(alloc, "<dir>")?)),
+        Way::Refuses(number, kind) => Ok(Event::Refused(*number, *kind)),
     }
 }
 

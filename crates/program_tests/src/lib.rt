@@ -8,6 +8,7 @@
 //! | `starts`, `folders`, `outputs` | a builder's start, its folder, the reading of its outputs |
 //! | `calls`, `leases` | the system calls, each refused in turn; the system calls of each lease |
 //! | `hindered` | short reads and writes, signals, and other processes that get in the way |
+//! | `locked` | runs that find the store folder locked, and the time for which they lock it |
 //! | `doubled` | the runs of these tables, on a double |
 //! | `double` | a runtime that logs system calls, and lets something happen between them |
 //! | `steps`, `scene` | the steps of most rows, and how they are taken |
@@ -33,6 +34,8 @@ mod folders;
 mod hindered;
 #[cfg(test)]
 mod leases;
+#[cfg(test)]
+mod locked;
 #[cfg(test)]
 mod outputs;
 #[cfg(test)]

@@ -8,7 +8,7 @@ use std::rt::{Env, Files};
 use std::sync::Wait;
 use std::thread::Threads;
 use std::{env, fs, io};
-use subcommands::run;
+use subcommands::{Locks, run};
 
 /// The empty derivation.
 pub const NOTHING: &[u8; 28] = b"Derive([],[],[],\"\",\"\",[],[])";
@@ -26,14 +26,14 @@ pub struct Outcome {
 
 /// What a system call needs of its host. None of the bounds is for threads, since a function with
 /// such a bound may hand what it calls to a thread.
-pub trait Plain: Files + AllocGlobal + Wait + Clone + Drop {}
+pub trait Plain: Files + Locks + AllocGlobal + Wait + Clone + Drop {}
 
-impl<R: Files + AllocGlobal + Wait + Clone + Drop> Plain for R {}
+impl<R: Files + Locks + AllocGlobal + Wait + Clone + Drop> Plain for R {}
 
 /// What a run needs of its host.
-pub trait Host: Files + AllocGlobal + Threads + Wait + Sync + Clone + Drop {}
+pub trait Host: Files + Locks + AllocGlobal + Threads + Wait + Sync + Clone + Drop {}
 
-impl<R: Files + AllocGlobal + Threads + Wait + Sync + Clone + Drop> Host for R {}
+impl<R: Files + Locks + AllocGlobal + Threads + Wait + Sync + Clone + Drop> Host for R {}
 
 /// A builder that starts nothing.
 #[derive(Drop)]
@@ -63,15 +63,15 @@ impl Builders for Idle {
     }
 }
 
-/// Runs the program on a command line, with builders that `make` makes.
+/// Runs the program on a command line, with builders that `make` makes and the locks of its host.
 pub fn run_by<'a, R, M>(rt: &R, make: &M, words: &'a [&'a str]) -> Outcome
 where
-    R: Files + AllocGlobal + Threads + Wait + Sync,
+    R: Files + Locks + AllocGlobal + Threads + Wait + Sync,
     M: Builders,
 {
     let mut out = Vec::new(rt.alloc());
     let mut err = Vec::new(rt.alloc());
-    let status = run(rt, make, words, &mut out, &mut err).code();
+    let status = run(rt, make, rt, words, &mut out, &mut err).code();
     Outcome { status, out, err }
 }
 

@@ -27,7 +27,7 @@ fn refused_mistakes(rt: HostRuntime) {
     for word in ["--frob", "--store-dir=x y"] {
         let words = ["nix_realise", "check", word];
         let mut out = Vec::new(rt.alloc());
-        let ending = run(&rt, &Idle, &words, &mut out, &mut Narrow { room: 5 });
+        let ending = run(&rt, &Idle, &rt, &words, &mut out, &mut Narrow { room: 5 });
         assert!(rt; ending == Ending::Untold && out.is_empty(), "at {word}");
     }
 }

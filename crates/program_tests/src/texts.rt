@@ -3,11 +3,15 @@ use crate::scene::Scene;
 use nix_drv::text_path;
 use nix_names::StoreDir;
 use std::alloc::{AllocError, Global};
+use std::path::Path;
 use std::str;
 use std::test::Fail;
 
 // A path from any folder that is not deep to the root.
 const UP: &str = "../../../../../../../../../../../../../../../../../../../../../../../..";
+
+// Where Nix keeps its database, from the folder above its store folder.
+const DATABASE: &str = "var/nix/db/db.sqlite";
 
 /// Words in angle brackets, and the texts for which they stand.
 #[derive(Drop)]
@@ -16,13 +20,16 @@ pub struct Names {
 }
 
 impl Names {
-    /// The word `<dir>` for a folder, and `<up>` for the same folder by a relative path.
+    /// The word `<dir>` for a folder, `<up>` for the same folder by a relative path, and `<nix>`
+    /// for the path of the database by which Nix would manage the folder.
     pub fn of(alloc: Global, folder: &str) -> Result<Names, AllocError> {
         let names = Vec::new(alloc);
         let mut names = Names { names };
         names.bind(alloc, "dir", String::from_str(alloc, folder)?)?;
         // The folder above the root is the root.
         names.bind(alloc, "up", format!(in alloc; "{UP}{folder}")?)?;
+        let database = Path::new(folder).with_file_name(alloc, DATABASE)?;
+        names.bind(alloc, "nix", String::from_str(alloc, database.as_str())?)?;
         Ok(names)
     }
 

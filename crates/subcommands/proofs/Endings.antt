@@ -1,10 +1,12 @@
 -- How a run of `add-text` ends where its text is refused, or where a file is not written.
-use Rattle.std.proofs.Common.{◌≡◌, ◌⊎◌, inl, inr, refl, ℕ, List, Option, Result, Ok, Err}
+use Rattle.std.proofs.Common.{◌≡◌, ◌⊎◌, inl, inr, refl, sym, ℕ, List, Option, Result, Ok, Err}
 use Rattle.std.specs.Prelude.{IsSome}
 use Rattle.std.specs.Io.KnownBytes.{Appends}
 use Rattle.command_line.specs.declared.options.AddTextRequest.{AddTextRequest}
-use Rattle.subcommands.specs.AddedText.{IsAddingText}
+use Rattle.nix_names.specs.Names.{IsStoreDir}
+use Rattle.subcommands.specs.AddedText.{HasNamedText, IsAdding, IsAddingText, IsNaming}
 use Rattle.subcommands.specs.Files.{FileBytes}
+use Rattle.subcommands.specs.Locking.{IsNotHeld}
 use Rattle.process_build.specs.declared.failures.Failure.{Failure}
 use Rattle.process_build.specs.declared.failures.Failure.TheVariants as failure
 use Rattle.subcommands.specs.Endings.{EndsBy, IsPrintedAndWritten, path_line}
@@ -17,21 +19,57 @@ use Rattle.subcommands.specs.declared.add_drv.Unput.TheVariants.{File, Line}
 use Rattle.subcommands.specs.declared.add_text.Unfiled.{Unfiled}
 use Rattle.subcommands.specs.declared.add_text.Unfiled.TheVariants.{Text, Journal}
 use Rattle.subcommands.specs.declared.added_text.AddedText.{AddedText}
+use Rattle.subcommands.specs.declared.added_text.NamedText.{NamedText}
 use Rattle.subcommands.specs.declared.status.Status.{Status}
 use Rattle.subcommands.specs.declared.stop.Stop.{Stop}
-use Rattle.subcommands.specs.declared.stop.Stop.TheVariants.{NotWritten, JournalNotWritten}
-use Rattle.subcommands.specs.declared.stop.Stop.TheVariants.{BadStoreDir, NoMemory, Unwritable}
+use Rattle.subcommands.specs.declared.stop.Stop.TheVariants.{BadJournal, BadName, BadStoreDir}
+use Rattle.subcommands.specs.declared.stop.Stop.TheVariants.{InUse, JournalNotWritten}
+use Rattle.subcommands.specs.declared.stop.Stop.TheVariants.{JournalUnreadable, NoMemory, NotLocked}
+use Rattle.subcommands.specs.declared.stop.Stop.TheVariants.{NotWritten, TooLong, Unreadable}
+use Rattle.subcommands.specs.declared.stop.Stop.TheVariants.{Unwritable}
 
--- a refused text ends the run with nothing printed
+-- a refused file or name ends the run with nothing printed
 pub text_refused : (request : AddTextRequest) (gave journal : FileBytes) (before : Option (List ℕ))
     (stop : Stop)
-    → IsAddingText request gave journal (Err stop)
+    → IsStoreDir request.store_dir.now → IsNaming request gave (Err stop)
     → EndsBy request gave journal before before (Err stop)
-text_refused request gave journal before (NotWritten path) h = absurd h
-text_refused request gave journal before JournalNotWritten h = absurd h
-text_refused request gave journal before Unwritable h = absurd h
-text_refused request gave journal before NoMemory h = h
-text_refused request gave journal before stop h = (refl, h)
+text_refused request gave journal before (Unreadable blamed) dir h = (refl, (h.0, dir, h.1))
+text_refused request gave journal before (TooLong blamed) dir h = (refl, (h.0, dir, h.1))
+text_refused request gave journal before (BadName blamed) dir h = (refl, h)
+text_refused request gave journal before NoMemory dir h = λ none. none dir
+text_refused request gave journal before stop dir h = absurd h
+
+-- a store folder that is not held ends the run with nothing printed
+pub not_held : (request : AddTextRequest) (gave journal : FileBytes) (before : Option (List ℕ))
+    (bytes : List ℕ) (stop : Stop)
+    → HasNamedText request gave bytes → IsNotHeld request.store_dir request.wait stop
+    → EndsBy request gave journal before before (Err stop)
+not_held request gave journal before bytes (InUse blamed) has h = (refl, (bytes, has), h)
+not_held request gave journal before bytes (NotLocked blamed) has h = (refl, (bytes, has), h)
+not_held request gave journal before bytes NoMemory has h = λ none. none has.0.0
+not_held request gave journal before bytes stop has h = absurd h
+
+-- a refused journal ends the run with nothing printed
+pub journal_refused : (request : AddTextRequest) (gave journal : FileBytes)
+    (before : Option (List ℕ)) (named : NamedText) (stop : Stop)
+    → IsNaming request gave (Ok named)
+    → IsAdding request.store_dir.now named journal (Err stop)
+    → EndsBy request gave journal before before (Err stop)
+journal_refused request gave journal before named JournalUnreadable is h =
+    (refl, ((named.text.items, is.0), h))
+journal_refused request gave journal before named (BadJournal fault) is h =
+    (refl, ((named.text.items, is.0), h))
+journal_refused request gave journal before named NoMemory is h = λ none. none is.0.0.0
+journal_refused request gave journal before named stop is h = absurd h
+
+-- an accepted text
+pub text_accepted : (request : AddTextRequest) (gave journal : FileBytes) (named : NamedText)
+    (added : AddedText)
+    → IsNaming request gave (Ok named)
+    → IsAdding request.store_dir.now named journal (Ok added)
+    → IsAddingText request gave journal (Ok added)
+text_accepted request gave journal named added is h =
+    rw (h.0, h.1) (is.0, is.1, rw (sym is.2) h.2)
 
 -- a bad store folder ends the run before a file is opened
 pub folder_refused : (request : AddTextRequest) (gave journal : FileBytes)

@@ -1,4 +1,5 @@
 pub mod AddedTexts
+pub mod Appending
 pub mod Endings
 pub mod Journals
 pub mod Registrations

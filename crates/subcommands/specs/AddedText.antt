@@ -20,6 +20,7 @@ use Rattle.command_line.specs.declared.options.AddTextRequest.{AddTextRequest}
 use Rattle.subcommands.specs.Files.{FileBytes}
 use Rattle.subcommands.specs.Registering.{text_entry}
 use Rattle.subcommands.specs.declared.added_text.AddedText.{AddedText}
+use Rattle.subcommands.specs.declared.added_text.NamedText.{NamedText}
 use Rattle.subcommands.specs.declared.files.FileFault.TheVariants as file
 use Rattle.subcommands.specs.declared.stop.Stop.{Stop}
 use Rattle.subcommands.specs.declared.stop.Stop.TheVariants.{BadStoreDir, Unreadable, TooLong}
@@ -88,6 +89,33 @@ HasText request gave bytes =
 -- And the name is well-formed.
 abbrev pub HasNamedText : AddTextRequest → FileBytes → (bytes : Bytes) → Type 0
 HasNamedText request gave bytes = HasText request gave bytes × IsTrue (is_name request.name.now)
+
+-- The text that FILE gave, with its path in a well-formed store folder, or a fault: FILE is tested
+-- first, then the name.
+abbrev pub IsNaming : AddTextRequest → (gave : FileBytes) → Result NamedText Stop → Type 0
+IsNaming request gave (Ok named) =
+    HasNamedText request gave named.text.items
+    × (named.path ≡ text_path request.store_dir.now request.name.now named.text.items [])
+    × (named.digest ≡ sha256 named.text.items)
+IsNaming request gave (Err (Unreadable blamed)) =
+    (blamed ≡ request.file) × (gave ≡ Err file.Unreadable)
+IsNaming request gave (Err (TooLong blamed)) =
+    (blamed ≡ request.file)
+    × ((bytes : Bytes) × (gave ≡ Ok bytes) × (max_text_len < length bytes))
+IsNaming request gave (Err (BadName blamed)) =
+    (blamed ≡ request.name) × ((bytes : Bytes) × HasText request gave bytes)
+    × (is_name request.name.now ≡ false)
+IsNaming request gave (Err NoMemory) = Unit {0}
+IsNaming request gave (Err stop) = ⊥
+
+-- The text that is put into the store, by what the journal file gave, or a fault of the journal.
+abbrev pub IsAdding : (dir : Dir) → NamedText → (journal : FileBytes) → Result AddedText Stop
+    → Type 0
+IsAdding dir named journal (Ok added) =
+    (added.path ≡ named.path) × (added.text ≡ named.text)
+    × IsRenewed dir journal named.path named.digest added.journal
+IsAdding dir named journal (Err stop) =
+    IsRenewing dir journal named.path named.digest (Err stop)
 
 -- What `add-text` answers. The store folder is tested first, then FILE, the name and the journal.
 -- Each fault comes exactly where nothing is wrong with what is tested before it, so the cases

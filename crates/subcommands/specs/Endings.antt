@@ -4,12 +4,15 @@ use Rattle.std.specs.Io.KnownBytes.{Appends}
 use Rattle.nix_names.specs.Bytes.{Bytes, Path}
 use Rattle.nix_names.specs.Names.{IsStoreDir}
 use Rattle.command_line.specs.declared.options.AddTextRequest.{AddTextRequest}
-use Rattle.subcommands.specs.AddedText.{IsAddingText}
+use Rattle.subcommands.specs.AddedText.{HasNamedText, IsAddingText, IsNaming}
 use Rattle.subcommands.specs.Files.{FileBytes}
+use Rattle.subcommands.specs.Locking.{IsNotHeld}
 use Rattle.subcommands.specs.declared.added_text.AddedText.{AddedText}
+use Rattle.subcommands.specs.declared.added_text.NamedText.{NamedText}
 use Rattle.subcommands.specs.declared.status.Status.{Status}
 use Rattle.subcommands.specs.declared.status.Status.TheVariants.{Done}
 use Rattle.subcommands.specs.declared.stop.Stop.{Stop}
+use Rattle.subcommands.specs.declared.stop.Stop.TheVariants.{InUse, NotLocked}
 use Rattle.subcommands.specs.declared.stop.Stop.TheVariants.{NotWritten, JournalNotWritten}
 use Rattle.subcommands.specs.declared.stop.Stop.TheVariants.{NoMemory, Unwritable}
 
@@ -41,9 +44,10 @@ abbrev pub IsPrinted : AddTextRequest → (gave journal : FileBytes)
 IsPrinted request gave journal before after added =
     IsAddingText request gave journal (Ok added) × Appends before after (path_line added.path)
 
--- How a run ends, by what the two files gave. Nothing is printed where the text is refused. Else
--- the path is printed, and then a file may not be written. Where the line is refused, the text is
--- accepted; where memory is refused, the store folder is well-formed.
+-- How a run ends, by what the two files gave. Nothing is printed where the text is refused, or
+-- where the store folder may not be used, which is found out behind FILE and NAME. Else the path is
+-- printed, and then a file may not be written. Where the line is refused, the text is accepted;
+-- where memory is refused, the store folder is well-formed.
 abbrev pub EndsBy : AddTextRequest → (gave journal : FileBytes)
     → (before after : Option Bytes) → Result Status Stop → Type 0
 EndsBy request gave journal before after (Ok status) =
@@ -56,6 +60,12 @@ EndsBy request gave journal before after (Err JournalNotWritten) =
     × IsWriteFault added JournalNotWritten
 EndsBy request gave journal before after (Err Unwritable) =
     (added : AddedText) × IsAddingText request gave journal (Ok added)
+EndsBy request gave journal before after (Err (InUse blamed)) =
+    (after ≡ before) × ((bytes : Bytes) × HasNamedText request gave bytes)
+    × IsNotHeld request.store_dir request.wait (InUse blamed)
+EndsBy request gave journal before after (Err (NotLocked blamed)) =
+    (after ≡ before) × ((bytes : Bytes) × HasNamedText request gave bytes)
+    × IsNotHeld request.store_dir request.wait (NotLocked blamed)
 EndsBy request gave journal before after (Err NoMemory) =
     ¬ (¬ (IsStoreDir request.store_dir.now))
 EndsBy request gave journal before after (Err stop) =
@@ -65,3 +75,10 @@ EndsBy request gave journal before after (Err stop) =
 abbrev pub Ends : AddTextRequest → (before after : Option Bytes) → Result Status Stop → Type 0
 Ends request before after result =
     (gave : FileBytes) × (journal : FileBytes) × EndsBy request gave journal before after result
+
+-- how a run ends that has a text with its path, and holds its store folder
+abbrev pub HeldTextEnds : AddTextRequest → NamedText → (before after : Option Bytes)
+    → Result Status Stop → Type 0
+HeldTextEnds request named before after result =
+    (gave : FileBytes) → IsNaming request gave (Ok named)
+    → (journal : FileBytes) × EndsBy request gave journal before after result

@@ -10,7 +10,7 @@ use Rattle.subcommands.specs.declared.add_text.Unfiled.{Unfiled}
 use Rattle.subcommands.specs.declared.add_text.Unfiled.TheVariants.{Text, Journal}
 use Rattle.subcommands.specs.declared.added_drv.AddedDrv.{AddedDrv}
 use Rattle.subcommands.specs.declared.added_text.AddedText.{AddedText}
-use Rattle.subcommands.specs.declared.journal_file.JournalFile.{JournalFile}
+use Rattle.subcommands.specs.declared.journal_file.OwnJournal.{OwnJournal}
 use Rattle.subcommands.specs.declared.stop.Stop.{Stop}
 use Rattle.subcommands.specs.declared.stop.Stop.TheVariants.{Unwritable}
 use Rattle.subcommands.specs.declared.whole_file.Written.{Written}
@@ -20,7 +20,7 @@ abbrev pub IsWritten : (path bytes : Bytes) → Written → Type 0
 IsWritten path bytes written = (written.path.now ≡ path) × (written.bytes.now ≡ bytes)
 
 -- where the journal has new bytes, the text and the journal were written; else no file was
-abbrev pub AreFiled : AddedText → JournalFile → Option Filed → Type 0
+abbrev pub AreFiled : AddedText → OwnJournal → Option Filed → Type 0
 AreFiled added file None = option_map (λ (b : Vec ℕ). b.items) added.journal ≡ None
 AreFiled added file (Some filed) =
     IsWritten added.path added.text.items filed.text

@@ -8,6 +8,7 @@ pub mod FaultWords
 pub mod Files
 pub mod Folders
 pub mod GraphWords
+pub mod Locking
 pub mod Planning
 pub mod ProgramEndings
 pub mod Realising
@@ -19,3 +20,4 @@ pub mod Tasks
 -- What only private contracts and proofs cite.
 pub mod Filed
 pub mod JournalFiles
+pub mod Waiting

@@ -3,6 +3,7 @@ use Rattle.std.specs.Prelude.{◌≡◌, ◌⊎◌, Bool, Option, Result, Ok, Er
 use Rattle.std.specs.Io.KnownBytes.{Appends}
 use Rattle.std.specs.List.{list_all}
 use Rattle.nix_names.specs.Bytes.{Bytes}
+use Rattle.drv_graph.specs.Plans.{Graph}
 use Rattle.sched_core.specs.Books.{Ledger}
 use Rattle.run_report.specs.Reports.{IsReportIn}
 use Rattle.run_states.specs.Runs.{History, Run as RunOver, state_in}
@@ -13,9 +14,11 @@ use Rattle.build_outcome.specs.declared.reason.Reason.{Reason}
 use Rattle.store_run.specs.Realising.{IsRealised, IsRunFault}
 use Rattle.store_run.specs.declared.fault.RunFault.{RunFault}
 use Rattle.command_line.specs.declared.options.RealiseRequest.{RealiseRequest}
+use Rattle.subcommands.specs.AddedText.{IsJournalOf}
 use Rattle.subcommands.specs.Files.{FileBytes}
 use Rattle.subcommands.specs.Folders.{may_give}
-use Rattle.subcommands.specs.Tasks.{IsTaskTaken}
+use Rattle.subcommands.specs.Locking.{IsKeptOut}
+use Rattle.subcommands.specs.Tasks.{HasPlan, IsNotPlanned}
 use Rattle.subcommands.specs.declared.status.Status.{Status}
 use Rattle.subcommands.specs.declared.status.Status.TheVariants.{Done, Unrealised}
 use Rattle.subcommands.specs.declared.stop.Stop.{Stop}
@@ -70,19 +73,32 @@ RunEnds may request task before after result =
     ⊎ ((stop : Stop) × (result ≡ Err stop) × (after ≡ before)
     × IsFallingShort may request task stop)
 
--- How a run ends, by what the journal file gave. Nothing is printed where the request is refused,
--- where the journal can't be written, or where memory is refused before the workers start.
-abbrev pub RealiseEndsBy : May → RealiseRequest → (gave : FileBytes)
+-- How a run of a plan ends in the store folder that it holds, by what the journal file gave.
+-- Nothing is printed where the journal is refused, where it can't be written, or where memory is
+-- refused before the workers start.
+abbrev pub HeldEndsBy : May → RealiseRequest → (plan : Graph) → (gave : FileBytes)
     → (before after : Option Bytes) → Result Status Stop → Type 0
-RealiseEndsBy may request gave before after result =
+HeldEndsBy may request plan gave before after result =
     ((stop : Stop) × (result ≡ Err stop) × (after ≡ before)
-    × IsTaskTaken (λ _ answer. may_give answer) request.run gave (Err stop))
-    ⊎ ((task : Task) × IsTaskTaken (λ _ answer. may_give answer) request.run gave (Ok task)
+    × IsJournalOf request.run.store_dir.now gave (Err stop))
+    ⊎ ((task : Task) × (task.plan ≡ plan)
+    × IsJournalOf request.run.store_dir.now gave (Ok task.journal)
     × (RunEnds may request task before after result
     ⊎ (((result ≡ Err JournalNotWritten) ⊎ (result ≡ Err NoMemory)) × (after ≡ before))))
 
--- how a run ends: nothing is known of what the journal file gave
+-- how it ends: nothing is known of what the journal file gave
+abbrev pub HeldEnds : May → RealiseRequest → (plan : Graph) → (before after : Option Bytes)
+    → Result Status Stop → Type 0
+HeldEnds may request plan before after result =
+    (gave : FileBytes) × HeldEndsBy may request plan gave before after result
+
+-- How a run ends: there is no plan; or there is one, and the run may not use its store folder; or
+-- it holds that. Where it doesn't, nothing is printed.
 abbrev pub RealiseEnds : May → RealiseRequest → (before after : Option Bytes)
     → Result Status Stop → Type 0
 RealiseEnds may request before after result =
-    (gave : FileBytes) × RealiseEndsBy may request gave before after result
+    ((stop : Stop) × (result ≡ Err stop) × (after ≡ before)
+    × IsNotPlanned (λ _ answer. may_give answer) request.run stop)
+    ⊎ ((plan : Graph) × HasPlan (λ _ answer. may_give answer) request.run plan
+    × (((stop : Stop) × (result ≡ Err stop) × (after ≡ before) × IsKeptOut request stop)
+    ⊎ HeldEnds may request plan before after result))

@@ -19,6 +19,7 @@ use Rattle.subcommands.specs.declared.stop.Stop.{Stop}
 use Rattle.subcommands.specs.declared.stop.Stop.TheVariants.{BadStoreDir, Unreadable, TooLong}
 use Rattle.subcommands.specs.declared.stop.Stop.TheVariants.{BadDraft, BadDrv}
 use Rattle.subcommands.specs.declared.stop.Stop.TheVariants.{BadName, JournalUnreadable, BadJournal}
+use Rattle.subcommands.specs.declared.stop.Stop.TheVariants.{InUse, NixStore, NotLocked}
 use Rattle.subcommands.specs.declared.stop.Stop.TheVariants.{NotWritten, JournalNotWritten}
 use Rattle.subcommands.specs.declared.stop.Stop.TheVariants.{NoPath, Run}
 use Rattle.subcommands.specs.declared.stop.Stop.TheVariants.{NoMemory, Unwritable}
@@ -44,6 +45,9 @@ number_of (BadDrv path fault) = node_number_of fault
 number_of (NotWritten path) = 74
 number_of JournalNotWritten = 74
 number_of Unwritable = 74
+number_of (NotLocked dir) = 74
+number_of (InUse dir) = 75
+number_of (NixStore dir) = 76
 
 -- what the line blames: a word as it was given, a path, the journal or the run
 abbrev pub blamed_of : Stop → Bytes
@@ -52,6 +56,9 @@ blamed_of (Unreadable file) = file.now
 blamed_of (TooLong file) = file.now
 blamed_of (BadDraft file fault) = file.now
 blamed_of (BadName name) = name.now
+blamed_of (InUse dir) = dir.now
+blamed_of (NixStore dir) = dir.now
+blamed_of (NotLocked dir) = dir.now
 blamed_of (NoPath word fault) = word.now
 blamed_of (BadDrv path fault) = path
 blamed_of JournalUnreadable = codes "journal"
@@ -73,6 +80,9 @@ stop_fault_words (NoPath word fault) = name_fault_words fault
 stop_fault_words (BadDrv path fault) = node_fault_words fault
 stop_fault_words JournalUnreadable = codes "Unreadable"
 stop_fault_words (BadJournal fault) = table_fault_words fault
+stop_fault_words (InUse dir) = codes "InUse"
+stop_fault_words (NixStore dir) = codes "NixStore"
+stop_fault_words (NotLocked dir) = codes "Unwritable"
 stop_fault_words (NotWritten path) = codes "Unwritable"
 stop_fault_words JournalNotWritten = codes "Unwritable"
 stop_fault_words (Run fault kept) = run_fault_words fault
@@ -85,7 +95,8 @@ stop_line stop =
     codes "nix_realise: " ++ blamed_of stop ++ codes ": " ++ stop_fault_words stop ++ 10 ∷ []
 
 -- the status of the run: `Refused` for a word, a file or a journal that is refused; `CutShort` for
--- a journal that can't be read, workers that end too early, want of memory and a refused write
+-- a store folder that may not be used now, a journal that can't be read, workers that end too
+-- early, want of memory and a refused write
 abbrev pub status_of : Stop → Status
 status_of (BadStoreDir dir) = Refused
 status_of (Unreadable file) = Refused
@@ -96,6 +107,9 @@ status_of (NoPath word fault) = Refused
 status_of (BadDrv path fault) = Refused
 status_of (BadJournal fault) = Refused
 status_of JournalUnreadable = CutShort
+status_of (InUse dir) = CutShort
+status_of (NixStore dir) = CutShort
+status_of (NotLocked dir) = CutShort
 status_of (Run fault kept) = CutShort
 status_of (NotWritten path) = CutShort
 status_of JournalNotWritten = CutShort

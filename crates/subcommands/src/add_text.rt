@@ -1,20 +1,21 @@
 //! The subcommand `add-text`.
 ghost use Rattle.std.specs.Prelude.{◌≡◌, IfErr, IfOk, IsSome, OnOk};
 ghost use Rattle.std.specs.Io.KnownBytes.{Appends};
-ghost use Rattle.subcommands.specs.Endings.{Ends, IsPrintedAndWritten, path_line};
+ghost use Rattle.subcommands.specs.Endings.{Ends, HeldTextEnds, IsPrintedAndWritten, path_line};
 ghost use Rattle.subcommands.specs.Filed.{AreFiled, unfiled_stop};
 ghost use Rattle.subcommands.specs.JournalFiles.{text_stop};
 
-use crate::added_text::{AddedText, added_text};
+use crate::added_text::{AddedText, NamedText, added_text, named_text};
 use crate::files::read_text;
-use crate::journal_file::JournalFile;
+use crate::journal_file::OwnJournal;
+use crate::locks::{Holding, Locks, hold};
 use crate::printing::print_bytes;
 use crate::status::Status;
 use crate::stop::Stop;
 use crate::store_dir::store_dir;
 use crate::whole_file::{Unwritten, Written, write_whole};
 use command_line::AddTextRequest;
-use nix_names::StorePath;
+use nix_names::{StoreDir, StorePath};
 use process_build::Failure;
 use std::io;
 use std::io::Write;
@@ -22,28 +23,51 @@ use std::rt::Files;
 
 /// Prints the path of a file's bytes as a text without references. Then, unless the path is valid
 /// by the journal, writes the text at its path, and the journal with one more entry. The store
-/// folder is tested before a file is opened; then both files are read. The faults and their order
-/// are those of `added_text`. Nothing is printed where the text is refused, and nothing is written
-/// where standard output refuses the path's line.
-pub fn add_text<'a, R: Files + AllocGlobal, O: Write>(
+/// folder is tested, the file is read and the name tested; then the folder's lock is taken, and the
+/// journal is read. The faults in this order: `BadStoreDir`; those of `named_text`, `hold` and
+/// `added_text`. Nothing is printed where the text is refused, and nothing is written where
+/// standard output refuses the path's line.
+pub fn add_text<'a, R, L, O>(
     rt: &R,
+    locks: &L,
     request: &AddTextRequest<'a>,
     out: &mut O,
 ) -> Result<Status, Stop<'a>>
+where
+    R: Files + AllocGlobal,
+    L: Locks,
+    O: Write,
     ensures { Ends request.now (O.contents out.old) (O.contents out.new) result }
 {
-    store_dir(rt.alloc(), request.store_dir)?;
-    let file = JournalFile::new(rt.alloc(), request.store_dir, request.journal)?;
+    let dir = store_dir(rt.alloc(), request.store_dir)?;
     let text = read_text(rt, request.file);
-    let journal = file.read(rt);
-    let added = added_text(rt.alloc(), request, text, journal)?;
+    let named = named_text(rt.alloc(), request, &dir, text)?;
+    let held = hold(locks, request.store_dir, request.wait)?;
+    add_held(rt, request, held.holding(), &dir, named, out)
+}
+
+// Adds a text to the store folder that is held.
+fn add_held<'a, R: Files + AllocGlobal, O: Write>(
+    rt: &R,
+    request: &AddTextRequest<'a>,
+    holding: Holding<'_>,
+    dir: &StoreDir,
+    named: NamedText,
+    out: &mut O,
+) -> Result<Status, Stop<'a>>
+    requires held { holding.dir.now ≡ request.now.store_dir.now }
+    requires dir { dir.now ≡ request.now.store_dir.now }
+    ensures { HeldTextEnds request.now named (O.contents out.old) (O.contents out.new) result }
+{
+    let file = OwnJournal::new(rt.alloc(), holding, request.journal)?;
+    let added = added_text(rt.alloc(), request, dir, named, file.read(rt))?;
     put(rt, &file, added, out)
 }
 
 // Prints the path of an accepted text, and writes the files.
 fn put<'a, R: Files + AllocGlobal, O: Write>(
     rt: &R,
-    file: &JournalFile,
+    file: &OwnJournal<'_>,
     added: AddedText,
     out: &mut O,
 ) -> Result<Status, Stop<'a>>
@@ -82,7 +106,7 @@ enum Unfiled {
 // Writes the text at its path and then the journal, unless the path is valid already.
 fn write_files<'w, R: Files + AllocGlobal>(
     rt: &R,
-    file: &'w JournalFile,
+    file: &'w OwnJournal<'_>,
     added: &'w AddedText,
 ) -> Result<Option<Filed<'w>>, Unfiled>
     ensures ok { IfOk result (AreFiled added.entry.now file.entry.now) }

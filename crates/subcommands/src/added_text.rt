@@ -3,9 +3,9 @@ ghost use Rattle.std.specs.Global.{Vec};
 ghost use Rattle.std.specs.Prelude.{◌≡◌, [], ℕ, List, IfOk, IfErr, IsTrue, if◌then◌else◌};
 ghost use Rattle.std.specs.Prelude.{option_map};
 ghost use Rattle.sha2.specs.Sha256.{sha256};
-ghost use Rattle.nix_names.specs.Names.{is_name};
+ghost use Rattle.nix_names.specs.Names.{IsStoreDir, is_name};
 ghost use Rattle.nix_drv.specs.OwnPath.{text_path};
-ghost use Rattle.subcommands.specs.AddedText.{IsAddingText, IsJournalOf, IsRenewing};
+ghost use Rattle.subcommands.specs.AddedText.{IsAdding, IsJournalOf, IsNaming, IsRenewing};
 ghost use Rattle.subcommands.specs.AddedText.{IsTextOf};
 ghost use Rattle.subcommands.specs.Files.{IsReadFrom, journal_bytes, needed_bytes};
 ghost use Rattle.subcommands.specs.JournalFiles.{IsTextsJournal};
@@ -13,7 +13,6 @@ ghost use Rattle.subcommands.specs.Registering.{IsTextRegistering};
 
 use crate::files::{FileFault, Given};
 use crate::stop::Stop;
-use crate::store_dir::store_dir;
 use command_line::AddTextRequest;
 use nix_drv::MAX_LEN;
 use nix_names::{Digest, NameFault, StoreDir, StorePath, make_path};
@@ -21,7 +20,7 @@ use sha2::{Digest as _, Sha256};
 use std::alloc::Global;
 use valid_table::{Journal, Record, TableFault};
 
-/// A text that is put into a store. Only `added_text` makes one, of what reading its files gave.
+/// A text that is put into a store. Only `added_text` makes one, of what reading the journal gave.
 #[derive(Debug, Drop)]
 pub struct AddedText {
     path: StorePath,
@@ -63,33 +62,52 @@ impl AddedText {
     }
 }
 
-/// The path of a text without references, under the request's folder and name, and the journal's
-/// new bytes. The journal gets one more entry, after all others: the path, with the SHA-256 digest
-/// of the text's bytes. Where the path is valid already, there are no new bytes.
-///
-/// `text` and `journal` are what the text's file and the journal file gave. The faults, in this
-/// order: `BadStoreDir`; `Unreadable`; `TooLong` for more than 4,194,304 bytes; `BadName`;
-/// `JournalUnreadable`; `BadJournal` with the fault of `Journal::read`. `NoMemory` may be answered
-/// in place of each but the first.
-///
-/// Costs one SHA-256 over the text's bytes and one reading of the journal. Where the path is new,
-/// the journal is written once, in version 2.
-pub fn added_text<'a>(
+/// A text with its path. Only `named_text` makes one, of what reading its file gave.
+#[derive(Debug, Drop)]
+pub struct NamedText {
+    path: StorePath,
+    text: Vec<u8>,
+    digest: [u8; 32],
+}
+
+/// The text that the request's file gave, with the path that it gets without references under the
+/// request's folder and name. The faults, in this order: `Unreadable`; `TooLong` for more than
+/// 4,194,304 bytes; `BadName`. `NoMemory` may be answered in place of each. Costs one SHA-256 over
+/// the text's bytes.
+pub fn named_text<'a>(
     alloc: Global,
     request: &AddTextRequest<'a>,
+    dir: &StoreDir,
     text: Given<'_>,
-    journal: Given<'_>,
-) -> Result<AddedText, Stop<'a>>
+) -> Result<NamedText, Stop<'a>>
+    requires dir { (dir.now ≡ request.now.store_dir.now) × IsStoreDir request.now.store_dir.now }
     requires text { IsReadFrom request.now.file.now 4194305 text }
-    requires journal { IsTextsJournal request.now journal }
-    ensures { IsAddingText request.now (needed_bytes text.entry) (journal_bytes journal.entry)
-        result }
+    ensures { IsNaming request.now (needed_bytes text.entry) result }
 {
-    let dir = store_dir(alloc, request.store_dir)?;
     let text = text_within(request.file, text)?;
     let digest = Sha256::digest(&text);
-    let path = path_of(alloc, &dir, request.name, &digest)?;
-    let journal = renewed_journal(alloc, &dir, journal, &path, digest)?;
+    let path = path_of(alloc, dir, request.name, &digest)?;
+    Ok(NamedText { path, text, digest })
+}
+
+/// The text, and the journal's new bytes. The journal gets one more entry, after all others: the
+/// path, with the SHA-256 digest of the text's bytes. Where the path is valid already, there are no
+/// new bytes. `journal` is what the journal file gave. The faults are those of `journal_of`.
+///
+/// Costs one reading of the journal. Where the path is new, the journal is written once, in version
+/// 2.
+pub fn added_text<'a>(
+    alloc: Global,
+    _request: &AddTextRequest<'a>,
+    dir: &StoreDir,
+    named: NamedText,
+    journal: Given<'_>,
+) -> Result<AddedText, Stop<'a>>
+    requires { IsTextsJournal _request.now journal }
+    ensures { IsAdding dir.now named (journal_bytes journal.entry) result }
+{
+    let NamedText { path, text, digest } = named;
+    let journal = renewed_journal(alloc, dir, journal, &path, digest)?;
     Ok(AddedText {
         path,
         text,

@@ -4,11 +4,23 @@ ghost use Rattle.subcommands.specs.Files.{IsReadFrom};
 ghost use Rattle.subcommands.specs.JournalFiles.{journal_path_of};
 
 use crate::files::{Given, read_journal};
+use crate::locks::Holding;
 use crate::whole_file::{Tried, Unwritten, Written, try_out, write_whole};
 use std::alloc::{AllocError, Global};
 use std::rt::Files;
 
-/// The one journal file of a run.
+// The path that was given, else that of `realiser-journal` in the store folder.
+fn journal_path(alloc: Global, store_dir: &str, given: Option<&str>) -> Result<String, AllocError>
+    ensures { IfOk result (λ path. string_bytes path
+        ≡ journal_path_of store_dir.now (option_map (λ f. f.now) given.entry)) }
+{
+    match given {
+        Some(path) => String::from_str(alloc, path),
+        None => format!(in alloc; "{store_dir}/realiser-journal"),
+    }
+}
+
+/// The journal file of a run that changes nothing. Another run may write it meanwhile.
 #[derive(Drop)]
 pub struct JournalFile {
     path: String,
@@ -24,11 +36,41 @@ impl JournalFile {
         ensures { IfOk result (λ file. string_bytes file.path
             ≡ journal_path_of store_dir.now (option_map (λ f. f.now) given.entry)) }
     {
-        let path = match given {
-            Some(path) => String::from_str(alloc, path)?,
-            None => format!(in alloc; "{store_dir}/realiser-journal")?,
-        };
+        let path = journal_path(alloc, store_dir, given)?;
         Ok(JournalFile { path })
+    }
+
+    /// What the file gives, at most one byte more than a journal may have.
+    pub fn read<R: Files + AllocGlobal>(&self, rt: &R) -> Given<'_>
+        ensures { IsReadFrom (string_bytes self.now.path) 134217729 result }
+    {
+        read_journal(rt, self.path.as_str())
+    }
+}
+
+/// The journal file of a run that holds its store folder, for as long as it does. No other run
+/// reads it to write it meanwhile.
+#[derive(Drop)]
+pub struct OwnJournal<'h> {
+    path: String,
+    _holding: Holding<'h>,
+}
+
+impl<'h> OwnJournal<'h> {
+    /// The file at the path that was given, else `realiser-journal` in the store folder.
+    pub fn new(
+        alloc: Global,
+        holding: Holding<'h>,
+        given: Option<&str>,
+    ) -> Result<OwnJournal<'h>, AllocError>
+        ensures { IfOk result (λ file. string_bytes file.path
+            ≡ journal_path_of holding.entry.dir.now (option_map (λ f. f.now) given.entry)) }
+    {
+        let path = journal_path(alloc, holding.dir(), given)?;
+        Ok(OwnJournal {
+            path,
+            _holding: holding,
+        })
     }
 
     /// What the file gives, at most one byte more than a journal may have.

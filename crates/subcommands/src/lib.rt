@@ -8,6 +8,8 @@
 //! | `folder` | derivations read from the files of a folder |
 //! | `whole_file` | a file that is written whole or not at all |
 //! | `journal_file` | the journal file: its path, read and written |
+//! | `locks`, `waiting` | the lock of a store folder; the line that tells that a run waits for it |
+//! | `nix_store` | whether Nix manages a store folder |
 //! | `stop` | why a run ends without its report |
 //! | `kept` | what became of the journal of workers that gave no settled book |
 //! | `status` | the status of a run |
@@ -15,7 +17,8 @@
 //! | `verdict`, `check` | the verdict of `check` on one word; its lines |
 //! | `added_text`, `add_text` | the answer of `add-text`; the subcommand |
 //! | `added_drv`, `add_drv` | the answer of `add-drv`; the subcommand |
-//! | `task`, `taken` | what `plan` and `realise` take: a plan and a journal |
+//! | `task` | what `plan` and `realise` take: a plan and a journal |
+//! | `taken` | the same for a run that changes nothing |
 //! | `plan` | the subcommand `plan` |
 //! | `settled` | the status, the journal and the report of a run, by its book |
 //! | `builders`, `realise` | the builders of a run; the subcommand `realise` |
@@ -35,6 +38,8 @@ mod folder;
 mod graph_words;
 mod journal_file;
 mod kept;
+mod locks;
+mod nix_store;
 mod plan;
 mod printing;
 mod process;
@@ -47,10 +52,13 @@ mod store_dir;
 mod taken;
 mod task;
 mod verdict;
+mod waiting;
 mod whole_file;
 
 pub use check::check_lines;
 pub use folder::FolderSource;
+pub use locks::Locks;
 pub use process::run_process;
 pub use program::{print_no_memory, refuse_words, run};
 pub use status::{Ending, Status};
+pub use waiting::Telling;

@@ -25,7 +25,7 @@ where
     O: Write,
     ensures { PlanEnds request.now (O.contents out.old) (O.contents out.new) result }
 {
-    let (_, task) = taken(rt, &request.run)?;
+    let task = taken(rt, &request.run)?;
     print_forecast(rt.alloc(), request, task, out)
 }
 

@@ -4,6 +4,7 @@ ghost use Rattle.std.specs.Io.Buffered.{writer_inner};
 ghost use Rattle.clap.specs.declared.error.kind.ErrorKind.TheVariants.{OutOfMemory};
 ghost use Rattle.subcommands.specs.ProgramEndings.{ProgramEnds, UsageEnds};
 
+use crate::locks::Locks;
 use crate::program::{print_no_memory, refuse_words, run};
 use crate::status::Ending;
 use process_build::Builders;
@@ -14,17 +15,19 @@ use std::sync::Wait;
 use std::thread::Threads;
 use std::{env, io};
 
-/// Runs the program on the arguments and the standard output of the process. Says how the run ended.
-/// A word that is not UTF-8 is a mistake in the words.
-pub fn run_process<R, M, E>(rt: &R, make: &M, err: &mut E) -> Ending
+/// Runs the program on the arguments and the standard output of the process, with the builders that
+/// `make` makes and the locks that `locks` takes. Says how the run ended. A word that is not UTF-8
+/// is a mistake in the words.
+pub fn run_process<R, M, L, E>(rt: &R, make: &M, locks: &L, err: &mut E) -> Ending
 where
     R: Env + Files + Print + Threads + Wait + Sync + AllocGlobal,
     M: Builders,
+    L: Locks,
     E: Write,
 {
     match BufWriter::new(rt.alloc(), io::writer(rt)) {
         Ok(mut out) => {
-            let ending = run_arguments(rt, make, &mut out, err);
+            let ending = run_arguments(rt, make, locks, &mut out, err);
             let_go(out);
             ending
         }
@@ -42,25 +45,34 @@ fn let_go<W: Write + Drop>(buffer: BufWriter<W>) -> W
 }
 
 // Runs the program on the arguments of the process.
-fn run_arguments<R, M, O, E>(rt: &R, make: &M, out: &mut O, err: &mut E) -> Ending
+fn run_arguments<R, M, L, O, E>(rt: &R, make: &M, locks: &L, out: &mut O, err: &mut E) -> Ending
 where
     R: Env + Files + Threads + Wait + Sync + AllocGlobal,
     M: Builders,
+    L: Locks,
     O: Write,
     E: Write,
 {
     match arguments(rt) {
-        Ok(arguments) => run_texts(rt, make, &arguments, out, err),
+        Ok(arguments) => run_texts(rt, make, locks, &arguments, out, err),
         Err(error) if error.kind() == ErrorKind::InvalidData => refuse_words(rt.alloc(), out, err),
         Err(_) => print_no_memory(err),
     }
 }
 
 // Runs the program on these arguments.
-fn run_texts<R, M, O, E>(rt: &R, make: &M, arguments: &[String], out: &mut O, err: &mut E) -> Ending
+fn run_texts<R, M, L, O, E>(
+    rt: &R,
+    make: &M,
+    locks: &L,
+    arguments: &[String],
+    out: &mut O,
+    err: &mut E,
+) -> Ending
 where
     R: Files + Threads + Wait + Sync + AllocGlobal,
     M: Builders,
+    L: Locks,
     O: Write,
     E: Write,
     ensures { ProgramEnds M.Builder.may (map string_bytes arguments.now)
@@ -69,7 +81,7 @@ where
         (O.contents out.old, O.contents out.new) (E.contents err.old, E.contents err.new) result }
 {
     match texts(rt.alloc(), arguments) {
-        Ok(words) => run(rt, make, &words, out, err),
+        Ok(words) => run(rt, make, locks, &words, out, err),
         Err(_) => print_no_memory(err),
     }
 }

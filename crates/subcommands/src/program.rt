@@ -14,6 +14,7 @@ use crate::add_text::add_text;
 use crate::check::check_lines;
 use crate::fault_words::stop_line;
 use crate::folder::FolderSource;
+use crate::locks::Locks;
 use crate::plan::plan;
 use crate::printing::{print_bytes, print_text};
 use crate::realise::realise;
@@ -33,11 +34,13 @@ use std::thread::Threads;
 // The line of a run that ends for want of memory.
 const NO_MEMORY_LINE: &[u8; 27] = b"nix_realise: run: NoMemory\n";
 
-/// Runs the program on a command line, whose first word is the program's own name. Says how the run
-/// ended, and whether that was told.
-pub fn run<'a, R, M, O, E>(
+/// Runs the program on a command line, whose first word is the program's own name, with the
+/// builders that `make` makes and the locks that `locks` takes. Says how the run ended, and whether
+/// that was told.
+pub fn run<'a, R, M, L, O, E>(
     rt: &R,
     make: &M,
+    locks: &L,
     words: &'a [&'a str],
     out: &mut O,
     err: &mut E,
@@ -45,21 +48,23 @@ pub fn run<'a, R, M, O, E>(
 where
     R: Files + Threads + Wait + Sync + AllocGlobal,
     M: Builders,
+    L: Locks,
     O: Write,
     E: Write,
     ensures { ProgramEnds M.Builder.may (map (λ w. w.now) words.entry.now)
         (O.contents out.old, O.contents out.new) (E.contents err.old, E.contents err.new) result }
 {
     match request(rt.alloc(), words) {
-        Ok(request) => run_request(rt, make, &request, out, err),
+        Ok(request) => run_request(rt, make, locks, &request, out, err),
         Err(fault) => print_usage(rt.alloc(), &fault, out, err),
     }
 }
 
 // Runs a subcommand, and ends with its status or with the line of what stopped it.
-fn run_request<R, M, O, E>(
+fn run_request<R, M, L, O, E>(
     rt: &R,
     make: &M,
+    locks: &L,
     request: &Request<'_>,
     out: &mut O,
     err: &mut E,
@@ -67,35 +72,38 @@ fn run_request<R, M, O, E>(
 where
     R: Files + Threads + Wait + Sync + AllocGlobal,
     M: Builders,
+    L: Locks,
     O: Write,
     E: Write,
     ensures { RequestEnds M.Builder.may request.now
         (O.contents out.old, O.contents out.new) (E.contents err.old, E.contents err.new) result }
 {
-    let outcome = run_subcommand(rt, make, request, out);
+    let outcome = run_subcommand(rt, make, locks, request, out);
     end(rt.alloc(), outcome, err)
 }
 
 // Runs a subcommand.
-fn run_subcommand<'a, R, M, O>(
+fn run_subcommand<'a, R, M, L, O>(
     rt: &R,
     make: &M,
+    locks: &L,
     request: &Request<'a>,
     out: &mut O,
 ) -> Result<Status, Stop<'a>>
 where
     R: Files + Threads + Wait + Sync + AllocGlobal,
     M: Builders,
+    L: Locks,
     O: Write,
     ensures { SubcommandEnds M.Builder.may request.now (O.contents out.old, O.contents out.new)
         result }
 {
     match request {
         Request::Check(request) => check(rt, request, out),
-        Request::AddText(request) => add_text(rt, request, out),
+        Request::AddText(request) => add_text(rt, locks, request, out),
         Request::AddDrv(request) => add_drv(rt, request, out),
         Request::Plan(request) => plan(rt, request, out),
-        Request::Realise(request) => realise(rt, make, request, out),
+        Request::Realise(request) => realise(rt, make, locks, request, out),
     }
 }
 

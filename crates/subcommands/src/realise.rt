@@ -1,19 +1,24 @@
 //! The subcommand `realise`.
-ghost use Rattle.std.specs.Prelude.{◌≡◌, All, is_some, length, string_bytes, true};
+ghost use Rattle.std.specs.Prelude.{◌≡◌, All, IfErr, IfOk, is_some, length, string_bytes, true};
 ghost use Rattle.run_states.specs.Courses.{IsRunSettled};
-ghost use Rattle.subcommands.specs.Realising.{BookEnds, IsCutShort, RealiseEnds, RunEnds};
+ghost use Rattle.subcommands.specs.Locking.{IsKeptOut};
+ghost use Rattle.subcommands.specs.Realising.{BookEnds, HeldEnds, IsCutShort, RealiseEnds, RunEnds};
 
 use crate::builders::make_all;
-use crate::journal_file::JournalFile;
+use crate::folder::FolderSource;
+use crate::journal_file::OwnJournal;
 use crate::kept::Kept;
+use crate::locks::{Held, Holding, Locks, hold};
+use crate::nix_store::allow;
 use crate::printing::print_bytes;
 use crate::settled::{journal_bytes, report_of, roots_status};
 use crate::status::Status;
 use crate::stop::Stop;
-use crate::taken::taken;
-use crate::task::Task;
+use crate::task::{Task, planned};
 use crate::whole_file::Tried;
 use command_line::RealiseRequest;
+use drv_graph::Plan;
+use nix_names::StoreDir;
 use process_build::Builders;
 use sched_core::{Book, Build, Watch};
 use std::io::Write;
@@ -26,24 +31,65 @@ use valid_table::Outlet;
 use valid_view::{Name, Naming};
 
 /// Builds the wanted derivations of the request, writes the journal and prints the report. The plan
-/// is loaded, then the journal is read, and then it is tested whether the journal can be written;
-/// the first fault ends the run, and nothing is built. Once the workers gave a book, the journal is
-/// written, whether the book is settled or not. Nothing is printed where the book isn't settled, or
-/// where the journal is not written.
-pub fn realise<'a, R, M, O>(
+/// is loaded; it is looked whether Nix manages the store folder, and its lock is taken; then the
+/// journal is read, and it is tested whether the journal can be written. The first fault ends the
+/// run, and nothing is built. Once the workers gave a book, the journal is written, whether the
+/// book is settled or not; then the lock is let go. Nothing is printed where the book isn't
+/// settled, or where the journal is not written.
+pub fn realise<'a, R, M, L, O>(
     rt: &R,
     make: &M,
+    locks: &L,
     request: &RealiseRequest<'a>,
     out: &mut O,
 ) -> Result<Status, Stop<'a>>
 where
     R: Files + AllocGlobal + Threads + Wait + Sync,
     M: Builders,
+    L: Locks,
     O: Write,
     ensures { RealiseEnds M.Builder.may request.now (O.contents out.old) (O.contents out.new)
         result }
 {
-    let (file, task) = taken(rt, &request.run)?;
+    let (dir, plan) = planned(rt.alloc(), &mut FolderSource::new(rt), &request.run)?;
+    let held = enter(rt, locks, request)?;
+    run_held(rt, make, request, held.holding(), &dir, plan, out)
+}
+
+// Takes the lock of the request's store folder, unless Nix manages that.
+fn enter<'a, R: Files + AllocGlobal, L: Locks>(
+    rt: &R,
+    locks: &L,
+    request: &RealiseRequest<'a>,
+) -> Result<Held<'a, L::Lock>, Stop<'a>>
+    ensures ok { IfOk result (λ held. held.dir ≡ request.now.run.store_dir) }
+    ensures err { IfErr result (IsKeptOut request.now) }
+{
+    let allowed = allow(rt, request)?;
+    hold(locks, allowed.dir(), request.wait)
+}
+
+// Runs a plan in the store folder that is held.
+fn run_held<'a, R, M, O>(
+    rt: &R,
+    make: &M,
+    request: &RealiseRequest<'a>,
+    holding: Holding<'_>,
+    dir: &StoreDir,
+    plan: Plan,
+    out: &mut O,
+) -> Result<Status, Stop<'a>>
+where
+    R: Files + AllocGlobal + Threads + Wait + Sync,
+    M: Builders,
+    O: Write,
+    requires held { holding.dir.now ≡ request.now.run.store_dir.now }
+    requires dir { dir.now ≡ request.now.run.store_dir.now }
+    ensures { HeldEnds M.Builder.may request.now plan (O.contents out.old) (O.contents out.new)
+        result }
+{
+    let file = OwnJournal::new(rt.alloc(), holding, request.run.journal)?;
+    let task = Task::new(rt.alloc(), &request.run, dir, plan, file.read(rt))?;
     let tried = file.try_out(rt)?;
     let builders = make_all(rt.alloc(), make, request)?;
     run_task::<R, M, O>(rt, request, &file, tried, &task, builders, out)
@@ -54,7 +100,7 @@ where
 fn run_task<'a, R, M, O>(
     rt: &R,
     request: &RealiseRequest<'a>,
-    file: &JournalFile,
+    file: &OwnJournal<'_>,
     _tried: Tried<'_>,
     task: &Task,
     builders: Vec<M::Builder>,
@@ -78,7 +124,7 @@ fn run_named<'a, J, R, B, O>(
     rt: &R,
     name: Name,
     request: &RealiseRequest<'a>,
-    file: &JournalFile,
+    file: &OwnJournal<'_>,
     task: &Task,
     builders: Vec<B>,
     out: &mut O,
@@ -103,7 +149,7 @@ where
 // Ends a run with its settled book.
 fn end<'a, R: Files + AllocGlobal, V: Outlet, O: Write>(
     rt: &R,
-    file: &JournalFile,
+    file: &OwnJournal<'_>,
     book: Book<V>,
     out: &mut O,
 ) -> Result<Status, Stop<'a>>
@@ -118,7 +164,7 @@ fn end<'a, R: Files + AllocGlobal, V: Outlet, O: Write>(
 // Ends a run for a fault of its workers. Where they left a book, its journal is written.
 fn fall_short<'a, R: Files + AllocGlobal, V: Outlet>(
     rt: &R,
-    file: &JournalFile,
+    file: &OwnJournal<'_>,
     fault: RunFault,
     book: Option<Book<V>>,
 ) -> Stop<'a>
@@ -135,7 +181,7 @@ fn fall_short<'a, R: Files + AllocGlobal, V: Outlet>(
 }
 
 // Puts the journal of a book that isn't settled in place of the journal file.
-fn keep<R: Files + AllocGlobal, V: Outlet>(rt: &R, file: &JournalFile, book: &Book<V>) -> Kept
+fn keep<R: Files + AllocGlobal, V: Outlet>(rt: &R, file: &OwnJournal<'_>, book: &Book<V>) -> Kept
     ensures { result.has_book ≡ true }
 {
     match journal_bytes(rt.alloc(), book) {
@@ -147,7 +193,7 @@ fn keep<R: Files + AllocGlobal, V: Outlet>(rt: &R, file: &JournalFile, book: &Bo
 // Writes the journal of a settled book, and prints its report.
 fn tell<'a, R: Files + AllocGlobal, V: Outlet, O: Write>(
     rt: &R,
-    file: &JournalFile,
+    file: &OwnJournal<'_>,
     book: &Book<V>,
     out: &mut O,
 ) -> Result<Status, Stop<'a>>

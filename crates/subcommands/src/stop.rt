@@ -33,6 +33,12 @@ pub enum Stop<'a> {
     JournalUnreadable,
     /// The journal file's bytes are no journal.
     BadJournal(TableFault),
+    /// Another run uses this store folder, as it was given.
+    InUse(&'a str),
+    /// Nix manages this store folder, as it was given.
+    NixStore(&'a str),
+    /// The system gives no lock of this store folder, as it was given.
+    NotLocked(&'a str),
     /// The file at this path cannot be written.
     NotWritten(StorePath),
     /// The journal file cannot be written.
@@ -61,6 +67,9 @@ impl Stop<'_> {
             Stop::Run(fault, _) => fault.number(),
             Stop::BadDraft(_, fault) | Stop::BadDrv(_, fault) => fault.number(),
             Stop::NotWritten(_) | Stop::JournalNotWritten | Stop::Unwritable => 74,
+            Stop::NotLocked(_) => 74,
+            Stop::InUse(_) => 75,
+            Stop::NixStore(_) => 76,
         }
     }
 
@@ -79,6 +88,9 @@ impl Stop<'_> {
             | Stop::BadDrv(..)
             | Stop::BadJournal(_) => Status::Refused,
             Stop::JournalUnreadable
+            | Stop::InUse(_)
+            | Stop::NixStore(_)
+            | Stop::NotLocked(_)
             | Stop::Run(..)
             | Stop::NotWritten(_)
             | Stop::JournalNotWritten
@@ -97,6 +109,9 @@ impl Stop<'_> {
             | Stop::TooLong(word)
             | Stop::BadDraft(word, _)
             | Stop::BadName(word)
+            | Stop::InUse(word)
+            | Stop::NixStore(word)
+            | Stop::NotLocked(word)
             | Stop::NoPath(word, _) => word.as_bytes(),
             Stop::BadDrv(path, _) | Stop::NotWritten(path) => path.text(),
             Stop::JournalUnreadable | Stop::BadJournal(_) | Stop::JournalNotWritten => b"journal",

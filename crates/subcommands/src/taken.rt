@@ -1,4 +1,4 @@
-//! The plan and the journal of a run, by the files on disk.
+//! The plan and the journal of a run that changes nothing, by the files on disk.
 ghost use Rattle.std.specs.Prelude.{Err, IfErr, IfOk, Ok};
 ghost use Rattle.subcommands.specs.Files.{FileBytes};
 ghost use Rattle.subcommands.specs.Folders.{may_give};
@@ -11,14 +11,11 @@ use crate::task::{Task, planned};
 use command_line::RunRequest;
 use std::rt::Files;
 
-/// The journal file of a request, and the plan and journal of its run. The plan is loaded, then the
-/// journal is read.
-pub fn taken<'a, R: Files + AllocGlobal>(
-    rt: &R,
-    request: &RunRequest<'a>,
-) -> Result<(JournalFile, Task), Stop<'a>>
-    ensures ok { IfOk result (λ t. (gave : FileBytes)
-        × IsTaskTaken (λ _ answer. may_give answer) request.now gave (Ok t.1)) }
+/// The plan and the journal of a request that changes nothing. The plan is loaded, then the journal
+/// is read.
+pub fn taken<'a, R: Files + AllocGlobal>(rt: &R, request: &RunRequest<'a>) -> Result<Task, Stop<'a>>
+    ensures ok { IfOk result (λ task. (gave : FileBytes)
+        × IsTaskTaken (λ _ answer. may_give answer) request.now gave (Ok task)) }
     ensures err { IfErr result (λ stop. (gave : FileBytes)
         × IsTaskTaken (λ _ answer. may_give answer) request.now gave (Err stop)) }
 {
@@ -26,5 +23,5 @@ pub fn taken<'a, R: Files + AllocGlobal>(
     let file = JournalFile::new(rt.alloc(), request.store_dir, request.journal)?;
     let gave = file.read(rt);
     let task = Task::new(rt.alloc(), request, &dir, plan, gave)?;
-    Ok((file, task))
+    Ok(task)
 }

@@ -1,0 +1,54 @@
+use Rattle.std.proofs.Common.{◌∙◌, ap, inl, inr, refl, subst, Err, Ok}
+use Rattle.std.proofs.lemmas.Result.{err_from_is_err_and}
+use Rattle.subcommands.proofs.Unwritten.{told}
+use Rattle.subcommands.specs.AddedText.{IsJournalOf}
+use Rattle.subcommands.specs.Files.{FileBytes, journal_bytes}
+use Rattle.subcommands.specs.declared.files.FileFault.TheVariants.{Unreadable}
+use Rattle.subcommands.specs.declared.stop.Stop.TheVariants.{NoMemory}
+use Rattle.subcommands.proofs.realise.run_held.Goals as goal
+
+pub returns-in_err-file : goal.returns-in_err-file
+returns-in_err-file g c =
+    let none : FileBytes = Err Unreadable in
+    let step = c.from_residual in
+    let e = err_from_is_err_and step.result step.ensures.1 in
+    (none, inl (NoMemory, e.1 ∙ ap Err e.2, refl, tt))
+
+pub returns-in_err-task : goal.returns-in_err-task
+returns-in_err-task g c =
+    let gave : FileBytes = journal_bytes c.read.result in
+    let step = c.from_residual-in_err-task in
+    let e = err_from_is_err_and step.result step.ensures.1 in
+    let refused =
+    subst (λ d. IsJournalOf d gave (Err c.in_err-task.field-0.0)) c.requires.dir
+    c.in_err-task.ensures.err in
+    (gave, inl (c.in_err-task.field-0.0, e.1 ∙ ap Err e.2, refl, refused))
+
+pub returns-in_err-tried : goal.returns-in_err-tried
+returns-in_err-tried g c =
+    let gave : FileBytes = journal_bytes c.read.result in
+    let step = c.from_residual-in_err-tried in
+    let e = err_from_is_err_and step.result step.ensures.1 in
+    let made = c.in_ok-task.ensures.ok in
+    let journal =
+    subst (λ d. IsJournalOf d gave (Ok c.in_ok-task.task.journal)) c.requires.dir made.1 in
+    let fault = told step.result e.0 e.1 e.2.1 in
+    (gave, inr (c.in_ok-task.task, made.0, journal, inr (fault, refl)))
+
+pub returns-in_err-builders : goal.returns-in_err-builders
+returns-in_err-builders g c =
+    let gave : FileBytes = journal_bytes c.read.result in
+    let step = c.from_residual-in_err-builders in
+    let e = err_from_is_err_and step.result step.ensures.1 in
+    let made = c.in_ok-task.ensures.ok in
+    let journal =
+    subst (λ d. IsJournalOf d gave (Ok c.in_ok-task.task.journal)) c.requires.dir made.1 in
+    (gave, inr (c.in_ok-task.task, made.0, journal, inr (inr (e.1 ∙ ap Err e.2), refl)))
+
+pub returns : goal.returns
+returns g c =
+    let gave : FileBytes = journal_bytes c.read.result in
+    let made = c.in_ok-task.ensures.ok in
+    let journal =
+    subst (λ d. IsJournalOf d gave (Ok c.in_ok-task.task.journal)) c.requires.dir made.1 in
+    (gave, inr (c.in_ok-task.task, made.0, journal, inl c.run_task.ensures))
