@@ -33,9 +33,9 @@ pub enum Event {
     /// Right before the call with this number another process moves what lies at the second path,
     /// if anything does, and makes a link to the first path there.
     Linked(usize, String, String),
-    /// Right before the call with this number another process asks for the lock of this folder. If
-    /// it gets it, the call is refused.
-    Asked(usize, String),
+    /// Right before the call with this number another process asks the host for the lock of this
+    /// folder. If it gets it, the call is refused.
+    Asked(usize, String, HostRuntime),
 }
 
 impl Event {
@@ -50,7 +50,7 @@ impl Event {
             Event::Made(number, path) if *number == count => fs::create_dir(rt, path.as_str()),
             Event::Filled(number, path) if *number == count => fill(rt, path),
             Event::Linked(number, to, at) if *number == count => swap(rt, to, at),
-            Event::Asked(number, dir) if *number == count => ask(rt, dir),
+            Event::Asked(number, dir, host) if *number == count => ask(host, dir),
             _ => Ok(()),
         }
     }
@@ -74,8 +74,8 @@ fn swap<R: Plain>(rt: &R, to: &str, at: &str) -> io::Result<()> {
 }
 
 // Asks for the lock of a folder; an error where it is free.
-fn ask<R: Plain>(rt: &R, dir: &str) -> io::Result<()> {
-    match rt.lock(dir, false) {
+fn ask(host: &HostRuntime, dir: &str) -> io::Result<()> {
+    match host.lock(dir, false) {
         Ok(_) => Err(io::Error::other("the lock is free")),
         Err(_) => Ok(()),
     }
@@ -233,7 +233,7 @@ impl<R: Plain> Files for Double<R> {
     }
 }
 
-impl<R: Plain> Locks for Double<R> {
+impl<R: Plain + Locks> Locks for Double<R> {
     type Lock = R::Lock;
 
     fn lock(&self, dir: &str, waits: bool) -> io::Result<R::Lock> {

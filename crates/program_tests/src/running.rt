@@ -26,9 +26,9 @@ pub struct Outcome {
 
 /// What a system call needs of its host. None of the bounds is for threads, since a function with
 /// such a bound may hand what it calls to a thread.
-pub trait Plain: Files + Locks + AllocGlobal + Wait + Clone + Drop {}
+pub trait Plain: Files + AllocGlobal + Wait + Clone + Drop {}
 
-impl<R: Files + Locks + AllocGlobal + Wait + Clone + Drop> Plain for R {}
+impl<R: Files + AllocGlobal + Wait + Clone + Drop> Plain for R {}
 
 /// What a run needs of its host.
 pub trait Host: Files + Locks + AllocGlobal + Threads + Wait + Sync + Clone + Drop {}
