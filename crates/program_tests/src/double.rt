@@ -33,44 +33,47 @@ pub enum Event {
     /// Right before the call with this number another process moves what lies at the second path,
     /// if anything does, and makes a link to the first path there.
     Linked(usize, String, String),
-    /// Right before the call with this number another process asks the host for the lock of this
-    /// folder. If it gets it, the call is refused.
-    Asked(usize, String, HostRuntime),
+    /// Right before the call with this number another process asks for the lock of this folder. If
+    /// it gets it, the call is refused.
+    Asked(usize, String),
 }
 
 impl Event {
     // Lets the event happen, if it is one of the call with this number.
-    fn happen<R: Plain>(&self, rt: &R, count: usize) -> io::Result<()> {
+    fn happen(&self, host: &HostRuntime, count: usize) -> io::Result<()> {
         match self {
             Event::Refused(number, kind) if *number == count => Err(io::Error::from(*kind)),
             Event::Written(number, path, text) if *number == count => {
-                fs::write(rt, path.as_str(), text.as_bytes())
+                fs::write(host, path.as_str(), text.as_bytes())
             }
-            Event::Removed(number, path) if *number == count => fs::remove_file(rt, path.as_str()),
-            Event::Made(number, path) if *number == count => fs::create_dir(rt, path.as_str()),
-            Event::Filled(number, path) if *number == count => fill(rt, path),
-            Event::Linked(number, to, at) if *number == count => swap(rt, to, at),
-            Event::Asked(number, dir, host) if *number == count => ask(host, dir),
+            Event::Removed(number, path) if *number == count => fs::remove_file(
+                host,
+                path.as_str(),
+            ),
+            Event::Made(number, path) if *number == count => fs::create_dir(host, path.as_str()),
+            Event::Filled(number, path) if *number == count => fill(host, path),
+            Event::Linked(number, to, at) if *number == count => swap(host, to, at),
+            Event::Asked(number, dir) if *number == count => ask(host, dir),
             _ => Ok(()),
         }
     }
 }
 
 // Makes a folder with a file in it.
-fn fill<R: Plain>(rt: &R, path: &str) -> io::Result<()> {
-    fs::create_dir(rt, path)?;
-    let file = format!(in rt.alloc(); "{path}/file")?;
-    fs::write(rt, file.as_str(), b"other")
+fn fill(host: &HostRuntime, path: &str) -> io::Result<()> {
+    fs::create_dir(host, path)?;
+    let file = format!(in host.alloc(); "{path}/file")?;
+    fs::write(host, file.as_str(), b"other")
 }
 
 // Puts a link to the path `to` at the path `at`. What lies there is moved to a name that ends in
 // `-moved`.
-fn swap<R: Plain>(rt: &R, to: &str, at: &str) -> io::Result<()> {
-    let moved = format!(in rt.alloc(); "{at}-moved")?;
-    if fs::symlink_metadata(rt, at).is_ok() {
-        fs::rename(rt, at, moved.as_str())?;
+fn swap(host: &HostRuntime, to: &str, at: &str) -> io::Result<()> {
+    let moved = format!(in host.alloc(); "{at}-moved")?;
+    if fs::symlink_metadata(host, at).is_ok() {
+        fs::rename(host, at, moved.as_str())?;
     }
-    rt.symlink(to, at)
+    host.symlink(to, at)
 }
 
 // Asks for the lock of a folder; an error where it is free.
@@ -88,10 +91,11 @@ pub struct Log {
     event: Event,
 }
 
-/// A log that a runtime and its open files share.
+/// A log that a runtime and its open files share, and the host that makes the calls.
 #[derive(Drop)]
 pub struct Shared<R> {
     rt: R,
+    host: HostRuntime,
     log: Arc<Mutex<Log>>,
 }
 
@@ -99,15 +103,15 @@ impl<R: Plain> Shared<R> {
     // Logs a call, and lets the event happen, if it is the call's; an error where the call is
     // refused.
     fn note(&self, call: &str, path: &str) -> io::Result<()> {
-        let line = format!(in self.rt.alloc(); "{call} {path}\n")?;
+        let line = format!(in self.host.alloc(); "{call} {path}\n")?;
         let mut log = self.log.lock(&self.rt);
         log.calls.push(line)?;
-        log.event.happen(&self.rt, log.calls.len())
+        log.event.happen(&self.host, log.calls.len())
     }
 
     // Logs a call with two paths in the same way.
     fn note_two(&self, call: &str, from: &str, to: &str) -> io::Result<()> {
-        let paths = format!(in self.rt.alloc(); "{from} {to}")?;
+        let paths = format!(in self.host.alloc(); "{from} {to}")?;
         self.note(call, paths.as_str())
     }
 
@@ -123,31 +127,33 @@ impl<R: Plain> Shared<R> {
     fn again(&self) -> io::Result<Shared<R>> {
         Ok(Shared {
             rt: self.rt.clone()?,
+            host: self.host.clone()?,
             log: self.log.clone()?,
         })
     }
 }
 
-/// A runtime over another runtime.
+/// A runtime over another runtime: the host makes its calls of files, and the other one waits, and
+/// starts threads and processes. So the bounds of what is generic in it stay small.
 #[derive(Drop)]
 pub struct Double<R> {
     shared: Shared<R>,
 }
 
 impl<R: Plain> Double<R> {
-    /// A runtime over this one, with this event.
-    pub fn new(rt: R, event: Event) -> io::Result<Double<R>> {
-        let calls = Vec::new(rt.alloc());
+    /// A runtime over this one and its host, with this event.
+    pub fn new(rt: R, host: HostRuntime, event: Event) -> io::Result<Double<R>> {
+        let calls = Vec::new(host.alloc());
         let log = Mutex::new(Log { calls, event });
-        let log = Arc::new(rt.alloc(), log)?;
+        let log = Arc::new(host.alloc(), log)?;
         Ok(Double {
-            shared: Shared { rt, log },
+            shared: Shared { rt, host, log },
         })
     }
 
     /// The calls so far, each in a line of its own.
     pub fn calls(&self) -> io::Result<String> {
-        let alloc = self.shared.rt.alloc();
+        let alloc = self.shared.host.alloc();
         let log = self.shared.log.lock(&self.shared.rt);
         Ok(log.calls.concat(alloc)?)
     }
@@ -157,7 +163,7 @@ impl<R: Plain> Alloc for Double<R> {
     type A = Global;
 
     fn alloc(&self) -> Global {
-        self.shared.rt.alloc()
+        self.shared.host.alloc()
     }
 }
 
@@ -166,80 +172,84 @@ impl<R: Plain> Wait for Double<R> {}
 impl<R: Plain + Threads> Threads for Double<R> {}
 
 impl<R: Plain> Files for Double<R> {
-    type File = Noted<R, R::File>;
+    type File = Noted<R, <HostRuntime as Files>::File>;
 
-    type Dir = Listed<R, R::Dir>;
+    type Dir = Listed<R, <HostRuntime as Files>::Dir>;
 
-    fn open_file(&self, how: &OpenOptions, path: &str) -> io::Result<Noted<R, R::File>> {
-        let options = format!(in self.shared.rt.alloc(); "{how:?}")?;
+    fn open_file(
+        &self,
+        how: &OpenOptions,
+        path: &str,
+    ) -> io::Result<Noted<R, <HostRuntime as Files>::File>> {
+        let options = format!(in self.shared.host.alloc(); "{how:?}")?;
         self.shared.note(name_of(options.as_str()), path)?;
         Ok(Noted {
             shared: self.shared.again()?,
-            file: self.shared.rt.open_file(how, path)?,
+            file: self.shared.host.open_file(how, path)?,
         })
     }
 
-    fn open_dir(&self, path: &str) -> io::Result<Listed<R, R::Dir>> {
+    fn open_dir(&self, path: &str) -> io::Result<Listed<R, <HostRuntime as Files>::Dir>> {
         self.shared.note("list", path)?;
         Ok(Listed {
             shared: self.shared.again()?,
-            dir: self.shared.rt.open_dir(path)?,
+            dir: self.shared.host.open_dir(path)?,
         })
     }
 
     fn metadata(&self, path: &str) -> io::Result<Metadata> {
         self.shared.note("stat", path)?;
-        self.shared.rt.metadata(path)
+        self.shared.host.metadata(path)
     }
 
     fn symlink_metadata(&self, path: &str) -> io::Result<Metadata> {
         self.shared.note("lstat", path)?;
-        self.shared.rt.symlink_metadata(path)
+        self.shared.host.symlink_metadata(path)
     }
 
     fn copy(&self, from: &str, to: &str) -> io::Result<u64> {
         self.shared.note_two("copy", from, to)?;
-        self.shared.rt.copy(from, to)
+        self.shared.host.copy(from, to)
     }
 
     fn rename(&self, from: &str, to: &str) -> io::Result<()> {
         self.shared.note_two("rename", from, to)?;
-        self.shared.rt.rename(from, to)
+        self.shared.host.rename(from, to)
     }
 
     fn remove_file(&self, path: &str) -> io::Result<()> {
         self.shared.note("unlink", path)?;
-        self.shared.rt.remove_file(path)
+        self.shared.host.remove_file(path)
     }
 
     fn create_dir(&self, path: &str) -> io::Result<()> {
         self.shared.note("mkdir", path)?;
-        self.shared.rt.create_dir(path)
+        self.shared.host.create_dir(path)
     }
 
     fn remove_dir(&self, path: &str) -> io::Result<()> {
         self.shared.note("rmdir", path)?;
-        self.shared.rt.remove_dir(path)
+        self.shared.host.remove_dir(path)
     }
 
     fn remove_dir_all<B: Allocator>(&self, alloc: B, path: &str) -> io::Result<()> {
         self.shared.note("remove", path)?;
-        self.shared.rt.remove_dir_all(alloc, path)
+        self.shared.host.remove_dir_all(alloc, path)
     }
 
     fn set_permissions(&self, path: &str, permissions: Permissions) -> io::Result<()> {
         self.shared.note("chmod", path)?;
-        self.shared.rt.set_permissions(path, permissions)
+        self.shared.host.set_permissions(path, permissions)
     }
 }
 
-impl<R: Plain + Locks> Locks for Double<R> {
-    type Lock = R::Lock;
+impl<R: Plain> Locks for Double<R> {
+    type Lock = <HostRuntime as Locks>::Lock;
 
-    fn lock(&self, dir: &str, waits: bool) -> io::Result<R::Lock> {
+    fn lock(&self, dir: &str, waits: bool) -> io::Result<<HostRuntime as Locks>::Lock> {
         let call = if waits { "wait for" } else { "lock" };
         self.shared.note(call, dir)?;
-        self.shared.rt.lock(dir, waits)
+        self.shared.host.lock(dir, waits)
     }
 }
 
@@ -343,7 +353,7 @@ impl<R: Plain + Processes> Processes for Double<R> {
         stdout: &Stdio,
         stderr: &Stdio,
     ) -> io::Result<Child<Watched<R, R::Started>>> {
-        let called = format!(in self.shared.rt.alloc();
+        let called = format!(in self.shared.host.alloc();
             "{command:?} {stdin:?} {stdout:?} {stderr:?}"
         )?;
         self.shared.note("spawn", called.as_str())?;

@@ -33,10 +33,10 @@ impl Doubled {
     }
 
     // What happens in the run.
-    fn event(&self, rt: &HostRuntime, scene: &Scene) -> Result<Event, Fail> {
+    fn event(&self, alloc: Global, scene: &Scene) -> Result<Event, Fail> {
         match self {
             Doubled::Refused(case) => Ok(Event::Refused(case.number, case.kind)),
-            Doubled::Hindered(row) => hindered::event_of(rt, scene, &row.way),
+            Doubled::Hindered(row) => hindered::event_of(alloc, scene, &row.way),
             Doubled::Leased(_) => Ok(Event::Nothing),
         }
     }
@@ -90,13 +90,13 @@ fn runs_on_doubles(rt: HostRuntime) -> Result<(), Fail> {
         let (name, before, line) = run.parts();
         let mut scene = Scene::behind(&rt, &make, process, name, before)?;
         let line = scene.said(rt.alloc(), line)?;
-        let double = Double::new(rt.clone()?, run.event(&rt, &scene)?)?;
+        let double = Double::new(rt.clone()?, rt.clone()?, run.event(rt.alloc(), &scene)?)?;
         let first = ran(&double, &ByProcesses::new(&double, &double), line.as_str())?;
         let calls = double.calls()?;
         let fault = run.fault(&rt, &make, &mut scene, (&first, calls.as_str()))?;
         assert_eq!(rt; fault, None);
         if let Some(place) = run.again(rt.alloc())? {
-            let double = Double::new(rt.clone()?, Event::Nothing)?;
+            let double = Double::new(rt.clone()?, rt.clone()?, Event::Nothing)?;
             let second = ran(&double, &ByProcesses::new(&double, &double), line.as_str())?;
             assert_eq!(rt; second.status, 0, "{place}: made again");
         }

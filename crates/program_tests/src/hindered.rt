@@ -7,6 +7,7 @@ use crate::running::{Host, Outcome};
 use crate::scene::Scene;
 use crate::steps::Step;
 use process_build::Builders;
+use std::alloc::Global;
 use std::io::ErrorKind;
 use std::process::Processes;
 use std::test::Fail;
@@ -444,8 +445,7 @@ pub fn tables() -> [&'static [Row]; 9] {
 }
 
 /// The event that hinders a run, in a scene.
-pub fn event_of(rt: &HostRuntime, scene: &Scene, way: &Way) -> Result<Event, Fail> {
-    let alloc = rt.alloc();
+pub fn event_of(alloc: Global, scene: &Scene, way: &Way) -> Result<Event, Fail> {
     match way {
         Way::Short => Ok(Event::Short),
         Way::Interrupts(number) => Ok(Event::Refused(*number, ErrorKind::Interrupted)),
@@ -460,10 +460,7 @@ pub fn event_of(rt: &HostRuntime, scene: &Scene, way: &Way) -> Result<Event, Fai
             let to = scene.said(alloc, to)?;
             Ok(Event::Linked(*number, to, scene.said(alloc, at)?))
         }
-        Way::AsksForTheLock(number) => {
-            let dir = scene.said(alloc, "<dir>")?;
-            Ok(Event::Asked(*number, dir, rt.clone()?))
-        }
+        Way::AsksForTheLock(number) => Ok(Event::Asked(*number, scene.said(alloc, "<dir>")?)),
         Way::Refuses(number, kind) => Ok(Event::Refused(*number, *kind)),
     }
 }

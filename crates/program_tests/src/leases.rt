@@ -169,7 +169,7 @@ fn folders_of_later_leases(rt: HostRuntime) -> Result<(), Fail> {
     let folder = scene.site.folder.as_str();
     let job = scene.site.job(rt.alloc(), b"/bin/sh", &["out"])?;
     for number in [64, 256, 65_536, u64::MAX] {
-        let double = Double::new(rt.clone()?, Event::Nothing)?;
+        let double = Double::new(rt.clone()?, rt.clone()?, Event::Nothing)?;
         let build = ProcessBuild::new(rt.alloc(), &double, &double, folder)?;
         let is_right = is_in_its_folder(&double, &build, (folder, &job), number)?;
         assert!(rt; is_right, "at {number}");
@@ -184,7 +184,7 @@ fn folders_behind_the_line_of_progress(rt: HostRuntime) -> Result<(), Fail> {
     let folder = scene.site.folder.as_str();
     let job = scene.site.job(rt.alloc(), b"/bin/sh", &["out"])?;
     for number in [1, 64, u64::MAX] {
-        let double = Double::new(rt.clone()?, Event::Nothing)?;
+        let double = Double::new(rt.clone()?, rt.clone()?, Event::Nothing)?;
         let make = ByProcesses::new(&double, &double);
         let progress = Progress::new(Vec::new(rt.alloc()));
         let build = Watching::new(&rt, &make, &progress).builder(rt.alloc(), folder)?;

@@ -24,11 +24,11 @@ pub struct Outcome {
     pub err: Vec<u8>,
 }
 
-/// What a system call needs of its host. None of the bounds is for threads, since a function with
-/// such a bound may hand what it calls to a thread.
-pub trait Plain: Files + AllocGlobal + Wait + Clone + Drop {}
+/// What a double needs of the runtime below it. None of the bounds is for threads, since a function
+/// with such a bound may hand what it calls to a thread.
+pub trait Plain: Wait + Clone + Drop {}
 
-impl<R: Files + AllocGlobal + Wait + Clone + Drop> Plain for R {}
+impl<R: Wait + Clone + Drop> Plain for R {}
 
 /// What a run needs of its host.
 pub trait Host: Files + Locks + AllocGlobal + Threads + Wait + Sync + Clone + Drop {}
