@@ -44,3 +44,4 @@ pub mod TakenIn
 pub mod TextsRead
 pub mod VersionLaws
 pub mod Versions
+pub mod WrittenTexts

@@ -4,6 +4,7 @@ ghost use Rattle.valid_table.specs.BadLines.{BadLineIsOne, TextsHaveNoBadLine};
 ghost use Rattle.valid_table.specs.Closure.{ClosureIsOne, ClosureStays};
 ghost use Rattle.valid_table.specs.Equality.{EqualEntriesAreSame};
 ghost use Rattle.valid_table.specs.ReadingLaws.{AnswerIsOne, JournalTextsAreRead, TextHasOneList, VersionsHaveTheSameEntries, WrittenJournalsAreReadAgain};
+ghost use Rattle.valid_table.specs.Written.{TextGoesOn};
 
 /// The closure of paths that are valid in a closed list of entries stays the same in each list of
 /// entries that begins with it.
@@ -53,6 +54,11 @@ pub fn versions_have_the_same_entries()
 /// text of these entries, want of memory apart.
 pub fn written_journals_are_read_again()
     ensures { WrittenJournalsAreReadAgain }
+{}
+
+/// A journal's text, and then the lines of further entries, are the text of all of them.
+pub fn text_goes_on()
+    ensures { TextGoesOn }
 {}
 
 /// Two entries are equal by `==` exactly where they are the same.

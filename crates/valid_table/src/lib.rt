@@ -56,3 +56,4 @@ pub use outlet::Outlet;
 pub use reference::Reference;
 pub use table::Table;
 pub use version::MAX_JOURNAL;
+pub use writing::write_lines;

@@ -2,7 +2,7 @@
 ghost use Rattle.std.specs.Prelude.{◌≡◌, ◌++◌, ◌∷◌, IfOk, IfErr, OnOk};
 ghost use Rattle.valid_table.specs.LineTexts.{fields_text, lines_text, path_line, registration_text};
 ghost use Rattle.valid_table.specs.Texts.{digest_text, entry_lines, text};
-ghost use Rattle.valid_table.specs.Written.{written_text};
+ghost use Rattle.valid_table.specs.Written.{written_lines, written_text};
 
 use crate::entry::{Entry, Outputs, Record, Registration};
 use crate::fault::TableFault;
@@ -23,6 +23,18 @@ impl Journal {
     }
 }
 
+/// The lines of some entries, in version 2, each with its newline. A journal's text with the lines
+/// of further entries after it is the text of all of them. Answers `NoMemory` where memory is
+/// refused, and no other fault. Costs one pass over the entries.
+pub fn write_lines(alloc: Global, entries: &[Entry]) -> Result<Vec<u8>, TableFault>
+    ensures ok { IfOk result (λ bytes. bytes.items ≡ written_lines entries.now) }
+    ensures err { IfErr result (λ e. e ≡ TableFault.NoMemory) }
+{
+    let mut out = Vec::new(alloc);
+    add_lines(entries, &mut out)?;
+    Ok(out)
+}
+
 // The text of the entries.
 #[tactic(auto, unfolding(crate::specs::Texts::text))]
 pub(crate) fn write_text(alloc: Global, entries: &[Entry]) -> Result<Vec<u8>, TableFault>
@@ -30,10 +42,18 @@ pub(crate) fn write_text(alloc: Global, entries: &[Entry]) -> Result<Vec<u8>, Ta
     ensures err { IfErr result (λ e. e ≡ TableFault.NoMemory) }
 {
     let mut out = Vec::from_slice(alloc, Version::Two.line())?;
-    'entries: for entry in entries {
-        write_entry(entry, &mut out)?;
-    }
+    add_lines(entries, &mut out)?;
     Ok(out)
+}
+
+// Adds the lines of some entries.
+fn add_lines(entries: &[Entry], out: &mut Vec<u8>) -> Result<(), AllocError>
+    ensures { OnOk result (out.new.items ≡ out.old.items ++ written_lines entries.now) }
+{
+    'entries: for entry in entries {
+        write_entry(entry, out)?;
+    }
+    Ok(())
 }
 
 // Adds an entry's lines.

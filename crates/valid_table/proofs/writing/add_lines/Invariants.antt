@@ -3,7 +3,7 @@ use Rattle.std.specs.List.{flat_map}
 use Rattle.valid_table.specs.LineTexts.{lines_text}
 use Rattle.valid_table.specs.Texts.{entry_lines}
 use Rattle.valid_table.specs.declared.version.Version.TheVariants.{Two}
-use Rattle.valid_table.proofs.writing.write_text.Given as goal
+use Rattle.valid_table.proofs.writing.add_lines.Given as goal
 
 -- what is written, and the lines of the entries that are left
 abbrev pub invariant-entries : goal.invariant-entries
