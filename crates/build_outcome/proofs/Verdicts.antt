@@ -129,7 +129,7 @@ tree_fault_cases (Fixed method digest) tree ReadFault fault = absurd fault
 tree_fault_cases (Fixed method digest) tree OutOfMemory fault = absurd fault
 tree_fault_cases (Fixed method digest) tree Killed fault = absurd fault
 
--- a fault of a tree behind trees that are taken is the first
+-- a fault of a tree after trees that are taken is the first
 pub first_fault : (job : Job) (permitted : List (List ℕ)) (answer : Answer) (count : ℕ)
     (tree : Tree) (why : Reason) → count < length job.outputs.items → AreOutputsThere job answer
     → SoundSoFar job answer count → tree_at answer count ≡ Some tree

@@ -92,7 +92,7 @@ all_unless_bad f (n ∷ ns) closed none =
     by false is none_here rest =
         search (rules, and_from, closed_is_good, is_not_open, Contains-first)
 
--- what can be begun is built, and behind closed inputs nothing is blocked
+-- what can be begun is built, and after closed inputs nothing is blocked
 closed_first : (first : Option ℕ) (all : Bool) → (first ≡ None → all ≡ true)
     → IsClosed (built_if_ready (by_first first all))
 closed_first (Some i) all good = search rules

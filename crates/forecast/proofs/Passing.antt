@@ -85,7 +85,7 @@ pub refused_behind : (prospects : List Prospect) (inputs : List ℕ) (place inpu
 refused_behind prospects inputs place input low is good bad =
     search (rules, first_bad, inputs, good_not_bad)
 
--- behind good ones it is built
+-- after good ones it is built
 pub built_behind : (prospects : List Prospect) (inputs : List ℕ) (place : ℕ)
     → length inputs ≤ place → AreGood prospects inputs place
     → ◌≡◌ {A = State} Done (built_if_ready (by_inputs (state_at prospects) inputs))

@@ -105,7 +105,7 @@ listed_push nodes marks n listed one distinct is at marked are = record {
     paths : listed_paths (listed ++ one ∷ []) ≡ listed_paths listed ++ one.path.now ∷ []
     paths = search (rules, map-append)
 
--- the same behind keys
+-- the same after keys
 pub keyed_new : (nodes : List Node) (marks : List Bool) (n : ℕ) (keyed more : List Keyed)
     (one : Keyed) → AreDistinct (paths_of nodes)
     → one.listed.number ≡ n → slice_get (paths_of nodes) n ≡ Some one.listed.path.now
@@ -179,7 +179,7 @@ by_path_within nodes marks count listed by_path =
 
 -- ---- what is written
 
--- the lines of listed derivations, with others behind them, are those of their numbers
+-- the lines of listed derivations, with others after them, are those of their numbers
 pub lines_made : (line : ℕ → List ℕ) (others : List ℕ) (listed : List Listed)
     (start lines text : List ℕ) → start ≡ []
     → lines ≡ start ++ flat_map (λ (l : Listed). line l.number) listed → text ≡ lines ++ others

@@ -15,7 +15,7 @@ numbers_of listed = map (λ (l : Listed). l.number) listed
 abbrev pub listed_paths : List Listed → List Path
 listed_paths listed = map (λ (l : Listed). l.path.now) listed
 
--- the derivations behind their keys
+-- the derivations after their keys
 abbrev pub listed_behind : List Keyed → List Listed
 listed_behind keyed = map (λ (k : Keyed). k.listed) keyed
 

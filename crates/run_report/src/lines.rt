@@ -22,7 +22,7 @@ pub fn write_outputs(paths: &[StorePath], out: &mut Vec<u8>) -> Result<(), Alloc
     Ok(())
 }
 
-/// Adds a line of a word, with the space behind it, and a path. An error where memory is refused,
+/// Adds a line of a word, with the space after it, and a path. An error where memory is refused,
 /// and no other; a part may be written then. Costs time in proportion to the line.
 pub fn write_path_line(word: &[u8], path: &StorePath, out: &mut Vec<u8>) -> Result<(), AllocError>
     ensures { OnOk result (out.new.items ≡ out.old.items ++ path_line word.now path.now) }
@@ -32,7 +32,7 @@ pub fn write_path_line(word: &[u8], path: &StorePath, out: &mut Vec<u8>) -> Resu
     out.extend_from_slice(b"\n")
 }
 
-/// Adds a line of a word, with the space behind it, the path of a derivation of a plan, and why it
+/// Adds a line of a word, with the space after it, the path of a derivation of a plan, and why it
 /// is refused. An error where memory is refused, and no other; a part may be written then. Costs
 /// time in proportion to the line.
 pub fn write_refused(

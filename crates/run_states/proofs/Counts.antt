@@ -29,7 +29,7 @@ places_count test from (tally ∷ tallies) =
     by true others counted = omega (arith, counted)
     by false others counted = omega (arith, counted)
 
--- a tally that passes stands at this place behind a number
+-- a tally that passes stands at this place after a number
 abbrev IsPlace : (Tally → Bool) → (from : ℕ) → List Tally → (d : ℕ) → Type 0
 IsPlace test from tallies d = (i : ℕ) × (tally : Tally) × (slice_get tallies i ≡ Some tally)
     × (test tally ≡ true) × (d ≡ from + i)

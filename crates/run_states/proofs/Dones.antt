@@ -1,4 +1,4 @@
--- What a Done may register: its entry is new and closed behind those before, and has one path for
+-- What a Done may register: its entry is new and closed after those before, and has one path for
 -- each output.
 use Rattle.std.proofs.Common.{◌≡◌, ◌∙◌, ℕ, List, [], ◌∷◌, ◌++◌, length, sym, subst, ⊎_elim, arith, rules}
 use Rattle.std.specs.Prelude.{Contains, flat_map}
@@ -103,7 +103,7 @@ module _ (run : Run) (entries : List Entry) (node : Node) (infos : List PathInfo
   done_is_new = subst (λ (e : Entry). AreNew (registered entries) (registered_by e))
       (sym is.is_done) new_outputs
 
-  -- each of its references is valid behind it
+  -- each of its references is valid after it
   pub done_is_closed : AreClosed (registered entries) (registered_by entry)
   done_is_closed = subst (λ (e : Entry). AreClosed (registered entries) (registered_by e))
       (sym is.is_done) closed_outputs

@@ -1,4 +1,4 @@
--- The earlier twins of a derivation: the nearest of them, behind its own.
+-- The earlier twins of a derivation: the nearest of them, after its own.
 use Rattle.std.proofs.Common.{◌≡◌, ◌∙◌, ◌⊎◌, inl, inr, ⊎_elim, ℕ, zero, suc, ◌+◌, ◌<◌, ◌&&◌, Bool, true, false, List, [], ◌∷◌, ◌++◌, Option, Some, None, refl, sym, ap, subst, arith, append-nil, rules}
 use Rattle.std.specs.Prelude.{Contains, cond, filter, slice_get}
 use Rattle.std.specs.List.{list_all, range_with_len}

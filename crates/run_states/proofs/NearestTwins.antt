@@ -127,7 +127,7 @@ module _ (rows : Rows) (twins : HaveTwins rows) where
       (ap is_open (sym same)
       ∙ none_has (λ u. is_open (state rows u)) (rows.twins d) t facts.none_open has)
 
-  -- behind an event of a derivation that was open, whose earlier twins have ended
+  -- after an event of a derivation that was open, whose earlier twins have ended
   event_ended : (phase : ℕ → Phase) (e : ℕ) → is_open (state rows e) ≡ true
       → ((d : ℕ) → (d ≡ e → ⊥) → phase d ≡ rows.phase d)
       → ((t : ℕ) → Contains (rows.twins e) t → is_bad (state rows t) ≡ true) → HaveEnded rows

@@ -41,7 +41,7 @@ use Rattle.run_states.specs.declared.standing.Standing.{Standing}
 use Rattle.run_states.specs.declared.standing.Standing.TheVariants.{AllValid, Hindered, Free}
 use Rattle.nix_names.proofs.Lists.{Contains-cons_cases, Contains-first, Contains-from_map, Contains-later, Contains-map, Contains-nothing}
 
--- ---- where a derivation stands behind one event more
+-- ---- where a derivation stands after one event more
 
 pub later_assoc : (a b c : Phase) → later a (later b c) ≡ later (later a b) c
 later_assoc a b Idle = refl

@@ -45,7 +45,7 @@ state_at rule (suc n) i below =
     (omega (arith, length_states rule n)) ∙ state_at rule n i less)
     (eq-or-lt_of_le {n = i} {m = n} (omega arith))
 
--- behind them nothing is known
+-- after them nothing is known
 pub state_past : (rule : (ℕ → State) → ℕ → State) (n i : ℕ) → n ≤ i
     → slice_index_or (states_by rule n) i Blocked ≡ Blocked
 state_past rule n i past = search (rules, get_or_past, length_states)

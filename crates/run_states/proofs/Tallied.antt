@@ -256,7 +256,7 @@ pub edges_told : (graph : Graph) (tallies : List Tally) (users : List (List Edge
     → HasTold graph tallies users told → told ≡ course_told (course_by graph tallies)
 edges_told graph tallies users agenda is told has = search (rules, open_ahead)
 
--- behind an event
+-- after an event
 pub told_more : (graph : Graph) (before after : List Tally) (users : List (List Edge))
     (told more now : ℕ) → HasTold graph before users told
     → standings_in after ≡ standings_in before → wanted_in after ≡ wanted_in before
@@ -270,7 +270,7 @@ pub same_length : (before after : List Tally) → standings_in after ≡ standin
     → length before ≡ length after
 same_length before after stand = search (rules, length-map, stand)
 
--- the tallies of a plan behind an event
+-- the tallies of a plan after an event
 pub noted_course : (graph : Graph) (before after : List Tally) (users : List (List Edge))
     (agenda later : Agenda) → IsCourse graph before users agenda
     → standings_in after ≡ standings_in before → twins_in after ≡ twins_in before

@@ -84,7 +84,7 @@ module _ (rows : Rows) (phase : ℕ → Phase)
     good = λ i has. good_stays i (un.good i has);
   }
 
--- ---- where a derivation stands behind one event more
+-- ---- where a derivation stands after one event more
 
 -- an event of an open derivation leaves what is unhindered so
 module _ (run : Run) (opening : _) (events : List Event) (x : Event)

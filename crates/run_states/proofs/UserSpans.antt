@@ -200,7 +200,7 @@ module _ (inputs : ℕ → List ℕ) (count d : ℕ) (spans : List Span) (places
       (λ n. often n numbers + (uses inputs count n - uses inputs (d + 1) n))
   room_others numbers same = search (rules, room_less, uses_next, uses_grow)
 
--- an empty span behind the others, and room for its edges
+-- an empty span after the others, and room for its edges
 pub room_pushed : (spans : List Span) (places : ℕ) (more : ℕ → ℕ) → HaveRoom spans places more
     → HaveRoom (spans ++ record { start = places; end = places } ∷ [])
     (places + more (length spans)) more

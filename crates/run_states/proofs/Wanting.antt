@@ -75,7 +75,7 @@ user_within run user d has = by (slice_get run.graph.nodes user) refl has
     by None at there = absurd (Contains-nothing d there)
     by (Some node) at there = slice_get_within run.graph.nodes user node at
 
--- what is wanted is told, over as many users as there are derivations behind it
+-- what is wanted is told, over as many users as there are derivations after it
 told_if_wanted : (run : Run) (opening : List Entry) → IsSound run.graph → (d : ℕ)
     → IsWanted run opening d → (users : ℕ) → length run.graph.nodes ≤ d + users
     → is_wanted_over users run opening d ≡ true

@@ -84,7 +84,7 @@ abbrev pub IsSettled : Course → Type 0
 IsSettled course = (d : ℕ) → d < length course.graph.nodes → slice_index_or course.wanted d false
     ≡ true → IsOpen (course_state course d) → ⊥
 
--- the standing of each derivation behind these entries, in a run for the system
+-- the standing of each derivation after these entries, in a run for the system
 pub record AreStandings (system : Bytes) (entries : List Entry) (nodes : List Node)
     (standings : List Standing) : Type 0 where
   pub count : length standings ≡ length nodes

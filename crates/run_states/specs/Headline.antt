@@ -40,7 +40,7 @@ abbrev pub EntriesAreJournal : Type 0
 EntriesAreJournal = (run : Run) (history : History) → AreDrvPaths run → IsLegal run history
     → IsJournal history.entries
 
--- What a derivation that was built registered, behind the entries before, which go on from those
+-- What a derivation that was built registered, after the entries before, which go on from those
 -- of the opening: one allowed record for each output. So its references are permitted, and a fixed
 -- output has its declared hash.
 pub record WasDone (run : Run) (history : History) (d : ℕ) : Type 0 where

@@ -83,7 +83,7 @@ pub record IsEntryOf (node : Node) (infos : List PathInfo) (entry : Entry) : Typ
       ↔ ((n : ℕ) × (slice_get (output_paths_of node.drv) n ≡ Some path)
       × (slice_get infos n ≡ Some info))
 
--- each reference in some records is permitted to a derivation of a plan, behind some entries
+-- each reference in some records is permitted to a derivation of a plan, after some entries
 abbrev pub ArePermittedTo : Graph → List Entry → Node → List PathInfo → Type 0
 ArePermittedTo graph entries node infos = (info : PathInfo) (path : Path) → Contains infos info
     → Contains info.references path
@@ -101,12 +101,12 @@ pub record AreAcyclicRecords (drv : Drv) (infos : List PathInfo) : Type 0 where
   pub own : AreOutputRecords drv infos
   pub acyclic : IsCyclic (output_paths_of drv) infos → ⊥
 
--- none of a derivation's outputs is valid behind some entries
+-- none of a derivation's outputs is valid after some entries
 abbrev pub AreNewOutputs : List Entry → Drv → Type 0
 AreNewOutputs entries drv = (path : Path) → Contains (output_paths_of drv) path
     → IsValid (registered entries) path → ⊥
 
--- What a Done of a derivation may register behind some entries.
+-- What a Done of a derivation may register after some entries.
 pub record IsAllowed (graph : Graph) (entries : List Entry) (node : Node) (infos : List PathInfo)
     : Type 0 where
   pub records : AreAcyclicRecords node.drv infos

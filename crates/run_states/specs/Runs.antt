@@ -60,7 +60,7 @@ abbrev pub cause_at : (ℕ → Refusal) → Option ℕ → Option Refusal
 cause_at cause (Some n) = Some (cause n)
 cause_at cause None = None
 
--- the first cause for which a derivation can't be begun, behind these entries: another system,
+-- the first cause for which a derivation can't be begun, after these entries: another system,
 -- something left out, an output that is valid while another isn't, a source that isn't valid
 abbrev pub own_cause : (system : Bytes) → (opening : List Entry) → Drv → Option Refusal
 own_cause system opening drv =
@@ -74,7 +74,7 @@ abbrev pub by_cause : Option Refusal → Standing
 by_cause (Some cause) = Hindered cause
 by_cause None = Free
 
--- a derivation's standing behind these entries: all its outputs are valid, else it has a cause for
+-- a derivation's standing after these entries: all its outputs are valid, else it has a cause for
 -- which it can't be begun, else neither
 abbrev pub standing_of : (system : Bytes) → (opening : List Entry) → Drv → Standing
 standing_of system opening drv =

@@ -43,7 +43,7 @@ pub record Rows : Type 0 where
   pub standing : ℕ → Standing
   pub phase : ℕ → Phase
 
--- whether a user can be begun behind an input in this state
+-- whether a user can be begun after an input in this state
 abbrev pub is_good : State → Bool
 is_good Done = true
 is_good Reused = true

@@ -14,7 +14,7 @@ use nix_names::StorePath;
 use std::alloc::Global;
 use valid_table::Journal;
 
-/// The standing of each derivation behind the journal's entries, in a run for the system.
+/// The standing of each derivation after the journal's entries, in a run for the system.
 /// `NoMemory`, the only fault, where memory is refused. Costs a look-up by hash for each output, up
 /// to two where not all are valid, and for each source, and a few comparisons for each entry of an
 /// environment.

@@ -104,7 +104,7 @@ fn counted(
 
 // The tally of a derivation that is told of the end of another one, which stands at this place
 // among what it waits for: that one was built or was valid, or it failed or is refused. The place
-// behind the inputs is that of the nearest earlier twin.
+// after the inputs is that of the nearest earlier twin.
 pub(crate) fn told(tally: Tally, place: usize, one: usize, good: bool) -> Tally
     requires { (awaited : Awaited) × (heard : List News) × CanHear awaited heard tally place one }
     ensures is { (awaited : Awaited) (heard : List News) → CanHear awaited heard tally place one

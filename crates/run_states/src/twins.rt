@@ -12,7 +12,8 @@ use drv_graph::Plan;
 use std::alloc::Global;
 
 /// Of each derivation, its nearest earlier twin: the last wanted one of a smaller number with the
-/// same output paths. Costs a few steps for each derivation.
+/// same output paths. `wanted` says of each derivation, by its number, whether it is wanted. Answers
+/// `NoMemory` where memory is refused, and no other fault. Costs a few steps for each derivation.
 pub fn nearest_twins(
     alloc: Global,
     plan: &Plan,

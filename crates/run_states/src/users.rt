@@ -15,7 +15,7 @@ use std::alloc::{AllocError, Global};
 use std::marker::Model;
 
 // The edge to a derivation that waits. The place is that of the awaited one among the user's
-// inputs, in its text's order; the place behind all inputs is that of its nearest earlier twin.
+// inputs, in its text's order; the place after all inputs is that of its nearest earlier twin.
 #[derive(Clone, Copy, Debug, PartialEq, Eq)]
 pub(crate) struct Edge {
     pub(crate) user: usize,

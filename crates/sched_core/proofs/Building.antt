@@ -26,7 +26,7 @@ pub builds_over_all : (run : Run) (history : History) → IsLegal run history
 builds_over_all run history legal job number lease =
     search (rules, All-from_contains, seeds_of_lease)
 
--- and behind one Begin more
+-- and after one Begin more
 pub builds_behind_begin : (run : Run) (history : History) (d : ℕ) → IsLegal run history
     → CanBegin run history d → BuildsOver run (begun history d) history.entries
 builds_behind_begin run history d legal can =
@@ -37,7 +37,7 @@ pub begun_lease : (run : Run) (history : History) (d : ℕ) (job : Job) → IsJo
     → IsBooksLease run (begun history d) job (begins history.events)
 begun_lease run history d job is = search (rules, phase_push, eqb_same)
 
--- ---- behind an event that ends a lease
+-- ---- after an event that ends a lease
 
 begun_before_done : (same : Bool) (p : Phase) (number : ℕ)
     → later p (if same then Ended else Idle) ≡ Begun number → p ≡ Begun number

@@ -57,7 +57,7 @@ entry_fault before run history shown pending job number d infos fault view lease
     by ForeignLease none = absurd none
     by NoView none = absurd none
 
--- memory for an outlet is refused behind all that is tested
+-- memory for an outlet is refused after all that is tested
 pub append_fault : (before : Ledger) (run : Run) (history : History) (shown pending : List Entry)
     (job : Job) (number d : ℕ) (infos : List PathInfo) (entry : Entry) (fault : BookFault)
     → record { run = run; history = history; shown = shown; pending = pending } ≡ before
@@ -78,7 +78,7 @@ may_append run entries held d infos entry shown done same copy =
       done_is_closed run entries done.node infos entry done.allowed done.is_entry,
     )
 
--- the outlet holds just the entries behind the entry, too
+-- the outlet holds just the entries after the entry, too
 pub holding : (entries more shown after_shown pending after_pending : List Entry)
     (entry copy : Entry) → shown ++ pending ≡ entries → more ≡ entries ++ entry ∷ []
     → after_shown ≡ shown → after_pending ≡ pending ++ copy ∷ [] → copy ≡ entry
@@ -86,7 +86,7 @@ pub holding : (entries more shown after_shown pending after_pending : List Entry
 holding entries more shown after_shown pending after_pending entry copy held more_is same added
     same_entry = search (rules, append_assoc)
 
--- the entries are a journal behind the entry, too
+-- the entries are a journal after the entry, too
 pub journal_behind : (run : Run) (entries more : List Entry) (d : ℕ) (infos : List PathInfo)
     (entry : Entry) → IsDone run entries d infos entry → HasDrvPath entry → IsJournal entries
     → more ≡ entries ++ entry ∷ [] → IsJournal more

@@ -1,4 +1,4 @@
--- What is left of paths behind some of them.
+-- What is left of paths after some of them.
 use Rattle.std.proofs.Common.{◌≡◌, ◌↔◌, ◌⊎◌, ⊎_elim, ◌<◌, ◌≤◌, ◌+◌, ◌++◌, ◌∙◌, ◌==◌, ℕ, Bool, true, false, List, [], ◌∷◌, Option, Some, None, IfSome, IsTrue, MatchOption, append_assoc, ap, filter, flat_map, get_or, length, map, refl, sym, subst, arith, rules}
 use Rattle.std.specs.Borrow.{Bor}
 use Rattle.std.specs.List.{list_any}
@@ -20,7 +20,7 @@ use Rattle.build_outcome.specs.Jobs.{named_outputs, paths_named, seeds_of}
 use Rattle.sched_core.proofs.SeedParts.{at_input, first_more, first_named, first_seeds, input_added, output_at, outputs_count, path_at, read_at}
 use Rattle.nix_names.proofs.Lists.{element_at}
 
--- behind one front, and another behind that
+-- after one front, and another after that
 pub behind_both : (paths front more : List (List ℕ)) (between : Bor (List (List ℕ)))
     (left : Option (Bor (List (List ℕ)))) → IsBehind paths front (Some between)
     → IsBehind between.now more left → IsBehind paths (front ++ more) left
@@ -33,7 +33,7 @@ pub behind_none : (paths front more : List (List ℕ)) → IsBehind paths front 
     → IsBehind paths (front ++ more) None
 behind_none paths front more none = search (rules, append_assoc)
 
--- What is left behind more paths, where something was left before.
+-- What is left after more paths, where something was left before.
 abbrev pub IsStep : Option (Bor (List (List ℕ))) → (more : List (List ℕ))
     → Option (Bor (List (List ℕ))) → Type 0
 IsStep left more next = MatchOption left (next ≡ None)
@@ -63,7 +63,7 @@ pub step_none : (left next : Option (Bor (List (List ℕ)))) (more : List (List 
     → next ≡ None → IsStep left more next
 step_none left next more is none = search rules
 
--- what is left behind an element of a list
+-- what is left after an element of a list
 pub element_some : (left next given : Option (Bor (List (List ℕ)))) (rest : Bor (List (List ℕ)))
     (paths : List (List ℕ)) (n : ℕ) (path : List ℕ) → n < length paths → path ≡ get_or paths n path
     → left ≡ Some rest → IsBehind rest.now (path ∷ []) given → next ≡ given

@@ -1,4 +1,4 @@
--- What is kept of a run, and that it is kept behind each event.
+-- What is kept of a run, and that it is kept after each event.
 use Rattle.std.proofs.Common.{◌≡◌, ℕ, suc, ◌+◌, ◌*◌, ◌<◌, ◌≤◌, Bool, true, false, List, [], ◌∷◌, ◌++◌, length, Option, refl, sym, ap, ◌∙◌, subst, arith, take, rules}
 use Rattle.std.specs.Prelude.{◌==◌, if◌then◌else◌, slice_set}
 use Rattle.std.specs.List.{slice_index_or, sum_by}
@@ -58,7 +58,7 @@ room_set : (phases : List Phase) (events : List Event) (d room : ℕ) (event : E
     → length (events ++ event ∷ []) + sum_by events_left (slice_set phases d p) ≡ room
 room_set phases events d room event p within less fits = search (rules, sum_by-set, length_push)
 
--- what is kept behind one event more
+-- what is kept after one event more
 behind_event : (system : List ℕ) (before after : History) (course : Course) (given more room d : ℕ)
     (event : Event) (p : Phase)
     → IsRunKept system before course given room → IsLegal (run_over course system) after

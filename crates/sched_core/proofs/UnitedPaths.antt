@@ -42,7 +42,7 @@ rising_append (x ∷ z ∷ zs) ys rises rises' below = (
 
 -- ---- the place of a path
 
--- where a path is not found, what stands before the place is below it, and what stands behind above
+-- where a path is not found, what stands before the place is below it, and what stands after above
 pub record IsGap (paths : List (List ℕ)) (path : List ℕ) (place : ℕ) : Type 0 where
   pub before : (x : List ℕ) → Contains (take place paths) x → IsBelow x path
   pub behind : (x : List ℕ) → Contains (drop place paths) x → IsBelow path x
@@ -139,7 +139,7 @@ module _ (paths others below left above : List (List ℕ)) (path : List ℕ)
     );
   }
 
-  -- another path goes above, behind what stands above it in the first list
+  -- another path goes above, after what stands above it in the first list
   pub uniting_placed :
       (front tail : List (List ℕ)) →
       below ≡ front ++ tail →

@@ -52,18 +52,18 @@ abbrev pub BuildsOver : Run → History → List Entry → Type 0
 BuildsOver run history entries = (job : Job) (number : ℕ) → IsBooksLease run history job number
     → AreSeedsValid entries job
 
--- each reference in some records is permitted to a job behind some entries
+-- each reference in some records is permitted to a job after some entries
 abbrev pub MayAllRefer : List Entry → Job → List PathInfo → Type 0
 MayAllRefer entries job infos = (info : PathInfo) (path : Path) → Contains infos info
     → Contains info.references path
     → MayRefer (registered entries) job.seeds.items (outputs_of job) path
 
--- these are the paths that are permitted to a job behind some entries
+-- these are the paths that are permitted to a job after some entries
 abbrev pub ArePermittedPaths : List Entry → Job → (permitted : List Path) → Type 0
 ArePermittedPaths entries job permitted = ArePermitted (registered entries) job.seeds.items
     (outputs_of job) permitted
 
--- An entry is that of a derivation with these records, which is allowed behind some entries.
+-- An entry is that of a derivation with these records, which is allowed after some entries.
 pub record IsDone (run : Run) (entries : List Entry) (d : ℕ) (infos : List PathInfo)
     (entry : Entry) : Type 0 where
   pub node : Node
@@ -71,12 +71,12 @@ pub record IsDone (run : Run) (entries : List Entry) (d : ℕ) (infos : List Pat
   pub allowed : IsAllowed run.graph entries node infos
   pub is_entry : IsEntryOf node infos entry
 
--- a derivation may not be registered with these records behind some entries
+-- a derivation may not be registered with these records after some entries
 abbrev pub IsNotAllowed : Graph → List Entry → (d : ℕ) → List PathInfo → Type 0
 IsNotAllowed graph entries d infos = (node : Node) → slice_get graph.nodes d ≡ Some node
     → IsAllowed graph entries node infos → ⊥
 
--- these are records of a derivation's outputs, and none of those is valid behind some entries
+-- these are records of a derivation's outputs, and none of those is valid after some entries
 abbrev pub AreNewRecords : Graph → List Entry → (d : ℕ) → List PathInfo → Type 0
 AreNewRecords graph entries d infos = (node : Node) → slice_get graph.nodes d ≡ Some node
     → AreOutputRecords node.drv infos × AreNewOutputs entries node.drv

@@ -31,7 +31,7 @@ pub record AreFitting (known : List Registration) (kind : Kind) (paths : List Pa
 abbrev pub infos_of : List Registration → List PathInfo
 infos_of registrations = map (λ (r : Registration). r.info) registrations
 
--- an entry is that of the derivation with this number, with these records, and allowed behind some
+-- an entry is that of the derivation with this number, with these records, and allowed after some
 -- entries if the references are permitted
 abbrev pub IsDoneEntry : Graph → (d : ℕ) → List Entry → List PathInfo → Entry → Type 0
 IsDoneEntry graph d entries infos entry = (node : Node) → slice_get graph.nodes d ≡ Some node

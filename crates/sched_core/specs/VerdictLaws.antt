@@ -26,7 +26,7 @@ VerdictsAreRegistrable = (graph : Graph) (d : ℕ) (job : Job) (node : Node)
     → IsJob graph d job → slice_get graph.nodes d ≡ Some node
     → IsVerdict job permitted answer (Ok infos) → AreRegistrable node permitted infos
 
--- each reference in the records of a verdict is permitted to the job behind some entries, where the
+-- each reference in the records of a verdict is permitted to the job after some entries, where the
 -- verdict was found by the paths that are permitted there
 abbrev pub VerdictsMayRefer : Type 0
 VerdictsMayRefer = (entries : List Entry) (job : Job) (permitted : List Path) (answer : Answer)

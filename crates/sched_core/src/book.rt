@@ -118,7 +118,7 @@ impl<O: Outlet> Book<O> {
     }
 
     /// Ends a lease by registering what was built, with these records, by an entry that waits
-    /// in the outlet. Each reference in them must be permitted to the lease's job behind the
+    /// in the outlet. Each reference in them must be permitted to the lease's job after the
     /// journal's entries, if the lease is the book's.
     ///
     /// `ForeignLease` exactly where the lease isn't the book's. `NotLawful` only where it is and

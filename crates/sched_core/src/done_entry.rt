@@ -14,7 +14,7 @@ use std::alloc::{AllocError, Global};
 use valid_table::{Entry, Journal, Outputs, Record, Registration};
 
 // The entry that registers the outputs of the derivation with this number with these records,
-// behind the journal's entries. Whether their references are permitted isn't tested. `NotLawful`
+// after the journal's entries. Whether their references are permitted isn't tested. `NotLawful`
 // where there isn't one record for each output, an output is valid, a fixed output hasn't its
 // declared digest, or two outputs lead to each other. Takes memory only where none of the first
 // three of these reasons holds. Costs a look-up by hash for each output and for each reference, and
@@ -46,7 +46,7 @@ pub(crate) fn done_entry(
     Ok(Entry::Done(plan.path(d).copy(alloc)?, outputs))
 }
 
-// Whether records are one for each of these outputs of a kind, the outputs are new behind a
+// Whether records are one for each of these outputs of a kind, the outputs are new after a
 // journal's entries, and a fixed one has its digest. Takes no memory.
 fn are_fitting(kind: Kind, paths: &[StorePath], records: &[Record], journal: &Journal) -> bool
     ensures { IsTrue result

@@ -33,7 +33,7 @@ pub(crate) fn has_seeds(plan: &Plan, d: usize, seeds: &[StorePath]) -> bool
     }
 }
 
-// What is left of some seeds behind these paths, or none where they don't begin with them.
+// What is left of some seeds after these paths, or none where they don't begin with them.
 fn behind_paths<'a>(seeds: &'a [StorePath], paths: &[StorePath]) -> Option<&'a [StorePath]>
     ensures { IsBehind seeds.now paths.now result }
 {
@@ -47,7 +47,7 @@ fn behind_paths<'a>(seeds: &'a [StorePath], paths: &[StorePath]) -> Option<&'a [
     left
 }
 
-// What is left of some seeds behind the paths of the outputs that a derivation uses of its input
+// What is left of some seeds after the paths of the outputs that a derivation uses of its input
 // with this place.
 fn behind_used<'a>(
     drv: &Derivation,
@@ -74,7 +74,7 @@ fn behind_used<'a>(
     left
 }
 
-// What is left of some seeds behind this path.
+// What is left of some seeds after this path.
 fn behind_path<'a>(seeds: &'a [StorePath], path: &StorePath) -> Option<&'a [StorePath]>
     ensures { IsBehind seeds.now (path.now ∷ []) result }
 {

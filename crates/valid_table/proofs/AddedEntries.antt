@@ -10,7 +10,7 @@ use Rattle.valid_table.specs.declared.entry.Entry.{Entry}
 use Rattle.valid_table.specs.declared.entry.Registration.{Registration}
 use Rattle.valid_table.proofs.JournalLists.{registered-append}
 
--- what entries with one more behind them register
+-- what entries with one more after them register
 pub registered_push : (entries : List Entry) (entry : Entry) → registered (entries ++ entry ∷ [])
     ≡ registered entries ++ registered_by entry
 registered_push entries entry = search (rules, registered-append, append-nil)

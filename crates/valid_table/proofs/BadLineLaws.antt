@@ -88,7 +88,7 @@ abbrev EndsIn : Version → List ℕ → List ℕ → List Line → Place → Ty
 EndsIn version dir rest come place = Ends version dir place come
     × EndsAs (lines_text version come) rest
 
--- there are such lines: an output behind a deriver, else none
+-- there are such lines: an output after a deriver, else none
 ending : (version : Version) (dir : List ℕ) (place : Place) (rest : List ℕ) → Ahead place rest
     → (come : List Line)
     × EndsIn version dir rest come place
@@ -168,7 +168,7 @@ cut_lines version dir clear (suc n) (line ∷ come) front after each (first, mor
       later.5,
     )
 
--- what comes behind a place comes in bytes that go on alike
+-- what comes after a place comes in bytes that go on alike
 ahead_as : (place : Place) (after rest : List ℕ) → Ahead place after → EndsAs after rest
     → Ahead place rest
 ahead_as Opened after rest ahead (inl none) = search rules

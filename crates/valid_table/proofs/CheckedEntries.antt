@@ -189,7 +189,7 @@ module _ (known all : List (List ℕ)) where
   entry_checked entry new first (Err NoMemory) front check = tt
   entry_checked entry new first (Err other) front check = check
 
--- what the lines of an entry's registrations answer, the entry's own do, behind known registrations
+-- what the lines of an entry's registrations answer, the entry's own do, after known registrations
 pub own_checked :
     (known : List Registration) (entry : Entry) (rs : List Registration) (new first at : ℕ)
     (result : Result ℕ TableFault) →

@@ -18,12 +18,12 @@ use Rattle.valid_table.proofs.CheckedEntries.{entry_lines_are, lines_of}
 use Rattle.valid_table.proofs.PathLists.{All-right}
 use Rattle.nix_names.proofs.Lists.{All-left, Contains-middle, parts_at, taken_more}
 
--- a line of an entry behind earlier registrations is right
+-- a line of an entry after earlier registrations is right
 abbrev pub IsRightBehind : List Registration → Entry → Line → Type 0
 IsRightBehind earlier entry line = IsRight (paths_registered earlier)
     (paths_registered (earlier ++ registered_by entry)) line
 
--- all lines of entries are right, behind earlier registrations
+-- all lines of entries are right, after earlier registrations
 abbrev pub AreRight : List Registration → List Entry → Type 0
 AreRight earlier [] = Unit {0}
 AreRight earlier (entry ∷ entries) = All (IsRightBehind earlier entry) (entry_lines entry)
@@ -119,7 +119,7 @@ split_two (z ∷ a) x xs (w ∷ b) y ys same =
     (λ h. inr (inr (h.0, ap (λ l. z ∷ l) h.1 ∙ ap (λ v. v ∷ (b ++ y ∷ h.0)) first))))
     (split_two a x _ b y _ rest)
 
--- entries with another behind them, and more, have at least its lines more
+-- entries with another after them, and more, have at least its lines more
 lines_behind : (entries : List Entry) (entry : Entry) (more : List Entry) → length (lines entries)
     + length (entry_lines entry) ≤ length (lines (entries ++ entry ∷ more))
 lines_behind entries entry more = search (rules, flat_map-append, entry, length-append, flat_map)
@@ -155,7 +155,7 @@ none_wrong entries m w after right =
     (subst (All (IsRightBehind (registered w.before) w.entry)) s.is_line
     (right_at [] w.before w.entry after right)))
 
--- in the entry whose first lines are right, a wrong line stands behind these
+-- in the entry whose first lines are right, a wrong line stands after these
 least_within :
     (entries pre : List Entry) (e : Entry) (first : List Line) (line : Line) (last : List Line)
     (m : ℕ) (w : IsWrongAt entries m) →
@@ -181,7 +181,7 @@ least_within entries pre e first line last m w same_before same_entry split righ
     (λ h. omega (arith, ap length h.1, length-append first (line ∷ h.0))))
     (split_two _ _ _ _ _ _ lines_are)
 
--- behind right entries, and the right first lines of the next one, a wrong line stands no earlier
+-- after right entries, and the right first lines of the next one, a wrong line stands no earlier
 least_wrong :
     (entries pre : List Entry) (e : Entry) (rest : List Entry) (first : List Line) (line : Line)
     (last : List Line) (m : ℕ) →
@@ -246,7 +246,7 @@ open_at :
 open_at entries before entry (Reference path) n stands other = (before, entry, path, stands, other)
 open_at entries before entry line n stands other = absurd other
 
--- what an entry behind others is checked against
+-- what an entry after others is checked against
 abbrev pub IsCheckBehind : List Entry → Entry → ℕ → Result ℕ TableFault → Type 0
 IsCheckBehind pre entry first result =
     IsEntryCheck (paths_registered (registered pre))

@@ -50,7 +50,7 @@ pub unknown_within : (all paths : List (List ℕ)) (at : ℕ) → IsFirstUnknown
     < length paths
 unknown_within all paths at (path, first, is) = search (rules, length-append)
 
--- the registration behind the new ones is known
+-- the registration after the new ones is known
 pub twice_here :
     (all : List (List ℕ)) (rs : List Registration) (new first i n : ℕ) →
     i ≡ new →

@@ -78,7 +78,7 @@ pub known_more :
 known_more known some i path all lt is there =
     All-more (Contains known) _ i _ lt all (subst (Contains known) is there)
 
--- the element behind the first ones
+-- the element after the first ones
 middle : {X : Type 0} (xs before : List X) (x : X) (after : List X) (i : ℕ) → xs ≡ before ++ x
     ∷ after → i ≡ length before → slice_get xs i ≡ Some x
 middle xs before x after i parts at =
@@ -131,7 +131,7 @@ pub closed_all : (known : List (List ℕ)) (rs : List Registration) (n : ℕ) �
 closed_all known rs n long all = subst (λ l. All (Contains known) (references_of l))
     (take_all n rs long) all
 
--- the path of the registration behind the new ones is the first that is known
+-- the path of the registration after the new ones is the first that is known
 pub known_behind :
     (known : List (List ℕ)) (rs : List Registration) (count : ℕ) →
     IsNewFront known (paths_registered rs) count →
@@ -147,7 +147,7 @@ known_behind known rs count front lt =
           (MatchOption-at_some (Unit {0}) (Contains known) r.path some front.next),
     )
 
--- where none is behind the new ones, all are new
+-- where none is after the new ones, all are new
 pub all_new : (known : List (List ℕ)) (rs : List Registration) (count : ℕ)
     → IsNewFront known (paths_registered rs) count → length rs ≤ count
     → AreUnknown known (paths_registered rs)

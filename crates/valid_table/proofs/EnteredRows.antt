@@ -48,7 +48,7 @@ row_put rows r new false is added =
     (λ valid. false≢true ((has_row_says rows _ _ is).1 valid)) in
     (fresh, row_pushed rows r _ fresh added)
 
--- ---- the first of some registrations, behind known ones
+-- ---- the first of some registrations, after known ones
 
 abbrev front : List Registration → List Registration → ℕ → List Registration
 front known rs i = known ++ take i rs
@@ -87,7 +87,7 @@ unknown_next known rs i r not valid =
     not (subst (λ ps. Contains ps r.path) (sym (front_paths _ _ i))
     (Contains-append_left _ _ _ valid))
 
--- one more was put behind them
+-- one more was put after them
 pub put_more : (known rs now new : List Registration) (i : ℕ) (r : Registration)
     → now ≡ front known rs i → AreUnknown (paths_registered known) (take i (paths_registered rs))
     → i < length rs
@@ -123,7 +123,7 @@ put_twice known rs now new i r rising is_front unknown lt is put = (
   put.1 ∙ ap paths_registered is_front ∙ front_paths _ _ i,
 )
 
--- all were put behind them
+-- all were put after them
 pub put_all : (known rs new : List Registration) (n : ℕ) → length rs ≤ n → new ≡ front known rs n
     → new ≡ known ++ rs
 put_all known rs new n long is = search (rules, take_all)
@@ -132,14 +132,14 @@ pub put_paths : (known rs new : List Registration) (n : ℕ) → length rs ≤ n
     → paths_registered new ≡ paths_registered known ++ take (length rs) (paths_registered rs)
 put_paths known rs new n long is = search (rules, put_all, paths_of-append, take_all, path_count)
 
--- ---- lines that were checked behind more rows with the same paths
+-- ---- lines that were checked after more rows with the same paths
 
 Contains-take : (paths : List (List ℕ)) (i : ℕ) (path : List ℕ) → Contains (take i paths) path
     → Contains paths path
 Contains-take paths i path has =
     subst (λ ps. Contains ps path) (take-append-drop i paths) (Contains-append_left _ _ _ has)
 
--- behind the first of some paths, and behind all of them, the same are known
+-- after the first of some paths, and after all of them, the same are known
 pub same_known : (known paths : List (List ℕ)) (i : ℕ)
     → HaveSame ((known ++ take i paths) ++ paths) (known ++ paths)
 same_known known paths i = λ path. (

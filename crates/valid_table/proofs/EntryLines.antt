@@ -27,14 +27,14 @@ nothing_ahead : (from : Place) (bytes : List ℕ) → HasToBegin from bytes → 
 nothing_ahead Opened bytes begins = absurd begins
 nothing_ahead from bytes begins = tt
 
--- behind the lines of an entry one has to begin, where no further line of it does
+-- after the lines of an entry one has to begin, where no further line of it does
 end_begins : (entry : Entry) (to : Place) (rest : List ℕ) → IsBehind entry to → IsEnd entry rest
     → HasToBegin to rest
 end_begins (Add r) (Within None last) rest is ends = ends
 end_begins (Done deriver outputs) (Within (Some output) last) rest is ends = ends
 end_begins entry to rest is ends = absurd is
 
--- behind an entry the lines stop where they do behind a place where an entry has to begin
+-- after an entry the lines stop where they do after a place where an entry has to begin
 pub lead : (version : Version) (dir bytes : List ℕ) (entry : Entry) (rest : List ℕ) (from : Place)
     (left : ℕ)
     → HasEntry version dir bytes entry rest → HasToBegin from bytes
@@ -90,7 +90,7 @@ deriver_text : (version : Version) (dir bytes fields path rest : List ℕ) → b
     → IsDeriverLine dir fields path rest → bytes ≡ line_text version (Deriver path) ++ rest
 deriver_text version dir bytes fields path rest begun line = search (rules, append_assoc)
 
--- behind a deriver's line the lines stop where its outputs do
+-- after a deriver's line the lines stop where its outputs do
 pub done_stops : (version : Version) (dir : List ℕ) (from : Place)
     (bytes fields path rest : List ℕ) (left : ℕ) → bytes
     ≡ 68 ∷ 32 ∷ fields → IsDeriverLine dir fields path rest → Stops version dir Opened rest left

@@ -1,4 +1,4 @@
--- Rows that were found, in another order: those of the first rows of a table, and those behind
+-- Rows that were found, in another order: those of the first rows of a table, and those after
 -- them.
 use Rattle.std.proofs.Common.{◌≡◌, ◌⊎◌, Contains, ◌∙◌, ◌≤◌, ◌<◌, ◌+◌, ℕ, List, [], ◌∷◌, ◌++◌, All, Bool, true, false, cond, not, ◌&&◌, ◌||◌, length, nat_eq, nat_lt, inl, inr, refl, sym, ap, subst, arith, rules}
 use Rattle.std.specs.List.{AllByRecursion, IsDistinct, filter, list_any}
@@ -166,7 +166,7 @@ first_more count rows are below = record {
                 other : row ≡ length rows → ⊥
                 other same = false≢true (sym is ∙ eq-eqb row (length rows) same)
 
--- Rows that were found: those of the first rows, in their order, and then those behind them. They
+-- Rows that were found: those of the first rows, in their order, and then those after them. They
 -- are the same.
 abbrev pub regrouped : List ℕ → List ℕ → List ℕ
 regrouped first found = filter (λ row. list_any (nat_eq row) found) first
@@ -222,7 +222,7 @@ regrouped_rows registrations first found are rows = record {
     all_first : All (λ r. r < length registrations) first
     all_first = first_below _ _ are
 
--- so also of rows that stand behind keys
+-- so also of rows that stand after keys
 pub first_none : (count : ℕ) (keyed : List (ℕ × ℕ)) → keyed ≡ []
     → AreFirst count (rows_behind keyed)
 first_none count keyed none = subst (λ ks. AreFirst count (rows_behind ks)) (sym none)
@@ -243,7 +243,7 @@ first_of_more rows added more first is are =
       length-append (registrations_of rows) added,
     ))
 
--- one more row behind its key
+-- one more row after its key
 pub keyed_more : (count key row : ℕ) (keyed more : List (ℕ × ℕ))
     → AreFirst count (rows_behind keyed) → length keyed ≡ row → row < count
     → more ≡ keyed ++ (key, row) ∷ [] → AreFirst count (rows_behind more)
@@ -267,7 +267,7 @@ pub left_out : {A : Type 0} (p : A → Bool) (rows more start old : List A) (row
     → old ≡ start ++ filter p more
 left_out p rows more start old row more_is before is = search (rules, filter-append, append-nil)
 
--- the rows behind those keys of whose rows a test holds
+-- the rows after those keys of whose rows a test holds
 pub behind_kept : (p : ℕ → Bool) (keyed : List (ℕ × ℕ)) → rows_behind (filter (λ k. p k.1) keyed)
     ≡ filter p (rows_behind keyed)
 behind_kept p [] = refl

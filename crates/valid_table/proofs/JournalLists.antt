@@ -11,7 +11,7 @@ use Rattle.valid_table.specs.declared.entry.Registration.{Registration}
 use Rattle.valid_table.proofs.PathLists.{once_front}
 use Rattle.nix_names.proofs.Lists.{parts_at}
 
--- the paths of two lists of registrations, one behind the other
+-- the paths of two lists of registrations, one after the other
 pub paths_of-append : (a b : List Registration) → paths_registered (a ++ b) ≡ paths_registered a ++
     paths_registered b
 paths_of-append a b = map-append (λ (r : Registration). r.path) a b
@@ -25,19 +25,19 @@ references_of-append a b = search (rules, flat_map-append)
 pub registered-append : (a b : List Entry) → registered (a ++ b) ≡ registered a ++ registered b
 registered-append a b = flat_map-append registered_by a b
 
--- a valid path stays valid behind more registrations
+-- a valid path stays valid after more registrations
 pub still_valid : (some more : List Registration) (path : List ℕ) → IsValid some path
     → IsValid (some ++ more) path
 still_valid some more path valid =
     subst (λ paths. Contains paths path) (sym (paths_of-append _ _))
     (Contains-append_left _ _ _ valid)
 
--- each reference of registrations is valid, and so behind more of them
+-- each reference of registrations is valid, and so after more of them
 pub valid_more : (some more : List Registration) (paths : List (List ℕ)) → All (IsValid some) paths
     → All (IsValid (some ++ more)) paths
 valid_more some more paths valid = search (rules, All-weaker, still_valid)
 
--- in closed entries behind registrations whose references are valid, each reference is valid
+-- in closed entries after registrations whose references are valid, each reference is valid
 closed_valid : (earlier : List Registration) (entries : List Entry) → AreReferencesValid earlier
     → IsClosedBehind earlier entries → AreReferencesValid (earlier ++ registered entries)
 closed_valid earlier [] valid closed = subst AreReferencesValid (sym (append-nil earlier)) valid

@@ -25,7 +25,7 @@ use Rattle.valid_table.proofs.FirstRows.{first_below}
 use Rattle.valid_table.proofs.Linking.{path_stays}
 use Rattle.valid_table.proofs.RowNumbers.{paths_are_keys, row_count}
 
--- ---- texts behind one folder compare as their keys do
+-- ---- texts after one folder compare as their keys do
 
 lesser_key : (folder text other : List ℕ) (k l : ℕ) → IsKey folder text k → IsKey folder other l
     → k < l → slice_cmp nat_cmp text other ≡ Less
@@ -70,7 +70,7 @@ paths_rise registrations keyed keys rise =
     _ keys)
     rise
 
--- ---- the rows of a table behind their keys
+-- ---- the rows of a table after their keys
 
 pub none_keyed : (registrations : List Registration) (keyed : List (ℕ × ℕ)) → keyed ≡ []
     → AreKeyed registrations keyed
@@ -80,7 +80,7 @@ pub keyed_moved : (registrations : List Registration) (keyed moved : List (ℕ �
     → IsPermutation keyed moved → AreKeyed registrations keyed → AreKeyed registrations moved
 keyed_moved registrations keyed moved is keys = search (rules, All-permutation)
 
--- one more row behind its key
+-- one more row after its key
 pub one_more_keyed : (registrations : List Registration) (key row : ℕ) (path folder : List ℕ)
     (keyed more : List (ℕ × ℕ)) → AreKeyed registrations keyed → folder ≡ folder_of registrations
     → path ≡ path_at registrations row → (key ≡ 0) ⊎ (IsKey folder path key)

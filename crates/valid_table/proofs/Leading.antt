@@ -60,7 +60,7 @@ pub leads_end : (version : Version) (dir : List ℕ) (Is : Place → Type 0) (fr
 leads_end version dir Is from [] leads = (from, leads)
 leads_end version dir Is from (line ∷ a) leads = leads_end _ dir Is (behind from line) a leads.1
 
--- behind a deriver the lines go on with an output
+-- after a deriver the lines go on with an output
 pub ahead_of : (version : Version) (dir : List ℕ) (Is : Place → Type 0) (place : Place)
     (lines : List Line)
     (rest : List ℕ) → ((to : Place) → Is to → Ahead to rest) → LeadsTo version dir Is place lines
@@ -102,13 +102,13 @@ pub text_push : (version : Version) (a : List Line) (line : Line) (rest : List �
     ++ (line_text version line ++ rest) ≡ lines_text version (a ++ line ∷ []) ++ rest
 text_push version a line rest = search (rules, append_assoc, flat_map-append, append-nil)
 
--- lines with what stands behind them, and those before others
+-- lines with what stands after them, and those before others
 pub text_and : (version : Version) (a b : List Line) (rest : List ℕ)
     → lines_text version a ++ (lines_text version b ++ rest)
     ≡ lines_text version (a ++ b) ++ rest
 text_and version a b rest = search (rules, append_assoc, flat_map-append)
 
--- some lines, with bytes behind them, are others with more lines
+-- some lines, with bytes after them, are others with more lines
 abbrev pub GoOn : Version → List Line → List Line → List ℕ → List ℕ → Type 0
 GoOn version a b x y = (c : List Line) × (b ≡ a ++ c) × (x ≡ lines_text version c ++ y)
 
@@ -135,7 +135,7 @@ aligned version dir (l ∷ a) (m ∷ b) x y one two e =
       | inr d ↦ inr (d.0, ap (λ (k : Line). k ∷ a) same.0 ∙ ap (λ (t : List Line). m ∷ t) d.1, d.2)
     ]
 
--- where a line stands behind the first ones, it goes on from where these lead
+-- where a line stands after the first ones, it goes on from where these lead
 goes_behind : (version : Version) (dir : List ℕ) (Is Also : Place → Type 0) (from : Place)
     (a b : List Line)
     (line : Line) (c : List Line) (x y : List ℕ) → ((to : Place) → Also to → Ahead to y)

@@ -16,15 +16,15 @@ use Rattle.valid_table.specs.declared.version.Version.{Version}
 use Rattle.valid_table.specs.declared.version.Version.TheVariants.{One}
 use Rattle.valid_table.proofs.RisingPaths.{AreAbove, above_of_rising, rising_of_above}
 
--- ---- the lines of entries, and what comes behind them
+-- ---- the lines of entries, and what comes after them
 
--- what holds of lines from a place on, where it holds of those behind the first
+-- what holds of lines from a place on, where it holds of those after the first
 abbrev pub IsBackward : Version → List ℕ → (Place → List Line → Type 0) → Type 0
 IsBackward version dir Of = (from : Place) (line : Line) (more : List Line)
     → MayBeLine version dir from line
     → Of (behind from line) more → Of from (line ∷ more)
 
--- references that rise behind the one before them
+-- references that rise after the one before them
 pub references_back : (version : Version) (dir : List ℕ) (Of : Place → List Line → Type 0)
     → IsBackward version dir Of
     → (output before : Option (List ℕ)) (references : List (List ℕ)) (more : List Line)
@@ -41,7 +41,7 @@ references_back version dir Of back output before (path ∷ paths) more of_dir a
           (All-tail (IsPathOf dir) _ _ of_dir) above.1 of),
     )
 
--- the place where an output may stand: behind a deriver, or within the lines of an output before it
+-- the place where an output may stand: after a deriver, or within the lines of an output before it
 abbrev pub place_at : Option (List ℕ) → Option (List ℕ) → Place
 place_at None last = Opened
 place_at (Some output) last = Within (Some output) last
@@ -52,7 +52,7 @@ pub may_stand : (version : Version) (dir : List ℕ) (before last : Option (List
 may_stand version dir None last path digest may = may
 may_stand version dir (Some output) last path digest may = may
 
--- outputs that rise behind the one before them
+-- outputs that rise after the one before them
 pub outputs_back : (version : Version) (dir : List ℕ) (Of : Place → List Line → Type 0)
     → IsBackward version dir Of
     → (outputs : List Registration) (before last : Option (List ℕ)) (more : List Line)
@@ -79,13 +79,13 @@ abbrev pub MayEnter : Version → List ℕ → Place → Type 0
 MayEnter version dir place = (line : Line) → MayBegin version dir line
     → MayBeLine version dir place line
 
--- a place is behind the lines of an entry
+-- a place is after the lines of an entry
 abbrev pub IsBehind : Entry → Place → Type 0
 IsBehind (Add r) (Within None last) = Unit {0}
 IsBehind (Done deriver outputs) (Within (Some output) last) = Unit {0}
 IsBehind entry place = ⊥
 
--- behind outputs is behind the last of them
+-- after outputs is after the last of them
 behind_outputs : (deriver path : List ℕ) (paths : List (List ℕ)) (outputs : List Registration)
     (reference : Option (List ℕ)) → IsBehind (Done deriver outputs)
     (place_at (last_or (Some path) paths) reference)
@@ -139,7 +139,7 @@ within_enters version dir output last (Added path digest) may = may
 within_enters version dir output last (Deriver path) may = may
 within_enters version dir output last line may = absurd may
 
--- behind the lines of an entry another may begin, and a journal may end
+-- after the lines of an entry another may begin, and a journal may end
 behind_enters : (version : Version) (dir : List ℕ) (entry : Entry) (to : Place) → IsBehind entry to
     → MayEnter version dir to
     × MayEnd to
@@ -161,7 +161,7 @@ entries_end version dir place (entry ∷ entries) begins each =
 
 -- ---- what is still to come
 
--- outputs rise behind one; without one there are none
+-- outputs rise after one; without one there are none
 abbrev RiseBehind : Option (List ℕ) → List Registration → Type 0
 RiseBehind None outputs = outputs ≡ []
 RiseBehind (Some before) outputs = AreAbove (Some before) (paths_registered outputs)
@@ -268,7 +268,7 @@ one_reference version dir output last path come may c = record {
   may = ((may.1, c.may.0), c.may.1);
 }
 
--- behind the first line they are what is to come
+-- after the first line they are what is to come
 abbrev ToCome : Version → List ℕ → Place → List Line → Type 0
 ToCome version dir Start come = Unit {0}
 ToCome version dir place come = Comes version dir place come

@@ -41,7 +41,7 @@ pub no_space : (version : Version) (dir bytes path : List ℕ) (digest : Option 
     → IsFieldsLine version dir bytes path digest rest → ⊥
 no_space version dir bytes path digest rest none is = search (rules, lacks_not, fields_apart)
 
--- fields, and what stands before the first space and behind it
+-- fields, and what stands before the first space and after it
 module _ (version : Version) (dir bytes text fields : List ℕ) (of_dir : IsStoreDir dir)
     (none : Lacks 32 text)
     (parts : bytes ≡ text ++ 32 ∷ fields) (path : List ℕ) (digest : Option Digest)
@@ -53,7 +53,7 @@ module _ (version : Version) (dir bytes text fields : List ℕ) (of_dir : IsStor
       (path_lacks _ space _ _ (dir_lacks _ space _ of_dir) is.of_dir) none
       (sym (fields_apart _ _ _ _) ∙ sym is.parts ∙ parts)
 
-  -- a newline stands behind the space
+  -- a newline stands after the space
   pub no_newline : Lacks 10 fields → ⊥
   no_newline lacks = lacks_not _ _ _ (subst (Lacks 10) (sym behind_space.1) lacks)
 

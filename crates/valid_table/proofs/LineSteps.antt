@@ -22,7 +22,7 @@ pub stop_here : (version : Version) (dir : List ℕ) (place : Place) (bad : List
     → Stops version dir place bad (length bad)
 stop_here version dir place bad c more begins ahead stuck = search rules
 
--- one line, and where the lines behind it stop
+-- one line, and where the lines after it stop
 pub stop_behind : (version : Version) (dir : List ℕ) (from : Place) (bytes : List ℕ) (line : Line)
     (more : List ℕ)
     (left : ℕ) → bytes ≡ line_text version line ++ more → MayBeLine version dir from line
@@ -42,7 +42,7 @@ abbrev pub StopsIn : Version → List ℕ → List ℕ → ℕ → Place → Lis
 StopsIn version dir rest left from lines =
     Stops version dir from (lines_text version lines ++ rest) left
 
--- they stop where those behind the first one do
+-- they stop where those after the first one do
 pub stops_back : (version : Version) (dir rest : List ℕ) (left : ℕ)
     → IsBackward version dir (StopsIn version dir rest left)
 stops_back version dir rest left from line more may h = search (rules, stop_behind, append_assoc)

@@ -22,7 +22,7 @@ use Rattle.nix_names.proofs.DigestTexts.{one_digest, one_text}
 
 -- ---- fields
 
--- a path, a space, a digest and a newline, and what is behind them
+-- a path, a space, a digest and a newline, and what is after them
 pub fields_apart : (version : Version) (path : List ℕ) (digest : Option Digest) (rest : List ℕ)
     → fields_text version path digest ++ rest ≡ path ++
     (32 ∷ (digest_text version digest ++ (10 ∷ rest)))
@@ -57,13 +57,13 @@ same_digest One (Some a) (Some b) one two e =
     ap Some (one_digest a b one.1 two.1 (one.0 ∙ sym two.0) e)
 same_digest Two (Some a) (Some b) one two e = ap Some (one_text a b one two e)
 
--- bytes have one path with a newline behind it
+-- bytes have one path with a newline after it
 pub two_path_lines : (dir bytes path rest other more : List ℕ) → IsPathLine dir bytes path rest
     → IsPathLine dir bytes other more → (path ≡ other) × (rest ≡ more)
 two_path_lines dir bytes path rest other more one two =
     same_path _ newline _ _ _ _ _ one.of_dir two.of_dir (sym one.parts ∙ two.parts)
 
--- bytes have one path with a digest behind it
+-- bytes have one path with a digest after it
 pub two_fields : (version : Version) (dir bytes path : List ℕ) (digest : Option Digest)
     (rest other : List ℕ)
     (sum : Option Digest) (more : List ℕ) → IsFieldsLine version dir bytes path digest rest

@@ -18,7 +18,7 @@ at_head : (x : List ℕ) (xs ys : List (List ℕ)) (p : List ℕ) → Contains (
     → Contains (x ∷ ys) p
 at_head x xs ys p there = Contains-append_left (x ∷ []) ys p there
 
--- a path in a list is at its head or behind it
+-- a path in a list is at its head or after it
 head_cases : (x : List ℕ) (xs : List (List ℕ)) (p : List ℕ) → Contains (x ∷ xs) p
     → Contains (x ∷ []) p ⊎ Contains xs p
 head_cases x xs p there = Contains-append_cases (x ∷ []) xs p there
@@ -55,13 +55,13 @@ module _ (left right : List (List ℕ)) (path other : List ℕ) (more others : L
       in
       rw (first, second, same) (search rules)
 
--- a list that isn't empty is its first element and what is behind it
+-- a list that isn't empty is its first element and what is after it
 pub first_and_rest : (xs : List (List ℕ)) (x : List ℕ) → 0 < length xs → x ≡ get_or xs 0 x → xs ≡ x
     ∷ take (length xs - 1) (drop 1 xs)
 first_and_rest [] x some is = absurd (omega arith)
 first_and_rest (y ∷ ys) x some is = search (rules, take_all)
 
--- a rising list goes on in another way behind one of its paths
+-- a rising list goes on in another way after one of its paths
 rising_join : (done : List (List ℕ)) (path : List ℕ) (xs ys : List (List ℕ))
     → IsRising (done ++ path ∷ xs) → IsRising (path ∷ ys) → IsRising (done ++ path ∷ ys)
 rising_join [] path xs ys rises behind = behind
@@ -80,7 +80,7 @@ pub merged_none : (left right : List (List ℕ)) → IsRising left → IsRising 
     → IsMerged left right [] left right
 merged_none left right rises rises' = search rules
 
--- a path in one of two lists, behind others
+-- a path in one of two lists, after others
 behind_either : (done xs ys us vs : List (List ℕ)) (p : List ℕ)
     → (IsInEither xs ys p → IsInEither us vs p) → IsInEither (done ++ xs) (done ++ ys) p
     → IsInEither (done ++ us) (done ++ vs) p

@@ -50,12 +50,12 @@ record Told : Type 0 where
   pub outputs : List Registration
   pub entries : List Entry
 
--- what a path registers with a digest and the references behind it
+-- what a path registers with a digest and the references after it
 abbrev registration : List ℕ → Option Digest → Told → Registration
 registration path digest later =
     record { path = path; info = record { references = later.references; digest = digest } }
 
--- what a line tells with what those behind it tell
+-- what a line tells with what those after it tell
 abbrev with_line : Line → Told → Told
 with_line First later = later
 with_line (Added path digest) later =

@@ -56,7 +56,7 @@ apart_from_unknown x xs (y ∷ ys) new =
       apart_from_unknown x xs ys (All-tail (IsNotKnown (x ∷ xs)) y _ new),
     )
 
--- a path that differs from each of two lists does from both, one behind the other
+-- a path that differs from each of two lists does from both, one after the other
 apart_from_both : (x : List ℕ) (xs ys : List (List ℕ))
     → AllByRecursion (λ y. pointwise nat_eq x y ≡ false) xs
     → AllByRecursion (λ y. pointwise nat_eq x y ≡ false) ys

@@ -17,7 +17,7 @@ use Rattle.valid_table.proofs.LineLists.{references_back}
 use Rattle.valid_table.proofs.LineSteps.{StopsIn, first, stop_here, stops_back, stops_in}
 use Rattle.valid_table.proofs.RisingPaths.{above_of_rising, last_is, rising_more}
 
--- behind references the lines stop where they do behind the last one
+-- after references the lines stop where they do after the last one
 pub references_lead : (version : Version) (dir : List ℕ) (output : Option (List ℕ)) (bytes : List ℕ)
     (references : List (List ℕ)) (rest : List ℕ) (left : ℕ)
     → SoFarReferences dir bytes references rest

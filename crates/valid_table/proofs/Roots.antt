@@ -5,7 +5,7 @@ use Rattle.valid_table.specs.Valid.{IsNotValid, IsValid}
 use Rattle.valid_table.specs.declared.entry.Registration.{Registration}
 use Rattle.nix_names.specs.Firsts.{IsFirst}
 
--- a root that is not valid, behind valid ones, is the first such
+-- a root that is not valid, after valid ones, is the first such
 pub first_not_valid :
     (registrations : List Registration) (roots : List (List ℕ)) (i : ℕ) (root copy : List ℕ) →
     i < length roots →

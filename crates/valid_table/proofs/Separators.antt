@@ -84,7 +84,7 @@ components_lack b is (part ∷ parts) each =
 pub dir_lacks : (b : ℕ) → IsSeparator b → (dir : List ℕ) → IsStoreDir dir → Lacks b dir
 dir_lacks b is dir h = search (rules, components_lack)
 
--- nor has what stands behind the folder in a path
+-- nor has what stands after the folder in a path
 behind_dir : (b : ℕ) → IsSeparator b → (dir path : List ℕ) → IsPathOf dir path → (rest : List ℕ)
     × (path ≡ dir ++ rest) × Lacks b rest
 unfolding is_hash_part is_name

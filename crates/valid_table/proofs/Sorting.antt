@@ -96,7 +96,7 @@ sorted_from_test texts tested k d low below =
     turned Equal e = refl
     turned Greater e = absurd (false≢true e)
 
--- rows that stand behind keys move with them, and their paths do
+-- rows that stand after keys move with them, and their paths do
 pub paths_moved : (registrations : List Registration) (rows : List ℕ) (keyed sorted : List (ℕ × ℕ))
     (paths : List (List ℕ)) → map (λ (k : ℕ × ℕ). k.1) keyed ≡ rows → IsPermutation keyed sorted
     → paths ≡ paths_at registrations (map (λ (k : ℕ × ℕ). k.1) sorted)

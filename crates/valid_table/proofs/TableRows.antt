@@ -74,7 +74,7 @@ pub row_pushed :
 row_pushed rows r new fresh added =
     search (rules, not_found, paths_are_keys, insert_entry-new, map_push)
 
--- the path of a registration behind others is not valid by them, where no path is registered twice
+-- the path of a registration after others is not valid by them, where no path is registered twice
 pub next_new : (known later : List Registration) (r : Registration) → IsOnce (known ++ r ∷ later)
     → IsNotValid known r.path
 next_new known later r once = search (rules, once_apart, paths_of-append)

@@ -1,4 +1,4 @@
--- Registrations that are taken in behind known ones.
+-- Registrations that are taken in after known ones.
 use Rattle.std.proofs.Common.{◌≡◌, ◌⊎◌, ◌≤◌, ℕ, List, [], ◌∷◌, ◌++◌, length, refl, sym, subst, arith, rules}
 use Rattle.std.specs.Prelude.{All, Contains}
 use Rattle.std.proofs.lemmas.List.Elements.{All-append, Contains-append_cases, Contains-append_right}
@@ -11,13 +11,13 @@ use Rattle.valid_table.specs.declared.entry.Registration.{Registration}
 use Rattle.valid_table.proofs.JournalLists.{paths_of-append, references_of-append, valid_more}
 use Rattle.valid_table.proofs.PathLists.{distinct_append}
 
--- new registrations that rise repeat no path behind known ones
+-- new registrations that rise repeat no path after known ones
 pub once_more : (known some : List Registration) → IsOnce known → IsRising (paths_registered some)
     → AreNew known some → IsOnce (known ++ some)
 once_more known some once rising new =
     search (rules, paths_of-append, distinct_append, distinct_from_rising)
 
--- closed registrations behind known ones whose references are valid: all references are
+-- closed registrations after known ones whose references are valid: all references are
 pub valid_with_more : (known some : List Registration) → AreReferencesValid known
     → AreClosed known some → AreReferencesValid (known ++ some)
 valid_with_more known some valid closed =

@@ -81,7 +81,7 @@ one_version One Two bytes (rest, one) (more, two) = search (rules, digit_in)
 one_version Two One bytes (rest, one) (more, two) = search (rules, digit_in)
 one_version Two Two bytes first second = refl
 
--- what is behind a prefix, which is this line
+-- what is after a prefix, which is this line
 pub stripped : (bytes line prefix : List ℕ) (found : Option (Bor (List ℕ))) → prefix ≡ line
     → MatchOption found ((rest : List ℕ) → bytes ≢ prefix ++ rest) (λ x. bytes ≡ prefix ++ x.now)
     → MatchOption found ((rest : List ℕ) → bytes ≢ line ++ rest) (λ x. bytes ≡ line ++ x.now)

@@ -29,14 +29,14 @@ abbrev pub IsFirstUnclosed : (known some : List Registration) → Path → Type 
 IsFirstUnclosed known some path = IsFirst (IsValid (known ++ some)) (IsNotValid (known ++ some))
     (references_of some) path
 
--- why some registrations can't be taken in behind known ones: one of their paths is valid already,
+-- why some registrations can't be taken in after known ones: one of their paths is valid already,
 -- or one of their references is not valid
 abbrev pub IsObstacle : (known some : List Registration) → Obstacle → Type 0
 IsObstacle known some (obstacle.AlreadyValid path) = IsFirstValid known some path.now
 IsObstacle known some (obstacle.Unclosed path) = AreNew known some
     × IsFirstUnclosed known some path.now
 
--- What is answered where some registrations are to be taken in behind known ones: they are taken
+-- What is answered where some registrations are to be taken in after known ones: they are taken
 -- in, or nothing changes. `NoMemory` comes only where nothing else speaks against them.
 abbrev pub IsTakingIn : (known some : List Registration) (taken same : Type 0) → Result ⊤ TableFault
     → Type 0
@@ -52,7 +52,7 @@ abbrev pub IsAdding : (old new : List Entry) → Entry → Result ⊤ TableFault
 IsAdding old new entry result = IsTakingIn (registered old) (registered_by entry)
     (new ≡ old ++ entry ∷ []) (new ≡ old) result
 
--- What is answered where a borrowed entry is to be registered behind known registrations, and the
+-- What is answered where a borrowed entry is to be registered after known registrations, and the
 -- registrations afterwards. A fault holds a copy of its path, so `NoMemory` may come in its place.
 abbrev pub IsRegistering : (old new : List Registration) → Entry → Result ⊤ TableFault → Type 0
 IsRegistering old new entry (Err NoMemory) = new ≡ old

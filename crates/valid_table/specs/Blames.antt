@@ -17,7 +17,7 @@ IsBlamedFor known some registration (Some place) =
     (path : Path) × (slice_get registration.info.references place ≡ Some path) × AreNew known some
     × IsFirstUnclosed known some path
 
--- which of some registrations is to blame, behind known ones
+-- which of some registrations is to blame, after known ones
 abbrev pub IsBlamed : (known some : List Registration) → Blame → Type 0
 IsBlamed known some blame =
     (registration : Registration) × (slice_get some blame.registration ≡ Some registration)

@@ -1,4 +1,4 @@
--- How the lines of entries are checked one after the other, behind the paths that earlier entries
+-- How the lines of entries are checked one after the other, after the paths that earlier entries
 -- register.
 use Rattle.std.specs.Prelude.{◌≡◌, ◌+◌, ◌<◌, ◌≤◌, ℕ, List, [], ◌∷◌, ◌++◌, All, Contains, Result, Ok, Err, flat_map, length, take}
 use Rattle.nix_names.specs.Bytes.{Path}
@@ -44,7 +44,7 @@ pub record IsRightUpTo (known all : List Path) (some : List Line) (line : Line) 
   pub right : All (IsRight known all) before
 
 -- What is answered for the lines of an entry, the first of which has the number `first`: the number
--- of the line behind them, or that of the first wrong line.
+-- of the line after them, or that of the first wrong line.
 abbrev pub IsEntryCheck : (known all : List Path) → (some : List Line) → (first : ℕ)
     → Result ℕ TableFault → Type 0
 IsEntryCheck known all some first (Ok behind) = All (IsRight known all) some

@@ -30,7 +30,7 @@ pub record AreRows (registrations : List Registration) (rows : List ℕ) : Type 
 abbrev pub HaveSame : (left right : List Path) → Type 0
 HaveSame left right = (path : Path) → Contains left path ↔ Contains right path
 
--- Rows are added behind old ones. Each added row is the row of one of the paths, and each of the
+-- Rows are added after old ones. Each added row is the row of one of the paths, and each of the
 -- paths that is valid has its row among the old and the added ones.
 pub record AddsRows (registrations : List Registration) (old : List ℕ) (paths : List Path)
     (new : List ℕ) : Type 0 where
@@ -41,7 +41,7 @@ pub record AddsRows (registrations : List Registration) (old : List ℕ) (paths 
   pub there : All (λ path. IsValid registrations path → Contains (paths_at registrations new) path)
       paths
 
--- The rows of the references of a row, by the record of its path, are added behind old ones.
+-- The rows of the references of a row, by the record of its path, are added after old ones.
 pub record AddsReferences (registrations : List Registration) (old : List ℕ) (row : ℕ)
     (new : List ℕ) : Type 0 where
   pub info : PathInfo

@@ -27,7 +27,7 @@ IsFirstUnknownAt known paths at =
     × (at ≡ length first.before)
 
 -- A registration is put among others: in the place of the one with its path, if there is one, and
--- else behind them. `had` says whether there was one.
+-- else after them. `had` says whether there was one.
 abbrev pub IsPut : (old new : List Registration) → Registration → (had : Bool) → Type 0
 IsPut old new r true = IsValid old r.path × (paths_registered new ≡ paths_registered old)
 IsPut old new r false = IsNotValid old r.path × (new ≡ old ++ r ∷ [])

@@ -1,4 +1,4 @@
--- Keys: numbers that compare as the texts behind a folder do.
+-- Keys: numbers that compare as the texts after a folder do.
 use Rattle.std.specs.Prelude.{◌≡◌, ◌⊎◌, ◌<◌, ◌+◌, ◌-◌, ◌++◌, ℕ, List, [], ◌∷◌, All, length, take}
 use Rattle.std.specs.Int.{from_be_bytes, w64}
 use Rattle.nix_names.specs.Bytes.{Bytes, Path}
@@ -7,7 +7,7 @@ use Rattle.valid_table.specs.Closing.{path_at}
 use Rattle.valid_table.specs.Entries.{paths_registered}
 use Rattle.valid_table.specs.declared.entry.Registration.{Registration}
 
--- A number is the key of a text behind a folder: the text begins with the folder, and the number is
+-- A number is the key of a text after a folder: the text begins with the folder, and the number is
 -- its next eight bytes, big-endian.
 pub record IsKey (folder text : Bytes) (key : ℕ) : Type 0 where
   pub bytes : Bytes

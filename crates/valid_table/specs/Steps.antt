@@ -1,5 +1,5 @@
 -- How the lines of a journal follow one another, as its readers see it: which line may stand at a
--- place, and the place behind it.
+-- place, and the place after it.
 use Rattle.std.specs.Prelude.{◌≡◌, ◌≢◌, ℕ, List, [], ◌∷◌, ◌++◌, Option, Some, None, length}
 use Rattle.std.specs.Cmp.Lexicographic.{slice_cmp}
 use Rattle.std.specs.Ordering.{nat_cmp}
@@ -12,7 +12,7 @@ use Rattle.valid_table.specs.LineTexts.{lines_text}
 use Rattle.valid_table.specs.Texts.{IsDigestOf, Line, First, Added, Deriver, Output, Reference, line_text}
 use Rattle.valid_table.specs.declared.version.Version.{Version}
 
--- A place between lines: before line 1, behind line 1, behind a deriver, or within the lines of an
+-- A place between lines: before line 1, after line 1, after a deriver, or within the lines of an
 -- output or an added path. There `output` is the output's path, if it is one, and `last` is the
 -- reference before the place, if any.
 pub data Place : Type 0 where
@@ -32,7 +32,7 @@ MayBegin version dir (Added path digest) = IsPathOf dir path × IsDigestOf versi
 MayBegin version dir (Deriver path) = IsPathOf dir path × IsDrvPath path
 MayBegin version dir line = ⊥
 
--- an output may stand behind a deriver, or behind an output with a lesser path
+-- an output may stand after a deriver, or after an output with a lesser path
 abbrev pub MayBeOutputAfter : Version → Dir → (before : Option Path) → Path → Option Digest → Type 0
 MayBeOutputAfter version dir before path digest = IsPathOf dir path × IsDigestOf version digest
     × IsAbove before path
@@ -48,7 +48,7 @@ MayBeLine version dir (Within output last) line = MayBegin version dir line
 MayBeLine version dir Opened (Output path digest) = MayBeOutputAfter version dir None path digest
 MayBeLine version dir place line = ⊥
 
--- the place behind a line
+-- the place after a line
 abbrev pub behind : Place → Line → Place
 behind place First = Begun
 behind place (Added path digest) = Within None None
@@ -57,12 +57,12 @@ behind place (Output path digest) = Within (Some path) None
 behind (Within output last) (Reference path) = Within output (Some path)
 behind place (Reference path) = place
 
--- behind a deriver the bytes go on with an output
+-- after a deriver the bytes go on with an output
 abbrev pub Ahead : Place → (rest : Bytes) → Type 0
 Ahead Opened rest = BeginsOutput rest
 Ahead place rest = Unit {0}
 
--- each line may stand at its place and leads to the place behind it; `Is` holds of the last place
+-- each line may stand at its place and leads to the place after it; `Is` holds of the last place
 abbrev pub LeadsTo : Version → Dir → (Place → Type 0) → Place → List Line → Type 0
 LeadsTo version dir Is from [] = Is from
 LeadsTo version dir Is from (line ∷ more) = MayBeLine version dir from line

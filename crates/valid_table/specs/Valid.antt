@@ -36,7 +36,7 @@ references_of registrations = flat_map (λ (r : Registration). r.info.references
 abbrev pub AreReferencesValid : List Registration → Type 0
 AreReferencesValid registrations = All (IsValid registrations) (references_of registrations)
 
--- *Closed*, behind the registrations of earlier entries: each reference in an entry is registered
+-- *Closed*, after the registrations of earlier entries: each reference in an entry is registered
 -- by an earlier entry or by the same one
 abbrev pub IsClosedBehind : List Registration → List Entry → Type 0
 IsClosedBehind earlier [] = Unit {0}

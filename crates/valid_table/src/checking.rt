@@ -35,7 +35,7 @@ pub(crate) fn check_entries(alloc: Global, entries: &[Entry]) -> Result<Table, T
 }
 
 // Adds the rows of an entry whose first line has the number `line`, and gives the number of the
-// line behind the entry. `Twice` and `NotClosed` have the entry's first line with one of these
+// line after the entry. `Twice` and `NotClosed` have the entry's first line with one of these
 // faults.
 fn check_entry(
     alloc: Global,

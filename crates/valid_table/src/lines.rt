@@ -17,7 +17,7 @@ use std::alloc::{AllocError, Global};
 /// The bytes with which the first line of each version begins.
 const JOURNAL: &[u8] = b"realiser-journal ";
 
-/// The bytes before the first one that equals `byte`, and those behind it.
+/// The bytes before the first one that equals `byte`, and those after it.
 pub(crate) fn cut(byte: u8, bytes: &[u8]) -> Option<(&[u8], &[u8])>
     ensures { MatchOption result (All (λ b. b ≢ byte) bytes.now)
         (λ x. All (λ b. b ≢ byte) x.0.now × (bytes.now ≡ x.0.now ++ byte ∷ x.1.now)) }
@@ -26,7 +26,7 @@ pub(crate) fn cut(byte: u8, bytes: &[u8]) -> Option<(&[u8], &[u8])>
     Some((&bytes[..at], &bytes[at + 1..]))
 }
 
-/// The bytes behind a letter and a space, where the bytes begin with them.
+/// The bytes after a letter and a space, where the bytes begin with them.
 pub(crate) fn behind_letter(letter: u8, bytes: &[u8]) -> Option<&[u8]>
     ensures { MatchOption result (IsNoLine letter bytes.now)
         (λ rest. bytes.now ≡ letter ∷ 32 ∷ rest.now) }
@@ -92,7 +92,7 @@ fn some_digest_of(version: Version, text: &[u8]) -> Option<Digest>
     }
 }
 
-/// The path and the newline at the head of the bytes, and what is behind them.
+/// The path and the newline at the head of the bytes, and what is after them.
 pub(crate) fn path_line<'a>(
     alloc: Global,
     dir: &StoreDir,
@@ -136,7 +136,7 @@ pub(crate) fn deriver_line<'a>(
 }
 
 /// The path, the space, the digest in a version and the newline at the head of the bytes, and what
-/// is behind them.
+/// is after them.
 pub(crate) fn fields_line<'a>(
     alloc: Global,
     dir: &StoreDir,

@@ -48,7 +48,7 @@ impl Order {
         }
     }
 
-    // Puts the late rows behind the others.
+    // Puts the late rows after the others.
     fn take_in(&mut self, rows: &IndexMap<StorePath, Record>)
         requires first { AreFirst (length rows.now.entries) (rows_behind self.old.keyed.items) }
         requires keys { AreKeyed (registrations_of rows.now.entries) self.old.keyed.items }
@@ -84,7 +84,7 @@ fn folder_part(path: &StorePath) -> &[u8]
     text.get(..base_start(path)).unwrap_or(text)
 }
 
-// Where the base name of a path begins, behind the folder and a slash.
+// Where the base name of a path begins, after the folder and a slash.
 fn base_start(path: &StorePath) -> usize
     ensures { result ≡ length path.now
         - (length (hash_part_of path.now) + 1 + length (name_of path.now)) }
@@ -94,7 +94,7 @@ fn base_start(path: &StorePath) -> usize
         .saturating_sub(path.hash_part().len() + 1 + path.name().len())
 }
 
-// The key of a path: the eight bytes behind the folder, as one number that compares as they do; 0
+// The key of a path: the eight bytes after the folder, as one number that compares as they do; 0
 // for a path of another folder.
 pub(crate) fn key_of(folder: &[u8], path: &StorePath) -> u64
     ensures { (result ≡ 0) ⊎ (IsKey folder.now path.now result) }

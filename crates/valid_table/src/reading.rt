@@ -93,7 +93,7 @@ fn is_above(before: Option<&StorePath>, path: &StorePath) -> bool
     }
 }
 
-// The references at the head of the bytes, and the bytes behind their lines.
+// The references at the head of the bytes, and the bytes after their lines.
 fn references_of<'a>(
     alloc: Global,
     dir: &StoreDir,
@@ -117,7 +117,7 @@ fn references_of<'a>(
     Ok((references, rest))
 }
 
-// The record with a digest and with the references at the head of the bytes, and the bytes behind
+// The record with a digest and with the references at the head of the bytes, and the bytes after
 // their lines.
 fn record_of<'a>(
     alloc: Global,
@@ -136,7 +136,7 @@ fn record_of<'a>(
 }
 
 // The path, greater than the one before it, and the digest at the head of the bytes, and the bytes
-// behind their line. None where no such line is there.
+// after their line. None where no such line is there.
 fn fields_above<'a>(
     alloc: Global,
     dir: &StoreDir,
@@ -160,7 +160,7 @@ fn fields_above<'a>(
     }
 }
 
-// The registration at the head of the bytes, by a line with this letter, and the bytes behind its
+// The registration at the head of the bytes, by a line with this letter, and the bytes after its
 // references. None where no such line begins there. The path has to be greater than the one before
 // it.
 fn registration_of<'a>(
@@ -199,7 +199,7 @@ fn last_path(registrations: &[Registration]) -> Option<&StorePath>
     }
 }
 
-// The outputs at the head of the bytes, and the bytes behind their lines.
+// The outputs at the head of the bytes, and the bytes after their lines.
 fn outputs_of<'a>(
     alloc: Global,
     dir: &StoreDir,
@@ -223,7 +223,7 @@ fn outputs_of<'a>(
     }
 }
 
-// The entry of a built derivation at the head of the bytes, and the bytes behind its lines. None
+// The entry of a built derivation at the head of the bytes, and the bytes after its lines. None
 // where no deriver's line begins there.
 fn done_of<'a>(
     alloc: Global,
@@ -249,7 +249,7 @@ fn done_of<'a>(
     Ok(Some((Entry::Done(deriver, Outputs::new(outputs)), rest)))
 }
 
-// The entry at the head of the bytes, and the bytes behind its lines.
+// The entry at the head of the bytes, and the bytes after its lines.
 fn entry_of<'a>(
     alloc: Global,
     dir: &StoreDir,

@@ -37,7 +37,7 @@ impl Version {
         }
     }
 
-    /// The bytes behind the version's line, where they begin with it.
+    /// The bytes after the version's line, where they begin with it.
     fn behind_line(self, bytes: &[u8]) -> Option<&[u8]>
         ensures { MatchOption result ((rest : List ℕ) → bytes.now ≢ version_line self ++ rest)
             (λ rest. bytes.now ≡ version_line self ++ rest.now) }
@@ -46,7 +46,7 @@ impl Version {
     }
 }
 
-/// The version with whose line the bytes begin, and the bytes behind that line.
+/// The version with whose line the bytes begin, and the bytes after that line.
 pub(crate) fn version_of(bytes: &[u8]) -> Option<(Version, &[u8])>
     ensures { MatchOption result (BeginsNoVersion bytes.now)
         (λ x. bytes.now ≡ version_line x.0 ++ x.1.now) }

@@ -10,7 +10,7 @@ use Rattle.valid_table.specs.declared.entry.Entry.{Entry}
 use Rattle.valid_view.specs.Feeding.{IsFeed, Takes, entries_of}
 use Rattle.valid_view.specs.Shown.{IsShowable, MayFollow}
 use Rattle.valid_view.specs.declared.refusal.Refusal.{Refusal}
-use Rattle.valid_view.specs.declared.shelf.Op.{Op}
+use Rattle.valid_view.specs.declared.shown_table.Op.{Op}
 use Rattle.valid_view.proofs.Showable.{showable_front, showable_push}
 
 -- what is shown and what waits is what is in the one list, and the queue

@@ -3,5 +3,5 @@ pub mod Feeds
 pub mod Prefixes
 pub mod Reached
 pub mod SharedClosures
-pub mod Shelves
+pub mod ShownTables
 pub mod Showable

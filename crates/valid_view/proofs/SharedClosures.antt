@@ -33,7 +33,7 @@ closure_before first more roots all closed once valid is = record {
   );
 }
 
--- what two lists register, one behind the other, repeats no path
+-- what two lists register, one after the other, repeats no path
 once_parts : (entries more : List Entry) → IsShowable (entries ++ more)
     → IsOnce (registered entries ++ registered more)
 once_parts entries more showable = search (rules, registered-append)

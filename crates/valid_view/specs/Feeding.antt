@@ -5,9 +5,9 @@ use Rattle.std.specs.Prelude.{◌≡◌, Bool, true, false, List, [], ◌∷◌,
 use Rattle.logbook.specs.Pages.{Book}
 use Rattle.valid_table.specs.Entries.{registered_by}
 use Rattle.valid_table.specs.declared.entry.Entry.{Entry}
-use Rattle.valid_view.specs.Shelves.{Shelved}
+use Rattle.valid_view.specs.ShownTables.{ShownState}
 use Rattle.valid_view.specs.Shown.{IsShowable}
-use Rattle.valid_view.specs.declared.shelf.Op.{Op}
+use Rattle.valid_view.specs.declared.shown_table.Op.{Op}
 
 -- The entries that are shown, and those that were handed over and not shown yet.
 pub record Lined : Type 0 where
@@ -30,7 +30,7 @@ abbrev pub known_of : Fed → List Entry
 known_of f = (f.shown ++ f.handed) ++ f.held
 
 -- what is shown, with the entry of one operation more
-abbrev pub with_op : Shelved → Op → Shelved
+abbrev pub with_op : ShownState → Op → ShownState
 with_op s op =
     record { registrations = s.registrations ++ registered_by op.entry; front = op.front }
 

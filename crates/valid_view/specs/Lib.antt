@@ -7,4 +7,4 @@ pub mod Shown
 -- What only private contracts and proofs cite.
 pub mod Feeding
 pub mod Refusals
-pub mod Shelves
+pub mod ShownTables

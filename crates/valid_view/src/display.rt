@@ -4,8 +4,8 @@ ghost use Rattle.std.specs.Prelude.{◌≡◌, []};
 use crate::front::Beginning;
 use crate::law::Law;
 use crate::name::Naming;
-use crate::rule::{Glimpse, Published};
-use crate::shelf::{Op, Shelf};
+use crate::rule::{Published, SeenEntries};
+use crate::shown_table::{Op, ShownTable};
 use left_right::reader::Reading;
 use left_right::writer::Writer;
 use logbook::Seen;
@@ -66,7 +66,7 @@ impl Displayed {
 
     // The list that a writer shows.
     pub(crate) fn of_writer<J: Naming>(
-        writer: &Writer<Shelf, Op, Glimpse, Published<J>>,
+        writer: &Writer<ShownTable, Op, SeenEntries, Published<J>>,
     ) -> Displayed
         ensures { result ≡ writer.now.desk.shown.value.front }
     {
@@ -77,7 +77,7 @@ impl Displayed {
 
     // The list that a writer showed last. Ends the writer. May wait for readers.
     pub(crate) fn at_end<J: Naming, R: Wait>(
-        writer: Writer<Shelf, Op, Glimpse, Published<J>>,
+        writer: Writer<ShownTable, Op, SeenEntries, Published<J>>,
         rt: &R,
     ) -> Displayed
         ensures { result ≡ writer.desk.shown.value.front }
@@ -89,7 +89,7 @@ impl Displayed {
 
     // The list that a reader reads.
     pub(crate) fn of_reading<J: Naming>(
-        reading: &Reading<Shelf, Glimpse, Published<J>>,
+        reading: &Reading<ShownTable, SeenEntries, Published<J>>,
     ) -> Displayed
         ensures { result ≡ reading.now.part.value.front }
     {

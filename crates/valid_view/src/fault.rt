@@ -2,7 +2,7 @@
 ghost use Rattle.std.specs.Prelude.{◌≡◌};
 ghost use Rattle.valid_view.specs.Faults.{number_of};
 
-use crate::sight::Unreached;
+use crate::reading::Unreached;
 use nix_names::StorePath;
 use thiserror::Error;
 

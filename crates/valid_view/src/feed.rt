@@ -10,7 +10,7 @@ use crate::front::{Front, Head, Known};
 use crate::line::{Line, Returned};
 use crate::name::Naming;
 use crate::refusal::Refusal;
-use crate::shelf::Op;
+use crate::shown_table::Op;
 use core::mem::replace_with;
 use std::alloc::AllocError;
 use std::collections::VecDeque;
@@ -78,7 +78,7 @@ impl<J: Naming> Feed<J> {
         self.line.front()
     }
 
-    // Puts an entry behind those that wait.
+    // Puts an entry after those that wait.
     pub(crate) fn append(&mut self, entry: Entry) -> Result<(), OutletFault>
         requires new { IsNew (self.old.shown ++ pending_of self.old) entry }
         requires closed { All (IsValidWith (self.old.shown ++ pending_of self.old) entry)

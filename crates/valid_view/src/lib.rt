@@ -6,11 +6,11 @@
 //! | `law` | the rule of the one list |
 //! | `display` | that a list was shown |
 //! | `front` | lists that were shown, and beginnings of the one list |
-//! | `shelf`, `rule` | what is shown, and the rule for it |
+//! | `shown_table`, `rule` | what is shown, and the rule for it |
 //! | `line`, `feed` | the writer's end, under the rule, and the entries that wait before it |
 //! | `writer`, `opening` | the writer, and how a view is opened |
 //! | `tells` | outlets whose lists are beginnings of one list |
-//! | `sight` | what a reader saw, and what it sees while it reads |
+//! | `reading` | what a reader saw, and what it sees while it reads |
 //! | `reader`, `seen` | readers, and what they find |
 //! | `fault`, `refusal` | why a reader refused, and why the writer did |
 //! | `laws` | laws over the definitions that contracts cite |
@@ -26,11 +26,11 @@ mod line;
 mod name;
 mod opening;
 mod reader;
+mod reading;
 mod refusal;
 mod rule;
 mod seen;
-mod shelf;
-mod sight;
+mod shown_table;
 mod tells;
 mod writer;
 
@@ -40,8 +40,8 @@ pub use front::Front;
 pub use name::{Name, Naming};
 pub use opening::open;
 pub use reader::ViewReader;
+pub use reading::Unreached;
 pub use refusal::{OpenFault, Unopened};
 pub use seen::Seen;
-pub use sight::Unreached;
 pub use tells::Tells;
 pub use writer::ViewWriter;

@@ -1,13 +1,13 @@
 //! The writer's end of a view, under the rule.
 ghost use Rattle.std.specs.Prelude.{◌≡◌, ◌<◌, ◌≤◌, ◌++◌, ◌↔◌, [], ◌∷◌, MatchResult, IfOk, IsTrue, OnErr, OnOk};
-ghost use Rattle.valid_view.specs.Shelves.{IsShelf};
+ghost use Rattle.valid_view.specs.ShownTables.{IsShownTable};
 
 use crate::display::Displayed;
 use crate::front::Front;
 use crate::name::Naming;
-use crate::rule::{Glimpse, Published, Sees};
-use crate::shelf::{Op, Shelf};
-use crate::sight::Sight;
+use crate::reading::IdleReader;
+use crate::rule::{Published, SeenEntries, Sees};
+use crate::shown_table::{Op, ShownTable};
 use left_right::writer::Writer;
 use std::alloc::{AllocError, AllocFailed, Global};
 use std::marker::Model;
@@ -28,13 +28,13 @@ pub(crate) struct NoPlace(AllocError);
 // The writer. A contract sees the entries that are shown, and those that were handed over and not
 // shown yet.
 pub(crate) struct Line<J: Naming> {
-    writer: Writer<Shelf, Op, Glimpse, Published<J>>,
+    writer: Writer<ShownTable, Op, SeenEntries, Published<J>>,
 }
 
 impl<J: Naming> Model for Line<J> {
     ghost use Rattle.std.specs.Prelude.{drop};
     ghost use Rattle.valid_view.specs.Feeding.{Follows, Lined, entries_of};
-    ghost use Rattle.valid_view.specs.Shelves.{IsShelf};
+    ghost use Rattle.valid_view.specs.ShownTables.{IsShownTable};
 
     ghost Value = { Lined };
 
@@ -43,22 +43,22 @@ impl<J: Naming> Model for Line<J> {
       handed = entries_of (drop l.writer.behind l.writer.log.items);
     } };
 
-    ghost invariant = { λ l. IsShelf J.book l.writer.desk.shown.value
+    ghost invariant = { λ l. IsShownTable J.book l.writer.desk.shown.value
         × Follows J.book l.writer.desk.shown.value.front.entries
         (drop l.writer.behind l.writer.log.items) };
 }
 
 impl<J: Naming> Line<J> {
-    // The writer of two equal shelves, for `readers` readers. `AllocError` where memory is refused.
+    // The writer of two equal tables, for `readers` readers. `AllocError` where memory is refused.
     pub(crate) fn open(
         alloc: Global,
-        first: Shelf,
-        second: Shelf,
+        first: ShownTable,
+        second: ShownTable,
         readers: usize,
     ) -> Result<Line<J>, AllocError>
         requires readers { (0 < readers) × (readers ≤ 64) }
         requires alike { first ≡ second }
-        requires shelf { IsShelf J.book first }
+        requires table { IsShownTable J.book first }
         ensures shown { IfOk result (λ line. line.shown ≡ first.front.entries) }
         ensures handed { IfOk result (λ line. line.handed ≡ []) }
     {
@@ -67,12 +67,12 @@ impl<J: Naming> Line<J> {
     }
 
     // A new reader, which has seen the list without entries. `NoPlace` where each place is in use.
-    pub(crate) fn reader(&self, none: &Front<J>) -> Result<Sight<J>, NoPlace>
+    pub(crate) fn reader(&self, none: &Front<J>) -> Result<IdleReader<J>, NoPlace>
         requires { none.now ≡ [] }
-        ensures { IfOk result (λ sight. sight ≡ []) }
+        ensures { IfOk result (λ idle. idle ≡ []) }
     {
         match self.writer.factory().reader() {
-            Ok(reader) => Ok(Sight::over(reader, none.again())),
+            Ok(reader) => Ok(IdleReader::over(reader, none.again())),
             Err(error) => Err(NoPlace(error)),
         }
     }

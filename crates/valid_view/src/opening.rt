@@ -11,7 +11,7 @@ use crate::line::Line;
 use crate::name::{Name, Naming};
 use crate::reader::ViewReader;
 use crate::refusal::{OpenFault, Refusal};
-use crate::shelf::Shelf;
+use crate::shown_table::ShownTable;
 use crate::writer::ViewWriter;
 use std::alloc::Global;
 use std::collections::VecDeque;
@@ -70,8 +70,8 @@ fn opened<J: Naming, R: Wait>(
 {
     let (head, mut front, none) = name.open::<J>();
     fill(&mut front, &head, journal.entries())?;
-    let first = shelf(alloc, journal, &front)?;
-    let second = shelf(alloc, journal, &front)?;
+    let first = shown_table(alloc, journal, &front)?;
+    let second = shown_table(alloc, journal, &front)?;
     let line = Line::open(alloc, first, second, readers)?;
     match made_readers(alloc, &line, &none, readers) {
         Ok(readers) => {
@@ -98,19 +98,23 @@ fn fill<J: Naming>(front: &mut Known<J>, head: &Head<J>, entries: &[Entry]) -> R
 }
 
 // One of the two tables of a view.
-fn shelf<J: Naming>(alloc: Global, journal: &Journal, front: &Known<J>) -> Result<Shelf, Refusal>
+fn shown_table<J: Naming>(
+    alloc: Global,
+    journal: &Journal,
+    front: &Known<J>,
+) -> Result<ShownTable, Refusal>
     requires { front.now ≡ journal.now.entries }
     ensures table { IfOk result
-        (λ shelf. shelf.registrations ≡ registered journal.now.entries) }
-    ensures named { IfOk result (λ shelf. shelf.front.book ≡ J.book) }
-    ensures entries { IfOk result (λ shelf. shelf.front.entries ≡ journal.now.entries) }
+        (λ shown. shown.registrations ≡ registered journal.now.entries) }
+    ensures named { IfOk result (λ shown. shown.front.book ≡ J.book) }
+    ensures entries { IfOk result (λ shown. shown.front.entries ≡ journal.now.entries) }
 {
     let table = match Table::replay(alloc, journal) {
         Ok(table) => table,
         Err(TableFault::NoMemory) => return Err(Refusal::NoMemory),
         Err(_) => unreachable!(),
     };
-    Ok(Shelf {
+    Ok(ShownTable {
         table,
         front: front.bare(),
     })
@@ -133,11 +137,11 @@ fn made_readers<J: Naming>(
 {
     let mut readers = Vec::with_capacity(alloc, count)?;
     for _ in 0..count {
-        let sight = match line.reader(none) {
-            Ok(sight) => sight,
+        let idle = match line.reader(none) {
+            Ok(idle) => idle,
             Err(error) => return Err(Refusal::NoPlace(error)),
         };
-        readers.push_reserved(ViewReader::over(sight, line.front()));
+        readers.push_reserved(ViewReader::over(idle, line.front()));
     }
     Ok(readers)
 }

@@ -8,8 +8,8 @@ ghost use Rattle.valid_view.specs.Shown.{IsShowable};
 use crate::fault::ViewFault;
 use crate::front::Front;
 use crate::name::Naming;
+use crate::reading::IdleReader;
 use crate::seen::Seen;
-use crate::sight::Sight;
 use core::mem::replace_with;
 use nix_names::StorePath;
 use std::alloc::Global;
@@ -21,7 +21,7 @@ use valid_table::{Table, TableFault};
 /// told of. Each list that it sees later begins with both. A reader may go to another thread.
 #[derive(Drop)]
 pub struct ViewReader<J: Naming> {
-    sight: Sight<J>,
+    idle: IdleReader<J>,
     told: Front<J>,
 }
 
@@ -30,16 +30,16 @@ impl<J: Naming> Model for ViewReader<J> {
 
     ghost Value = { Knowing };
 
-    ghost view = { λ r. record { seen = r.sight; told = r.told } };
+    ghost view = { λ r. record { seen = r.idle; told = r.told } };
 }
 
 impl<J: Naming> ViewReader<J> {
     // A reader that was told of a list.
-    pub(crate) fn over(sight: Sight<J>, told: Front<J>) -> ViewReader<J>
-        ensures seen { result.seen ≡ sight }
+    pub(crate) fn over(idle: IdleReader<J>, told: Front<J>) -> ViewReader<J>
+        ensures seen { result.seen ≡ idle }
         ensures told { result.told ≡ told }
     {
-        ViewReader { sight, told }
+        ViewReader { idle, told }
     }
 
     /// The list that was shown when the reader last asked. That answer holds by this list. A proof
@@ -48,7 +48,7 @@ impl<J: Naming> ViewReader<J> {
         ensures is { result.now ≡ self.now.seen }
         ensures shown { J.Showing.shown J.book self.now.seen }
     {
-        let seen = self.sight.seen();
+        let seen = self.idle.seen();
         // Its contract says that the list was shown.
         let _ = seen.len();
         seen
@@ -80,7 +80,7 @@ impl<J: Naming> ViewReader<J> {
         ensures shown { J.Showing.shown J.book self.new.seen }
         ensures answer { IsLook (registered self.new.seen) path.now result }
     {
-        let answer = replace_with(&mut self.sight, (&self.told, path), look);
+        let answer = replace_with(&mut self.idle, (&self.told, path), look);
         // Its contract says that the list was shown.
         let _ = self.seen();
         answer
@@ -103,7 +103,7 @@ impl<J: Naming> ViewReader<J> {
         ensures shown { J.Showing.shown J.book self.new.seen }
         ensures answer { IsViewClosing (registered self.new.seen) roots.now result }
     {
-        let answer = replace_with(&mut self.sight, (&self.told, alloc, roots), closure);
+        let answer = replace_with(&mut self.idle, (&self.told, alloc, roots), closure);
         // Its contract says that the list was shown.
         let _ = self.seen();
         answer
@@ -112,41 +112,41 @@ impl<J: Naming> ViewReader<J> {
 
 // What a reader finds about a path.
 fn look<J: Naming>(
-    sight: Sight<J>,
+    idle: IdleReader<J>,
     asked: (&Front<J>, &StorePath),
-) -> (Sight<J>, Result<Seen, ViewFault>)
-    ensures later { IsPrefix sight result.0 }
+) -> (IdleReader<J>, Result<Seen, ViewFault>)
+    ensures later { IsPrefix idle result.0 }
     ensures known { WhereSeen result.1
         (IsPrefix asked.entry.0.now result.0 × IsShowable result.0) }
-    ensures gone { IfGone result.1 (IsUnreached sight asked.entry.0.now result.0) }
+    ensures gone { IfGone result.1 (IsUnreached idle asked.entry.0.now result.0) }
     ensures answer { IsLook (registered result.0) asked.entry.1.now result.1 }
 {
-    match sight.enter(asked.0) {
-        Ok(glance) => {
-            let answer = seen_in(glance.table(), asked.1);
-            (glance.leave(), Ok(answer))
+    match idle.enter(asked.0) {
+        Ok(busy) => {
+            let answer = seen_in(busy.table(), asked.1);
+            (busy.leave(), Ok(answer))
         }
-        Err((sight, why)) => (sight, Err(ViewFault::NoView(why))),
+        Err((idle, why)) => (idle, Err(ViewFault::NoView(why))),
     }
 }
 
 // What a reader finds about the closure of some roots.
 fn closure<J: Naming>(
-    sight: Sight<J>,
+    idle: IdleReader<J>,
     asked: (&Front<J>, Global, &[StorePath]),
-) -> (Sight<J>, Result<Vec<StorePath>, ViewFault>)
-    ensures later { IsPrefix sight result.0 }
+) -> (IdleReader<J>, Result<Vec<StorePath>, ViewFault>)
+    ensures later { IsPrefix idle result.0 }
     ensures known { WhereSeen result.1
         (IsPrefix asked.entry.0.now result.0 × IsShowable result.0) }
-    ensures gone { IfGone result.1 (IsUnreached sight asked.entry.0.now result.0) }
+    ensures gone { IfGone result.1 (IsUnreached idle asked.entry.0.now result.0) }
     ensures answer { IsViewClosing (registered result.0) asked.entry.2.now result.1 }
 {
-    match sight.enter(asked.0) {
-        Ok(glance) => {
-            let answer = closure_in(asked.1, glance.table(), asked.2);
-            (glance.leave(), answer)
+    match idle.enter(asked.0) {
+        Ok(busy) => {
+            let answer = closure_in(asked.1, busy.table(), asked.2);
+            (busy.leave(), answer)
         }
-        Err((sight, why)) => (sight, Err(ViewFault::NoView(why))),
+        Err((idle, why)) => (idle, Err(ViewFault::NoView(why))),
     }
 }
 

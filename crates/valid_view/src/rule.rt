@@ -1,21 +1,21 @@
 //! The rule of a view.
 use crate::name::Naming;
-use crate::shelf::Shelf;
+use crate::shown_table::ShownTable;
 use crossbeam_utils::rule::{Outcome, Protocol};
 use std::marker::PhantomData;
 use valid_table::Entry;
 
 // What a reader has seen, which in a clause is a list of entries. No value of this type is made.
-pub type Glimpse = [Entry; 0];
+pub type SeenEntries = [Entry; 0];
 
 // The rule of the view with this name.
 pub struct Published<J: Naming> {
     of: PhantomData<J>,
 }
 
-impl<J: Naming> Protocol<Shelf, Glimpse> for Published<J> {
+impl<J: Naming> Protocol<ShownTable, SeenEntries> for Published<J> {
     ghost use Rattle.std.specs.Prelude.{[]};
-    ghost use Rattle.valid_view.specs.Shelves.{Holds};
+    ghost use Rattle.valid_view.specs.ShownTables.{Holds};
 
     ghost holds = { Holds J.book };
 
@@ -27,8 +27,8 @@ pub struct Sees<J: Naming> {
     of: PhantomData<J>,
 }
 
-impl<J: Naming> Outcome<Shelf, Glimpse> for Sees<J> {
-    ghost use Rattle.valid_view.specs.Shelves.{SeesAll};
+impl<J: Naming> Outcome<ShownTable, SeenEntries> for Sees<J> {
+    ghost use Rattle.valid_view.specs.ShownTables.{SeesAll};
 
     ghost then = { SeesAll J.book };
 }

@@ -1,4 +1,4 @@
--- The spans so far lie one behind the other, and end at the sum of their sizes.
+-- The spans so far lie one after the other, and end at the sum of their sizes.
 use Rattle.std.proofs.Common.{◌≡◌, get_or, length, sum, take, vec_capacity}
 use Rattle.std.specs.Prelude.{All}
 use Rattle.run_states.specs.UserSpans.{HaveRoom}

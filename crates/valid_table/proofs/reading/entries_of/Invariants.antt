@@ -2,7 +2,7 @@ use Rattle.std.proofs.Common.{length}
 use Rattle.valid_table.specs.Readers.{SoFarEntries}
 use Rattle.valid_table.proofs.reading.entries_of.Given as goal
 
--- the entries so far, and what is behind their lines
+-- the entries so far, and what is after their lines
 abbrev pub invariant-entries : goal.invariant-entries
 invariant-entries l = SoFarEntries l.version l.fn.dir l.bytes l.entries.items l.rest
 

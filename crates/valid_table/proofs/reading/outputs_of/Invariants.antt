@@ -2,7 +2,7 @@ use Rattle.std.proofs.Common.{length}
 use Rattle.valid_table.specs.Readers.{SoFarOutputs}
 use Rattle.valid_table.proofs.reading.outputs_of.Given as goal
 
--- the outputs so far, and what is behind their lines
+-- the outputs so far, and what is after their lines
 abbrev pub invariant-outputs : goal.invariant-outputs
 invariant-outputs l = SoFarOutputs l.version l.fn.dir l.bytes l.outputs.items l.rest
 

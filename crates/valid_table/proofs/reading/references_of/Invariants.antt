@@ -2,7 +2,7 @@ use Rattle.std.proofs.Common.{length}
 use Rattle.valid_table.specs.Readers.{SoFarReferences}
 use Rattle.valid_table.proofs.reading.references_of.Given as goal
 
--- the references so far, and what is behind their lines
+-- the references so far, and what is after their lines
 abbrev pub invariant-references : goal.invariant-references
 invariant-references l = SoFarReferences l.fn.dir l.bytes l.references.items l.rest
 

@@ -1,4 +1,4 @@
--- Those of the rows so far that are late are added, each behind its key.
+-- Those of the rows so far that are late are added, each after its key.
 use Rattle.std.proofs.Common.{◌≡◌, ◌++◌, nat_lt, not, take}
 use Rattle.std.specs.List.{filter}
 use Rattle.valid_table.specs.FirstRows.{rows_behind}

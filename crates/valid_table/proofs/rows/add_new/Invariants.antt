@@ -1,4 +1,4 @@
--- Behind the rows that were there stand the first registrations, whose paths had none.
+-- After the rows that were there stand the first registrations, whose paths had none.
 use Rattle.std.proofs.Common.{◌≡◌, ◌++◌, take}
 use Rattle.valid_table.specs.Entering.{AreUnknown}
 use Rattle.valid_table.specs.Entries.{paths_registered}

@@ -1,4 +1,4 @@
--- The rows behind those that were there are the first registrations.
+-- The rows after those that were there are the first registrations.
 use Rattle.std.proofs.Common.{◌≡◌, ◌++◌, take}
 use Rattle.valid_table.specs.Tables.{registrations_of}
 use Rattle.valid_table.proofs.rows.add_rows.Given as goal

@@ -1,4 +1,4 @@
--- The rows, and the registrations that are left behind them, are all; there is room for those that
+-- The rows, and the registrations that are left after them, are all; there is room for those that
 -- are left.
 use Rattle.std.proofs.Common.{◌≡◌, ◌+◌, ◌++◌, ◌≤◌, length}
 use Rattle.std.specs.Vec.Iter.{into_iter_items, into_iter_len}

@@ -1,4 +1,4 @@
--- The rows so far are the first ones, each behind its key.
+-- The rows so far are the first ones, each after its key.
 use Rattle.std.proofs.Common.{◌≡◌, length}
 use Rattle.valid_table.specs.FirstRows.{AreFirst, rows_behind}
 use Rattle.valid_table.specs.Keys.{AreKeyed}

@@ -1,5 +1,5 @@
 use Rattle.std.proofs.Common.{ap, drop}
-use Rattle.valid_view.proofs.Shelves.{appended}
+use Rattle.valid_view.proofs.ShownTables.{appended}
 use Rattle.valid_view.proofs.line.Line.append.Goals as goal
 
 pub invariant_of-self : goal.invariant_of-self

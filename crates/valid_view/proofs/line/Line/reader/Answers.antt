@@ -1,4 +1,4 @@
-use Rattle.valid_view.proofs.Shelves.{admits}
+use Rattle.valid_view.proofs.ShownTables.{admits}
 use Rattle.valid_view.proofs.line.Line.reader.Goals as goal
 
 pub reader-requires : goal.reader-requires

@@ -1,5 +1,5 @@
 use Rattle.std.proofs.Common.{drop}
-use Rattle.valid_view.proofs.Shelves.{shown_lined, shown_ok, shows}
+use Rattle.valid_view.proofs.ShownTables.{shown_lined, shown_ok, shows}
 use Rattle.valid_view.proofs.line.Line.show.Goals as goal
 
 pub publish_as-writer-requires : goal.publish_as-writer-requires

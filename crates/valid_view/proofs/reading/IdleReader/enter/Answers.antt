@@ -1,7 +1,7 @@
 use Rattle.std.proofs.Common.{arith}
 use Rattle.valid_view.proofs.Prefixes.{prefix_shorter}
-use Rattle.valid_view.proofs.Shelves.{looks}
-use Rattle.valid_view.proofs.sight.Sight.enter.Goals as goal
+use Rattle.valid_view.proofs.ShownTables.{looks}
+use Rattle.valid_view.proofs.reading.IdleReader.enter.Goals as goal
 
 pub enter_as-requires : goal.enter_as-requires
 enter_as-requires g c x = looks g.J.Naming.book _ _ x

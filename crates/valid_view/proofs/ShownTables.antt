@@ -11,8 +11,8 @@ use Rattle.valid_table.proofs.AddedEntries.{registered_push}
 use Rattle.valid_table.specs.Entries.{registered, registered_by}
 use Rattle.valid_table.specs.declared.entry.Entry.{Entry}
 use Rattle.valid_view.specs.Feeding.{Follows, entries_of, with_op}
-use Rattle.valid_view.specs.Shelves.{Holds, IsShelf, SeesAll, Shelved}
-use Rattle.valid_view.specs.declared.shelf.Op.{Op}
+use Rattle.valid_view.specs.ShownTables.{Holds, IsShownTable, SeesAll, ShownState}
+use Rattle.valid_view.specs.declared.shown_table.Op.{Op}
 use Rattle.valid_view.proofs.Prefixes.{prefix_self, prefix_trans}
 
 -- who has seen nothing may come at any time
@@ -24,18 +24,18 @@ admits book x views holds = (
       (at_snoc views [] seen seat at),
 )
 
--- a shelf alone keeps the rule, where nothing was seen
-pub alone : (book : Book) (x : Shelved) → IsShelf book x → Holds book x ([] ∷ [])
-alone book x shelf = admits book x [] (shelf, λ seat seen at. absurd (cc at))
+-- a shown table alone keeps the rule, where nothing was seen
+pub alone : (book : Book) (x : ShownState) → IsShownTable book x → Holds book x ([] ∷ [])
+alone book x shown = admits book x [] (shown, λ seat seen at. absurd (cc at))
 
 -- a step that goes on to a longer list keeps the rule
-pub grows : (book : Book) (seat : ℕ) (had : List Entry) (x y : Shelved) → IsShelf book y
+pub grows : (book : Book) (seat : ℕ) (had : List Entry) (x y : ShownState) → IsShownTable book y
     → IsPrefix x.front.entries y.front.entries
     → TurnsAt (Holds book) seat had x y (SeesAll book)
-grows book seat had x y shelf up views holds at = (
+grows book seat had x y shown up views holds at = (
   y.front.entries,
   (
-    shelf,
+    shown,
     λ j seen e. ⊎_elim
         (λ (t : (j ≡ seat) × (y.front.entries ≡ seen)). subst
         (λ (l : List Entry). IsPrefix l y.front.entries) t.1 (prefix_self y.front.entries))
@@ -47,24 +47,24 @@ grows book seat had x y shelf up views holds at = (
 )
 
 -- and so does a step that changes nothing
-pub looks : (book : Book) (seat : ℕ) (had : List Entry) (x : Shelved)
+pub looks : (book : Book) (seat : ℕ) (had : List Entry) (x : ShownState)
     → TurnsAt (Holds book) seat had x x (SeesAll book)
 looks book seat had x views holds at =
     grows book seat had x x holds.0 (prefix_self x.front.entries) views holds at
 
--- a shelf with what was handed over is one
-pub shelf_all : (book : Book) (s : Shelved) (ops : List Op) → IsShelf book s
-    → Follows book s.front.entries ops → IsShelf book (fold with_op s ops)
-shelf_all book s [] shelf follows = shelf
-shelf_all book s (op ∷ ops) shelf follows =
+-- a shown table with what was handed over is one
+pub shown_all : (book : Book) (s : ShownState) (ops : List Op) → IsShownTable book s
+    → Follows book s.front.entries ops → IsShownTable book (fold with_op s ops)
+shown_all book s [] shown follows = shown
+shown_all book s (op ∷ ops) shown follows =
     let table : s.registrations ++ registered_by op.entry ≡ registered op.front.entries =
-    ap (λ l. l ++ registered_by op.entry) shelf.table
+    ap (λ l. l ++ registered_by op.entry) shown.table
     ∙ (sym (registered_push s.front.entries op.entry) ∙ ap registered (sym follows.1)) in
-    shelf_all book (with_op s op) ops (record { named = follows.0; table = table })
+    shown_all book (with_op s op) ops (record { named = follows.0; table = table })
     (subst (λ (l : List Entry). Follows book l ops) (sym follows.1) follows.2)
 
 -- and its entries are those that it had, and then those
-pub entries_all : (book : Book) (s : Shelved) (ops : List Op) → Follows book s.front.entries ops
+pub entries_all : (book : Book) (s : ShownState) (ops : List Op) → Follows book s.front.entries ops
     → (fold with_op s ops).front.entries ≡ s.front.entries ++ entries_of ops
 entries_all book s [] follows = sym (append-nil s.front.entries)
 entries_all book s (op ∷ ops) follows =
@@ -88,18 +88,18 @@ follows_push book entries (first ∷ ops) op follows named next = (
 )
 
 -- what is shown once all was handed over, and how the step there keeps the rule
-pub shows : (book : Book) (seat : ℕ) (had : List Entry) (s next : Shelved) (ops : List Op)
-    → IsShelf book s → Follows book s.front.entries ops → next ≡ fold with_op s ops
+pub shows : (book : Book) (seat : ℕ) (had : List Entry) (s next : ShownState) (ops : List Op)
+    → IsShownTable book s → Follows book s.front.entries ops → next ≡ fold with_op s ops
     → TurnsAt (Holds book) seat had s next (SeesAll book)
-shows book seat had s next ops shelf follows is = search (rules, grows, shelf_all, entries_all)
+shows book seat had s next ops shown follows is = search (rules, grows, shown_all, entries_all)
 
 -- what the writer's end keeps
-abbrev pub IsLined : Book → Shelved → List Op → Type 0
-IsLined book s ops = IsShelf book s × Follows book s.front.entries ops
+abbrev pub IsLined : Book → ShownState → List Op → Type 0
+IsLined book s ops = IsShownTable book s × Follows book s.front.entries ops
 
 -- it is kept where an entry was to be handed over
 pub appended :
-    {A : Type 0} (book : Book) (s s' : Shelved) (ops ops' : List Op) (op : Op)
+    {A : Type 0} (book : Book) (s s' : ShownState) (ops ops' : List Op) (op : Op)
     (result : Result A Op) →
     s' ≡ s →
     MatchResult result (λ _. ops' ≡ ops ++ op ∷ []) (λ x. (x ≡ op) × (ops' ≡ ops)) →
@@ -111,23 +111,23 @@ appended book s s' ops ops' op (Ok a) same is lined named next = search (rules, 
 appended book s s' ops ops' op (Err x) same is lined named next = rw (same, is.1) lined
 
 -- what is told once the writer was to show all that was handed over
-abbrev pub Told : {A B : Type 0} → (s s' : Shelved) → (ops ops' : List Op) → Result A B → Type 0
+abbrev pub Told : {A B : Type 0} → (s s' : ShownState) → (ops ops' : List Op) → Result A B → Type 0
 Told s s' ops ops' result =
     MatchResult result (λ _. (s' ≡ fold with_op s ops) × (ops' ≡ []))
     (λ _. (s' ≡ s) × (ops' ≡ ops))
 
 -- it is kept then
 pub shown_lined :
-    {A B : Type 0} (book : Book) (s s' : Shelved) (ops ops' : List Op) (result : Result A B) →
+    {A B : Type 0} (book : Book) (s s' : ShownState) (ops ops' : List Op) (result : Result A B) →
     Told s s' ops ops' result →
     IsLined book s ops →
     IsLined book s' ops'
-shown_lined book s s' ops ops' (Ok a) is lined = search (rules, shelf_all)
+shown_lined book s s' ops ops' (Ok a) is lined = search (rules, shown_all)
 shown_lined book s s' ops ops' (Err b) is lined = rw (is.0, is.1) lined
 
 -- and where it did, all is shown
 pub shown_ok :
-    {A B : Type 0} (book : Book) (s s' : Shelved) (ops ops' : List Op) (result : Result A B) →
+    {A B : Type 0} (book : Book) (s s' : ShownState) (ops ops' : List Op) (result : Result A B) →
     Told s s' ops ops' result →
     IsLined book s ops →
     OnOk result

@@ -14,29 +14,29 @@ pub(crate) struct Op {
 
 // A table, and the beginning of the list whose entries it registers.
 #[derive(Drop)]
-pub(crate) struct Shelf {
+pub(crate) struct ShownTable {
     pub table: Table,
     pub front: Beginning,
 }
 
-impl Model for Shelf {
-    ghost use Rattle.valid_view.specs.Shelves.{Shelved};
+impl Model for ShownTable {
+    ghost use Rattle.valid_view.specs.ShownTables.{ShownState};
 
-    ghost Value = { Shelved };
+    ghost Value = { ShownState };
 
     ghost view = { λ s. record { registrations = s.table.registrations; front = s.front } };
 }
 
-impl Absorb<Op> for Shelf {
+impl Absorb<Op> for ShownTable {
     ghost use Rattle.valid_view.specs.Feeding.{with_op};
 
-    type State = Shelf;
+    type State = ShownTable;
 
     ghost state = { λ s. s };
 
     ghost applied = { with_op };
 
-    fn absorb_first(&mut self, operation: &Op, _other: &Shelf) -> Result<(), AllocError> {
+    fn absorb_first(&mut self, operation: &Op, _other: &ShownTable) -> Result<(), AllocError> {
         match self.table.register(&operation.entry) {
             Ok(()) => {
                 self.front = operation.front.again();

@@ -11,12 +11,12 @@ use Rattle.valid_table.specs.declared.entry.Registration.{Registration}
 use Rattle.valid_view.specs.Beginnings.{Begun}
 
 -- What a view shows: what was registered, and the entries by which it was.
-pub record Shelved : Type 0 where
+pub record ShownState : Type 0 where
   pub registrations : List Registration
   pub front : Begun
 
 -- What is shown is what a beginning of the list with this name registers.
-pub record IsShelf (book : Book) (x : Shelved) : Type 0 where
+pub record IsShownTable (book : Book) (x : ShownState) : Type 0 where
   pub named : x.front.book ≡ book
   pub table : x.registrations ≡ registered x.front.entries
 
@@ -26,11 +26,11 @@ Keeps entries views =
     (seat : ℕ) (seen : List Entry) → get_elem? views seat ≡ some seen → IsPrefix seen entries
 
 -- the rule for what is shown, and for the lists that the readers and the writer have seen
-abbrev pub Holds : Book → Shelved → List (List Entry) → Type 0
-Holds book x views = IsShelf book x × Keeps x.front.entries views
+abbrev pub Holds : Book → ShownState → List (List Entry) → Type 0
+Holds book x views = IsShownTable book x × Keeps x.front.entries views
 
 -- What a step tells, whether a reader enters or the writer publishes: the list that is shown
 -- afterwards is seen, and the list that was seen before begins the one that was shown before.
-abbrev pub SeesAll : Book → List Entry → (before after : Shelved) → List Entry → Type 0
+abbrev pub SeesAll : Book → List Entry → (before after : ShownState) → List Entry → Type 0
 SeesAll book had before after has =
-    IsShelf book before × IsPrefix had before.front.entries × (has ≡ after.front.entries)
+    IsShownTable book before × IsPrefix had before.front.entries × (has ≡ after.front.entries)

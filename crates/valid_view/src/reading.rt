@@ -9,8 +9,8 @@ ghost use Rattle.valid_view.specs.Shown.{IsShowable};
 use crate::display::Displayed;
 use crate::front::Front;
 use crate::name::Naming;
-use crate::rule::{Glimpse, Published, Sees};
-use crate::shelf::Shelf;
+use crate::rule::{Published, SeenEntries, Sees};
+use crate::shown_table::ShownTable;
 use left_right::reader::{Reader, Reading};
 use std::marker::Model;
 use valid_table::Table;
@@ -21,12 +21,12 @@ pub struct Unreached(());
 
 // A reader that reads nothing now. A contract sees the list that was shown to it last.
 #[derive(Drop)]
-pub(crate) struct Sight<J: Naming> {
-    reader: Reader<Shelf, Glimpse, Published<J>>,
+pub(crate) struct IdleReader<J: Naming> {
+    reader: Reader<ShownTable, SeenEntries, Published<J>>,
     seen: Front<J>,
 }
 
-impl<J: Naming> Model for Sight<J> {
+impl<J: Naming> Model for IdleReader<J> {
     ghost use Rattle.std.specs.Prelude.{◌≡◌, List};
     ghost use Rattle.left_right.specs.Sides.{view as seat_view};
     ghost use Rattle.valid_table.specs.declared.entry.Entry.{Entry};
@@ -39,12 +39,12 @@ impl<J: Naming> Model for Sight<J> {
 }
 
 // A reader that reads. A contract sees the list that is shown to it.
-pub(crate) struct Glance<J: Naming> {
-    reading: Reading<Shelf, Glimpse, Published<J>>,
+pub(crate) struct BusyReader<J: Naming> {
+    reading: Reading<ShownTable, SeenEntries, Published<J>>,
     shown: Front<J>,
 }
 
-impl<J: Naming> Model for Glance<J> {
+impl<J: Naming> Model for BusyReader<J> {
     ghost use Rattle.std.specs.Prelude.{◌≡◌, List};
     ghost use Rattle.left_right.specs.Sides.{view as seat_view};
     ghost use Rattle.valid_table.specs.Entries.{registered};
@@ -58,13 +58,16 @@ impl<J: Naming> Model for Glance<J> {
         × (g.reading.part.value.registrations ≡ registered g.shown) };
 }
 
-impl<J: Naming> Sight<J> {
+impl<J: Naming> IdleReader<J> {
     // A reader that saw a list.
-    pub(crate) fn over(reader: Reader<Shelf, Glimpse, Published<J>>, seen: Front<J>) -> Sight<J>
+    pub(crate) fn over(
+        reader: Reader<ShownTable, SeenEntries, Published<J>>,
+        seen: Front<J>,
+    ) -> IdleReader<J>
         requires { seat_view reader.place ≡ seen }
         ensures { result ≡ seen }
     {
-        Sight { reader, seen }
+        IdleReader { reader, seen }
     }
 
     // The list that it saw.
@@ -76,29 +79,29 @@ impl<J: Naming> Sight<J> {
 
     // Begins to read the list that is shown. The reader comes back where the writer is gone, or
     // where the list does not begin with the one that it was told of, which never happens.
-    pub(crate) fn enter(self, told: &Front<J>) -> Result<Glance<J>, (Sight<J>, Unreached)>
+    pub(crate) fn enter(self, told: &Front<J>) -> Result<BusyReader<J>, (IdleReader<J>, Unreached)>
         ensures later { MatchResult result (IsPrefix self) (λ back. IsPrefix self back.0) }
         ensures told { IfOk result (IsPrefix told.now) }
         ensures showable { IfOk result IsShowable }
         ensures gone { IfErr result (λ back. IsUnreached self told.now back.0) }
     {
-        let Sight { reader, seen } = self;
+        let IdleReader { reader, seen } = self;
         let reading = match reader.enter_as::<Sees<J>>() {
             Ok(reading) => reading,
-            Err(reader) => return Err((Sight { reader, seen }, Unreached(()))),
+            Err(reader) => return Err((IdleReader { reader, seen }, Unreached(()))),
         };
         let shown = Front::<J>::over(Displayed::of_reading(&reading));
-        let glance = Glance { reading, shown };
-        if glance.shown.len() < told.len() {
-            return Err((glance.leave(), Unreached(())));
+        let busy = BusyReader { reading, shown };
+        if busy.shown.len() < told.len() {
+            return Err((busy.leave(), Unreached(())));
         }
         // Its contract says that the shorter begins the longer.
-        let _longer = glance.shown.longer(told);
-        Ok(glance)
+        let _longer = busy.shown.longer(told);
+        Ok(busy)
     }
 }
 
-impl<J: Naming> Glance<J> {
+impl<J: Naming> BusyReader<J> {
     // The table that is shown.
     pub(crate) fn table(&self) -> &Table
         ensures { result.now.registrations ≡ registered self.now }
@@ -107,11 +110,11 @@ impl<J: Naming> Glance<J> {
     }
 
     // Ends reading.
-    pub(crate) fn leave(self) -> Sight<J>
+    pub(crate) fn leave(self) -> IdleReader<J>
         ensures { result ≡ self }
     {
-        let Glance { reading, shown } = self;
-        Sight {
+        let BusyReader { reading, shown } = self;
+        IdleReader {
             reader: reading.leave(),
             seen: shown,
         }
