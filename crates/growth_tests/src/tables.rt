@@ -78,10 +78,21 @@ fn written<R: Print>(rt: &R, alloc: Global, journal: &Journal) -> Result<Vec<u8>
     Ok(granted(first, journal.write(alloc))?)
 }
 
+// The lines of a journal's entries.
+fn lines_written<R: Print>(rt: &R, alloc: Global, journal: &Journal) -> Result<Vec<u8>, Fail> {
+    begins(rt, "write_lines");
+    let first = write_lines(alloc, journal.entries());
+    ends(rt, "write_lines");
+    Ok(granted(first, write_lines(alloc, journal.entries()))?)
+}
+
 #[test]
 fn texts_of_journals(rt: HostRuntime) -> Result<(), Fail> {
-    let text = written(&rt, rt.alloc(), &known(&rt, rt.alloc())?)?;
+    let known = known(&rt, rt.alloc())?;
+    let text = written(&rt, rt.alloc(), &known)?;
     assert!(rt; is_text(&rt, &text, JOURNAL));
+    let lines = lines_written(&rt, rt.alloc(), &known)?;
+    assert!(rt; is_text(&rt, &lines, &text[b"realiser-journal 2\n".len()..]));
     Ok(())
 }
 

@@ -2,7 +2,7 @@
 use crate::paths::read;
 use std::alloc::{AllocError, Global};
 use std::test::Fail;
-use valid_table::{Journal, TableFault};
+use valid_table::{Journal, TableFault, write_lines};
 
 /// The first line of version 1.
 pub(crate) const V1: &[u8] = b"realiser-journal 1\n";
@@ -37,7 +37,7 @@ fn in_version_1(alloc: Global, text: &[u8]) -> Result<Vec<u8>, AllocError> {
 }
 
 // The text after the first line, in either version; a text without such a line is left as it is.
-fn behind_version(text: &[u8]) -> &[u8] {
+fn after_version(text: &[u8]) -> &[u8] {
     if let Some(lines) = text.strip_prefix(V1) {
         return lines;
     }
@@ -47,13 +47,24 @@ fn behind_version(text: &[u8]) -> &[u8] {
     }
 }
 
-// Whether a journal that was read from a text is written in version 2 with the same lines. The text
-// is of version 2 or has no digests.
+// The lines of a journal's entries, written in two parts.
+fn lines_in_parts(alloc: Global, journal: &Journal) -> Result<Vec<u8>, TableFault> {
+    let (first, more) = journal.entries().split_at(journal.entries().len() / 2);
+    let mut lines = write_lines(alloc, first)?;
+    lines.extend_from_slice(&write_lines(alloc, more)?)?;
+    Ok(lines)
+}
+
+// Whether a journal that was read from a text is written in version 2 with the same lines, at once
+// and in two parts. The text is of version 2 or has no digests.
 fn is_kept(alloc: Global, journal: &Journal, text: &[u8]) -> bool {
-    match journal.write(alloc) {
-        Ok(written) => {
-            written.starts_with(V2) && behind_version(&written) == behind_version(text)
-        }
+    let lines = after_version(text);
+    let at_once = match journal.write(alloc) {
+        Ok(written) => written.starts_with(V2) && after_version(&written) == lines,
+        Err(_) => false,
+    };
+    match lines_in_parts(alloc, journal) {
+        Ok(parts) => at_once && parts.as_slice() == lines,
         Err(_) => false,
     }
 }
