@@ -5,7 +5,10 @@ _nix_realise_options() {
         check | add-drv) echo "--store-dir --help" ;;
         add-text) echo "--store-dir --journal --wait --help" ;;
         plan) echo "--store-dir --journal --system --dot --help" ;;
-        realise) echo "--store-dir --journal --system --jobs --wait --in-nix-store --help" ;;
+        realise)
+            echo "--store-dir --journal --system --jobs --wait --in-nix-store --logs --keep-failed" \
+                "--runner --trace --help"
+            ;;
         help) ;;
         *) echo "--help --version" ;;
     esac
@@ -17,7 +20,7 @@ _nix_realise_words() {
     for ((place = 1; place < COMP_CWORD; place++)); do
         if [[ $skip ]]; then
             skip=
-        elif [[ ${COMP_WORDS[place]} =~ ^--(store-dir|journal|system|jobs)$ ]]; then
+        elif [[ ${COMP_WORDS[place]} =~ ^--(store-dir|journal|system|jobs|logs|runner|trace)$ ]]; then
             skip=yes
         elif [[ ${COMP_WORDS[place]} != -* ]]; then
             echo "${COMP_WORDS[place]}"
@@ -55,8 +58,8 @@ _nix_realise() {
     local begun=${COMP_WORDS[COMP_CWORD]}
     COMPREPLY=()
     case ${COMP_WORDS[COMP_CWORD - 1]} in
-        --store-dir) _nix_realise_files "$begun" "" ;;
-        --journal) _nix_realise_files "$begun" "*" ;;
+        --store-dir | --logs) _nix_realise_files "$begun" "" ;;
+        --journal | --runner | --trace) _nix_realise_files "$begun" "*" ;;
         --system) mapfile -t COMPREPLY < <(compgen -W "x86_64-linux" -- "$begun") ;;
         --jobs) mapfile -t COMPREPLY < <(compgen -W "{1..64}" -- "$begun") ;;
         *) _nix_realise_word "$begun" ;;

@@ -51,6 +51,22 @@ wait_flag = flag (codes "wait")
 abbrev pub in_nix_store_flag : Rule
 in_nix_store_flag = flag (codes "in-nix-store")
 
+-- the option with the folder of logs
+abbrev pub logs_option : Rule
+logs_option = option (codes "logs")
+
+-- the flag that asks to keep the build folders of builders that failed
+abbrev pub keep_failed_flag : Rule
+keep_failed_flag = flag (codes "keep-failed")
+
+-- the option with the program that starts builders
+abbrev pub runner_option : Rule
+runner_option = option (codes "runner")
+
+-- the option with the file of trace events
+abbrev pub trace_option : Rule
+trace_option = option (codes "trace")
+
 -- one or more words DRV
 abbrev pub drv_words : Rule
 drv_words = record (required_word (codes "DRV")) { action = Some Append }
@@ -84,13 +100,20 @@ run_options name =
 abbrev pub plan_line : App
 plan_line = with_rule (with_rule (run_options (codes "plan")) dot_flag) drv_words
 
+-- a subcommand with the options on how builders are started, and on what is kept of their runs
+abbrev pub with_builder_options : App → App
+with_builder_options line =
+    with_rule
+    (with_rule (with_rule (with_rule line logs_option) keep_failed_flag) runner_option) trace_option
+
 -- the subcommand `realise`
 abbrev pub realise_line : App
 realise_line =
     with_rule
+    (with_builder_options
     (with_rule
-    (with_rule (with_rule (run_options (codes "realise")) jobs_option) wait_flag) in_nix_store_flag)
-    drv_words
+    (with_rule (with_rule (run_options (codes "realise")) jobs_option) wait_flag)
+    in_nix_store_flag)) drv_words
 
 -- the program, which has a version and wants a subcommand
 abbrev pub top_line : App

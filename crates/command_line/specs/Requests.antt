@@ -98,6 +98,10 @@ pub record IsRealise (rows : List Row) (request : RealiseRequest) : Type 0 where
   pub jobs : AreJobs (jobs_in rows) request.jobs
   pub wait : request.wait ≡ is_flagged (codes "wait") rows
   pub in_nix_store : request.in_nix_store ≡ is_flagged (codes "in-nix-store") rows
+  pub logs : option_map (λ f. f.now) request.logs ≡ first_of (codes "logs") rows
+  pub keep_failed : request.keep_failed ≡ is_flagged (codes "keep-failed") rows
+  pub runner : option_map (λ p. p.now) request.runner ≡ first_of (codes "runner") rows
+  pub trace : option_map (λ f. f.now) request.trace ≡ first_of (codes "trace") rows
 
 -- what is asked by a subcommand with this name and these words and options
 abbrev pub IsAskedBy : (name : Name) → List Row → Request → Type 0

@@ -3,7 +3,9 @@ ghost use Rattle.std.specs.Prelude.{◌≡◌, IfOk, false};
 ghost use Rattle.clap.specs.Words.{app_of, new_app, rule_of, with_subcommand};
 ghost use Rattle.command_line.specs.CommandLine.{add_drv_line, add_text_line, check_line};
 ghost use Rattle.command_line.specs.CommandLine.{command_line, dot_flag, drv_words};
-ghost use Rattle.command_line.specs.CommandLine.{in_nix_store_flag, jobs_option, wait_flag};
+ghost use Rattle.command_line.specs.CommandLine.{in_nix_store_flag, jobs_option, keep_failed_flag};
+ghost use Rattle.command_line.specs.CommandLine.{logs_option, runner_option, trace_option, wait_flag};
+ghost use Rattle.command_line.specs.CommandLine.{with_builder_options};
 ghost use Rattle.command_line.specs.CommandLine.{journal_option, plan_line, realise_line, run_options};
 ghost use Rattle.command_line.specs.CommandLine.{store_dir_option};
 ghost use Rattle.command_line.specs.CommandLine.{system_option, top_line};
@@ -28,6 +30,14 @@ pub const DOT: &str = "dot";
 pub const WAIT: &str = "wait";
 
 pub const IN_NIX_STORE: &str = "in-nix-store";
+
+pub const LOGS: &str = "logs";
+
+pub const KEEP_FAILED: &str = "keep-failed";
+
+pub const RUNNER: &str = "runner";
+
+pub const TRACE: &str = "trace";
 
 pub const DRVS: &str = "DRV";
 
@@ -153,15 +163,26 @@ fn plan_command<'a>(alloc: Global) -> Result<Command<'a>, AllocError>
 fn realise_command<'a>(alloc: Global) -> Result<Command<'a>, AllocError>
     ensures { IfOk result (λ command. app_of command ≡ realise_line) }
 {
-    run_command(
+    let command = run_command(
         alloc,
         REALISE,
         "Builds what is wanted of derivations, and tells what became of it",
     )?
     .arg(jobs(alloc))?
     .arg(wait(alloc))?
-    .arg(in_nix_store(alloc))?
-    .arg(wanted_drvs(alloc))
+    .arg(in_nix_store(alloc))?;
+    with_builder_options(alloc, command)?.arg(wanted_drvs(alloc))
+}
+
+// A command with the options on how builders are started, and on what is kept of their runs.
+fn with_builder_options<'a>(alloc: Global, command: Command<'a>) -> Result<Command<'a>, AllocError>
+    ensures { IfOk result (λ more. app_of more ≡ with_builder_options (app_of command.entry)) }
+{
+    command
+        .arg(logs(alloc))?
+        .arg(keep_failed(alloc))?
+        .arg(runner(alloc))?
+        .arg(trace(alloc))
 }
 
 // A subcommand that takes a plan and a journal, with the options that both have.
@@ -259,6 +280,48 @@ fn in_nix_store<'a>(alloc: Global) -> Arg<'a>
         .long(IN_NIX_STORE)
         .help("Go on in a store that Nix manages, and replace what Nix made")
         .action(ArgAction::SetTrue)
+}
+
+// The option that names the folder of logs.
+fn logs<'a>(alloc: Global) -> Arg<'a>
+    ensures rule { rule_of result ≡ logs_option }
+    ensures local { result.global ≡ false }
+{
+    Arg::new(alloc, LOGS).long(LOGS).value_name("FOLDER").help(
+        "Write what each builder prints to a log of its own in this folder",
+    )
+}
+
+// The flag that asks to keep the build folders of builders that failed.
+fn keep_failed<'a>(alloc: Global) -> Arg<'a>
+    ensures rule { rule_of result ≡ keep_failed_flag }
+    ensures local { result.global ≡ false }
+{
+    Arg::new(alloc, KEEP_FAILED)
+        .long(KEEP_FAILED)
+        .help("Keep the build folders of builders that failed")
+        .action(ArgAction::SetTrue)
+}
+
+// The option that names the program that starts builders.
+fn runner<'a>(alloc: Global) -> Arg<'a>
+    ensures rule { rule_of result ≡ runner_option }
+    ensures local { result.global ≡ false }
+{
+    Arg::new(alloc, RUNNER)
+        .long(RUNNER)
+        .value_name("PROGRAM")
+        .help("Start each builder by this program, an absolute path")
+}
+
+// The option that names the file of trace events.
+fn trace<'a>(alloc: Global) -> Arg<'a>
+    ensures rule { rule_of result ≡ trace_option }
+    ensures local { result.global ≡ false }
+{
+    Arg::new(alloc, TRACE).long(TRACE).value_name("FILE").help(
+        "Write to this file when each builder ran, as trace events",
+    )
 }
 
 // One or more words, each the path of a derivation.

@@ -83,4 +83,12 @@ pub struct RealiseRequest<'a> {
     pub wait: bool,
     /// Whether it goes on in a store folder that Nix manages.
     pub in_nix_store: bool,
+    /// The folder that gets a log of each builder, where one was given.
+    pub logs: Option<&'a str>,
+    /// Whether the build folders of builders that failed are kept.
+    pub keep_failed: bool,
+    /// The program that starts the builders, where one was given.
+    pub runner: Option<&'a str>,
+    /// The file that gets the trace events of the run, where one was given.
+    pub trace: Option<&'a str>,
 }

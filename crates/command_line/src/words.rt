@@ -1,5 +1,5 @@
 //! The words of a command line, read by `clap`.
-ghost use Rattle.std.specs.Prelude.{◌≡◌, IfErr, IfOk, codes, map, option_map};
+ghost use Rattle.std.specs.Prelude.{◌≡◌, IfErr, IfOk, map, option_map};
 ghost use Rattle.clap.specs.Words.{first_of, found_of, kind_of, rows_of, subcommand_rows_of};
 ghost use Rattle.command_line.specs.Found.{HasJobs, IsFound, IsSubcommand};
 ghost use Rattle.command_line.specs.Usage.{IsAsked, IsUsageFault};
@@ -10,7 +10,8 @@ ghost use Rattle.command_line.specs.Requests.{is_flagged, jobs_in, store_dir_in,
 
 use crate::command::{
     ADD_DRV, ADD_TEXT, CHECK, DEFAULT_JOBS, DEFAULT_STORE_DIR, DEFAULT_SYSTEM, DOT, DRVS, FILE,
-    IN_NIX_STORE, JOBS, JOURNAL, NAME, PLAN, REALISE, STORE_DIR, SYSTEM, WAIT, command,
+    IN_NIX_STORE, JOBS, JOURNAL, KEEP_FAILED, LOGS, NAME, PLAN, REALISE, RUNNER, STORE_DIR, SYSTEM,
+    TRACE, WAIT, command,
 };
 use crate::options::{
     AddDrvRequest, AddTextRequest, CheckRequest, PlanRequest, RealiseRequest, Request, RunRequest,
@@ -87,7 +88,7 @@ fn add_text_request<'a>(found: &ArgMatches<'a>) -> AddTextRequest<'a>
 {
     AddTextRequest {
         store_dir: store_dir_of(found),
-        journal: journal_of(found),
+        journal: value_of(found, JOURNAL),
         name: word_of(found, NAME),
         file: word_of(found, FILE),
         wait: is_flagged(found, WAIT),
@@ -128,6 +129,10 @@ fn realise_request<'a>(
         jobs: jobs_of(found),
         wait: is_flagged(found, WAIT),
         in_nix_store: is_flagged(found, IN_NIX_STORE),
+        logs: value_of(found, LOGS),
+        keep_failed: is_flagged(found, KEEP_FAILED),
+        runner: value_of(found, RUNNER),
+        trace: value_of(found, TRACE),
     })
 }
 
@@ -137,7 +142,7 @@ fn run_request<'a>(alloc: Global, found: &ArgMatches<'a>) -> Result<RunRequest<'
 {
     Ok(RunRequest {
         store_dir: store_dir_of(found),
-        journal: journal_of(found),
+        journal: value_of(found, JOURNAL),
         system: system_of(found),
         drvs: drvs_of(alloc, found)?,
     })
@@ -167,13 +172,12 @@ fn jobs_of(found: &ArgMatches<'_>) -> u8
     found.get_one(JOBS).unwrap_or(DEFAULT_JOBS)
 }
 
-// The path of the journal file, where the matches give one.
+// The value of the option with this id, where the matches give one.
 #[tactic(auto, using(crate::proofs::Rows::first_row))]
-fn journal_of<'a>(found: &ArgMatches<'a>) -> Option<&'a str>
-    ensures { option_map (λ s. s.now) result
-        ≡ first_of (codes "journal") (rows_of (found_of found.now)) }
+fn value_of<'a>(found: &ArgMatches<'a>, id: &str) -> Option<&'a str>
+    ensures { option_map (λ s. s.now) result ≡ first_of id.now (rows_of (found_of found.now)) }
 {
-    found.get_str(JOURNAL)
+    found.get_str(id)
 }
 
 // Whether the matches have the flag with this id.
