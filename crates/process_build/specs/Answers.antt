@@ -1,5 +1,5 @@
 -- What is answered when a builder has ended, and what may be a part of its outputs.
-use Rattle.std.specs.Prelude.{◌≡◌, ◌≢◌, ◌⊎◌, [], Option, Some, None, Result, Ok, Err, length, pos}
+use Rattle.std.specs.Prelude.{◌≡◌, ◌≢◌, ◌⊎◌, Bool, true, false, [], Option, Some, None, Result, Ok, Err, length, pos}
 use Rattle.std.specs.Fs.{IsDir, IsFile}
 use Rattle.std.specs.Process.{exit_code}
 use Rattle.std.specs.declared.fs.FileType.{FileType}
@@ -17,6 +17,13 @@ use Rattle.build_outcome.specs.declared.reason.Reason.TheVariants.{NoStart, OutO
 -- outputs' paths
 abbrev pub answer_of : Left → Answer
 answer_of left = record { status = exit_code left.ended.status; trees = left.trees }
+
+-- whether a builder may have run, by what it left, or by the reason why it left nothing
+abbrev pub may_have_run : Result Left Reason → Bool
+may_have_run (Ok left) = true
+may_have_run (Err NoStart) = false
+may_have_run (Err OutOfMemory) = false
+may_have_run (Err reason) = true
 
 -- why there is no room for a builder
 abbrev pub IsRoomFault : Reason → Type 0

@@ -75,13 +75,28 @@ abbrev pub program_of : (builder : Bytes) → Bytes
 program_of builder =
     if list_any (λ b. b == 47) builder then builder else codes "./" ++ builder
 
--- The command runs a builder with these arguments in a folder. The builder is told its own text as
--- its name, and these entries are its whole environment.
-pub record Runs (builder : Bytes) (args : List Bytes) (entries : List EnvEntry)
-    (folder : Bytes) (command : Command Global) : Type 0 where
-  pub is_program : command_program command ≡ program_of builder
-  pub is_named : command_arg0 command ≡ Some builder
-  pub is_called : command_args command ≡ args
+-- the program that is started: the builder's, or the runner, where there is one
+abbrev pub program_by : (runner : Option Bytes) → (builder : Bytes) → Bytes
+program_by None builder = program_of builder
+program_by (Some runner) builder = runner
+
+-- the name that it is told as its own: the builder's text, or the runner's path
+abbrev pub name_by : (runner : Option Bytes) → (builder : Bytes) → Bytes
+name_by None builder = builder
+name_by (Some runner) builder = runner
+
+-- its arguments: the builder's; before them a runner gets the builder's program
+abbrev pub args_by : (runner : Option Bytes) → (builder : Bytes) → (args : List Bytes) → List Bytes
+args_by None builder args = args
+args_by (Some runner) builder args = program_of builder ∷ args
+
+-- The command runs a builder with these arguments in a folder, by a runner where there is one. The
+-- entries are its whole environment.
+pub record Runs (runner : Option Bytes) (builder : Bytes) (args : List Bytes)
+    (entries : List EnvEntry) (folder : Bytes) (command : Command Global) : Type 0 where
+  pub is_program : command_program command ≡ program_by runner builder
+  pub is_named : command_arg0 command ≡ Some (name_by runner builder)
+  pub is_called : command_args command ≡ args_by runner builder args
   pub is_cleared : clears_env command ≡ true
   pub is_set : (key : Name) →
       command_var command key ≡ option_map Some (value_of key entries)

@@ -1,5 +1,6 @@
 -- What public contracts cite, and what that rests on.
 pub mod Errors
+pub mod Manners
 pub mod Progress
 -- What only private contracts and proofs cite.
 pub mod Answers

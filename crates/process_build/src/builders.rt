@@ -1,7 +1,8 @@
 //! What makes the builders of a run.
 ghost use Rattle.std.specs.Prelude.{IfOk};
-ghost use Rattle.nix_names.specs.Bytes.{Dir};
+ghost use Rattle.process_build.specs.declared.manner.Manner.{Manner};
 
+use crate::manner::Manner;
 use build_outcome::{Build, Watch};
 use std::alloc::{AllocError, Global};
 
@@ -10,10 +11,10 @@ pub trait Builders {
     /// What is made.
     type Builder: Build + Watch + Send + Drop;
 
-    // A builder builds in a store folder.
-    ghost builds_in: { Self.Builder → Dir → Type 0 };
+    // A builder builds in a manner.
+    ghost builds_in: { Self.Builder → Manner → Type 0 };
 
-    /// A builder in this store folder. Want of memory is the only error.
-    fn builder(&self, alloc: Global, store_dir: &str) -> Result<Self::Builder, AllocError>
-        ensures { IfOk result (λ builder. builds_in builder store_dir.now) };
+    /// A builder that builds in this manner. Want of memory is the only error.
+    fn builder(&self, alloc: Global, manner: &Manner<'_>) -> Result<Self::Builder, AllocError>
+        ensures { IfOk result (λ builder. builds_in builder manner.now) };
 }

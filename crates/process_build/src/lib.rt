@@ -5,12 +5,16 @@
 //! | `builders` | what makes the builders of a run |
 //! | `processes` | a builder that runs a job's program as a process |
 //! | `call` | the texts of a job that a process is started with |
+//! | `drv_paths` | the paths of a run's derivations, by number |
 //! | `environment` | the environment that a builder finds |
 //! | `ended` | how a builder ended, which nothing but waiting for it tells |
 //! | `start` | a builder that is started and waited for |
 //! | `folders` | the store folder, the build folder of a lease, and what is cleared for it |
 //! | `removal` | what lies at a path of the store folder, taken away |
 //! | `reading` | what lies at the outputs' paths, read within the limits of an output |
+//! | `logs` | the log of a builder |
+//! | `manner` | how the builders of a run build |
+//! | `kept_folders` | the build folders of builders that failed, which are kept |
 //! | `failures`, `reasons` | what an error of the system means at a path, and for a build |
 //! | `progress` | the line of progress |
 //! | `told` | what the line's terminal was told last |
@@ -20,11 +24,15 @@
 
 mod builders;
 mod call;
+mod drv_paths;
 mod ended;
 mod environment;
 mod failures;
 mod folders;
+mod kept_folders;
 pub mod laws;
+mod logs;
+mod manner;
 mod processes;
 mod progress;
 mod reading;
@@ -35,6 +43,10 @@ mod tally;
 mod told;
 
 pub use builders::Builders;
+pub use drv_paths::DrvPaths;
 pub use failures::Failure;
+pub use kept_folders::{KeptFolder, KeptFolders};
+pub use logs::Logs;
+pub use manner::Manner;
 pub use processes::{ByProcesses, ProcessBuild};
 pub use progress::{Progress, Watching};

@@ -1,50 +1,68 @@
 //! A builder that runs a job's program as a process.
 ghost use Rattle.std.specs.Prelude.{◌≡◌, ◌⊎◌, IfErr, IfOk, string_bytes};
-ghost use Rattle.process_build.specs.Answers.{answer_of, IsAnswerOf, IsReadingFault, IsRoomFault, IsRunFault};
+ghost use Rattle.process_build.specs.Answers.{answer_of, may_have_run, IsAnswerOf, IsReadingFault};
+ghost use Rattle.process_build.specs.Answers.{IsRoomFault, IsRunFault};
+ghost use Rattle.process_build.specs.Manners.{IsLogOf, IsMannerOf, IsPlaceOf};
 
 use crate::builders::Builders;
 use crate::call::Call;
 use crate::ended::Left;
 use crate::folders::BuildFolder;
+use crate::kept_folders::KeptFolder;
+use crate::logs::{LogPath, Logs, Outputs};
+use crate::manner::{Manner, OwnManner};
 use crate::reading::read_outputs;
 use crate::reasons::{no_room, no_start};
 use crate::removal::Clearing;
-use crate::start::run_builder;
+use crate::start::{Place, run_builder};
 use build_outcome::{Answer, Build, Job, Reason, Watch};
+use nix_names::StorePath;
 use std::alloc::{AllocError, Global};
+use std::cell::Cell;
 use std::fs;
 use std::process::Processes;
 use std::rt::Files;
+use std::sync::Wait;
 
 /// Builds each job by a process of its own, in a folder of its own within the store folder.
 ///
 /// The job's output paths and the build folder's are cleared first: a file, a link or an empty
 /// folder is removed, anything else is moved aside. The builder then runs in the build folder. Its
-/// standard input is empty, and what it prints is not shown. If its exit status is 0, what it left
-/// at the output paths is read. At the end the build folder is cleared in the same way, and what
-/// was moved aside is removed.
+/// standard input is empty, and what it prints goes to its log, or is not shown. If its exit status
+/// is 0, what it left at the output paths is read. At the end the build folder is cleared in the
+/// same way, and what was moved aside is removed. Where the folders of builders that failed are
+/// kept, that of a builder that ran waits for the end of the lease.
 #[derive(Drop)]
 pub struct ProcessBuild<'a, R, P> {
     rt: &'a R,
     processes: &'a P,
-    store_dir: String,
+    manner: OwnManner,
+    left: Cell<Option<LeftFolder>>,
+}
+
+// The build folder of a builder that ran, whose lease hasn't ended, and the derivation's number.
+#[derive(Drop)]
+struct LeftFolder {
+    derivation: usize,
+    folder: BuildFolder,
 }
 
 impl<'a, R, P> ProcessBuild<'a, R, P> {
-    /// Builds in this store folder, with the files and memory of a runtime and these processes.
-    /// Want of memory is the only error.
+    /// Builds in this manner, with the files and memory of a runtime and these processes. Want of
+    /// memory is the only error.
     pub fn new(
         alloc: Global,
         rt: &'a R,
         processes: &'a P,
-        store_dir: &str,
+        manner: &Manner<'_>,
     ) -> Result<ProcessBuild<'a, R, P>, AllocError>
-        ensures { IfOk result (λ build. string_bytes build.store_dir ≡ store_dir.now) }
+        ensures { IfOk result (λ build. IsMannerOf manner.now build.manner) }
     {
         Ok(ProcessBuild {
             rt,
             processes,
-            store_dir: String::from_str(alloc, store_dir)?,
+            manner: OwnManner::of(alloc, manner)?,
+            left: Cell::new(None),
         })
     }
 }
@@ -63,57 +81,144 @@ impl<'a, R, P> ByProcesses<'a, R, P> {
     }
 }
 
-impl<'a, R: Files + AllocGlobal + Sync, P: Processes + Sync> Builders for ByProcesses<'a, R, P> {
+impl<'a, R, P> Builders for ByProcesses<'a, R, P>
+where
+    R: Files + Logs + AllocGlobal + Wait + Sync,
+    P: Processes + Sync,
+{
     type Builder = ProcessBuild<'a, R, P>;
 
-    ghost builds_in = { λ build store_dir. string_bytes build.store_dir ≡ store_dir };
+    ghost builds_in = { λ build manner. IsMannerOf manner build.manner };
 
     fn builder(
         &self,
         alloc: Global,
-        store_dir: &str,
+        manner: &Manner<'_>,
     ) -> Result<ProcessBuild<'a, R, P>, AllocError> {
-        ProcessBuild::new(alloc, self.rt, self.processes, store_dir)
+        ProcessBuild::new(alloc, self.rt, self.processes, manner)
     }
 }
 
-impl<R: Files + AllocGlobal, P: Processes> Build for ProcessBuild<'_, R, P> {
+impl<R: Files + Logs + AllocGlobal, P: Processes> Build for ProcessBuild<'_, R, P> {
     ghost use Rattle.process_build.specs.Answers.{MayEnd};
 
     // No more is promised of what a builder does.
     ghost may = { MayEnd };
 
     /// Builds a job. `NoStart` where it has a text that no process can be started with, which
-    /// leaves all files as they are, or where making room for the builder or its start fails.
-    /// `ReadFault` where its end can't be waited for. `ReadFault` and `TooLarge` where an output
-    /// can't be read or passes a limit. `OutOfMemory` where memory was refused.
+    /// leaves all files as they are, or where making room for the builder, its log or its start
+    /// fails. `ReadFault` where its end can't be waited for. `ReadFault` and `TooLarge` where an
+    /// output can't be read or passes a limit. `OutOfMemory` where memory was refused.
     fn run(&self, number: u64, job: &Job) -> Result<Answer, Reason> {
         let alloc = self.rt.alloc();
         let call = Call::of(alloc, job)?;
-        let folder = BuildFolder::new(alloc, self.store_dir.as_str(), number)?;
-        let mut clearing = Clearing::new(self.rt, self.store_dir.as_str());
-        let left = self.build(&folder, &call, job, &mut clearing);
-        // The answer stands, whether the folder can be removed or not.
-        let _ = clearing.clear(folder.path());
+        let log = self.log_of(job)?;
+        let folder = BuildFolder::new(alloc, self.manner.store_dir(), number)?;
+        let mut clearing = Clearing::new(self.rt, self.manner.store_dir());
+        let left = self.build(&folder, &call, job, log.as_ref(), &mut clearing);
+        self.leave(folder, job.derivation, may_have_run(&left), &mut clearing);
         clearing.finish();
         Ok(left?.answer())
     }
 }
 
-/// Nothing is heard.
-impl<R, P> Watch for ProcessBuild<'_, R, P> {
+impl<R: Files + AllocGlobal + Wait, P> Watch for ProcessBuild<'_, R, P> {
     fn begun(&self, _unsettled: usize) {}
 
-    fn ended(&self, _is_good: bool, _unsettled: usize) {}
+    /// Clears the build folder that waits for the end of its lease, or keeps it, if the build
+    /// failed.
+    fn ended(&self, is_good: bool, _unsettled: usize) {
+        let Some(left) = self.left.take() else {
+            return;
+        };
+        if is_good || !self.keeps(&left) {
+            let mut clearing = Clearing::new(self.rt, self.manner.store_dir());
+            let _ = clearing.clear(left.folder.path());
+            clearing.finish();
+        }
+    }
 }
 
-impl<R: Files + AllocGlobal, P: Processes> ProcessBuild<'_, R, P> {
+// Whether a builder may have run that left this. A want of memory is no fault of the builder.
+fn may_have_run(left: &Result<Left, Reason>) -> bool
+    ensures { result ≡ may_have_run left.now }
+{
+    !matches!(left, Err(Reason::NoStart | Reason::OutOfMemory))
+}
+
+impl<R: Files + AllocGlobal + Wait, P> ProcessBuild<'_, R, P> {
+    // Adds a build folder to the list of those that are kept, if it is there. Where memory is
+    // refused the folder isn't kept, so that none is kept that isn't told.
+    fn keeps(&self, left: &LeftFolder) -> bool {
+        let (Some(kept), Some(drv)) = (self.manner.kept(), self.manner.drvs().get(left.derivation))
+        else {
+            return false;
+        };
+        if fs::symlink_metadata(self.rt, left.folder.path()).is_err() {
+            return false;
+        }
+        match kept_folder(self.rt.alloc(), drv, &left.folder) {
+            Ok(folder) => kept.note(self.rt, folder).is_ok(),
+            Err(_) => false,
+        }
+    }
+}
+
+// A build folder and the path of its derivation, to be kept.
+fn kept_folder(
+    alloc: Global,
+    drv: &StorePath,
+    folder: &BuildFolder,
+) -> Result<KeptFolder, AllocError>
+    ensures { IfOk result (λ kept. (kept.drv ≡ drv.now)
+        × (string_bytes kept.folder ≡ string_bytes folder.now.path)) }
+{
+    Ok(KeptFolder {
+        drv: drv.copy(alloc)?,
+        folder: String::from_str(alloc, folder.path())?,
+    })
+}
+
+impl<R: Files + Logs + AllocGlobal, P: Processes> ProcessBuild<'_, R, P> {
+    // The path of the log of a job's builder, if logs are kept.
+    fn log_of(&self, job: &Job) -> Result<Option<LogPath>, Reason>
+        ensures ok { IfOk result (IsLogOf self.now.manner job.now.derivation) }
+        ensures err { IfErr result IsRoomFault }
+    {
+        let Some(logs) = self.manner.logs() else {
+            return Ok(None);
+        };
+        let Some(drv) = self.manner.drvs().get(job.derivation) else {
+            return Err(Reason::NoStart);
+        };
+        let log = LogPath::of(self.rt.alloc(), logs, self.manner.store_dir(), drv)?;
+        Ok(Some(log))
+    }
+
+    // Leaves the build folder of a builder that may have run until the end of the lease, if the
+    // folders of builders that failed are kept, and else clears it. The answer stands, whether the
+    // folder can be removed or not.
+    fn leave(
+        &self,
+        folder: BuildFolder,
+        derivation: usize,
+        may_have_run: bool,
+        clearing: &mut Clearing<'_, R>,
+    ) {
+        if may_have_run && self.manner.kept().is_some() {
+            self.left.set(Some(LeftFolder { derivation, folder }));
+        } else {
+            let _ = clearing.clear(folder.path());
+        }
+    }
+
     // Makes room, runs the builder, and reads what it left, if its exit status is 0.
     fn build(
         &self,
         folder: &BuildFolder,
         call: &Call<'_>,
         job: &Job,
+        log: Option<&LogPath>,
         clearing: &mut Clearing<'_, R>,
     ) -> Result<Left, Reason>
         ensures good { IfOk result (λ left. IsAnswerOf job.now (answer_of left)) }
@@ -121,12 +226,24 @@ impl<R: Files + AllocGlobal, P: Processes> ProcessBuild<'_, R, P> {
     {
         self.make_room(folder, job, clearing)?;
         let alloc = self.rt.alloc();
-        let ended = run_builder(alloc, self.processes, self.store_dir.as_str(), folder, call)?;
+        let outputs = Outputs::to(self.rt, self.rt, log)?;
+        let ended = run_builder(alloc, self.processes, self.place(folder), call, outputs)?;
         let trees = match ended.code() {
             Some(0) => read_outputs(self.rt, job)?,
             _ => Vec::new(alloc),
         };
         Ok(Left::by(ended, trees))
+    }
+
+    // Where a builder runs in a folder, and what starts it.
+    fn place<'s>(&'s self, folder: &'s BuildFolder) -> Place<'s>
+        ensures { IsPlaceOf self.now.manner folder.now result }
+    {
+        Place {
+            store_dir: self.manner.store_dir(),
+            folder,
+            runner: self.manner.runner(),
+        }
     }
 
     // Clears the places of the job's outputs and of the build folder, and makes the folder.

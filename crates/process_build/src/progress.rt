@@ -3,6 +3,7 @@ ghost use Rattle.std.specs.Prelude.{◌∷◌, [], ◌++◌, List};
 ghost use Rattle.process_build.specs.Progress.{Began, Ended, Heard, IsHeardAndTold, IsTallyOf};
 
 use crate::builders::Builders;
+use crate::manner::Manner;
 use crate::tally::Tally;
 use crate::told::Told;
 use build_outcome::{Answer, Build, Job, Reason, Watch};
@@ -127,16 +128,16 @@ where
 {
     type Builder = Watched<'a, R, M::Builder, W>;
 
-    ghost builds_in = { λ watched store_dir. M.builds_in watched.builder store_dir };
+    ghost builds_in = { λ watched manner. M.builds_in watched.builder manner };
 
     fn builder(
         &self,
         alloc: Global,
-        store_dir: &str,
+        manner: &Manner<'_>,
     ) -> Result<Watched<'a, R, M::Builder, W>, AllocError> {
         Ok(Watched {
             rt: self.rt,
-            builder: self.make.builder(alloc, store_dir)?,
+            builder: self.make.builder(alloc, manner)?,
             progress: self.progress,
         })
     }

@@ -1,16 +1,18 @@
 //! A builder that is started and waited for.
-ghost use Rattle.std.specs.Prelude.{◌≡◌, ◌++◌, IfErr, IfOk, OnOk, Some, map, string_bytes};
+ghost use Rattle.std.specs.Prelude.{◌≡◌, ◌++◌, ◌∷◌, [], IfErr, IfOk, OnOk, Some, map, option_map};
+ghost use Rattle.std.specs.Prelude.{string_bytes};
 ghost use Rattle.std.specs.Process.{command_arg0, command_args, command_dir, command_program};
 ghost use Rattle.std.specs.Process.{SameDir, SameEnv, SameProgramAndArgs};
 ghost use Rattle.process_build.specs.Answers.{IsRunFault};
 ghost use Rattle.process_build.specs.BuilderCalls.{entries_in_order, entry_of_setting};
-ghost use Rattle.process_build.specs.BuilderCalls.{program_of, Runs};
+ghost use Rattle.process_build.specs.BuilderCalls.{args_by, name_by, program_by, program_of, Runs};
 
 use crate::call::Call;
 use crate::ended::Ended;
 use crate::environment::{set_environment, settings};
 use crate::failures::is_made_again;
 use crate::folders::BuildFolder;
+use crate::logs::Outputs;
 use crate::reasons::{no_start, read_fault};
 use build_outcome::Reason;
 use std::alloc::{AllocError, Global};
@@ -19,19 +21,27 @@ use std::io::ErrorKind;
 use std::os::unix::process::CommandExt;
 use std::process::{Child, Command, Processes, Stdio};
 
-/// Runs a builder in its folder, and tells how it ended. It waits for the builder alone, and not for
-/// what that one has started. `NoStart` where it can't be started, `ReadFault` where it was and its
-/// end can't be waited for.
+/// Where a builder runs, and the program that starts it, if one does.
+#[derive(Clone, Copy)]
+pub struct Place<'a> {
+    pub store_dir: &'a str,
+    pub folder: &'a BuildFolder,
+    pub runner: Option<&'a str>,
+}
+
+/// Runs a builder in its folder, with these outputs, and tells how it ended. It waits for the
+/// builder alone, and not for what that one has started. `NoStart` where it can't be started,
+/// `ReadFault` where it was and its end can't be waited for.
 pub fn run_builder<P: Processes>(
     alloc: Global,
     processes: &P,
-    store_dir: &str,
-    folder: &BuildFolder,
+    place: Place<'_>,
     call: &Call<'_>,
+    outputs: Outputs<'_>,
 ) -> Result<Ended, Reason>
     ensures { IfErr result IsRunFault }
 {
-    let mut command = command(alloc, store_dir, folder, call)?;
+    let mut command = command(alloc, place, call, outputs)?;
     let mut builder = start(&mut command, processes).map_err(no_start)?;
     Ended::of(&mut builder).map_err(read_fault)
 }
@@ -48,38 +58,67 @@ fn start<P: Processes>(command: &mut Command, processes: &P) -> io::Result<Child
     Err(io::Error::from(ErrorKind::Interrupted))
 }
 
-// The command that runs a builder in its folder, in silence.
+// The command that runs a builder at its place.
 fn command(
     alloc: Global,
-    store_dir: &str,
-    folder: &BuildFolder,
+    place: Place<'_>,
     call: &Call<'_>,
+    outputs: Outputs<'_>,
 ) -> Result<Command, AllocError>
-    ensures { IfOk result (Runs call.now.builder.now (map (λ a. a.now) call.now.args.items)
-        (entries_in_order store_dir.now (string_bytes folder.now.path)
+    ensures { IfOk result (Runs (option_map (λ r. r.now) place.runner) call.now.builder.now
+        (map (λ a. a.now) call.now.args.items)
+        (entries_in_order place.store_dir.now (string_bytes place.folder.now.path)
         (map entry_of_setting call.now.env.items))
-        (string_bytes folder.now.path)) }
+        (string_bytes place.folder.now.path)) }
 {
-    let mut command = called(alloc, call)?;
-    be_silent(&mut command);
-    let settings = settings(alloc, store_dir, folder.path(), &call.env)?;
+    let folder = place.folder.path();
+    let mut command = called(alloc, place.runner, call)?;
+    set_streams(&mut command, outputs);
+    let settings = settings(alloc, place.store_dir, folder, &call.env)?;
     set_environment(&mut command, &settings)?;
-    set_place(&mut command, folder.path(), call.builder)?;
+    set_place(&mut command, folder, name(place.runner, call.builder))?;
     Ok(command)
 }
 
-// The command of a builder's program and its arguments, before anything else is said of it.
-fn called(alloc: Global, call: &Call<'_>) -> Result<Command, AllocError>
-    ensures program { IfOk result (λ c. command_program c ≡ program_of call.now.builder.now) }
-    ensures args { IfOk result (λ c.
-        command_args c ≡ map (λ a. a.now) call.now.args.items) }
+// The command of a builder's program and its arguments, by a runner where there is one, before
+// anything else is said of it.
+fn called(alloc: Global, runner: Option<&str>, call: &Call<'_>) -> Result<Command, AllocError>
+    ensures program { IfOk result (λ c. command_program c
+        ≡ program_by (option_map (λ r. r.now) runner) call.now.builder.now) }
+    ensures args { IfOk result (λ c. command_args c
+        ≡ args_by (option_map (λ r. r.now) runner) call.now.builder.now
+        (map (λ a. a.now) call.now.args.items)) }
 {
-    let mut command = Command::new(alloc, program(alloc, call.builder)?)?;
+    let program = program(alloc, call.builder)?;
+    let mut command = match runner {
+        Some(runner) => by_runner(alloc, runner, program.as_str())?,
+        None => Command::new(alloc, program)?,
+    };
     set_args(&mut command, &call.args)?;
     Ok(command)
 }
 
-// Runs a command in a folder, under the name that its builder is given.
+// The command of a runner whose first argument is a program.
+fn by_runner(alloc: Global, runner: &str, program: &str) -> Result<Command, AllocError>
+    ensures program { IfOk result (λ c. command_program c ≡ runner.now) }
+    ensures args { IfOk result (λ c. command_args c ≡ program.now ∷ []) }
+{
+    let mut command = Command::new(alloc, runner)?;
+    command.arg(program)?;
+    Ok(command)
+}
+
+// The name that what is started is told as its own: the builder's, or the runner's path.
+fn name<'a>(runner: Option<&'a str>, builder: &'a str) -> &'a str
+    ensures { result.now ≡ name_by (option_map (λ r. r.now) runner) builder.now }
+{
+    match runner {
+        Some(runner) => runner,
+        None => builder,
+    }
+}
+
+// Runs a command in a folder, under the name that it is told as its own.
 fn set_place(command: &mut Command, folder: &str, name: &str) -> Result<(), AllocError>
     ensures dir { OnOk result (command_dir command.new ≡ Some folder.now) }
     ensures name { OnOk result (command_arg0 command.new ≡ Some name.now) }
@@ -116,14 +155,12 @@ fn set_args(command: &mut Command, args: &[&str]) -> Result<(), AllocError>
     Ok(())
 }
 
-// Gives a command no input, and shows nothing that it prints.
-fn be_silent(command: &mut Command)
+// Gives a command no input, and these outputs.
+fn set_streams(command: &mut Command, outputs: Outputs<'_>)
     ensures call { SameProgramAndArgs command.old command.new }
     ensures env { SameEnv command.old command.new }
     ensures dir { SameDir command.old command.new }
 {
-    command
-        .stdin(Stdio::null())
-        .stdout(Stdio::null())
-        .stderr(Stdio::null());
+    let (out, err) = outputs.into_streams();
+    command.stdin(Stdio::null()).stdout(out).stderr(err);
 }

@@ -1,6 +1,7 @@
 -- How a run of the program ends, by the words of its command line: what was printed, and the
 -- status.
-use Rattle.std.specs.Prelude.{◌≡◌, ◌⊎◌, List, Option, Result, Ok, Err, map}
+use Rattle.std.specs.Prelude.{◌≡◌, ◌⊎◌, ℕ, List, Option, Some, None, Result, Ok, Err, map}
+use Rattle.std.specs.Global.{Vec}
 use Rattle.std.specs.Io.KnownBytes.{Appends}
 use Rattle.clap.specs.declared.error.kind.ErrorKind.{ErrorKind}
 use Rattle.clap.specs.declared.error.kind.ErrorKind.TheVariants.{DisplayHelp, DisplayVersion}
@@ -14,10 +15,12 @@ use Rattle.command_line.specs.declared.options.Request.TheVariants.{Realise}
 use Rattle.subcommands.specs.CheckLines.{IsCheckReport}
 use Rattle.subcommands.specs.DrvEndings.{DrvEnds}
 use Rattle.subcommands.specs.Endings.{Ends}
+use Rattle.subcommands.specs.Finishes.{EndsQuietly}
 use Rattle.subcommands.specs.Folders.{may_give}
 use Rattle.subcommands.specs.Planning.{PlanEnds}
 use Rattle.subcommands.specs.Realising.{May, RealiseEnds}
 use Rattle.subcommands.specs.Stops.{IsStopOf, IsTold}
+use Rattle.subcommands.specs.declared.finish.Finish.{Finish}
 use Rattle.subcommands.specs.declared.status.Ending.{Ending}
 use Rattle.subcommands.specs.declared.status.Ending.TheVariants.{Told, Untold}
 use Rattle.subcommands.specs.declared.status.Status.{Status}
@@ -45,23 +48,32 @@ CheckEnds request out (Err stop) =
     IsStopOf request.store_dir.now stop × (IsUntouched out ⊎ (stop ≡ Unwritable))
 
 -- How the subcommand of a request ends.
-abbrev pub SubcommandEnds : May → Request → Stream → Result Status Stop → Type 0
-SubcommandEnds may (Check request) out outcome = CheckEnds request out outcome
-SubcommandEnds may (AddText request) out outcome = Ends request out.0 out.1 outcome
-SubcommandEnds may (AddDrv request) out outcome = DrvEnds request out.0 out.1 outcome
-SubcommandEnds may (Plan request) out outcome = PlanEnds request out.0 out.1 outcome
+abbrev pub SubcommandEnds : May → Request → Stream → Result Finish Stop → Type 0
+SubcommandEnds may (Check request) out outcome = EndsQuietly (CheckEnds request out) outcome
+SubcommandEnds may (AddText request) out outcome =
+    EndsQuietly (Ends request out.0 out.1) outcome
+SubcommandEnds may (AddDrv request) out outcome =
+    EndsQuietly (DrvEnds request out.0 out.1) outcome
+SubcommandEnds may (Plan request) out outcome = EndsQuietly (PlanEnds request out.0 out.1) outcome
 SubcommandEnds may (Realise request) out outcome = RealiseEnds may request out.0 out.1 outcome
 
--- What standard error gets: nothing where the subcommand ended well, else the line of what stopped
--- it.
-abbrev pub IsToldEnd : Result Status Stop → Stream → Ending → Type 0
-IsToldEnd (Ok status) err end = (end ≡ Told status) × IsUntouched err
+-- A subcommand that wasn't stopped ends with its status. Standard error gets its last lines, or
+-- refuses them.
+abbrev pub IsToldWith : Status → Option (Vec ℕ) → Stream → Ending → Type 0
+IsToldWith status None err end = (end ≡ Told status) × IsUntouched err
+IsToldWith status (Some lines) err end =
+    ((end ≡ Told status) × Appends err.0 err.1 lines.items) ⊎ (end ≡ Untold)
+
+-- What standard error gets: the last lines of a subcommand that wasn't stopped, else the line of
+-- what stopped it.
+abbrev pub IsToldEnd : Result Finish Stop → Stream → Ending → Type 0
+IsToldEnd (Ok finish) err end = IsToldWith finish.status finish.lines err end
 IsToldEnd (Err stop) err end = IsTold err.0 err.1 stop end
 
 -- How a run ends on a request.
 abbrev pub RequestEnds : May → Request → (out err : Stream) → Ending → Type 0
 RequestEnds may request out err end =
-    (outcome : Result Status Stop) × SubcommandEnds may request out outcome
+    (outcome : Result Finish Stop) × SubcommandEnds may request out outcome
     × IsToldEnd outcome err end
 
 -- How a run ends that shows the help or the version: the text is printed, or standard output

@@ -21,7 +21,7 @@ use Rattle.subcommands.specs.declared.stop.Stop.TheVariants.{BadDraft, BadDrv}
 use Rattle.subcommands.specs.declared.stop.Stop.TheVariants.{BadName, JournalUnreadable, BadJournal}
 use Rattle.subcommands.specs.declared.stop.Stop.TheVariants.{InUse, NixStore, NotLocked}
 use Rattle.subcommands.specs.declared.stop.Stop.TheVariants.{NotWritten, JournalNotWritten}
-use Rattle.subcommands.specs.declared.stop.Stop.TheVariants.{NoPath, Run}
+use Rattle.subcommands.specs.declared.stop.Stop.TheVariants.{NoLogs, NoPath, NoRunner, Run}
 use Rattle.subcommands.specs.declared.stop.Stop.TheVariants.{NoMemory, Unwritable}
 
 -- what ends a run for this fault of its journal
@@ -48,6 +48,8 @@ number_of Unwritable = 74
 number_of (NotLocked dir) = 74
 number_of (InUse dir) = 75
 number_of (NixStore dir) = 76
+number_of (NoLogs folder) = 74
+number_of (NoRunner program) = 77
 
 -- what the line blames: a word as it was given, a path, the journal or the run
 abbrev pub blamed_of : Stop → Bytes
@@ -59,6 +61,8 @@ blamed_of (BadName name) = name.now
 blamed_of (InUse dir) = dir.now
 blamed_of (NixStore dir) = dir.now
 blamed_of (NotLocked dir) = dir.now
+blamed_of (NoRunner program) = program.now
+blamed_of (NoLogs folder) = folder.now
 blamed_of (NoPath word fault) = word.now
 blamed_of (BadDrv path fault) = path
 blamed_of JournalUnreadable = codes "journal"
@@ -83,6 +87,8 @@ stop_fault_words (BadJournal fault) = table_fault_words fault
 stop_fault_words (InUse dir) = codes "InUse"
 stop_fault_words (NixStore dir) = codes "NixStore"
 stop_fault_words (NotLocked dir) = codes "Unwritable"
+stop_fault_words (NoRunner program) = codes "NoRunner"
+stop_fault_words (NoLogs folder) = codes "Unwritable"
 stop_fault_words (NotWritten path) = codes "Unwritable"
 stop_fault_words JournalNotWritten = codes "Unwritable"
 stop_fault_words (Run fault kept) = run_fault_words fault
@@ -110,6 +116,8 @@ status_of JournalUnreadable = CutShort
 status_of (InUse dir) = CutShort
 status_of (NixStore dir) = CutShort
 status_of (NotLocked dir) = CutShort
+status_of (NoRunner program) = Refused
+status_of (NoLogs folder) = CutShort
 status_of (Run fault kept) = CutShort
 status_of (NotWritten path) = CutShort
 status_of JournalNotWritten = CutShort

@@ -1,24 +1,65 @@
 //! The builders of a run.
-ghost use Rattle.std.specs.Prelude.{◌≡◌, All, IfOk, length};
+ghost use Rattle.std.specs.Prelude.{◌≡◌, All, IfOk, is_some, length};
+ghost use Rattle.subcommands.specs.Building.{IsMannerFor};
 
+use crate::logs_folder::LogsFolder;
+use crate::runner::Runner;
 use command_line::RealiseRequest;
-use process_build::Builders;
+use process_build::{Builders, DrvPaths, KeptFolders, Manner};
 use std::alloc::{AllocError, Global};
 
-/// A builder in the request's store folder for each worker that it asks for. Want of memory is the
-/// only error.
+/// The list of the build folders that a run keeps, if the request asks to keep those of builders
+/// that failed.
+pub fn kept_folders(
+    alloc: Global,
+    request: &RealiseRequest<'_>,
+) -> Result<Option<KeptFolders>, AllocError>
+    ensures { IfOk result (λ kept. is_some kept ≡ request.now.keep_failed) }
+{
+    if request.keep_failed {
+        Ok(Some(KeptFolders::new(alloc)?))
+    } else {
+        Ok(None)
+    }
+}
+
+/// How the builders of a request build.
+pub fn manner_of<'m, 'a: 'm>(
+    request: &RealiseRequest<'a>,
+    runner: Runner<'a>,
+    logs: LogsFolder<'a>,
+    kept: Option<&'m KeptFolders>,
+    drvs: &'m DrvPaths,
+) -> Manner<'m>
+    requires runner { runner.path ≡ request.now.runner }
+    requires logs { logs.path ≡ request.now.logs }
+    requires kept { is_some kept ≡ request.now.keep_failed }
+    ensures { IsMannerFor request.now drvs.now result }
+{
+    Manner {
+        store_dir: request.run.store_dir,
+        runner: runner.path(),
+        logs: logs.path(),
+        kept,
+        drvs,
+    }
+}
+
+/// A builder that builds in this manner for each worker that the request asks for. Want of memory
+/// is the only error.
 pub fn make_all<M: Builders>(
     alloc: Global,
     make: &M,
     request: &RealiseRequest<'_>,
+    manner: &Manner<'_>,
 ) -> Result<Vec<M::Builder>, AllocError>
     ensures count { IfOk result (λ builders. length builders.items ≡ request.now.jobs) }
-    ensures folder { IfOk result (λ builders.
-        All (λ b. M.builds_in b request.now.run.store_dir.now) builders.items) }
+    ensures manner { IfOk result (λ builders.
+        All (λ b. M.builds_in b manner.now) builders.items) }
 {
     let mut builders = Vec::new(alloc);
     for _ in 0..request.jobs {
-        builders.push(make.builder(alloc, request.run.store_dir)?)?;
+        builders.push(make.builder(alloc, manner)?)?;
     }
     Ok(builders)
 }

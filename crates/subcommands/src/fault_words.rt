@@ -97,6 +97,8 @@ pub fn write_stop_fault(stop: &Stop<'_>, out: &mut Vec<u8>) -> Result<(), AllocE
         Stop::InUse(_) => write_name(b"InUse", out),
         Stop::NixStore(_) => write_name(b"NixStore", out),
         Stop::NotLocked(_) => write_name(b"Unwritable", out),
+        Stop::NoRunner(_) => write_name(b"NoRunner", out),
+        Stop::NoLogs(_) => write_name(b"Unwritable", out),
         Stop::NotWritten(_) => write_name(b"Unwritable", out),
         Stop::JournalNotWritten => write_name(b"Unwritable", out),
         Stop::Run(fault, _) => write_run_fault(*fault, out),

@@ -21,7 +21,10 @@
 //! | `taken` | the same for a run that changes nothing |
 //! | `plan` | the subcommand `plan` |
 //! | `settled` | the status, the journal and the report of a run, by its book |
-//! | `builders`, `realise` | the builders of a run; the subcommand `realise` |
+//! | `runner`, `logs_folder` | the program that starts the builders of a run; the folder of logs |
+//! | `builders` | the builders of a run |
+//! | `finish`, `last_lines` | how a subcommand ends that isn't stopped; a run's last lines |
+//! | `realise` | the subcommand `realise` |
 //! | `printing`, `program` | printing; one run of the program |
 //! | `process` | that run in a process: its arguments and its standard output |
 #![tactic(auto)]
@@ -34,17 +37,21 @@ mod builders;
 mod check;
 mod fault_words;
 mod files;
+mod finish;
 mod folder;
 mod graph_words;
 mod journal_file;
 mod kept;
+mod last_lines;
 mod locks;
+mod logs_folder;
 mod nix_store;
 mod plan;
 mod printing;
 mod process;
 mod program;
 mod realise;
+mod runner;
 mod settled;
 mod status;
 mod stop;

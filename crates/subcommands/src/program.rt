@@ -4,7 +4,7 @@ ghost use Rattle.clap.specs.Words.{kind_of};
 ghost use Rattle.nix_names.specs.Names.{IsStoreDir};
 ghost use Rattle.subcommands.specs.CheckLines.{IsCheckReport};
 ghost use Rattle.subcommands.specs.Folders.{may_give};
-ghost use Rattle.subcommands.specs.ProgramEndings.{CheckEnds, IsToldEnd, ProgramEnds};
+ghost use Rattle.subcommands.specs.ProgramEndings.{CheckEnds, IsToldEnd, IsToldWith, ProgramEnds};
 ghost use Rattle.subcommands.specs.ProgramEndings.{RequestEnds, SubcommandEnds, UsageEnds};
 ghost use Rattle.subcommands.specs.Stops.{IsStopOf, IsTold};
 ghost use Rattle.subcommands.specs.declared.stop.Stop.{Stop};
@@ -13,6 +13,7 @@ use crate::add_drv::add_drv;
 use crate::add_text::add_text;
 use crate::check::check_lines;
 use crate::fault_words::stop_line;
+use crate::finish::{Finish, quietly};
 use crate::folder::FolderSource;
 use crate::locks::Locks;
 use crate::plan::plan;
@@ -89,7 +90,7 @@ fn run_subcommand<'a, R, M, L, O>(
     locks: &L,
     request: &Request<'a>,
     out: &mut O,
-) -> Result<Status, Stop<'a>>
+) -> Result<Finish, Stop<'a>>
 where
     R: Files + Threads + Wait + Sync + AllocGlobal,
     M: Builders,
@@ -99,21 +100,35 @@ where
         result }
 {
     match request {
-        Request::Check(request) => check(rt, request, out),
-        Request::AddText(request) => add_text(rt, locks, request, out),
-        Request::AddDrv(request) => add_drv(rt, request, out),
-        Request::Plan(request) => plan(rt, request, out),
+        Request::Check(request) => quietly(check(rt, request, out)),
+        Request::AddText(request) => quietly(add_text(rt, locks, request, out)),
+        Request::AddDrv(request) => quietly(add_drv(rt, request, out)),
+        Request::Plan(request) => quietly(plan(rt, request, out)),
         Request::Realise(request) => realise(rt, make, locks, request, out),
     }
 }
 
-// Ends a run with its status, or with the line and the status of what stopped it.
-fn end<E: Write>(alloc: Global, outcome: Result<Status, Stop<'_>>, err: &mut E) -> Ending
+// Ends a run with its status and its last lines, or with the line and the status of what stopped
+// it.
+fn end<E: Write>(alloc: Global, outcome: Result<Finish, Stop<'_>>, err: &mut E) -> Ending
     ensures { IsToldEnd outcome.entry (E.contents err.old, E.contents err.new) result }
 {
     match outcome {
-        Ok(status) => Ending::Told(status),
+        Ok(Finish { status, lines }) => print_lines(status, &lines, err),
         Err(stop) => print_stop(alloc, &stop, err),
+    }
+}
+
+// Ends a run with its status, and prints its last lines, if it has any.
+fn print_lines<E: Write>(status: Status, lines: &Option<Vec<u8>>, err: &mut E) -> Ending
+    ensures { IsToldWith status lines.now (E.contents err.old, E.contents err.new) result }
+{
+    let Some(lines) = lines else {
+        return Ending::Told(status);
+    };
+    match print_bytes(lines, err) {
+        Ok(()) => Ending::Told(status),
+        Err(_) => Ending::Untold,
     }
 }
 

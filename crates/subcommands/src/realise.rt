@@ -1,25 +1,32 @@
 //! The subcommand `realise`.
 ghost use Rattle.std.specs.Prelude.{◌≡◌, All, IfErr, IfOk, is_some, length, string_bytes, true};
+ghost use Rattle.drv_graph.specs.Nodes.{paths_of};
 ghost use Rattle.run_states.specs.Courses.{IsRunSettled};
 ghost use Rattle.subcommands.specs.Locking.{IsKeptOut};
+ghost use Rattle.subcommands.specs.Building.{IsMannerFor};
 ghost use Rattle.subcommands.specs.Realising.{BookEnds, HeldEnds, IsCutShort, RealiseEnds, RunEnds};
+ghost use Rattle.subcommands.specs.Realising.{TaskEnds};
+ghost use Rattle.process_build.specs.declared.manner.Manner.{Manner};
 
-use crate::builders::make_all;
+use crate::builders::{kept_folders, make_all, manner_of};
+use crate::finish::Finish;
 use crate::folder::FolderSource;
 use crate::journal_file::OwnJournal;
 use crate::kept::Kept;
+use crate::last_lines::last_lines;
 use crate::locks::{Held, Holding, Locks, hold};
+use crate::logs_folder::logs_folder;
 use crate::nix_store::allow;
 use crate::printing::print_bytes;
+use crate::runner::{Runner, runner_of};
 use crate::settled::{journal_bytes, report_of, roots_status};
-use crate::status::Status;
 use crate::stop::Stop;
 use crate::task::{Task, planned};
 use crate::whole_file::Tried;
 use command_line::RealiseRequest;
 use drv_graph::Plan;
 use nix_names::StoreDir;
-use process_build::Builders;
+use process_build::{Builders, DrvPaths, KeptFolder, KeptFolders};
 use sched_core::{Book, Build, Watch};
 use std::io::Write;
 use std::marker::Brand;
@@ -30,10 +37,11 @@ use store_run::RunFault;
 use valid_table::Outlet;
 use valid_view::{Name, Naming};
 
-/// Builds the wanted derivations of the request, writes the journal and prints the report. The plan
-/// is loaded; it is looked whether Nix manages the store folder, and its lock is taken; then the
-/// journal is read, and it is tested whether the journal can be written. The first fault ends the
-/// run, and nothing is built. Once the workers gave a book, the journal is written, whether the
+/// Builds the wanted derivations of the request, writes the journal and prints the report. It is
+/// looked whether the runner, if one is named, may be executed; the plan is loaded; it is looked
+/// whether Nix manages the store folder, and its lock is taken; then the journal is read, it is
+/// tested whether the journal can be written, and the folder of logs, if one is named, is made. The
+/// first fault ends the run, and nothing is built. Once the workers gave a book, the journal is written, whether the
 /// book is settled or not; then the lock is let go. Nothing is printed where the book isn't
 /// settled, or where the journal is not written.
 pub fn realise<'a, R, M, L, O>(
@@ -42,7 +50,7 @@ pub fn realise<'a, R, M, L, O>(
     locks: &L,
     request: &RealiseRequest<'a>,
     out: &mut O,
-) -> Result<Status, Stop<'a>>
+) -> Result<Finish, Stop<'a>>
 where
     R: Files + AllocGlobal + Threads + Wait + Sync,
     M: Builders,
@@ -51,9 +59,10 @@ where
     ensures { RealiseEnds M.Builder.may request.now (O.contents out.old) (O.contents out.new)
         result }
 {
+    let runner = runner_of(rt, request.runner)?;
     let (dir, plan) = planned(rt.alloc(), &mut FolderSource::new(rt), &request.run)?;
     let held = enter(rt, locks, request)?;
-    run_held(rt, make, request, held.holding(), &dir, plan, out)
+    run_held(rt, make, request, runner, held.holding(), &dir, plan, out)
 }
 
 // Takes the lock of the request's store folder, unless Nix manages that.
@@ -74,15 +83,17 @@ fn run_held<'a, R, M, O>(
     rt: &R,
     make: &M,
     request: &RealiseRequest<'a>,
+    runner: Runner<'a>,
     holding: Holding<'_>,
     dir: &StoreDir,
     plan: Plan,
     out: &mut O,
-) -> Result<Status, Stop<'a>>
+) -> Result<Finish, Stop<'a>>
 where
     R: Files + AllocGlobal + Threads + Wait + Sync,
     M: Builders,
     O: Write,
+    requires runner { runner.path ≡ request.now.runner }
     requires held { holding.dir.now ≡ request.now.run.store_dir.now }
     requires dir { dir.now ≡ request.now.run.store_dir.now }
     ensures { HeldEnds M.Builder.may request.now plan (O.contents out.old) (O.contents out.new)
@@ -91,35 +102,66 @@ where
     let file = OwnJournal::new(rt.alloc(), holding, request.run.journal)?;
     let task = Task::new(rt.alloc(), &request.run, dir, plan, file.read(rt))?;
     let tried = file.try_out(rt)?;
-    let builders = make_all(rt.alloc(), make, request)?;
-    run_task::<R, M, O>(rt, request, &file, tried, &task, builders, out)
+    run_task(rt, make, request, runner, &file, tried, &task, out)
+}
+
+// Makes the folder of logs and the builders for a task, and runs it. It was tried whether the
+// journal can be written.
+fn run_task<'a, R, M, O>(
+    rt: &R,
+    make: &M,
+    request: &RealiseRequest<'a>,
+    runner: Runner<'a>,
+    file: &OwnJournal<'_>,
+    tried: Tried<'_>,
+    task: &Task,
+    out: &mut O,
+) -> Result<Finish, Stop<'a>>
+where
+    R: Files + AllocGlobal + Threads + Wait + Sync,
+    M: Builders,
+    O: Write,
+    requires runner { runner.path ≡ request.now.runner }
+    requires tried { tried.path.now ≡ string_bytes file.now.path }
+    ensures { TaskEnds M.Builder.may request.now task.now (O.contents out.old) (O.contents out.new)
+        result }
+{
+    let logs = logs_folder(rt, request.logs)?;
+    let kept = kept_folders(rt.alloc(), request)?;
+    let drvs = DrvPaths::of(rt.alloc(), task.plan())?;
+    let manner = manner_of(request, runner, logs, kept.as_ref(), &drvs);
+    let builders = make_all(rt.alloc(), make, request, &manner)?;
+    run_built::<R, M, O>(rt, request, file, tried, task, builders, kept.as_ref(), out)
 }
 
 // Builds the wanted derivations of a task, by one worker for each builder, writes the journal and
 // prints the report. It was tried whether the journal can be written.
-fn run_task<'a, R, M, O>(
+fn run_built<'a, R, M, O>(
     rt: &R,
     request: &RealiseRequest<'a>,
     file: &OwnJournal<'_>,
     _tried: Tried<'_>,
     task: &Task,
     builders: Vec<M::Builder>,
+    kept: Option<&KeptFolders>,
     out: &mut O,
-) -> Result<Status, Stop<'a>>
+) -> Result<Finish, Stop<'a>>
 where
     R: Files + AllocGlobal + Threads + Wait + Sync,
     M: Builders,
     O: Write,
     requires tried { _tried.path.now ≡ string_bytes file.now.path }
     requires count { length builders.items ≡ request.now.jobs }
-    requires folder { All (λ b. M.builds_in b request.now.run.store_dir.now) builders.items }
+    requires manner { (manner : Manner)
+        × IsMannerFor request.now (paths_of task.now.plan.nodes) manner
+        × All (λ b. M.builds_in b manner) builders.items }
     ensures { RunEnds M.Builder.may request.now task.now (O.contents out.old) (O.contents out.new)
         result }
 {
-    run_named::<Brand, _, _, _>(rt, Name::new(), request, file, task, builders, out)
+    run_named::<Brand, _, _, _>(rt, Name::new(), request, file, task, builders, kept, out)
 }
 
-// Does what `run_task` does, over a view of this name.
+// Does what `run_built` does, over a view of this name.
 fn run_named<'a, J, R, B, O>(
     rt: &R,
     name: Name,
@@ -127,8 +169,9 @@ fn run_named<'a, J, R, B, O>(
     file: &OwnJournal<'_>,
     task: &Task,
     builders: Vec<B>,
+    kept: Option<&KeptFolders>,
     out: &mut O,
-) -> Result<Status, Stop<'a>>
+) -> Result<Finish, Stop<'a>>
 where
     J: Naming + Send + Sync,
     R: Files + AllocGlobal + Threads + Wait + Sync,
@@ -141,22 +184,24 @@ where
     let system = request.run.system.as_bytes();
     let (plan, journal) = (task.plan(), task.journal());
     match store_run::realise::<J, R, B>(rt, rt.alloc(), name, plan, journal, system, builders) {
-        Ok(book) => end(rt, file, book, out),
+        Ok(book) => end(rt, request, file, book, kept, out),
         Err((fault, book)) => Err(fall_short(rt, file, fault, book)),
     }
 }
 
 // Ends a run with its settled book.
-fn end<'a, R: Files + AllocGlobal, V: Outlet, O: Write>(
+fn end<'a, R: Files + AllocGlobal + Wait, V: Outlet, O: Write>(
     rt: &R,
+    request: &RealiseRequest<'a>,
     file: &OwnJournal<'_>,
     book: Book<V>,
+    kept: Option<&KeptFolders>,
     out: &mut O,
-) -> Result<Status, Stop<'a>>
+) -> Result<Finish, Stop<'a>>
     requires { IsRunSettled book.run book.history }
-    ensures { BookEnds book (O.contents out.old) (O.contents out.new) result }
+    ensures { BookEnds request.now book (O.contents out.old) (O.contents out.new) result }
 {
-    let ended = tell(rt, file, &book, out);
+    let ended = tell(rt, request, file, &book, kept, out);
     book.close();
     ended
 }
@@ -191,20 +236,31 @@ fn keep<R: Files + AllocGlobal, V: Outlet>(rt: &R, file: &OwnJournal<'_>, book: 
 }
 
 // Writes the journal of a settled book, and prints its report.
-fn tell<'a, R: Files + AllocGlobal, V: Outlet, O: Write>(
+fn tell<'a, R: Files + AllocGlobal + Wait, V: Outlet, O: Write>(
     rt: &R,
+    request: &RealiseRequest<'a>,
     file: &OwnJournal<'_>,
     book: &Book<V>,
+    kept: Option<&KeptFolders>,
     out: &mut O,
-) -> Result<Status, Stop<'a>>
+) -> Result<Finish, Stop<'a>>
     requires { IsRunSettled book.now.run book.now.history }
-    ensures { BookEnds book.now (O.contents out.old) (O.contents out.new) result }
+    ensures { BookEnds request.now book.now (O.contents out.old) (O.contents out.new) result }
 {
     let bytes = journal_bytes(rt.alloc(), book)?;
     let written = file.write(rt, &bytes)?;
     let report = report_of(book, written)?;
+    let lines = last_lines(rt.alloc(), request, book, taken(rt, kept))?;
     match print_bytes(&report, out) {
-        Ok(()) => Ok(roots_status(book)),
+        Ok(()) => Ok(Finish::with(roots_status(book), lines)),
         Err(_) => Err(Stop::Unwritable),
+    }
+}
+
+// The build folders that were kept.
+fn taken<R: AllocGlobal + Wait>(rt: &R, kept: Option<&KeptFolders>) -> Vec<KeptFolder> {
+    match kept {
+        Some(kept) => kept.take(rt),
+        None => Vec::new(rt.alloc()),
     }
 }

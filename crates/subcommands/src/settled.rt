@@ -4,7 +4,7 @@ ghost use Rattle.valid_table.specs.Written.{written_text};
 ghost use Rattle.run_states.specs.Courses.{IsRunSettled};
 ghost use Rattle.run_report.specs.Reports.{IsReportIn};
 ghost use Rattle.run_states.specs.States.{is_good};
-ghost use Rattle.subcommands.specs.Realising.{roots_status};
+ghost use Rattle.subcommands.specs.RootsStatus.{roots_status};
 
 use crate::status::Status;
 use crate::stop::Stop;

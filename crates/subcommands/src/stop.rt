@@ -39,6 +39,11 @@ pub enum Stop<'a> {
     NixStore(&'a str),
     /// The system gives no lock of this store folder, as it was given.
     NotLocked(&'a str),
+    /// This word, given as the program that starts builders, is no absolute path of a file that may
+    /// be executed.
+    NoRunner(&'a str),
+    /// The folder of logs at this path, as it was given, cannot be made.
+    NoLogs(&'a str),
     /// The file at this path cannot be written.
     NotWritten(StorePath),
     /// The journal file cannot be written.
@@ -67,9 +72,10 @@ impl Stop<'_> {
             Stop::Run(fault, _) => fault.number(),
             Stop::BadDraft(_, fault) | Stop::BadDrv(_, fault) => fault.number(),
             Stop::NotWritten(_) | Stop::JournalNotWritten | Stop::Unwritable => 74,
-            Stop::NotLocked(_) => 74,
+            Stop::NotLocked(_) | Stop::NoLogs(_) => 74,
             Stop::InUse(_) => 75,
             Stop::NixStore(_) => 76,
+            Stop::NoRunner(_) => 77,
         }
     }
 
@@ -85,12 +91,14 @@ impl Stop<'_> {
             | Stop::BadDraft(..)
             | Stop::BadName(_)
             | Stop::NoPath(..)
+            | Stop::NoRunner(_)
             | Stop::BadDrv(..)
             | Stop::BadJournal(_) => Status::Refused,
             Stop::JournalUnreadable
             | Stop::InUse(_)
             | Stop::NixStore(_)
             | Stop::NotLocked(_)
+            | Stop::NoLogs(_)
             | Stop::Run(..)
             | Stop::NotWritten(_)
             | Stop::JournalNotWritten
@@ -112,6 +120,8 @@ impl Stop<'_> {
             | Stop::InUse(word)
             | Stop::NixStore(word)
             | Stop::NotLocked(word)
+            | Stop::NoRunner(word)
+            | Stop::NoLogs(word)
             | Stop::NoPath(word, _) => word.as_bytes(),
             Stop::BadDrv(path, _) | Stop::NotWritten(path) => path.text(),
             Stop::JournalUnreadable | Stop::BadJournal(_) | Stop::JournalNotWritten => b"journal",

@@ -1,0 +1,49 @@
+//! The build folders of builders that failed, which are kept.
+use nix_names::StorePath;
+use std::alloc::{AllocError, Global};
+use std::mem;
+use std::sync::{Arc, Mutex, Wait};
+
+/// A build folder that is kept.
+#[derive(Debug, Drop)]
+pub struct KeptFolder {
+    /// The path of the derivation whose builder failed in it.
+    pub drv: StorePath,
+    /// The folder's path.
+    pub folder: String,
+}
+
+/// The build folders that a run keeps. All handles share one list, in any threads.
+#[derive(Drop)]
+pub struct KeptFolders {
+    shared: Arc<Mutex<Vec<KeptFolder>>>,
+}
+
+impl KeptFolders {
+    /// No folder is kept yet.
+    pub fn new(alloc: Global) -> Result<KeptFolders, AllocError> {
+        let none = Mutex::new(Vec::new(alloc));
+        Ok(KeptFolders {
+            shared: Arc::new(alloc, none)?,
+        })
+    }
+
+    /// Another handle of the same list. Costs no allocation: it counts one more owner, so
+    /// `AllocError` comes only where the count is full, at 2^63.
+    pub fn again(&self) -> Result<KeptFolders, AllocError> {
+        Ok(KeptFolders {
+            shared: self.shared.clone()?,
+        })
+    }
+
+    /// Adds a folder to the list.
+    pub fn note<R: Wait>(&self, rt: &R, kept: KeptFolder) -> Result<(), AllocError> {
+        self.shared.lock(rt).push(kept)?;
+        Ok(())
+    }
+
+    /// Takes the folders out of the list, in the order in which they were added.
+    pub fn take<R: Wait + AllocGlobal>(&self, rt: &R) -> Vec<KeptFolder> {
+        mem::replace(&mut *self.shared.lock(rt), Vec::new(rt.alloc()))
+    }
+}

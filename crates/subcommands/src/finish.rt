@@ -1,0 +1,38 @@
+//! How a subcommand ends that isn't stopped.
+ghost use Rattle.std.specs.Prelude.{◌≡◌};
+ghost use Rattle.subcommands.specs.Finishes.{last_text, quietly};
+
+use crate::status::Status;
+use crate::stop::Stop;
+
+/// How a subcommand ends that isn't stopped: its status, and the lines that standard error gets at
+/// the end, if it gets any.
+#[derive(Drop)]
+pub struct Finish {
+    pub status: Status,
+    pub lines: Option<Vec<u8>>,
+}
+
+impl Finish {
+    /// With this status and these lines, if there are any.
+    pub fn with(status: Status, lines: Vec<u8>) -> Finish
+        ensures status { result.status ≡ status }
+        ensures lines { last_text result ≡ lines.items }
+    {
+        let lines = if lines.is_empty() { None } else { Some(lines) };
+        Finish { status, lines }
+    }
+}
+
+/// The end of a subcommand that tells standard error nothing.
+pub fn quietly(ended: Result<Status, Stop<'_>>) -> Result<Finish, Stop<'_>>
+    ensures { result ≡ quietly ended.entry }
+{
+    match ended {
+        Ok(status) => Ok(Finish {
+            status,
+            lines: None,
+        }),
+        Err(stop) => Err(stop),
+    }
+}

@@ -1,0 +1,110 @@
+//! The program that starts the builders of a run, if the request names one.
+ghost use Rattle.std.specs.Prelude.{◌≡◌, ◌↔◌, IfErr, IfOk, IsTrue};
+ghost use Rattle.process_build.specs.Errors.{IsNoMemory};
+ghost use Rattle.subcommands.specs.Building.{IsExecutable, IsNoRunner, IsRunnerBy};
+
+use crate::stop::Stop;
+use process_build::Failure;
+use std::fs::Metadata;
+use std::os::unix::fs::PermissionsExt;
+use std::rt::Files;
+use std::{fs, io};
+
+// The bits of a file's mode that say who may execute it.
+const EXECUTE: u32 = 0o111;
+
+/// What a look at a path found there.
+#[derive(Clone, Copy, Debug, PartialEq, Eq)]
+pub enum Found {
+    /// A file that may be executed.
+    Program,
+    /// Anything else, or nothing that is told.
+    NoProgram,
+    /// Memory was refused.
+    NoMemory,
+}
+
+/// What a look at a path found there, and the path. Only `look_for` makes one.
+#[derive(Clone, Copy)]
+pub struct Seen<'p> {
+    path: &'p str,
+    found: Found,
+}
+
+/// Looks what lies at a path; links are followed.
+pub fn look_for<'p, R: Files>(rt: &R, path: &'p str) -> Seen<'p>
+    ensures { result.path ≡ path.entry }
+{
+    let found = found_by(fs::metadata(rt, path));
+    Seen { path, found }
+}
+
+// What the system's answer for a path tells.
+fn found_by(asked: io::Result<Metadata>) -> Found
+    ensures there { IfOk asked (λ found. IsExecutable found ↔ (result ≡ Found.Program)) }
+    ensures memory { IfErr asked (λ error. IsNoMemory error → result ≡ Found.NoMemory) }
+    ensures other { IfErr asked (λ error. ¬ (IsNoMemory error) → result ≡ Found.NoProgram) }
+{
+    match asked {
+        Ok(metadata) if is_executable(&metadata) => Found::Program,
+        Ok(_) => Found::NoProgram,
+        Err(error) => match Failure::from(error) {
+            Failure::NoMemory => Found::NoMemory,
+            _ => Found::NoProgram,
+        },
+    }
+}
+
+// Whether this is of a file that somebody may execute.
+fn is_executable(metadata: &Metadata) -> bool
+    ensures { IsTrue result ↔ IsExecutable metadata.now }
+{
+    metadata.is_file() && metadata.permissions().mode() & EXECUTE != 0
+}
+
+/// Evidence that the runner of a request, if it names one, is an absolute path of a file that may
+/// be executed.
+#[derive(Clone, Copy)]
+pub struct Runner<'a> {
+    path: Option<&'a str>,
+}
+
+impl<'a> Runner<'a> {
+    // The request names none.
+    fn none() -> Runner<'a>
+        ensures { result.path ≡ None }
+    {
+        Runner { path: None }
+    }
+
+    // By a look at its path.
+    fn by(word: &'a str, seen: Seen<'_>) -> Result<Runner<'a>, Stop<'a>>
+        requires { seen.path.now ≡ word.now }
+        ensures { IsRunnerBy word.entry seen.found result }
+    {
+        match seen.found {
+            Found::Program if word.starts_with('/') => Ok(Runner { path: Some(word) }),
+            Found::Program | Found::NoProgram => Err(Stop::NoRunner(word)),
+            Found::NoMemory => Err(Stop::NoMemory),
+        }
+    }
+
+    /// Its path.
+    pub fn path(self) -> Option<&'a str>
+        ensures { result ≡ self.path }
+    {
+        self.path
+    }
+}
+
+/// The runner of a request, if it names one. `NoRunner` where that is no absolute path of a file
+/// that may be executed, by one look at the path; `NoMemory`.
+pub fn runner_of<'a, R: Files>(rt: &R, word: Option<&'a str>) -> Result<Runner<'a>, Stop<'a>>
+    ensures ok { IfOk result (λ runner. runner.path ≡ word) }
+    ensures err { IfErr result (IsNoRunner word) }
+{
+    match word {
+        Some(word) => Runner::by(word, look_for(rt, word)),
+        None => Ok(Runner::none()),
+    }
+}
