@@ -3,7 +3,8 @@
 A word in angle brackets stands for a text: `<dir>` for the store folder, `<bom>` for a byte order
 mark, `<tab>` and `<cr>` for a tab and a carriage return, and other words for what earlier steps
 name. `put any` writes a draft to `<dir>/file` and lets `add-drv` add it under the name `any`: then
-`<any>` stands for the derivation's path, and `<any.out>` for the path of its output `out`. `twins`
+`<any>` stands for the derivation's path, `<any.out>` for the path of its output `out`, and
+`<any.file>` for the name of its file. `twins`
 does so with two drafts, of which the second may name the first: `<try>` is the first number with
 which the first path is the lesser, so both paths have to vary with it. `rising` does as `put` does,
 with the first number with which the paths of the outputs rise. `order` names the lesser and the
@@ -72,6 +73,8 @@ class Scene:
 
         def meant(found):
             word = found[0]
+            if word.endswith(".file>"):
+                return pathlib.Path(meant([word[:-6] + ">"])).name
             return self.said(self.texts[word]) if word in self.texts else self.names.get(word, word)
 
         return WORD.sub(meant, text)

@@ -76,7 +76,7 @@ impl<'p> Outputs<'p> {
         opens: &L,
         log: Option<&'p LogPath>,
     ) -> Result<Outputs<'p>, Reason>
-        ensures ok { IfOk result (λ outputs. outputs.log ≡ log) }
+        ensures ok { IfOk result (λ outputs. outputs.log ≡ log.entry) }
         ensures err { IfErr result (λ reason. (reason ≡ OutOfMemory) ⊎ (reason ≡ NoStart)) }
     {
         let (out, err) = match log {
@@ -88,7 +88,7 @@ impl<'p> Outputs<'p> {
 
     /// The streams of standard output and standard error.
     pub fn into_streams(self) -> (Stdio, Stdio)
-        ensures { (result.0 ≡ self.out) × (result.1 ≡ self.err) }
+        ensures { (result.0 ≡ self.entry.out) × (result.1 ≡ self.entry.err) }
     {
         let Outputs { log: _, out, err } = self;
         (out, err)

@@ -84,7 +84,7 @@ impl OwnManner {
 
 // A copy of a text, if there is one.
 fn owned(alloc: Global, text: Option<&str>) -> Result<Option<String>, AllocError>
-    ensures { IfOk result (λ copy. option_map string_bytes copy ≡ option_map (λ t. t.now) text) }
+    ensures { IfOk result (λ copy. option_map string_bytes copy ≡ option_map (λ t. t.now) text.entry) }
 {
     match text {
         Some(text) => Ok(Some(String::from_str(alloc, text)?)),
@@ -104,7 +104,7 @@ fn text_of(text: &Option<String>) -> Option<&str>
 
 // Another handle of a list, if there is one.
 fn shared(kept: Option<&KeptFolders>) -> Result<Option<KeptFolders>, AllocError>
-    ensures { IfOk result (λ copy. is_some copy ≡ is_some kept) }
+    ensures { IfOk result (λ copy. is_some copy ≡ is_some kept.entry) }
 {
     match kept {
         Some(kept) => Ok(Some(kept.again()?)),

@@ -65,11 +65,11 @@ fn command(
     call: &Call<'_>,
     outputs: Outputs<'_>,
 ) -> Result<Command, AllocError>
-    ensures { IfOk result (Runs (option_map (λ r. r.now) place.runner) call.now.builder.now
+    ensures { IfOk result (Runs (option_map (λ r. r.now) place.entry.runner) call.now.builder.now
         (map (λ a. a.now) call.now.args.items)
-        (entries_in_order place.store_dir.now (string_bytes place.folder.now.path)
+        (entries_in_order place.entry.store_dir.now (string_bytes place.entry.folder.now.path)
         (map entry_of_setting call.now.env.items))
-        (string_bytes place.folder.now.path)) }
+        (string_bytes place.entry.folder.now.path)) }
 {
     let folder = place.folder.path();
     let mut command = called(alloc, place.runner, call)?;
@@ -84,9 +84,9 @@ fn command(
 // anything else is said of it.
 fn called(alloc: Global, runner: Option<&str>, call: &Call<'_>) -> Result<Command, AllocError>
     ensures program { IfOk result (λ c. command_program c
-        ≡ program_by (option_map (λ r. r.now) runner) call.now.builder.now) }
+        ≡ program_by (option_map (λ r. r.now) runner.entry) call.now.builder.now) }
     ensures args { IfOk result (λ c. command_args c
-        ≡ args_by (option_map (λ r. r.now) runner) call.now.builder.now
+        ≡ args_by (option_map (λ r. r.now) runner.entry) call.now.builder.now
         (map (λ a. a.now) call.now.args.items)) }
 {
     let program = program(alloc, call.builder)?;
@@ -110,7 +110,7 @@ fn by_runner(alloc: Global, runner: &str, program: &str) -> Result<Command, Allo
 
 // The name that what is started is told as its own: the builder's, or the runner's path.
 fn name<'a>(runner: Option<&'a str>, builder: &'a str) -> &'a str
-    ensures { result.now ≡ name_by (option_map (λ r. r.now) runner) builder.now }
+    ensures { result.now ≡ name_by (option_map (λ r. r.now) runner.entry) builder.now }
 {
     match runner {
         Some(runner) => runner,

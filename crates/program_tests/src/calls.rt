@@ -57,6 +57,13 @@ const NO_JOURNAL: Step = Step::Stands(JOURNAL, false);
 
 const NO_TEMPORARY: Step = Step::Stands("<dir>/.nix_realise-0", false);
 
+// What standard error gets of a derivation that failed, where logs are kept,
+const SEEN: &str = "nix_realise: <any>: failed, see <dir>/logs/<any.file>.log\n";
+
+// and where the build folder is kept too.
+const SEEN_AND_KEPT: &str = "nix_realise: <any>: failed, see <dir>/logs/<any.file>.log\n\
+    nix_realise: <any>: kept <dir>/.build-0\n";
+
 // The texts on standard output and standard error and the status of a run, by its letter.
 fn told(letter: u8) -> (&'static str, &'static str, u8) {
     match letter {
@@ -78,6 +85,12 @@ fn told(letter: u8) -> (&'static str, &'static str, u8) {
         b'X' => ("failed <any>: ReadFault\n", "", 1),
         b'0' => ("failed <any>: MissingOutput(\"out\")\n", "", 1),
         b'd' => ("failed <any>: MissingOutput(\"dev\")\n", "", 1),
+        b'E' => ("", "nix_realise: /usr/bin/env: NoRunner\n", 2),
+        b'G' => ("", "nix_realise: <dir>/logs: Unwritable\n", 3),
+        b'n' => ("failed <any>: NoStart\n", SEEN, 1),
+        b'o' => ("failed <any>: OutOfMemory\n", SEEN, 1),
+        b'x' => ("failed <any>: ReadFault\n", SEEN_AND_KEPT, 1),
+        b'1' => ("failed <any>: MissingOutput(\"out\")\n", SEEN_AND_KEPT, 1),
         b'P' => ("build <any>\noutput <any.out>\n", "", 0),
         b'p' => ("built <any>\noutput <any.dev>\noutput <any.out>\n", "", 0),
         b't' => ("<text>\n", "", 0),
@@ -198,6 +211,15 @@ const BUILT: &str = "mkdir <dir>/.build-0\nspawn cd \"<dir>/.build-0\" && env -i
     out=\"<any.out>\" \"/bin/sh\" \"-c\" \"echo made > $out\" Stdio { .. } Stdio { .. } \
     Stdio { .. }\nwait \nlstat <any.out>\nopen <any.out>\nread \nread \n";
 
+// Those that build it by a runner, with a log.
+const BUILT_BY_A_RUNNER: &str = "mkdir <dir>/.build-0\nunlink <dir>/logs/<any.file>.log\n\
+    log <dir>/logs/<any.file>.log\nspawn cd \"<dir>/.build-0\" && env -i \
+    HOME=\"/homeless-shelter\" NIX_BUILD_TOP=\"<dir>/.build-0\" NIX_STORE=\"<dir>\" \
+    PATH=\"/path-not-set\" PWD=\"<dir>/.build-0\" TEMP=\"<dir>/.build-0\" \
+    TEMPDIR=\"<dir>/.build-0\" TMP=\"<dir>/.build-0\" TMPDIR=\"<dir>/.build-0\" k=\"v\" \
+    out=\"<any.out>\" \"/usr/bin/env\" \"/bin/sh\" \"-c\" \"echo made > $out\" Stdio { .. } \
+    Stdio { .. } Stdio { .. }\nwait \nlstat <any.out>\nopen <any.out>\nread \nread \n";
+
 // Those that write the journal.
 const WRITTEN: &str = "lstat <dir>/realiser-journal\ncreate <dir>/.nix_realise-0\nwrite \nsync \n\
     rename <dir>/.nix_realise-0 <dir>/realiser-journal\n";
@@ -221,7 +243,32 @@ const TWO_BUILT: &str = "mkdir <dir>/.build-0\nspawn cd \"<dir>/.build-0\" && en
     lstat <any.dev>\nlist <any.dev>\nread \nread \nlstat <any.dev>/a\nopen <any.dev>/a\nread \n\
     lstat <any.dev>/b\nlist <any.dev>/b\nread \nread \nlstat <any.out>\nopen <any.out>\nread \n";
 
-static RUN: [Row; 3] = [
+static RUN: [Row; 4] = [
+    // A builder that a runner starts has a log, which is made right before the start. Its folder
+    // waits for the end of the lease. What can't be removed of a log stands in the way of the log.
+    Row {
+        name: "calls-realise-by-a-runner",
+        before: &[PUT],
+        line: "nix_realise realise --store-dir <dir> --logs <dir>/logs --keep-failed --runner \
+            /usr/bin/env <any>",
+        calls: &[
+            "stat /usr/bin/env\n",
+            LOADED,
+            ENTERED,
+            TRIED,
+            "mkdir <dir>/logs\nlstat <any.out>\nlstat <dir>/.build-0\n",
+            BUILT_BY_A_RUNNER,
+            "lstat <dir>/.build-0\nlist <dir>/.build-0\nrmdir <dir>/.build-0\n",
+            WRITTEN,
+        ],
+        refusals: &[
+            b"rrrrr", b"EEEME", b"DDDMD", b"DDDMD", b"DDDMD", b"DDDMD", b"rrrMr", b"rLrML",
+            b"rRRMR", b"rJJMJ", b"JrJMJ", b"JJJMJ", b"GGGMG", b"rnnon", b"rnnon", b"nnnon",
+            b"rrrrr", b"nnnon", b"nnnon", b"xxxox", b"1xxox", b"xxxox", b"xxxox", b"xxxox",
+            b"rrrrr", b"rrrrr", b"rrrrr", b"rJJMJ", b"JrJMJ", b"JJJMJ", b"JJJMJ", b"JJJMJ",
+        ],
+        kept: &[NO_JOURNAL],
+    },
     Row {
         name: "calls-realise-two-outputs",
         before: &[Step::Put("any", TWO)],

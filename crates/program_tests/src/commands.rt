@@ -6,6 +6,7 @@ use nix_drv::read;
 use process_build::Builders;
 use std::alloc::{AllocError, Global};
 use std::fs;
+use std::path::Path;
 use std::test::Fail;
 
 impl Scene {
@@ -55,15 +56,23 @@ impl Scene {
         self.name_drv(rt, name, path)
     }
 
-    // Names the path of a derivation's file, and the paths of its outputs.
+    // Names the path of a derivation's file, the file's name, and the paths of its outputs.
     fn name_drv<R: Host>(&mut self, rt: &R, word: &str, path: String) -> Result<bool, Fail> {
         for (name, output) in outputs_of(rt, path.as_str())? {
             let word = format!(in rt.alloc(); "{word}.{name}")?;
             self.names.bind(rt.alloc(), word.as_str(), output)?;
         }
+        let file = String::from_str(rt.alloc(), file_name(path.as_str()))?;
+        let file_word = format!(in rt.alloc(); "{word}.file")?;
+        self.names.bind(rt.alloc(), file_word.as_str(), file)?;
         self.names.bind(rt.alloc(), word, path)?;
         Ok(true)
     }
+}
+
+// The name of the file at a path.
+fn file_name(path: &str) -> &str {
+    Path::new(path).file_name().unwrap_or("")
 }
 
 // The texts that a run writes and its status, in one text.

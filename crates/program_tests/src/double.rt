@@ -1,6 +1,7 @@
 //! A runtime over another runtime that keeps a log of each system call, and can let something
 //! happen between calls.
 use crate::running::Plain;
+use process_build::Logs;
 use std::alloc::{Allocator, Global};
 use std::fs::{Metadata, OpenFile, OpenOptions, Permissions};
 use std::io::{ErrorKind, Read, Seek, SeekFrom, Write};
@@ -250,6 +251,13 @@ impl<R: Plain> Locks for Double<R> {
         let call = if waits { "wait for" } else { "lock" };
         self.shared.note(call, dir)?;
         self.shared.host.lock(dir, waits)
+    }
+}
+
+impl<R: Plain> Logs for Double<R> {
+    fn open_log(&self, path: &str) -> io::Result<(Stdio, Stdio)> {
+        self.shared.note("log", path)?;
+        self.shared.host.open_log(path)
     }
 }
 

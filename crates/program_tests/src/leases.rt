@@ -4,7 +4,7 @@ use crate::running::{Outcome, Plain};
 use crate::scene::Scene;
 use crate::steps::Step;
 use crate::texts::replaced;
-use process_build::{Builders, ByProcesses, ProcessBuild, Progress, Watching};
+use process_build::{Builders, ByProcesses, DrvPaths, Progress, Watching};
 use sched_core::{Build, Job};
 use std::alloc::{AllocError, Global};
 use std::process;
@@ -170,7 +170,7 @@ fn folders_of_later_leases(rt: HostRuntime) -> Result<(), Fail> {
     let job = scene.site.job(rt.alloc(), b"/bin/sh", &["out"])?;
     for number in [64, 256, 65_536, u64::MAX] {
         let double = Double::new(rt.clone()?, rt.clone()?, Event::Nothing)?;
-        let build = ProcessBuild::new(rt.alloc(), &double, &double, folder)?;
+        let build = scene.site.builder(rt.alloc(), &double, &double)?;
         let is_right = is_in_its_folder(&double, &build, (folder, &job), number)?;
         assert!(rt; is_right, "at {number}");
     }
@@ -181,13 +181,15 @@ fn folders_of_later_leases(rt: HostRuntime) -> Result<(), Fail> {
 #[test]
 fn folders_behind_the_line_of_progress(rt: HostRuntime) -> Result<(), Fail> {
     let scene = Scene::new(&rt, process::id(rt.process()), "watched-leases")?;
+    let drvs = DrvPaths::none(rt.alloc())?;
     let folder = scene.site.folder.as_str();
     let job = scene.site.job(rt.alloc(), b"/bin/sh", &["out"])?;
     for number in [1, 64, u64::MAX] {
         let double = Double::new(rt.clone()?, rt.clone()?, Event::Nothing)?;
         let make = ByProcesses::new(&double, &double);
         let progress = Progress::new(Vec::new(rt.alloc()));
-        let build = Watching::new(&rt, &make, &progress).builder(rt.alloc(), folder)?;
+        let make = Watching::new(&rt, &make, &progress);
+        let build = make.builder(rt.alloc(), &scene.site.manner(&drvs))?;
         let is_right = is_in_its_folder(&double, &build, (folder, &job), number)?;
         assert!(rt; is_right, "at {number}");
     }

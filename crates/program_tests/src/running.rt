@@ -1,6 +1,6 @@
 //! Running the program on command lines, and what a run needs.
 
-use process_build::Builders;
+use process_build::{Builders, Logs, Manner};
 use sched_core::{Answer, Build, Job, Reason, Watch};
 use std::alloc::{AllocError, Global};
 use std::io::Write;
@@ -31,9 +31,9 @@ pub trait Plain: Wait + Clone + Drop {}
 impl<R: Wait + Clone + Drop> Plain for R {}
 
 /// What a run needs of its host.
-pub trait Host: Files + Locks + AllocGlobal + Threads + Wait + Sync + Clone + Drop {}
+pub trait Host: Files + Locks + Logs + AllocGlobal + Threads + Wait + Sync + Clone + Drop {}
 
-impl<R: Files + Locks + AllocGlobal + Threads + Wait + Sync + Clone + Drop> Host for R {}
+impl<R: Files + Locks + Logs + AllocGlobal + Threads + Wait + Sync + Clone + Drop> Host for R {}
 
 /// A builder that starts nothing.
 #[derive(Drop)]
@@ -58,7 +58,7 @@ impl Builders for Idle {
 
     ghost builds_in = { λ _ _. Unit {0} };
 
-    fn builder(&self, _alloc: Global, _store_dir: &str) -> Result<Idle, AllocError> {
+    fn builder(&self, _alloc: Global, _manner: &Manner<'_>) -> Result<Idle, AllocError> {
         Ok(Idle)
     }
 }

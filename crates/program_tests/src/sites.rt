@@ -5,7 +5,7 @@ use crate::steps::Step;
 use drv_graph::Kind;
 use nix_drv::EnvEntry;
 use nix_names::{StoreDir, parse_path};
-use process_build::ProcessBuild;
+use process_build::{DrvPaths, Manner, ProcessBuild};
 use ref_scan::{Member, Tree};
 use sched_core::{Answer, Build, Job, JobOutput, Reason};
 use std::alloc::{AllocError, Global};
@@ -92,9 +92,31 @@ impl Site {
         Ok(job.outputs.push(JobOutput { name, path })?)
     }
 
+    /// A builder of this folder that no runner starts, that keeps no log and no build folder.
+    pub fn builder<'a, R, P>(
+        &self,
+        alloc: Global,
+        rt: &'a R,
+        processes: &'a P,
+    ) -> Result<ProcessBuild<'a, R, P>, AllocError> {
+        let drvs = DrvPaths::none(alloc)?;
+        ProcessBuild::new(alloc, rt, processes, &self.manner(&drvs))
+    }
+
+    /// How it builds, where the run's derivations have these paths.
+    pub fn manner<'s>(&'s self, drvs: &'s DrvPaths) -> Manner<'s> {
+        Manner {
+            store_dir: self.folder.as_str(),
+            runner: None,
+            logs: None,
+            kept: None,
+            drvs,
+        }
+    }
+
     // Builds a job as the job of lease 0.
     fn run<R: Host + Processes>(&self, rt: &R, job: &Job) -> Result<Answer, Reason> {
-        ProcessBuild::new(rt.alloc(), rt, rt, self.folder.as_str())?.run(0, job)
+        self.builder(rt.alloc(), rt, rt)?.run(0, job)
     }
 }
 

@@ -3,7 +3,7 @@ use crate::running::new_folder;
 use crate::scene::first_fault;
 use crate::sites::{Call, Made, PATH, Site};
 use crate::steps::{Row, Step};
-use process_build::{ByProcesses, ProcessBuild};
+use process_build::{ByProcesses, Logs};
 use sched_core::{Build, Job, Reason};
 use std::alloc::Allocator;
 use std::cell::Cell;
@@ -258,7 +258,7 @@ impl Processes for LostProcesses {
 
 // Why a job fails for which no process can be started, and how often a start was tried, if the
 // build folder is removed.
-fn refusal<R: Files + AllocGlobal>(
+fn refusal<R: Files + Logs + AllocGlobal>(
     rt: &R,
     site: &Site,
     job: &Job,
@@ -268,7 +268,7 @@ fn refusal<R: Files + AllocGlobal>(
         cause,
         starts: Cell::new(0),
     };
-    let build = ProcessBuild::new(rt.alloc(), rt, &none, site.folder.as_str())?;
+    let build = site.builder(rt.alloc(), rt, &none)?;
     let reason = build.run(0, job).err();
     let folder = format!(in rt.alloc(); "{}/.build-0", site.folder)?;
     let stands = fs::symlink_metadata(rt, folder.as_str()).is_ok();
@@ -303,7 +303,7 @@ fn refused_starts(rt: HostRuntime) -> Result<(), Fail> {
         let came = refusal(&rt, &site, &job, cause)?;
         assert_eq!(rt; came, Some((reason, starts)), "at {cause:?}");
     }
-    let lost = ProcessBuild::new(rt.alloc(), &rt, &LostProcesses, site.folder.as_str())?;
+    let lost = site.builder(rt.alloc(), &rt, &LostProcesses)?;
     assert!(rt;
         lost.run(0, &job).err() == Some(Reason::ReadFault),
         "at a wait"

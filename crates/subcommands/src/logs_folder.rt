@@ -34,7 +34,7 @@ impl<'a> LogsFolder<'a> {
 
     /// Its path.
     pub fn path(self) -> Option<&'a str>
-        ensures { result ≡ self.path }
+        ensures { result ≡ self.entry.path }
     {
         self.path
     }
@@ -43,8 +43,8 @@ impl<'a> LogsFolder<'a> {
 /// The folder of logs of a request, if it names one: it is made where nothing lies at its path.
 /// `NoLogs` where it can't be made, or where anything but a folder lies there; `NoMemory`.
 pub fn logs_folder<'a, R: Files>(rt: &R, word: Option<&'a str>) -> Result<LogsFolder<'a>, Stop<'a>>
-    ensures ok { IfOk result (λ folder. folder.path ≡ word) }
-    ensures err { IfErr result (IsNoFolder word) }
+    ensures ok { IfOk result (λ folder. folder.path ≡ word.entry) }
+    ensures err { IfErr result (IsNoFolder word.entry) }
 {
     match word {
         Some(word) => LogsFolder::by(word, made(rt, word)),

@@ -91,7 +91,7 @@ impl<'a> Runner<'a> {
 
     /// Its path.
     pub fn path(self) -> Option<&'a str>
-        ensures { result ≡ self.path }
+        ensures { result ≡ self.entry.path }
     {
         self.path
     }
@@ -100,8 +100,8 @@ impl<'a> Runner<'a> {
 /// The runner of a request, if it names one. `NoRunner` where that is no absolute path of a file
 /// that may be executed, by one look at the path; `NoMemory`.
 pub fn runner_of<'a, R: Files>(rt: &R, word: Option<&'a str>) -> Result<Runner<'a>, Stop<'a>>
-    ensures ok { IfOk result (λ runner. runner.path ≡ word) }
-    ensures err { IfErr result (IsNoRunner word) }
+    ensures ok { IfOk result (λ runner. runner.path ≡ word.entry) }
+    ensures err { IfErr result (IsNoRunner word.entry) }
 {
     match word {
         Some(word) => Runner::by(word, look_for(rt, word)),
