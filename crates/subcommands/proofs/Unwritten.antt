@@ -1,12 +1,13 @@
 -- How a run of `realise` ends where it is found out that the journal can't be written.
-use Rattle.std.proofs.Common.{◌≡◌, ◌⊎◌, ◌∙◌, ap, inl, inr, Result, Err}
-use Rattle.subcommands.specs.declared.status.Status.{Status}
+use Rattle.std.proofs.Common.{◌≡◌, ◌⊎◌, inl, inr, subst, sym}
+use Rattle.command_line.specs.declared.options.RealiseRequest.{RealiseRequest}
+use Rattle.subcommands.specs.Building.{IsNoFolder}
+use Rattle.subcommands.specs.Realising.{IsNotBegun}
 use Rattle.subcommands.specs.declared.stop.Stop.{Stop}
 use Rattle.subcommands.specs.declared.stop.Stop.TheVariants.{JournalNotWritten, NoMemory}
 
 -- the fault of the journal's trial is what the run ends with
-pub told : (result : Result Status Stop) (stop : Stop) → result ≡ Err stop
-    → (stop ≡ NoMemory) ⊎ (stop ≡ JournalNotWritten)
-    → (result ≡ Err JournalNotWritten) ⊎ (result ≡ Err NoMemory)
-told result stop is (inl memory) = inr (is ∙ ap Err memory)
-told result stop is (inr journal) = inl (is ∙ ap Err journal)
+pub not_begun : (request : RealiseRequest) (stop : Stop)
+    → (stop ≡ NoMemory) ⊎ (stop ≡ JournalNotWritten) → IsNotBegun request stop
+not_begun request stop (inl memory) = inr (subst (IsNoFolder request.logs) (sym memory) tt)
+not_begun request stop (inr journal) = inl journal

@@ -75,8 +75,7 @@ RunEnds may request task before after result =
 -- Why the workers of a run don't start, though it has a plan and a journal: the journal can't be
 -- written; the folder of logs can't be made; or memory is refused.
 abbrev pub IsNotBegun : RealiseRequest → Stop → Type 0
-IsNotBegun request JournalNotWritten = Unit {0}
-IsNotBegun request stop = IsNoFolder request.logs stop
+IsNotBegun request stop = (stop ≡ JournalNotWritten) ⊎ IsNoFolder request.logs stop
 
 -- How a run over a plan and a journal ends, whose workers may not start: then nothing is printed.
 abbrev pub TaskEnds : May → RealiseRequest → Task → (before after : Option Bytes)

@@ -1,6 +1,6 @@
 use Rattle.std.proofs.Common.{◌∙◌, ap, inl, inr, refl, subst, Err, Ok}
 use Rattle.std.proofs.lemmas.Result.{err_from_is_err_and}
-use Rattle.subcommands.proofs.Unwritten.{told}
+use Rattle.subcommands.proofs.Unwritten.{not_begun}
 use Rattle.subcommands.specs.AddedText.{IsJournalOf}
 use Rattle.subcommands.specs.Files.{FileBytes, journal_bytes}
 use Rattle.subcommands.specs.declared.files.FileFault.TheVariants.{Unreadable}
@@ -32,18 +32,8 @@ returns-in_err-tried g c =
     let made = c.in_ok-task.ensures.ok in
     let journal =
     subst (λ d. IsJournalOf d gave (Ok c.in_ok-task.task.journal)) c.requires.dir made.1 in
-    let fault = told step.result e.0 e.1 e.2.1 in
-    (gave, inr (c.in_ok-task.task, made.0, journal, inr (fault, refl)))
-
-pub returns-in_err-builders : goal.returns-in_err-builders
-returns-in_err-builders g c =
-    let gave : FileBytes = journal_bytes c.read.result in
-    let step = c.from_residual-in_err-builders in
-    let e = err_from_is_err_and step.result step.ensures.1 in
-    let made = c.in_ok-task.ensures.ok in
-    let journal =
-    subst (λ d. IsJournalOf d gave (Ok c.in_ok-task.task.journal)) c.requires.dir made.1 in
-    (gave, inr (c.in_ok-task.task, made.0, journal, inr (inr (e.1 ∙ ap Err e.2), refl)))
+    let fault = not_begun c.args.request.now e.0 e.2.1 in
+    (gave, inr (c.in_ok-task.task, made.0, journal, inr (e.0, e.1, refl, fault)))
 
 pub returns : goal.returns
 returns g c =
@@ -51,4 +41,4 @@ returns g c =
     let made = c.in_ok-task.ensures.ok in
     let journal =
     subst (λ d. IsJournalOf d gave (Ok c.in_ok-task.task.journal)) c.requires.dir made.1 in
-    (gave, inr (c.in_ok-task.task, made.0, journal, inl c.run_task.ensures))
+    (gave, inr (c.in_ok-task.task, made.0, journal, c.run_task.ensures))
