@@ -1,5 +1,6 @@
 """Store folders in which builders run by a runner and without one, for `tests/runners`."""
 
+import ast
 import os
 import pathlib
 import re
@@ -71,8 +72,8 @@ class Scene:
         text = HERE.parent / "examples/texts/greeting.txt"
         known = {"greeting.txt": self.call("add-text", "greeting.txt", text).strip()}
         for name in ("greet", "split", "user", "guide", "broken", "shelf"):
-            draft_text = (DRAFTS / f"{name}.drv").read_text()
-            path, _ = self.add_drv(name, DEMO_PATH.sub(lambda it: known[it[1]], draft_text))
+            text = DEMO_PATH.sub(lambda it: known[it[1]], (DRAFTS / f"{name}.drv").read_text())
+            path, _ = self.add_drv(name, in_order(text))
             outputs = outputs_in(pathlib.Path(path).read_text()).values()
             known |= {pathlib.Path(place).name[33:]: place for place in (path, *outputs)}
         return [known[f"{name}.drv"] for name in ("user", "guide", "shelf")]
@@ -90,6 +91,16 @@ def draft(builder, script, inputs, known):
         listed(f"({quoted(key)},{quoted(value)})" for key, value in by_bytes(known.items())),
     ]
     return "Derive(" + ",".join(parts) + ")"
+
+
+def in_order(text):
+    """A draft whose inputs are brought into their order, which other paths have changed."""
+    inputs = text[text.index("],[") + 2 : text.index("],[", text.index("],[") + 3) + 1]
+    rows = ast.literal_eval(inputs)
+    listed_rows = listed(
+        f"({quoted(path)},{listed(map(quoted, names))})" for path, names in sorted(rows)
+    )
+    return text.replace(inputs, listed_rows, 1)
 
 
 def by_bytes(entries):
