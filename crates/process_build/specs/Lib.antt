@@ -7,3 +7,4 @@ pub mod Answers
 pub mod BuilderCalls
 pub mod Contents
 pub mod Folders
+pub mod Orders

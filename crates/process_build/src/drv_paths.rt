@@ -1,5 +1,5 @@
 //! The paths of a run's derivations, by their numbers in the plan.
-ghost use Rattle.std.specs.Prelude.{◌≡◌, [], IfOk, option_map, slice_get};
+ghost use Rattle.std.specs.Prelude.{◌≡◌, IfOk, option_map, slice_get};
 ghost use Rattle.drv_graph.specs.Nodes.{paths_of};
 
 use drv_graph::Plan;
@@ -32,15 +32,6 @@ impl DrvPaths {
         let paths = copied(alloc, plan)?;
         Ok(DrvPaths {
             shared: Arc::new(alloc, paths)?,
-        })
-    }
-
-    /// No path.
-    pub fn none(alloc: Global) -> Result<DrvPaths, AllocError>
-        ensures { IfOk result (λ paths. paths ≡ []) }
-    {
-        Ok(DrvPaths {
-            shared: Arc::new(alloc, Vec::new(alloc))?,
         })
     }
 

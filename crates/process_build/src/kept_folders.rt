@@ -20,9 +20,9 @@ pub struct KeptFolders {
 }
 
 impl KeptFolders {
-    /// No folder is kept yet.
-    pub fn new(alloc: Global) -> Result<KeptFolders, AllocError> {
-        let none = Mutex::new(Vec::new(alloc));
+    /// No folder is kept yet. There is room for so many.
+    pub fn new(alloc: Global, count: usize) -> Result<KeptFolders, AllocError> {
+        let none = Mutex::new(Vec::with_capacity(alloc, count)?);
         Ok(KeptFolders {
             shared: Arc::new(alloc, none)?,
         })
@@ -36,7 +36,7 @@ impl KeptFolders {
         })
     }
 
-    /// Adds a folder to the list.
+    /// Adds a folder to the list. Costs no allocation while there is room.
     pub fn note<R: Wait>(&self, rt: &R, kept: KeptFolder) -> Result<(), AllocError> {
         self.shared.lock(rt).push(kept)?;
         Ok(())

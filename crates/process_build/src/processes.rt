@@ -2,7 +2,8 @@
 ghost use Rattle.std.specs.Prelude.{◌≡◌, ◌⊎◌, IfErr, IfOk, string_bytes};
 ghost use Rattle.process_build.specs.Answers.{answer_of, may_have_run, IsAnswerOf, IsReadingFault};
 ghost use Rattle.process_build.specs.Answers.{IsRoomFault, IsRunFault};
-ghost use Rattle.process_build.specs.Manners.{IsLogOf, IsMannerOf, IsPlaceOf};
+ghost use Rattle.process_build.specs.Manners.{IsMannerOf};
+ghost use Rattle.process_build.specs.Orders.{IsLogOf, IsNoteOf, IsOrderOf, IsPlaceOf};
 
 use crate::builders::Builders;
 use crate::call::Call;
@@ -16,7 +17,6 @@ use crate::reasons::{no_room, no_start};
 use crate::removal::Clearing;
 use crate::start::{Place, run_builder};
 use build_outcome::{Answer, Build, Job, Reason, Watch};
-use nix_names::StorePath;
 use std::alloc::{AllocError, Global};
 use std::cell::Cell;
 use std::fs;
@@ -37,14 +37,18 @@ pub struct ProcessBuild<'a, R, P> {
     rt: &'a R,
     processes: &'a P,
     manner: OwnManner,
-    left: Cell<Option<LeftFolder>>,
+    // The build folder of a builder that ran, whose lease hasn't ended.
+    left: Cell<Option<KeptFolder>>,
 }
 
-// The build folder of a builder that ran, whose lease hasn't ended, and the derivation's number.
+// What is made for a lease before anything is changed.
 #[derive(Drop)]
-struct LeftFolder {
-    derivation: usize,
+struct Order<'a> {
+    call: Call<'a>,
+    log: Option<LogPath>,
     folder: BuildFolder,
+    // What is noted if the folder is kept.
+    note: Option<KeptFolder>,
 }
 
 impl<'a, R, P> ProcessBuild<'a, R, P> {
@@ -110,13 +114,10 @@ impl<R: Files + Logs + AllocGlobal, P: Processes> Build for ProcessBuild<'_, R, 
     /// fails. `ReadFault` where its end can't be waited for. `ReadFault` and `TooLarge` where an
     /// output can't be read or passes a limit. `OutOfMemory` where memory was refused.
     fn run(&self, number: u64, job: &Job) -> Result<Answer, Reason> {
-        let alloc = self.rt.alloc();
-        let call = Call::of(alloc, job)?;
-        let log = self.log_of(job)?;
-        let folder = BuildFolder::new(alloc, self.manner.store_dir(), number)?;
+        let order = self.order(number, job)?;
         let mut clearing = Clearing::new(self.rt, self.manner.store_dir());
-        let left = self.build(&folder, &call, job, log.as_ref(), &mut clearing);
-        self.leave(folder, job.derivation, may_have_run(&left), &mut clearing);
+        let left = self.build(&order, job, &mut clearing);
+        self.leave(order, may_have_run(&left), &mut clearing);
         clearing.finish();
         Ok(left?.answer())
     }
@@ -128,13 +129,10 @@ impl<R: Files + AllocGlobal + Wait, P> Watch for ProcessBuild<'_, R, P> {
     /// Clears the build folder that waits for the end of its lease, or keeps it, if the build
     /// failed.
     fn ended(&self, is_good: bool, _unsettled: usize) {
-        let Some(left) = self.left.take() else {
-            return;
-        };
-        if is_good || !self.keeps(&left) {
-            let mut clearing = Clearing::new(self.rt, self.manner.store_dir());
-            let _ = clearing.clear(left.folder.path());
-            clearing.finish();
+        match self.left.take() {
+            Some(left) if is_good => self.clear(&left),
+            Some(left) => self.keep(left),
+            None => {}
         }
     }
 }
@@ -147,36 +145,23 @@ fn may_have_run(left: &Result<Left, Reason>) -> bool
 }
 
 impl<R: Files + AllocGlobal + Wait, P> ProcessBuild<'_, R, P> {
-    // Adds a build folder to the list of those that are kept, if it is there. Where memory is
-    // refused the folder isn't kept, so that none is kept that isn't told.
-    fn keeps(&self, left: &LeftFolder) -> bool {
-        let (Some(kept), Some(drv)) = (self.manner.kept(), self.manner.drvs().get(left.derivation))
-        else {
-            return false;
+    // Adds a build folder to the list of those that are kept, unless nothing lies there. The list
+    // has room for every derivation of the run.
+    fn keep(&self, left: KeptFolder) {
+        let Some(kept) = self.manner.kept() else {
+            return;
         };
-        if fs::symlink_metadata(self.rt, left.folder.path()).is_err() {
-            return false;
-        }
-        match kept_folder(self.rt.alloc(), drv, &left.folder) {
-            Ok(folder) => kept.note(self.rt, folder).is_ok(),
-            Err(_) => false,
+        if fs::symlink_metadata(self.rt, left.folder.as_str()).is_ok() {
+            let _ = kept.note(self.rt, left);
         }
     }
-}
 
-// A build folder and the path of its derivation, to be kept.
-fn kept_folder(
-    alloc: Global,
-    drv: &StorePath,
-    folder: &BuildFolder,
-) -> Result<KeptFolder, AllocError>
-    ensures { IfOk result (λ kept. (kept.drv ≡ drv.now)
-        × (string_bytes kept.folder ≡ string_bytes folder.now.path)) }
-{
-    Ok(KeptFolder {
-        drv: drv.copy(alloc)?,
-        folder: String::from_str(alloc, folder.path())?,
-    })
+    // Clears a build folder whose builder didn't fail.
+    fn clear(&self, left: &KeptFolder) {
+        let mut clearing = Clearing::new(self.rt, self.manner.store_dir());
+        let _ = clearing.clear(left.folder.as_str());
+        clearing.finish();
+    }
 }
 
 impl<R: Files + Logs + AllocGlobal, P: Processes> ProcessBuild<'_, R, P> {
@@ -195,18 +180,44 @@ impl<R: Files + Logs + AllocGlobal, P: Processes> ProcessBuild<'_, R, P> {
         Ok(Some(log))
     }
 
+    // What is noted if the build folder of a job is kept: nothing where none are.
+    fn note_of(&self, job: &Job, folder: &BuildFolder) -> Result<Option<KeptFolder>, AllocError>
+        ensures { IfOk result (IsNoteOf self.now.manner job.now.derivation folder.now) }
+    {
+        match (self.manner.kept(), self.manner.drvs().get(job.derivation)) {
+            (Some(_), Some(drv)) => Ok(Some(KeptFolder {
+                drv: drv.copy(self.rt.alloc())?,
+                folder: String::from_str(self.rt.alloc(), folder.path())?,
+            })),
+            _ => Ok(None),
+        }
+    }
+
+    // What is made for the lease with this number before anything is changed.
+    fn order<'j>(&self, number: u64, job: &'j Job) -> Result<Order<'j>, Reason>
+        ensures ok { IfOk result (IsOrderOf self.now.manner number job.now) }
+        ensures err { IfErr result IsRoomFault }
+    {
+        let alloc = self.rt.alloc();
+        let call = Call::of(alloc, job)?;
+        let log = self.log_of(job)?;
+        let folder = BuildFolder::new(alloc, self.manner.store_dir(), number)?;
+        let note = self.note_of(job, &folder)?;
+        Ok(Order {
+            call,
+            log,
+            folder,
+            note,
+        })
+    }
+
     // Leaves the build folder of a builder that may have run until the end of the lease, if the
     // folders of builders that failed are kept, and else clears it. The answer stands, whether the
     // folder can be removed or not.
-    fn leave(
-        &self,
-        folder: BuildFolder,
-        derivation: usize,
-        may_have_run: bool,
-        clearing: &mut Clearing<'_, R>,
-    ) {
-        if may_have_run && self.manner.kept().is_some() {
-            self.left.set(Some(LeftFolder { derivation, folder }));
+    fn leave(&self, order: Order<'_>, may_have_run: bool, clearing: &mut Clearing<'_, R>) {
+        let Order { folder, note, .. } = order;
+        if may_have_run && note.is_some() {
+            self.left.set(note);
         } else {
             let _ = clearing.clear(folder.path());
         }
@@ -215,19 +226,18 @@ impl<R: Files + Logs + AllocGlobal, P: Processes> ProcessBuild<'_, R, P> {
     // Makes room, runs the builder, and reads what it left, if its exit status is 0.
     fn build(
         &self,
-        folder: &BuildFolder,
-        call: &Call<'_>,
+        order: &Order<'_>,
         job: &Job,
-        log: Option<&LogPath>,
         clearing: &mut Clearing<'_, R>,
     ) -> Result<Left, Reason>
         ensures good { IfOk result (λ left. IsAnswerOf job.now (answer_of left)) }
         ensures bad { IfErr result (λ reason. IsRunFault reason ⊎ IsReadingFault reason) }
     {
-        self.make_room(folder, job, clearing)?;
+        self.make_room(&order.folder, job, clearing)?;
         let alloc = self.rt.alloc();
-        let outputs = Outputs::to(self.rt, self.rt, log)?;
-        let ended = run_builder(alloc, self.processes, self.place(folder), call, outputs)?;
+        let outputs = Outputs::to(self.rt, self.rt, order.log.as_ref())?;
+        let place = self.place(&order.folder);
+        let ended = run_builder(alloc, self.processes, place, &order.call, outputs)?;
         let trees = match ended.code() {
             Some(0) => read_outputs(self.rt, job)?,
             _ => Vec::new(alloc),

@@ -4,7 +4,7 @@ use crate::running::{Outcome, Plain};
 use crate::scene::Scene;
 use crate::steps::Step;
 use crate::texts::replaced;
-use process_build::{Builders, ByProcesses, DrvPaths, Progress, Watching};
+use process_build::{Builders, ByProcesses, Progress, Watching};
 use sched_core::{Build, Job};
 use std::alloc::{AllocError, Global};
 use std::process;
@@ -181,7 +181,7 @@ fn folders_of_later_leases(rt: HostRuntime) -> Result<(), Fail> {
 #[test]
 fn folders_behind_the_line_of_progress(rt: HostRuntime) -> Result<(), Fail> {
     let scene = Scene::new(&rt, process::id(rt.process()), "watched-leases")?;
-    let drvs = DrvPaths::none(rt.alloc())?;
+    let drvs = scene.site.no_paths(rt.alloc())?;
     let folder = scene.site.folder.as_str();
     let job = scene.site.job(rt.alloc(), b"/bin/sh", &["out"])?;
     for number in [1, 64, u64::MAX] {

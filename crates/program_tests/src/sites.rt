@@ -2,8 +2,8 @@
 use crate::running::Host;
 use crate::scene::Scene;
 use crate::steps::Step;
-use drv_graph::Kind;
-use nix_drv::EnvEntry;
+use drv_graph::{Kind, Plan};
+use nix_drv::{EnvEntry, ListSource};
 use nix_names::{StoreDir, parse_path};
 use process_build::{DrvPaths, Manner, ProcessBuild};
 use ref_scan::{Member, Tree};
@@ -98,9 +98,17 @@ impl Site {
         alloc: Global,
         rt: &'a R,
         processes: &'a P,
-    ) -> Result<ProcessBuild<'a, R, P>, AllocError> {
-        let drvs = DrvPaths::none(alloc)?;
-        ProcessBuild::new(alloc, rt, processes, &self.manner(&drvs))
+    ) -> Result<ProcessBuild<'a, R, P>, Fail> {
+        let drvs = self.no_paths(alloc)?;
+        Ok(ProcessBuild::new(alloc, rt, processes, &self.manner(&drvs))?)
+    }
+
+    /// The paths of a plan without derivations.
+    pub fn no_paths(&self, alloc: Global) -> Result<DrvPaths, Fail> {
+        let dir = StoreDir::new(alloc, self.folder.as_bytes())?;
+        let mut source = ListSource::new(alloc, Vec::new(alloc), Vec::new(alloc))?;
+        let plan = Plan::load(alloc, &mut source, &dir, &[])?;
+        Ok(DrvPaths::of(alloc, &plan)?)
     }
 
     /// How it builds, where the run's derivations have these paths.
@@ -115,8 +123,8 @@ impl Site {
     }
 
     // Builds a job as the job of lease 0.
-    fn run<R: Host + Processes>(&self, rt: &R, job: &Job) -> Result<Answer, Reason> {
-        self.builder(rt.alloc(), rt, rt)?.run(0, job)
+    fn run<R: Host + Processes>(&self, rt: &R, job: &Job) -> Result<Result<Answer, Reason>, Fail> {
+        Ok(self.builder(rt.alloc(), rt, rt)?.run(0, job))
     }
 }
 
@@ -131,7 +139,7 @@ impl Scene {
         let builder = self.bytes(rt.alloc(), call.builder)?;
         let mut job = self.site.job(rt.alloc(), &builder, call.outputs)?;
         add_call(rt.alloc(), &mut job, call.args, call.env)?;
-        self.is_made(rt.alloc(), &self.site.run(rt, &job), made)
+        self.is_made(rt.alloc(), &self.site.run(rt, &job)?, made)
     }
 
     // Whether no process is started for the builder at this path.
@@ -194,7 +202,7 @@ impl Scene {
         let mut job = self.site.job(rt.alloc(), b"/bin/sh", outputs)?;
         let (args, env) = ([b"-c".as_slice(), script.as_bytes()], [PATH]);
         add_call(rt.alloc(), &mut job, &args, &env)?;
-        self.is_made(rt.alloc(), &self.site.run(rt, &job), made)
+        self.is_made(rt.alloc(), &self.site.run(rt, &job)?, made)
     }
 
     // Whether a builder's outcome is this one.

@@ -1,9 +1,8 @@
 -- What a run makes of the system's answers on the program that starts its builders, and on the
 -- folder of logs; and how its builders build.
-use Rattle.std.specs.Prelude.{◌≡◌, ◌≢◌, ◌⊎◌, List, Option, Some, None, Result, Ok, Err, codes, is_some, true, bit_and}
+use Rattle.std.specs.Prelude.{◌≡◌, ◌≢◌, ◌⊎◌, List, Option, Some, None, Result, Ok, Err, bit_and, is_some, slice_get}
 use Rattle.std.specs.Borrow.{Bor}
 use Rattle.std.specs.Fs.{IsFile, file_type, metadata_mode}
-use Rattle.std.specs.List.{starts_with}
 use Rattle.std.specs.declared.fs.Metadata.{Metadata}
 use Rattle.nix_names.specs.Bytes.{Bytes, Path}
 use Rattle.process_build.specs.declared.failures.Failure.{Failure}
@@ -25,7 +24,7 @@ IsExecutable metadata =
 
 -- the path is absolute: it begins with a slash
 abbrev pub IsAbsolute : (path : Bytes) → Type 0
-IsAbsolute path = starts_with path (codes "/") ≡ true
+IsAbsolute path = slice_get path 0 ≡ Some 47
 
 -- the runner that a request names, by the look at its path
 abbrev pub IsRunnerBy : (word : Bor Bytes) → Found → Result Runner Stop → Type 0

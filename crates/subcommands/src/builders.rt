@@ -9,15 +9,16 @@ use process_build::{Builders, DrvPaths, KeptFolders, Manner};
 use std::alloc::{AllocError, Global};
 
 /// The list of the build folders that a run keeps, if the request asks to keep those of builders
-/// that failed.
+/// that failed. It has room for one of each of `count` derivations.
 pub fn kept_folders(
     alloc: Global,
     request: &RealiseRequest<'_>,
+    count: usize,
 ) -> Result<Option<KeptFolders>, AllocError>
     ensures { IfOk result (λ kept. is_some kept ≡ request.now.keep_failed) }
 {
     if request.keep_failed {
-        Ok(Some(KeptFolders::new(alloc)?))
+        Ok(Some(KeptFolders::new(alloc, count)?))
     } else {
         Ok(None)
     }

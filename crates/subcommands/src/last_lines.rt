@@ -1,5 +1,6 @@
 //! The lines that standard error gets at the end of a run of `realise`.
-ghost use Rattle.std.specs.Prelude.{◌≡◌, ◌++◌, IfOk, OnOk, drop, flat_map, length};
+ghost use Rattle.std.specs.Prelude.{◌≡◌, ◌++◌, IfOk, OnOk, codes, drop, flat_map, length};
+ghost use Rattle.process_build.specs.Manners.{log_path_of};
 ghost use Rattle.run_report.specs.Listing.{AreWithin};
 ghost use Rattle.run_report.specs.Reports.{path_at};
 ghost use Rattle.subcommands.specs.LastLines.{AreFailedLines, IsFailedText, IsKeptText, IsLastText};
@@ -126,19 +127,37 @@ fn write_failed_line(
     ensures { OnOk result (out.new.items
         ≡ out.old.items ++ failed_line logs.now store_dir.now drv.now) }
 {
-    write_parts(
-        &[
-            b"nix_realise: ",
-            drv.text(),
-            b": failed, see ",
-            logs.as_bytes(),
-        ],
-        out,
-    )?;
-    write_parts(&[after(drv.text(), store_dir.len()), b".log\n"], out)
+    write_front(drv, b": failed, see ", out)?;
+    write_log_path(logs, store_dir, drv, out)?;
+    out.extend_from_slice(b"\n")
 }
 
-// What comes after some bytes of a text.
+// Adds the front of a line on a derivation: the program's name, the derivation's path, and words.
+fn write_front(drv: &StorePath, words: &[u8], out: &mut Vec<u8>) -> Result<(), AllocError>
+    ensures { OnOk result (out.new.items
+        ≡ out.old.items ++ codes "nix_realise: " ++ drv.now ++ words.now) }
+{
+    out.extend_from_slice(b"nix_realise: ")?;
+    out.extend_from_slice(drv.text())?;
+    out.extend_from_slice(words)
+}
+
+// Adds the path of a derivation's log.
+fn write_log_path(
+    logs: &str,
+    store_dir: &str,
+    drv: &StorePath,
+    out: &mut Vec<u8>,
+) -> Result<(), AllocError>
+    ensures { OnOk result (out.new.items
+        ≡ out.old.items ++ log_path_of logs.now store_dir.now drv.now) }
+{
+    out.extend_from_slice(logs.as_bytes())?;
+    out.extend_from_slice(after(drv.text(), store_dir.len()))?;
+    out.extend_from_slice(b".log")
+}
+
+// What comes after so many bytes of a text.
 fn after(text: &[u8], count: usize) -> &[u8]
     ensures { result.now ≡ drop count text.now }
 {
@@ -150,21 +169,16 @@ fn write_kept(kept: &[KeptFolder], out: &mut Vec<u8>) -> Result<(), AllocError>
     ensures { OnOk result (out.new.items ≡ out.old.items ++ flat_map kept_line kept.now) }
 {
     'kept: for one in kept {
-        let folder = one.folder.as_bytes();
-        write_parts(
-            &[b"nix_realise: ", one.drv.text(), b": kept ", folder, b"\n"],
-            out,
-        )?;
+        write_kept_line(one, out)?;
     }
     Ok(())
 }
 
-// Adds these parts, one after another.
-fn write_parts(parts: &[&[u8]], out: &mut Vec<u8>) -> Result<(), AllocError>
-    ensures { OnOk result (out.new.items ≡ out.old.items ++ flat_map (λ p. p.now) parts.now) }
+// Adds the line of a folder that was kept.
+fn write_kept_line(kept: &KeptFolder, out: &mut Vec<u8>) -> Result<(), AllocError>
+    ensures { OnOk result (out.new.items ≡ out.old.items ++ kept_line kept.now) }
 {
-    'parts: for part in parts {
-        out.extend_from_slice(part)?;
-    }
-    Ok(())
+    write_front(&kept.drv, b": kept ", out)?;
+    out.extend_from_slice(kept.folder.as_bytes())?;
+    out.extend_from_slice(b"\n")
 }

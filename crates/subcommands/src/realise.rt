@@ -127,7 +127,7 @@ where
         result }
 {
     let logs = logs_folder(rt, request.logs)?;
-    let kept = kept_folders(rt.alloc(), request)?;
+    let kept = kept_folders(rt.alloc(), request, task.plan().len())?;
     let drvs = DrvPaths::of(rt.alloc(), task.plan())?;
     let manner = manner_of(request, runner, logs, kept.as_ref(), &drvs);
     let builders = make_all(rt.alloc(), make, request, &manner)?;

@@ -1,7 +1,7 @@
 //! The program that starts the builders of a run, if the request names one.
 ghost use Rattle.std.specs.Prelude.{◌≡◌, ◌↔◌, IfErr, IfOk, IsTrue};
 ghost use Rattle.process_build.specs.Errors.{IsNoMemory};
-ghost use Rattle.subcommands.specs.Building.{IsExecutable, IsNoRunner, IsRunnerBy};
+ghost use Rattle.subcommands.specs.Building.{IsAbsolute, IsExecutable, IsNoRunner, IsRunnerBy};
 
 use crate::stop::Stop;
 use process_build::Failure;
@@ -62,6 +62,13 @@ fn is_executable(metadata: &Metadata) -> bool
     metadata.is_file() && metadata.permissions().mode() & EXECUTE != 0
 }
 
+// Whether a path begins with a slash.
+fn is_absolute(path: &str) -> bool
+    ensures { IsTrue result ↔ IsAbsolute path.now }
+{
+    path.as_bytes().first() == Some(&b'/')
+}
+
 /// Evidence that the runner of a request, if it names one, is an absolute path of a file that may
 /// be executed.
 #[derive(Clone, Copy)]
@@ -80,10 +87,10 @@ impl<'a> Runner<'a> {
     // By a look at its path.
     fn by(word: &'a str, seen: Seen<'_>) -> Result<Runner<'a>, Stop<'a>>
         requires { seen.path.now ≡ word.now }
-        ensures { IsRunnerBy word.entry seen.found result }
+        ensures { IsRunnerBy word.entry seen.entry.found result }
     {
         match seen.found {
-            Found::Program if word.starts_with('/') => Ok(Runner { path: Some(word) }),
+            Found::Program if is_absolute(word) => Ok(Runner { path: Some(word) }),
             Found::Program | Found::NoProgram => Err(Stop::NoRunner(word)),
             Found::NoMemory => Err(Stop::NoMemory),
         }

@@ -6,6 +6,6 @@ use Rattle.subcommands.proofs.last_lines.failed_marks.Given as goal
 
 -- the marks of the derivations so far
 abbrev pub invariant-loop-number : goal.invariant-loop-number
-invariant-loop-number l =
+invariant-loop-number g l =
     l.marks.items
     ≡ map (λ d. is_failed (state_in l.book.run l.book.history d)) (range_with_len 0 l.number)
