@@ -4,6 +4,7 @@ import ast
 import os
 import pathlib
 import re
+import subprocess
 import sys
 import time
 
@@ -154,3 +155,17 @@ def absent(*programs):
     """Which of some programs are not there, in words, or none."""
     missing = [program for program in programs if not os.access(program, os.X_OK)]
     return f"{' and '.join(missing)} not there" if missing else None
+
+
+def why_no_sandbox():
+    """Why no sandbox can be made here, or none."""
+    why = absent("/usr/bin/bwrap", "/bin/busybox")
+    if why:
+        return why
+    options = "--unshare-all --cap-drop ALL --ro-bind / / --dev /dev --proc /proc".split()
+    words = ["/usr/bin/bwrap", *options, "/bin/true"]
+    ran = subprocess.run(words, capture_output=True, text=True, check=False)
+    if ran.returncode != 0:
+        return f"bubblewrap cannot make one: {ran.stderr.strip()}"
+    busybox = pathlib.Path("/bin/busybox").read_bytes()
+    return "busybox is not a static program" if b"/ld-linux" in busybox[:4096] else None
