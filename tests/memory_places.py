@@ -10,7 +10,7 @@ PLACES = {
         "left_right gives the operation back exactly where its queue could not grow"
     ),
     (
-        "valid_view/src/shelf.rt",
+        "valid_view/src/shown_table.rt",
         "absorb_first",
         "Err ( AllocFailed { value : fault } . into ( ) )",
     ): "never reached, since the entry may follow the shown ones; Absorb cannot say so",
@@ -22,6 +22,11 @@ PLACES = {
         "from",
         "ErrorKind :: OutOfMemory if error . raw_os_error ( ) . is_none ( ) => Failure :: NoMemory",
     ): "an error of std's without a number of the system's is that std was refused memory",
+    (
+        "process_build/src/processes.rt",
+        "may_have_run",
+        "! matches ! ( left , Err ( Reason :: NoStart | Reason :: OutOfMemory ) )",
+    ): "a test of a reason, which makes none",
     (
         "subcommands/src/program.rt",
         "print_usage",
@@ -69,6 +74,7 @@ PLACES = {
 SIZES = {
     ("nix_names/src/base32.rt", "base32_text", "len"): "the characters of the text of some bytes",
     ("nix_names/src/base32.rt", "bytes_of", "n"): "at most the characters of a text (`within`)",
+    ("process_build/src/kept_folders.rt", "new", "count"): "the derivations of a plan",
     ("process_build/src/reading.rt", "", "MAX_PIECE"): "the bytes of a piece, 65,536",
     ("process_build/src/reading.rt", "new", "MAX_PIECE"): "the same",
     ("process_build/src/reading.rt", "names", "NAMES_AT_ONCE"): "4,096 bytes of names",
