@@ -1,9 +1,10 @@
--- What `specs/Trees` measures of a folder, over the list of its entries.
-use Rattle.std.proofs.Common.{◌≡◌, ◌∙◌, ℕ, ◌+◌, ◌≤◌, ◌<◌, max, List, [], ◌∷◌, length, drop, get_or, refl, ap, arith, rules}
+-- What `specs/Trees` and `specs/Links` say of a folder, over the list of its entries.
+use Rattle.std.proofs.Common.{◌≡◌, ◌∙◌, ℕ, ◌+◌, ◌≤◌, ◌<◌, max, List, [], ◌∷◌, ◌++◌, length, drop, get_or, refl, ap, arith, rules}
 use Rattle.std.proofs.lemmas.List.{drop_more}
+use Rattle.ref_scan.specs.Links.{targets, targets_among}
 use Rattle.ref_scan.specs.Walk.{count_below, pieces_below}
 use Rattle.ref_scan.specs.Trees.{pieces, pieces_among, depth_of, depth_among, entry_count, entry_count_among, file_bytes, file_bytes_among}
-use Rattle.ref_scan.specs.declared.tree.Tree.{Tree, File, Pieces, Dir, Dir', Row_of-Member, end_of-Member, more_of-Member, items-the_row-Member}
+use Rattle.ref_scan.specs.declared.tree.Tree.{Tree, File, Pieces, Link, Dir, Dir', Row_of-Member, end_of-Member, more_of-Member, items-the_row-Member}
 use Rattle.ref_scan.specs.declared.tree.Tree.TheBlock.{hidden-the_row-Member-0, items_hidden-the_row-Member-0}
 use Rattle.ref_scan.specs.declared.tree.Member.{Member}
 
@@ -14,6 +15,11 @@ depth_below (e ∷ es) = max (depth_of e.tree) (depth_below es)
 abbrev pub bytes_below : List Member → ℕ
 bytes_below [] = 0
 bytes_below (e ∷ es) = file_bytes e.tree + bytes_below es
+
+-- the targets of the links that some members of a folder are or have below them
+abbrev pub targets_below : List Member → List (List ℕ)
+targets_below [] = []
+targets_below (e ∷ es) = targets e.tree ++ targets_below es
 
 pieces_row : {m : _} (row : Row_of-Member m) → pieces_among row
     ≡ pieces_below (items-the_row-Member m row)
@@ -34,6 +40,16 @@ bytes_row : {m : _} (row : Row_of-Member m) → file_bytes_among row
     ≡ bytes_below (items-the_row-Member m row)
 bytes_row end_of-Member = refl
 bytes_row (more_of-Member name tree rest) = ap (λ n. file_bytes tree + n) (bytes_row rest)
+
+targets_row : {m : _} (row : Row_of-Member m) → targets_among row
+    ≡ targets_below (items-the_row-Member m row)
+targets_row end_of-Member = refl
+targets_row (more_of-Member name tree rest) = ap (λ l. targets tree ++ l) (targets_row rest)
+
+pub targets_dir : (entries : _) → targets (Dir entries) ≡ targets_below entries.items
+targets_dir entries =
+    targets_row (hidden-the_row-Member-0 entries)
+    ∙ ap targets_below (items_hidden-the_row-Member-0 entries)
 
 pub pieces_dir : (entries : _) → pieces (Dir entries) ≡ pieces_below entries.items
 pieces_dir entries =
@@ -59,6 +75,7 @@ bytes_dir entries =
 pub depth_some : (tree : Tree) → 1 ≤ depth_of tree
 depth_some (File bytes) = omega arith
 depth_some (Pieces parts) = omega arith
+depth_some (Link target) = omega arith
 depth_some (Dir' shape entries) = omega arith
 
 -- a folder has no fewer entries than members

@@ -3,6 +3,7 @@ pub mod Findings
 pub mod Folders
 pub mod HashParts
 pub mod Indexing
+pub mod LinksAdded
 pub mod Pieces
 pub mod RisingKeys
 pub mod Rooms

@@ -1,6 +1,7 @@
 -- What public contracts cite, and what that rests on.
 pub mod Faults
 pub mod Feed
+pub mod Links
 pub mod Scan
 pub mod Trees
 -- What only private contracts and proofs cite.

@@ -1,5 +1,6 @@
 //! Laws over the definitions that contracts cite, each on the contract of a function that does
 //! nothing.
+ghost use Rattle.ref_scan.specs.Links.{LinksAdd};
 ghost use Rattle.ref_scan.specs.Scan.{IsFound};
 ghost use Rattle.ref_scan.specs.declared.tree.Tree.{Tree};
 ghost use Rattle.std.specs.Prelude.{◌≡◌, List, ℕ};
@@ -9,4 +10,11 @@ ghost use Rattle.std.specs.Prelude.{◌≡◌, List, ℕ};
 pub fn found_is_one()
     ensures { (tree : Tree) (permitted a b : List (List ℕ)) → IsFound tree permitted a
         → IsFound tree permitted b → a ≡ b }
+{}
+
+/// What symbolic links add to a tree: a part occurs in it where it occurs in a file's bytes, in a
+/// name or in a target; the bytes of the files and of the targets are counted together; and of a
+/// tree without links the files and the names alone are searched.
+pub fn links_add()
+    ensures { (tree : Tree) → LinksAdd tree }
 {}

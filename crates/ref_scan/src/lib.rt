@@ -2,7 +2,7 @@
 //!
 //! | Module | What is in it |
 //! |---|---|
-//! | `tree` | trees of files and folders, and the limits of an output |
+//! | `tree` | trees of files, links and folders, and the limits of an output |
 //! | `references` | the permitted store paths that a tree refers to |
 //! | `scanner` | the same of bytes that come in pieces |
 //! | `marks` | which hash parts stand within the bytes that were fed |

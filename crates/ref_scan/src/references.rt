@@ -12,8 +12,9 @@ use nix_names::StorePath;
 use std::alloc::{AllocError, Global};
 
 /// The permitted paths whose hash part occurs in the tree, in their order: within the bytes of one
-/// file or within the name of one entry, at any depth, each apart. Two permitted paths with the
-/// same hash part are both found. `NoMemory`, the only fault, where memory was refused.
+/// file, the target of one link or the name of one entry, at any depth, each apart. No link is
+/// followed. Two permitted paths with the same hash part are both found. `NoMemory`, the only
+/// fault, where memory was refused.
 ///
 /// The tree is walked once, whatever the number of paths; no file is copied. The walk keeps a list
 /// of the folders that it is in, so a tree of any depth is scanned; it does not recurse. Takes
@@ -32,7 +33,7 @@ pub fn scan(
     marks.found()
 }
 
-// Feeds each file and each entry's name as a list of its own.
+// Feeds each file, each link's target and each entry's name as a list of its own.
 fn feed_tree(alloc: Global, marks: &mut Marks, tree: &Tree) -> Result<(), AllocError>
     requires { marks.old.present ≡ [] }
     ensures { OnOk result (marks.new
@@ -66,7 +67,7 @@ fn visit_first<'a>(
     Ok(())
 }
 
-// Feeds a file as a list of its own, or puts a folder's members off.
+// Feeds a file or a link's target as a list of its own, or puts a folder's members off.
 fn visit<'a>(
     marks: &mut Marks,
     tree: &'a Tree,
@@ -79,7 +80,7 @@ fn visit<'a>(
         folders.old.items folders.new.items) }
 {
     match tree {
-        Tree::File(bytes) => feed_list(marks, bytes),
+        Tree::File(bytes) | Tree::Link(bytes) => feed_list(marks, bytes),
         Tree::Pieces(pieces) => {
             feed_pieces(marks, pieces);
             marks.cut();

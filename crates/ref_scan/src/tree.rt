@@ -1,19 +1,19 @@
-//! Trees of files and folders, and the limits of an output.
+//! Trees of files, symbolic links and folders, and the limits of an output.
 ghost use Rattle.std.specs.Prelude.{◌≡◌, ◌<◌, ◌+◌, ◌↔◌, length, IsTrue, MatchOption};
 ghost use Rattle.ref_scan.specs.Room.{FitsIn, Fills};
 ghost use Rattle.ref_scan.specs.Trees.{Fits, joined};
 
-/// The most levels of an output's tree: a file and an empty folder have one.
+/// The most levels of an output's tree: a file, a link and an empty folder have one.
 pub const MAX_DEPTH: usize = 32;
 
 /// The most entries of an output's folders, at all depths, without the root.
 pub const MAX_ENTRIES: usize = 65_536;
 
-/// The most bytes of an output's files together.
+/// The most bytes of an output's files and of its links' targets together.
 pub const MAX_FILE_BYTES: usize = 67_108_864;
 
-/// A file, or a folder with all that is in it. Dropping a tree recurses, once for each level, and
-/// so does `{:?}`.
+/// A file, a symbolic link, or a folder with all that is in it. Dropping a tree recurses, once for
+/// each level, and so does `{:?}`.
 #[derive(Debug, Drop)]
 #[cycle(tree)]
 pub enum Tree {
@@ -21,6 +21,8 @@ pub enum Tree {
     File(Vec<u8>),
     /// A file's bytes, in the pieces in which it was read. No pieces are the empty file.
     Pieces(Vec<Vec<u8>>),
+    /// A symbolic link's target, as it was read: it is not followed.
+    Link(Vec<u8>),
     /// A folder's members, in any order.
     Dir(Vec<Member>),
 }
@@ -43,10 +45,10 @@ struct Room {
 }
 
 impl Tree {
-    /// Whether the tree is within the limits of an output: at most 32 levels (a file and an empty
-    /// folder have one), 65,536 entries (the named members of folders at any depth, without the
-    /// root) and 67,108,864 bytes of files. Takes no memory. Looks at no level past the limit, so it
-    /// recurses 32 levels at most and returns for a tree of any depth.
+    /// Whether the tree is within the limits of an output: at most 32 levels (a file, a link and an
+    /// empty folder have one), 65,536 entries (the named members of folders at any depth, without
+    /// the root) and 67,108,864 bytes of files and of links' targets. Takes no memory. Looks at no
+    /// level past the limit, so it recurses 32 levels at most and returns for a tree of any depth.
     pub fn fits(&self) -> bool
         ensures { IsTrue result ↔ Fits self.now }
     {
@@ -63,7 +65,7 @@ impl Tree {
             (λ left. Fills below room self.now left) }
     {
         match self {
-            Tree::File(bytes) => room_beside_file(bytes, room),
+            Tree::File(bytes) | Tree::Link(bytes) => room_beside_bytes(bytes, room),
             Tree::Pieces(pieces) => Some(Room {
                 bytes: bytes_beside(pieces, room.bytes)?,
                 ..room
@@ -82,8 +84,8 @@ impl Tree {
     }
 }
 
-// What is left of the room beside a file in one piece.
-fn room_beside_file(bytes: &[u8], room: Room) -> Option<Room>
+// What is left of the room beside a file in one piece, or beside a link's target.
+fn room_beside_bytes(bytes: &[u8], room: Room) -> Option<Room>
     ensures { MatchOption result (room.bytes < length bytes.now)
         (λ left. (left.entries ≡ room.entries)
         × (left.bytes + length bytes.now ≡ room.bytes)) }
