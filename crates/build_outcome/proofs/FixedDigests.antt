@@ -9,7 +9,7 @@ use Rattle.nix_names.proofs.RisingLists.{equal_from_eq, unequal_from_eq}
 use Rattle.drv_graph.specs.declared.kinds.Kind.{Kind}
 use Rattle.drv_graph.specs.declared.kinds.Kind.TheVariants.{Fixed}
 use Rattle.drv_graph.specs.declared.kinds.Method.{Method}
-use Rattle.ref_scan.specs.declared.tree.Tree.{Tree, File, Pieces, Dir'}
+use Rattle.ref_scan.specs.declared.tree.Tree.{Tree, File, Pieces, Link, Dir'}
 use Rattle.build_outcome.specs.Verdicts.{IsTreeFault, algorithm_for, digest_by, digest_of}
 use Rattle.build_outcome.specs.declared.reason.Reason.{Reason}
 use Rattle.build_outcome.specs.declared.reason.Reason.TheVariants.{HashMismatch, NotFlatFile, TooLarge}
@@ -30,6 +30,7 @@ found_by : (algorithm : Algorithm) (tree : Tree) (found : Digest)
     → digest_of algorithm tree ≡ Some found → algorithm_of found ≡ algorithm
 found_by algorithm (File bytes) found is = search (rules, made_by)
 found_by algorithm (Pieces parts) found is = search (rules, made_by)
+found_by algorithm (Link target) found is = absurd cc
 found_by algorithm (Dir' shape entries) found is = absurd cc
 
 -- a tree that a fixed derivation's output may have has the declared digest

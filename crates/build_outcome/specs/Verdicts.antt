@@ -18,7 +18,7 @@ use Rattle.drv_graph.specs.declared.kinds.Kind.{Kind}
 use Rattle.drv_graph.specs.declared.kinds.Kind.TheVariants.{Addressed, Fixed}
 use Rattle.ref_scan.specs.Scan.{IsFound}
 use Rattle.ref_scan.specs.Trees.{Fits, joined}
-use Rattle.ref_scan.specs.declared.tree.Tree.{Tree, File, Pieces, Dir'}
+use Rattle.ref_scan.specs.declared.tree.Tree.{Tree, File, Pieces, Link, Dir'}
 use Rattle.valid_table.specs.PathInfos.{PathInfo}
 use Rattle.build_outcome.specs.declared.job.Answer.{Answer}
 use Rattle.build_outcome.specs.declared.job.Job.{Job}
@@ -33,10 +33,11 @@ digest_by Sha1 bytes = OfSha1 (sha1 bytes)
 digest_by Sha256 bytes = OfSha256 (sha256 bytes)
 digest_by Sha512 bytes = OfSha512 (sha512 bytes)
 
--- the digest of a file's bytes, which pieces make together; a folder has no digest
+-- the digest of a file's bytes, which pieces make together; a link and a folder have no digest
 abbrev pub digest_of : Algorithm → Tree → Option Digest
 digest_of algorithm (File bytes) = Some (digest_by algorithm bytes.items)
 digest_of algorithm (Pieces parts) = Some (digest_by algorithm (joined parts.items))
+digest_of algorithm (Link target) = None
 digest_of algorithm (Dir' shape entries) = None
 
 -- the algorithm by which outputs of a kind are hashed: the declared one, and else SHA-256

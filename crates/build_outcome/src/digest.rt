@@ -11,14 +11,14 @@ use ref_scan::Tree;
 use sha1::Sha1;
 use sha2::{Digest as Sha2, Sha256, Sha512};
 
-// The digest of a file's bytes by an algorithm.
+// The digest of a file's bytes by an algorithm; a link and a folder have none.
 pub(crate) fn digest_of(algorithm: Algorithm, tree: &Tree) -> Option<Digest>
     ensures { result ≡ digest_of algorithm tree.now }
 {
     match tree {
         Tree::File(bytes) => Some(digest_of_bytes(algorithm, bytes)),
         Tree::Pieces(parts) => Some(digest_of_pieces(algorithm, parts)),
-        Tree::Dir(_) => None,
+        Tree::Link(_) | Tree::Dir(_) => None,
     }
 }
 
