@@ -6,6 +6,7 @@ use Rattle.std.specs.declared.vec.Vec.{Vec}
 use Rattle.std.proofs.Math.Nat.{le_refl}
 use Rattle.std.proofs.lemmas.List.{length-map}
 use Rattle.nix_names.specs.Names.{same_bytes}
+use Rattle.nix_names.specs.declared.digest.Algorithm.{Algorithm}
 use Rattle.nix_names.specs.declared.digest.Algorithm.TheVariants.{Sha256}
 use Rattle.nix_names.proofs.Lists.{Contains-nothing, same_element}
 use Rattle.nix_drv.specs.Derivation.{Output}
@@ -19,10 +20,10 @@ use Rattle.drv_graph.specs.declared.kinds.Kind.{Kind}
 use Rattle.drv_graph.specs.declared.kinds.Kind.TheVariants.{Addressed}
 use Rattle.drv_graph.proofs.KindAnswers.{one_kind}
 use Rattle.ref_scan.specs.Trees.{Fits, depth_among, entry_count_among, file_bytes_among, pieces, pieces_among}
-use Rattle.ref_scan.specs.declared.tree.Tree.{Tree, File, Pieces, Dir', Row_of-Member, end_of-Member, more_of-Member}
+use Rattle.ref_scan.specs.declared.tree.Tree.{Tree, File, Pieces, Link, Dir', Row_of-Member, end_of-Member, more_of-Member}
 use Rattle.valid_table.specs.PathInfos.{PathInfo}
 use Rattle.build_outcome.specs.Jobs.{IsJob, seeds_of}
-use Rattle.build_outcome.specs.Verdicts.{IsCyclic, IsRecordAt, IsRecordOf, IsTreeFault, IsVerdict, OutputRefersTo, algorithm_for, outputs_of, tree_at}
+use Rattle.build_outcome.specs.Verdicts.{IsCyclic, IsRecordAt, IsRecordOf, IsTreeFault, IsVerdict, OutputRefersTo, algorithm_for, digest_of, outputs_of, tree_at}
 use Rattle.build_outcome.specs.declared.job.Answer.{Answer}
 use Rattle.build_outcome.specs.declared.job.Job.{Job}
 use Rattle.build_outcome.specs.declared.job.JobOutput.{JobOutput}
@@ -37,27 +38,31 @@ use denote.RawPtr.{null_ptr}
 
 -- ---- an empty folder
 
-no_pieces : {m : _} (row : Row_of-Member m) → entry_count_among row ≡ 0 → pieces_among row ≡ []
-no_pieces end_of-Member none = refl
-no_pieces (more_of-Member name tree rest) none = absurd (omega arith)
-
-no_depth : {m : _} (row : Row_of-Member m) → entry_count_among row ≡ 0 → depth_among row ≡ 0
+no_depth : {m : _} (row : Row_of-Member m) → pieces_among row ≡ [] → depth_among row ≡ 0
 no_depth end_of-Member none = refl
-no_depth (more_of-Member name tree rest) none = absurd (omega arith)
+no_depth (more_of-Member name tree rest) none = absurd cc
 
-no_bytes : {m : _} (row : Row_of-Member m) → entry_count_among row ≡ 0 → file_bytes_among row ≡ 0
+no_entries : {m : _} (row : Row_of-Member m) → pieces_among row ≡ [] → entry_count_among row ≡ 0
+no_entries end_of-Member none = refl
+no_entries (more_of-Member name tree rest) none = absurd cc
+
+no_bytes : {m : _} (row : Row_of-Member m) → pieces_among row ≡ [] → file_bytes_among row ≡ 0
 no_bytes end_of-Member none = refl
-no_bytes (more_of-Member name tree rest) none = absurd (omega arith)
-
-pub empty_pieces : (tree : Tree) → IsEmptyFolder tree → pieces tree ≡ []
-empty_pieces (File bytes) is = absurd (let clash = is.0 in cc)
-empty_pieces (Pieces parts) is = absurd (let clash = is.0 in cc)
-empty_pieces (Dir' shape entries) is = no_pieces entries is.1
+no_bytes (more_of-Member name tree rest) none = absurd cc
 
 pub empty_fits : (tree : Tree) → IsEmptyFolder tree → Fits tree
-empty_fits (File bytes) is = absurd (let clash = is.0 in cc)
-empty_fits (Pieces parts) is = absurd (let clash = is.0 in cc)
-empty_fits (Dir' shape entries) is = search (rules, no_depth, no_bytes)
+empty_fits (File bytes) is = absurd cc
+empty_fits (Pieces parts) is = absurd cc
+empty_fits (Link target) is = absurd cc
+empty_fits (Dir' shape entries) is = search (rules, no_depth, no_entries, no_bytes)
+
+-- it has no digest by any algorithm
+pub empty_digest_of : (algorithm : Algorithm) (tree : Tree) → IsEmptyFolder tree
+    → digest_of algorithm tree ≡ None
+empty_digest_of algorithm (File bytes) is = absurd cc
+empty_digest_of algorithm (Pieces parts) is = absurd cc
+empty_digest_of algorithm (Link target) is = absurd cc
+empty_digest_of algorithm (Dir' shape entries) is = refl
 
 -- its record
 abbrev pub nothing_in : PathInfo
@@ -65,7 +70,7 @@ nothing_in = record { references = []; digest = None }
 
 record_of_empty : (permitted : List (List ℕ)) (tree : Tree) → IsEmptyFolder tree
     → IsRecordOf Sha256 permitted tree nothing_in
-record_of_empty permitted tree is = search (rules, empty_pieces, Contains-nothing)
+record_of_empty permitted tree is = search (rules, is, empty_digest_of, Contains-nothing)
 
 no_fault : (tree : Tree) → IsEmptyFolder tree → (why : Reason) → IsTreeFault Addressed tree why → ⊥
 no_fault tree is TooLarge unfit = unfit (empty_fits _ is)

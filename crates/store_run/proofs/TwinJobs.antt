@@ -19,7 +19,7 @@ use Rattle.drv_graph.specs.declared.kinds.Kind.{Kind}
 use Rattle.drv_graph.proofs.KindAnswers.{one_kind}
 use Rattle.ref_scan.specs.Scan.{IsFoundIn, OccursIn}
 use Rattle.ref_scan.specs.Trees.{Fits}
-use Rattle.ref_scan.specs.declared.tree.Tree.{Tree, File, Pieces, Dir'}
+use Rattle.ref_scan.specs.declared.tree.Tree.{Tree, File, Pieces, Link, Dir'}
 use Rattle.valid_table.specs.PathInfos.{PathInfo}
 use Rattle.build_outcome.specs.Jobs.{IsJob}
 use Rattle.build_outcome.specs.Verdicts.{IsRecordOf, IsTreeFault, IsVerdict, algorithm_for, digest_by, digest_of, tree_at}
@@ -32,7 +32,7 @@ use Rattle.store_run.specs.Scheduling.{HasOneOutcome}
 use Rattle.store_run.specs.ScheduleExample.{IsEmptyFolder, Leaves, right}
 use Rattle.store_run.specs.TwinExample.{IsEmptyFile, LeavesWith, empty_digest, failing_twin, first_twin, making_twin, may_leave_file, out_empty, script, second_twin, three}
 use Rattle.store_run.proofs.AlonePlans.{one_of, store}
-use Rattle.store_run.proofs.ExampleJobs.{empty_fits, empty_pieces, is_job_of, is_job_of_right, job_of, job_of_right, left_answer, left_leaves, one_verdict, right_answer, right_leaves, tree_first, vec_of}
+use Rattle.store_run.proofs.ExampleJobs.{empty_digest_of, empty_fits, is_job_of, is_job_of_right, job_of, job_of_right, left_answer, left_leaves, one_verdict, right_answer, right_leaves, tree_first, vec_of}
 use Rattle.store_run.proofs.SameOutcomes.{allowed_is_one}
 use Rattle.store_run.proofs.TwinPlans.{empty_kind, kind_empty, output_short, src_named}
 
@@ -41,6 +41,7 @@ use Rattle.store_run.proofs.TwinPlans.{empty_kind, kind_empty, output_short, src
 file_fits : (tree : Tree) → IsEmptyFile tree → Fits tree
 file_fits (File bytes) is = search rules
 file_fits (Pieces parts) is = search rules
+file_fits (Link target) is = absurd (let clash = is.0 in cc)
 file_fits (Dir' shape entries) is = absurd (let clash = is.0 in cc)
 
 -- its record
@@ -163,20 +164,14 @@ digest_of_file : (algorithm : Algorithm) (tree : Tree) → IsEmptyFile tree
     → digest_of algorithm tree ≡ Some (digest_by algorithm [])
 digest_of_file algorithm (File bytes) is = search rules
 digest_of_file algorithm (Pieces parts) is = search rules
+digest_of_file algorithm (Link target) is = absurd (let clash = is.0 in cc)
 digest_of_file algorithm (Dir' shape entries) is = absurd (let clash = is.0 in cc)
-
--- an empty folder has none by any
-digest_of_folder : (algorithm : Algorithm) (tree : Tree) → IsEmptyFolder tree
-    → digest_of algorithm tree ≡ None
-digest_of_folder algorithm (File bytes) is = absurd (let clash = is.0 in cc)
-digest_of_folder algorithm (Pieces parts) is = absurd (let clash = is.0 in cc)
-digest_of_folder algorithm (Dir' shape entries) is = refl
 
 same_files : (a b : Tree) → IsEmptyFile a → IsEmptyFile b → HaveSameBytes a b
 same_files a b is is' = search (rules, digest_of_file, file_fits)
 
 same_folders : (a b : Tree) → IsEmptyFolder a → IsEmptyFolder b → HaveSameBytes a b
-same_folders a b is is' = search (rules, empty_pieces, digest_of_folder, empty_fits)
+same_folders a b is is' = search (rules, is, is', empty_digest_of, empty_fits)
 
 none_twice : (x y : Answer) → Leaves true x → Leaves true y → AreSameAnswers x y
 none_twice x y one other = search (rules, tree_none)

@@ -5,19 +5,17 @@ use Rattle.sha2.specs.Sha256.{sha256}
 use Rattle.nix_names.specs.Bytes.{Bytes, Path, Name}
 use Rattle.nix_names.specs.Names.{same_bytes}
 use Rattle.nix_names.specs.StorePaths.{store_path}
-use Rattle.nix_names.specs.declared.digest.Algorithm.TheVariants.{Sha256}
 use Rattle.nix_drv.specs.Derivation.{Drv, derivation_form, drv_value}
 use Rattle.nix_drv.specs.Grammar.{text}
 use Rattle.nix_drv.specs.OwnPath.{text_path}
 use Rattle.nix_drv.specs.Sources.{Listing}
 use Rattle.drv_graph.specs.Nodes.{Node}
-use Rattle.ref_scan.specs.Trees.{entry_count}
+use Rattle.ref_scan.specs.Trees.{pieces}
 use Rattle.ref_scan.specs.declared.tree.Tree.{Tree}
 use Rattle.valid_table.specs.declared.entry.Entry.{Entry}
 use Rattle.valid_table.specs.declared.entry.Entry.TheVariants.{Done}
 use Rattle.run_states.specs.Runs.{History, Run}
 use Rattle.run_states.specs.States.{Begun, phase_of}
-use Rattle.build_outcome.specs.Verdicts.{digest_of}
 use Rattle.build_outcome.specs.declared.job.Answer.{Answer}
 use Rattle.build_outcome.specs.declared.job.Job.{Job}
 use Rattle.run_states.specs.declared.state.Event.{Event}
@@ -99,9 +97,9 @@ two_files = record {
   failures = 0;
 }
 
--- a tree is an empty folder
+-- a tree is an empty folder: a file and a link have a piece, and so has each entry
 abbrev pub IsEmptyFolder : Tree → Type 0
-IsEmptyFolder tree = (digest_of Sha256 tree ≡ None) × (entry_count tree ≡ 0)
+IsEmptyFolder tree = pieces tree ≡ []
 
 -- what a program leaves behind: a program that fails ends with status 1 and leaves nothing, any
 -- other ends with status 0 and leaves an empty folder at one output

@@ -4,15 +4,15 @@ use Rattle.std.specs.Global.{Vec}
 use Rattle.nix_names.specs.Names.{same_bytes}
 use Rattle.ref_scan.specs.declared.tree.Tree.{Dir}
 use Rattle.ref_scan.specs.declared.tree.Member.{Member}
-use Rattle.ref_scan.specs.Walk.{count_below}
-use Rattle.ref_scan.proofs.Folders.{count_dir}
+use Rattle.ref_scan.specs.Walk.{pieces_below}
+use Rattle.ref_scan.proofs.Folders.{pieces_dir}
 use Rattle.build_outcome.specs.declared.job.Answer.{Answer}
 use Rattle.store_run.specs.ScheduleExample.{IsEmptyFolder, Leaves}
 use Rattle.book_tests.proofs.example.ProgramBuild.run.Goals as goal
 
 -- a folder of no members is empty
 empty_dir : (members : Vec Member) → members.items ≡ [] → IsEmptyFolder (Dir members)
-empty_dir members none = (refl, count_dir members ∙ ap count_below none)
+empty_dir members none = pieces_dir members ∙ ap pieces_below none
 
 pub returns : goal.returns
 returns c =
