@@ -1,4 +1,5 @@
 pub mod BuilderCalls
 pub mod Callable
 pub mod FileReads
+pub mod PlainPaths
 pub mod Tallies

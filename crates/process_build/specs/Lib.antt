@@ -1,7 +1,9 @@
 -- What public contracts cite, and what that rests on.
 pub mod Errors
+pub mod Leases
 pub mod Manners
 pub mod Progress
+pub mod Traces
 -- What only private contracts and proofs cite.
 pub mod Answers
 pub mod BuilderCalls

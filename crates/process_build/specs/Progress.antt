@@ -1,10 +1,13 @@
 -- What the line of progress shows of the calls that it heard (this product's own, `FORMATS.md`).
-use Rattle.std.specs.Prelude.{◌≡◌, ℕ, ◌+◌, ◌-◌, ◌^◌, ◌≤◌, Bool, true, false, not, min, List, [], ◌∷◌, ◌++◌, All, Contains, IfOk, Option, Some, None, Result, Ok, Err, codes, count_by, decimal, map, string_bytes, suc, zero}
+use Rattle.std.specs.Prelude.{◌≡◌, ℕ, ◌+◌, ◌-◌, ◌^◌, ◌≤◌, Bool, true, false, not, min, List, [], ◌∷◌, ◌++◌, All, Contains, IfOk, Option, Some, None, Result, Ok, Err, codes, count_by, decimal, map, suc, take, zero, ◌/◌}
 use Rattle.std.specs.declared.alloc.AllocError.{AllocError}
-use Rattle.std.specs.declared.alloc.Global.{Global}
-use Rattle.std.specs.declared.string.String.{String}
+use Rattle.std.specs.Borrow.{Bor}
+use Rattle.std.specs.Global.{Vec}
 use Rattle.std.specs.List.Sorted.{IsPermutation}
 use Rattle.nix_names.specs.Bytes.{Bytes}
+use Rattle.process_build.specs.Leases.{drv_name}
+use Rattle.process_build.specs.declared.lease.Running.{Running}
+use Rattle.process_build.specs.declared.line.Line.{Line}
 use Rattle.process_build.specs.declared.tally.Numbers.{Numbers}
 use Rattle.process_build.specs.declared.tally.Tally.{Tally}
 use Rattle.process_build.specs.declared.told.Told.{Told}
@@ -95,27 +98,53 @@ IsHeardAndTold tally told = (calls : List Heard) × IsTallyOf calls tally × IsT
 abbrev pub no_line : Bytes
 no_line = 13 ∷ 27 ∷ codes "[K"
 
--- the line that shows these numbers: it erases the line before it, and a terminal cuts it at its
--- last column
-abbrev pub line_of : Numbers → Bytes
-line_of numbers =
-    no_line ++ (27 ∷ codes "[?7l") ++ codes "nix_realise: "
-    ++ decimal numbers.running ++ codes " running, " ++ decimal numbers.built ++ codes " built, "
-    ++ decimal numbers.failed ++ codes " failed, " ++ decimal numbers.waiting
-    ++ codes " waiting, of " ++ decimal numbers.all ++ (27 ∷ codes "[?7h")
+-- the numbers in words
+unfoldable pub counts_of : Numbers → Bytes
+counts_of numbers =
+    codes "nix_realise: " ++ decimal numbers.running ++ codes " running, " ++ decimal numbers.built
+    ++ codes " built, " ++ decimal numbers.failed ++ codes " failed, " ++ decimal numbers.waiting
+    ++ codes " waiting, of " ++ decimal numbers.all
+
+-- for how many whole seconds a lease has run at this time, in microseconds, and the name of its
+-- derivation
+unfoldable pub named_by : (at : ℕ) → Running → Bytes
+named_by at running =
+    codes ", " ++ decimal ((at - running.start) / 1_000_000) ++ codes " s in "
+    ++ drv_name running.path
+
+-- what is said of the lease that runs longest, if one is known
+abbrev pub longest_words : (at : ℕ) → Option (Bor Running) → Bytes
+longest_words at (Some running) = named_by at running.now
+longest_words at None = []
+
+-- the words of a line
+unfoldable pub words_of : Line → Bytes
+words_of line = counts_of line.numbers ++ longest_words line.at line.longest
+
+-- the beginning of some words that fits into so many columns; all of them where the columns are not
+-- known
+abbrev pub fitted : (columns : Option ℕ) → (words : Bytes) → Bytes
+fitted (Some columns) words = take columns words
+fitted None words = words
+
+-- A line: it erases the line before it, and has the words that fit. A terminal that is narrower than
+-- is known cuts it at its last column.
+abbrev pub line_of : Line → Bytes
+line_of line =
+    no_line ++ (27 ∷ codes "[?7l") ++ fitted line.columns (words_of line) ++ (27 ∷ codes "[?7h")
 
 -- what is written while `running` jobs run: the line; or the bytes that erase it, where no job runs
 -- or there was no memory for a line
-abbrev pub shown_text : (running : ℕ) → Result (String Global) AllocError → Bytes
+abbrev pub shown_text : (running : ℕ) → Result (Vec ℕ) AllocError → Bytes
 shown_text zero line = no_line
-shown_text (suc running) (Ok line) = string_bytes line
+shown_text (suc running) (Ok line) = line.items
 shown_text (suc running) (Err error) = no_line
 
--- the text is what is written for these numbers
-abbrev pub IsShown : Numbers → (text : Bytes) → Type 0
-IsShown numbers text =
-    (line : Result (String Global) AllocError) × IfOk line (λ l. string_bytes l ≡ line_of numbers)
-    × (text ≡ shown_text numbers.running line)
+-- the text is what is written for this line
+abbrev pub IsShown : Line → (text : Bytes) → Type 0
+IsShown line text =
+    (made : Result (Vec ℕ) AllocError) × IfOk made (λ m. m.items ≡ line_of line)
+    × (text ≡ shown_text line.numbers.running made)
 
 -- the running, built and failed jobs add up to the jobs that began
 abbrev pub NumbersAddUp : Type 0

@@ -1,6 +1,7 @@
 //! Laws over the definitions that contracts cite, each on the contract of a function that does
 //! nothing.
 ghost use Rattle.process_build.specs.Progress.{AllNeverFalls, NumbersAddUp, OrderIsNoMatter, UnsettledNeverRises};
+ghost use Rattle.process_build.specs.Traces.{PathsArePlain};
 
 /// If no more jobs ended than began, the jobs that run and those that ended are the jobs that
 /// began.
@@ -21,4 +22,9 @@ pub fn unsettled_never_rises()
 /// The same calls in another order, as those of several workers come, give the same tally.
 pub fn order_is_no_matter()
     ensures { OrderIsNoMatter }
+{}
+
+/// Each byte of a store path stands for itself in a JSON string.
+pub fn paths_are_plain()
+    ensures { PathsArePlain }
 {}

@@ -18,7 +18,12 @@
 //! | `failures`, `reasons` | what an error of the system means at a path, and for a build |
 //! | `progress` | the line of progress |
 //! | `told` | what the line's terminal was told last |
-//! | `tally` | the numbers of that line, and its text |
+//! | `tally`, `line` | the numbers of that line; its text |
+//! | `watching` | builders whose builds the line tells |
+//! | `trace`, `traces` | the trace of a run, which its builders note; its text |
+//! | `tracing` | builders whose leases a trace notes |
+//! | `lease`, `time` | a lease, running or ended; what a clock reads |
+//! | `longest` | the leases that run, and the one of them that runs longest |
 //! | `laws` | what holds of these numbers, over the definitions |
 #![tactic(auto)]
 
@@ -31,7 +36,10 @@ mod failures;
 mod folders;
 mod kept_folders;
 pub mod laws;
+mod lease;
+mod line;
 mod logs;
+mod longest;
 mod manner;
 mod processes;
 mod progress;
@@ -40,7 +48,12 @@ mod reasons;
 mod removal;
 mod start;
 mod tally;
+mod time;
 mod told;
+mod trace;
+mod traces;
+mod tracing;
+mod watching;
 
 pub use builders::Builders;
 pub use drv_paths::DrvPaths;
@@ -49,4 +62,7 @@ pub use kept_folders::{KeptFolder, KeptFolders};
 pub use logs::Logs;
 pub use manner::Manner;
 pub use processes::{ByProcesses, ProcessBuild};
-pub use progress::{Progress, Watching};
+pub use progress::Progress;
+pub use trace::Trace;
+pub use tracing::Tracing;
+pub use watching::Watching;

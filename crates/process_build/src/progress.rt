@@ -1,144 +1,185 @@
 //! The line of progress, which tells how far a run is.
-ghost use Rattle.std.specs.Prelude.{◌∷◌, [], ◌++◌, List};
-ghost use Rattle.process_build.specs.Progress.{Began, Ended, Heard, IsHeardAndTold, IsTallyOf};
+ghost use Rattle.std.specs.Prelude.{◌≡◌, ◌∷◌, [], ◌++◌, List};
+ghost use Rattle.process_build.specs.Progress.{AreNumbersOf, Began, Ended, Heard, IsHeardAndTold, IsTallyOf};
 
-use crate::builders::Builders;
-use crate::manner::Manner;
+use crate::lease::Running;
+use crate::line::Line;
+use crate::longest::AllRunning;
 use crate::tally::Tally;
+use crate::time::now;
 use crate::told::Told;
-use build_outcome::{Answer, Build, Job, Reason, Watch};
-use std::alloc::{AllocError, Global};
+use std::alloc::Global;
 use std::io::Write;
-use std::sync::{Mutex, Wait};
+use std::sync::{Condvar, Mutex, Wait};
+use std::time::{Clock, Duration};
 
-// A tally, the terminal to which its line is written, and what that was told last. Whenever the
-// lock is free, that is the line of the tally.
+// How many seconds the line stands before it is written again.
+const STANDS: u64 = 1;
+
+// A tally, the leases that run, the terminal to which the line is written, and what that was told
+// last. Whenever the lock is free, that has the numbers of the tally.
 #[derive(Drop)]
 struct Shown<W> {
     tally: Tally,
+    running: AllRunning,
+    columns: Option<usize>,
     to: W,
     told: Option<Told>,
+    is_over: bool,
     ghost heard: { ∥ IsHeardAndTold tally told ∥₁ },
 }
 
 impl<W: Write> Shown<W> {
-    // Hears that a job begins, and tells it.
-    fn begin(&mut self, alloc: Global, unsettled: usize)
+    // Hears at this time that a job begins, and tells it. The lease is not named later where it is
+    // not known or memory is refused.
+    fn begin(&mut self, alloc: Global, running: Option<Running>, unsettled: usize, at: u64)
         ensures { (calls : List Heard) → IsTallyOf calls self.old.tally
             → IsTallyOf (calls ++ Began unsettled ∷ []) self.new.tally }
     {
         self.tally.begin(unsettled);
-        self.told = Some(Told::by(alloc, &self.tally, &mut self.to));
+        if let Some(running) = running {
+            self.running.add(running);
+        }
+        let told = tell(
+            alloc,
+            &self.tally,
+            &self.running,
+            at,
+            self.columns,
+            &mut self.to,
+        );
+        self.told = Some(told);
     }
 
-    // Hears that a job ended, and tells it.
-    fn end(&mut self, alloc: Global, is_good: bool, unsettled: usize)
+    // Hears at this time that the job of the lease with this number ended, and tells it.
+    fn end(&mut self, alloc: Global, number: u64, is_good: bool, unsettled: usize, at: u64)
         ensures { (calls : List Heard) → IsTallyOf calls self.old.tally
             → IsTallyOf (calls ++ Ended is_good unsettled ∷ []) self.new.tally }
     {
         self.tally.end(is_good, unsettled);
-        self.told = Some(Told::by(alloc, &self.tally, &mut self.to));
+        self.running.remove(number);
+        let told = tell(
+            alloc,
+            &self.tally,
+            &self.running,
+            at,
+            self.columns,
+            &mut self.to,
+        );
+        self.told = Some(told);
+    }
+
+    // Tells the line again at this time, while a job runs.
+    fn tell_again(&mut self, alloc: Global, at: u64) {
+        if self.tally.numbers().running > 0 {
+            let told = tell(
+                alloc,
+                &self.tally,
+                &self.running,
+                at,
+                self.columns,
+                &mut self.to,
+            );
+            self.told = Some(told);
+        }
     }
 }
 
+// Tells a terminal with so many columns the line at this time.
+fn tell<W: Write>(
+    alloc: Global,
+    tally: &Tally,
+    running: &AllRunning,
+    at: u64,
+    columns: Option<usize>,
+    to: &mut W,
+) -> Told
+    ensures { (calls : List Heard) → IsTallyOf calls tally.now
+        → AreNumbersOf calls result.numbers }
+{
+    let line = Line {
+        numbers: tally.numbers(),
+        longest: running.longest(),
+        at,
+        columns,
+    };
+    Told::by(alloc, &line, to)
+}
+
 /// The line of progress of a run: how many derivations are being built, how many were built and how
-/// many failed, how many wait, and how many were to be built when the first was begun. It is
-/// written again when a build begins or ends. It is cleared while nothing is being built and if
-/// there is no memory for it.
+/// many failed, how many wait, how many were to be built when the first was begun, and for how many
+/// seconds the derivation that runs longest has run. It is written again when a build begins or
+/// ends, and each second meanwhile. It is cleared while nothing is being built and if there is no
+/// memory for it.
 #[derive(Drop)]
 pub struct Progress<W> {
     shown: Mutex<Shown<W>>,
+    ending: Condvar,
 }
 
 impl<W: Write> Progress<W> {
-    /// Before anything is built; the line goes to this terminal.
-    pub fn new(to: W) -> Progress<W> {
+    /// Before anything is built; the line goes to this terminal, which has so many columns, if that
+    /// is known.
+    pub fn new(alloc: Global, columns: Option<usize>, to: W) -> Progress<W> {
         let tally = Tally::new();
         Progress {
             shown: Mutex::new(Shown {
                 tally,
+                running: AllRunning::new(alloc),
+                columns,
                 to,
                 told: None,
+                is_over: false,
             }),
+            ending: Condvar::new(),
         }
     }
 
-    // A job begins, while `unsettled` derivations are unsettled.
-    fn begin<R: Wait + AllocGlobal>(&self, rt: &R, unsettled: usize) {
-        self.shown.lock(rt).begin(rt.alloc(), unsettled);
+    /// Writes the line again each second while a job runs, and returns after the run is over.
+    pub fn keep<R: Wait + Clock + AllocGlobal>(&self, rt: &R) {
+        let time = Duration::from_secs(STANDS);
+        let mut shown = self.shown.lock(rt);
+        for _ in rt.forever() {
+            if shown.is_over {
+                return;
+            }
+            shown = self.ending.wait_timeout(rt, shown, time).0;
+            shown.tell_again(rt.alloc(), now(rt));
+        }
+        unreachable!()
     }
 
-    // A job ended, well or not, and `unsettled` derivations are unsettled.
-    fn end<R: Wait + AllocGlobal>(&self, rt: &R, is_good: bool, unsettled: usize) {
-        self.shown.lock(rt).end(rt.alloc(), is_good, unsettled);
-    }
-}
-
-/// A builder whose builds the line of progress tells.
-#[derive(Drop)]
-pub struct Watched<'a, R, B, W> {
-    rt: &'a R,
-    builder: B,
-    progress: &'a Progress<W>,
-}
-
-impl<R: Wait + AllocGlobal, B: Build, W: Write> Build for Watched<'_, R, B, W> {
-    ghost may = { B.may };
-
-    /// Builds a job as the builder does.
-    fn run(&self, number: u64, job: &Job) -> Result<Answer, Reason> {
-        self.builder.run(number, job)
-    }
-}
-
-impl<R: Wait + AllocGlobal, B: Watch, W: Write> Watch for Watched<'_, R, B, W> {
-    /// Tells the line that a job begins, and the builder.
-    fn begun(&self, unsettled: usize) {
-        self.progress.begin(self.rt, unsettled);
-        self.builder.begun(unsettled);
+    /// The run is over.
+    pub fn end<R: Wait>(&self, rt: &R) {
+        self.shown.lock(rt).is_over = true;
+        self.ending.notify_all();
     }
 
-    /// Tells the line that a job's lease ended, and the builder.
-    fn ended(&self, is_good: bool, unsettled: usize) {
-        self.progress.end(self.rt, is_good, unsettled);
-        self.builder.ended(is_good, unsettled);
-    }
-}
-
-/// Makes builders whose builds the line of progress tells.
-#[derive(Drop)]
-pub struct Watching<'a, R, M, W> {
-    rt: &'a R,
-    make: &'a M,
-    progress: &'a Progress<W>,
-}
-
-impl<'a, R, M, W> Watching<'a, R, M, W> {
-    /// Makes these builders, and tells their builds by this line.
-    pub fn new(rt: &'a R, make: &'a M, progress: &'a Progress<W>) -> Watching<'a, R, M, W> {
-        Watching { rt, make, progress }
-    }
-}
-
-impl<'a, R, M, W> Builders for Watching<'a, R, M, W>
-where
-    R: Wait + AllocGlobal + Sync,
-    M: Builders,
-    W: Write + Send,
-{
-    type Builder = Watched<'a, R, M::Builder, W>;
-
-    ghost builds_in = { λ watched manner. M.builds_in watched.builder manner };
-
-    fn builder(
+    // A job begins, of a lease that may be known, while `unsettled` derivations are unsettled.
+    pub(crate) fn begin<R: Wait + Clock + AllocGlobal>(
         &self,
-        alloc: Global,
-        manner: &Manner<'_>,
-    ) -> Result<Watched<'a, R, M::Builder, W>, AllocError> {
-        Ok(Watched {
-            rt: self.rt,
-            builder: self.make.builder(alloc, manner)?,
-            progress: self.progress,
-        })
+        rt: &R,
+        running: Option<Running>,
+        unsettled: usize,
+    ) {
+        let at = now(rt);
+        self.shown
+            .lock(rt)
+            .begin(rt.alloc(), running, unsettled, at);
+    }
+
+    // The job of the lease with this number ended, well or not, and `unsettled` derivations are
+    // unsettled.
+    pub(crate) fn finish<R: Wait + Clock + AllocGlobal>(
+        &self,
+        rt: &R,
+        number: u64,
+        is_good: bool,
+        unsettled: usize,
+    ) {
+        let at = now(rt);
+        self.shown
+            .lock(rt)
+            .end(rt.alloc(), number, is_good, unsettled, at);
     }
 }

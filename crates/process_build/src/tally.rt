@@ -1,17 +1,6 @@
 //! What the line of progress tells of the calls that it heard.
-ghost use Rattle.std.specs.Prelude.{◌≡◌, ◌∷◌, [], ◌++◌, IfOk, List, max, min, string_bytes};
-ghost use Rattle.process_build.specs.Progress.{AreNumbersOf, Began, Ended, Heard, IsTallyOf, line_of};
-
-use std::alloc::{AllocError, Global};
-
-/// What clears a terminal's line: back to the first column, then erase to the end (ECMA-48, EL).
-pub const NO_LINE: &str = "\r\x1b[K";
-
-// What turns a terminal's line wrapping off, so that a long line is cut at the last column, and on
-// again (DECAWM).
-const CUT: &str = "\x1b[?7l";
-
-const WRAP: &str = "\x1b[?7h";
+ghost use Rattle.std.specs.Prelude.{◌≡◌, ◌∷◌, [], ◌++◌, List, max, min};
+ghost use Rattle.process_build.specs.Progress.{AreNumbersOf, Began, Ended, Heard, IsTallyOf};
 
 /// Of the calls that were heard: how many jobs began, and how many ended well and otherwise; the
 /// greatest number of unsettled derivations that a call told, and the least.
@@ -103,22 +92,4 @@ pub struct Numbers {
     pub waiting: usize,
     /// How many were unsettled at first.
     pub all: usize,
-}
-
-impl Numbers {
-    /// The line, in the place of the one before. A narrow terminal shows its beginning.
-    pub fn line(&self, alloc: Global) -> Result<String, AllocError>
-        ensures { IfOk result (λ line. string_bytes line ≡ line_of self.now) }
-    {
-        let Numbers {
-            running,
-            built,
-            failed,
-            waiting,
-            all,
-        } = self;
-        format!(in alloc;
-            "{NO_LINE}{CUT}nix_realise: {running} running, {built} built, {failed} failed, {waiting} waiting, of {all}{WRAP}"
-        )
-    }
 }

@@ -9,6 +9,6 @@ invariant_of-self g c = record {
       (λ h. (
         h.0 ++ Began c.args.unsettled ∷ [],
         c.begin.ensures h.0 h.1,
-        c.by.ensures (h.0 ++ Began c.args.unsettled ∷ []) (c.begin.ensures h.0 h.1),
+        c.tell-told.ensures (h.0 ++ Began c.args.unsettled ∷ []) (c.begin.ensures h.0 h.1),
       ));
 }

@@ -9,6 +9,6 @@ invariant_of-self g c = record {
       (λ h. (
         h.0 ++ Ended c.args.is_good c.args.unsettled ∷ [],
         c.end.ensures h.0 h.1,
-        c.by.ensures (h.0 ++ Ended c.args.is_good c.args.unsettled ∷ []) (c.end.ensures h.0 h.1),
+        c.tell-told.ensures (h.0 ++ Ended c.args.is_good c.args.unsettled ∷ []) (c.end.ensures h.0 h.1),
       ));
 }

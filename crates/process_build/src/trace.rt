@@ -1,0 +1,107 @@
+//! The trace of a run, which its builders note.
+ghost use Rattle.std.specs.Prelude.{◌≡◌, ◌∷◌, [], ◌++◌, IfOk, List};
+ghost use Rattle.process_build.specs.Leases.{HasNoted};
+ghost use Rattle.process_build.specs.Traces.{trace_of};
+ghost use Rattle.process_build.specs.declared.lease.Lease.{Lease};
+
+use crate::lease::{Lease, Running};
+use crate::time::now;
+use crate::traces::trace_text;
+use std::alloc::{AllocError, Global};
+use std::sync::{Mutex, Wait};
+use std::time::Clock;
+
+// The leases that ended, in that order, and whether each of them was noted.
+#[derive(Drop)]
+struct Noted {
+    leases: Vec<Lease>,
+    is_whole: bool,
+}
+
+impl Noted {
+    // Before any lease ended.
+    fn new(alloc: Global) -> Noted
+        ensures { HasNoted [] result }
+    {
+        Noted {
+            leases: Vec::new(alloc),
+            is_whole: true,
+        }
+    }
+
+    // Notes a lease that ended. Where memory is refused, it is missing.
+    fn add(&mut self, lease: Lease)
+        ensures { (ended : List Lease) → HasNoted ended self.old
+            → HasNoted (ended ++ lease ∷ []) self.new }
+    {
+        if self.leases.push(lease).is_err() {
+            self.is_whole = false;
+        }
+    }
+
+    // Notes that a lease ended and is missing.
+    fn miss(&mut self)
+        ensures { (ended : List Lease) → HasNoted ended self.new }
+    {
+        self.is_whole = false;
+    }
+
+    // The trace of all leases that ended. Want of memory is the only error; it is also answered
+    // where a lease is missing.
+    fn text(&self, alloc: Global) -> Result<Vec<u8>, AllocError>
+        ensures { (ended : List Lease) → HasNoted ended self.now
+            → IfOk result (λ text. text.items ≡ trace_of ended) }
+    {
+        if self.is_whole {
+            trace_text(alloc, &self.leases)
+        } else {
+            Err(AllocError)
+        }
+    }
+}
+
+/// The leases of a run that ended, and when the run began. The builders of its workers note them.
+#[derive(Drop)]
+pub struct Trace {
+    began: u64,
+    noted: Mutex<Noted>,
+}
+
+impl Trace {
+    /// The trace of a run that begins now.
+    pub fn new<R: Clock + AllocGlobal>(rt: &R) -> Trace {
+        Trace {
+            began: now(rt),
+            noted: Mutex::new(Noted::new(rt.alloc())),
+        }
+    }
+
+    /// The text of the trace: an event for each lease that ended. Want of memory, now or when a
+    /// lease was noted, is the only error: a trace has all leases, or there is none.
+    pub fn text<R: Wait + AllocGlobal>(&self, rt: &R) -> Result<Vec<u8>, AllocError>
+        ensures { IfOk result (λ text. (ended : List Lease) × (text.items ≡ trace_of ended)) }
+    {
+        self.noted.lock(rt).text(rt.alloc())
+    }
+
+    // How many microseconds ago the run began.
+    pub(crate) fn time<R: Clock>(&self, rt: &R) -> u64 {
+        now(rt).saturating_sub(self.began)
+    }
+
+    // Notes that a worker ended a lease now, well or not.
+    pub(crate) fn note<R: Wait + Clock>(
+        &self,
+        rt: &R,
+        running: Option<Running>,
+        worker: usize,
+        is_good: bool,
+    ) {
+        let at = self.time(rt);
+        let mut noted = self.noted.lock(rt);
+        match running {
+            Some(running) => noted.add(running.ended(worker, at, is_good)),
+            None => noted.miss(),
+        }
+    }
+}

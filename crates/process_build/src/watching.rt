@@ -1,0 +1,95 @@
+//! Builders whose builds the line of progress tells.
+
+use crate::builders::Builders;
+use crate::drv_paths::DrvPaths;
+use crate::lease::Running;
+use crate::manner::Manner;
+use crate::progress::Progress;
+use crate::time::now;
+use build_outcome::{Answer, Build, Job, Reason, Watch};
+use std::alloc::{AllocError, Global};
+use std::cell::Cell;
+use std::io::Write;
+use std::sync::Wait;
+use std::time::Clock;
+
+/// A builder whose builds the line of progress tells.
+#[derive(Drop)]
+pub struct Watched<'a, R, B, W> {
+    rt: &'a R,
+    builder: B,
+    drvs: DrvPaths,
+    progress: &'a Progress<W>,
+    unsettled: Cell<usize>,
+    number: Cell<u64>,
+}
+
+impl<R: Wait + Clock + AllocGlobal, B: Build, W: Write> Build for Watched<'_, R, B, W> {
+    ghost may = { B.may };
+
+    /// Tells the line that a job begins, and builds it as the builder does.
+    fn run(&self, number: u64, job: &Job) -> Result<Answer, Reason> {
+        let drv = self.drvs.get(job.derivation);
+        let running = Running::of(self.rt.alloc(), drv, number, now(self.rt));
+        self.number.set(number);
+        self.progress.begin(self.rt, running, self.unsettled.get());
+        self.builder.run(number, job)
+    }
+}
+
+impl<R: Wait + Clock + AllocGlobal, B: Watch, W: Write> Watch for Watched<'_, R, B, W> {
+    /// Hears how many derivations are unsettled, which the line tells when the job is run, and tells
+    /// the builder.
+    fn begun(&self, unsettled: usize) {
+        self.unsettled.set(unsettled);
+        self.builder.begun(unsettled);
+    }
+
+    /// Tells the line that a job's lease ended, and the builder.
+    fn ended(&self, is_good: bool, unsettled: usize) {
+        self.progress
+            .finish(self.rt, self.number.get(), is_good, unsettled);
+        self.builder.ended(is_good, unsettled);
+    }
+}
+
+/// Makes builders whose builds the line of progress tells.
+#[derive(Drop)]
+pub struct Watching<'a, R, M, W> {
+    rt: &'a R,
+    make: &'a M,
+    progress: &'a Progress<W>,
+}
+
+impl<'a, R, M, W> Watching<'a, R, M, W> {
+    /// Makes these builders, and tells their builds by this line.
+    pub fn new(rt: &'a R, make: &'a M, progress: &'a Progress<W>) -> Watching<'a, R, M, W> {
+        Watching { rt, make, progress }
+    }
+}
+
+impl<'a, R, M, W> Builders for Watching<'a, R, M, W>
+where
+    R: Wait + Clock + AllocGlobal + Sync,
+    M: Builders,
+    W: Write + Send,
+{
+    type Builder = Watched<'a, R, M::Builder, W>;
+
+    ghost builds_in = { λ watched manner. M.builds_in watched.builder manner };
+
+    fn builder(
+        &self,
+        alloc: Global,
+        manner: &Manner<'_>,
+    ) -> Result<Watched<'a, R, M::Builder, W>, AllocError> {
+        Ok(Watched {
+            rt: self.rt,
+            builder: self.make.builder(alloc, manner)?,
+            drvs: manner.drvs.copy()?,
+            progress: self.progress,
+            unsettled: Cell::new(0),
+            number: Cell::new(0),
+        })
+    }
+}
