@@ -11,6 +11,7 @@ use std::rt::Files;
 use std::sync::Wait;
 use std::test::Fail;
 use std::thread::Threads;
+use std::time::Clock;
 use subcommands::Locks;
 
 // The kinds of error with which each call is refused.
@@ -397,7 +398,7 @@ fn add_cases<'a>(cases: &mut Vec<Case<'a>>, row: &'a Row) -> Result<(), AllocErr
 /// What a run wrote, and its status.
 pub fn ran<R, M>(rt: &R, make: &M, line: &str) -> Result<Outcome, Fail>
 where
-    R: Files + Locks + AllocGlobal + Threads + Wait + Sync,
+    R: Files + Locks + AllocGlobal + Threads + Wait + Clock + Sync,
     M: Builders,
 {
     let words: Vec<&str> = line.split(' ').collect(rt.alloc())?;

@@ -9,6 +9,7 @@ use std::process::{Child, Command, ExitStatus, OpenProcess, Processes, Stdio};
 use std::rt::Files;
 use std::sync::{Arc, Mutex, Wait};
 use std::thread::Threads;
+use std::time::{Clock, Duration};
 use std::{fs, io};
 use subcommands::Locks;
 
@@ -169,6 +170,16 @@ impl<R: Plain> Alloc for Double<R> {
 }
 
 impl<R: Plain> Wait for Double<R> {}
+
+impl<R: Plain> Clock for Double<R> {
+    fn monotonic(&self) -> io::Result<Duration> {
+        self.shared.host.monotonic()
+    }
+
+    fn since_1970(&self) -> io::Result<Duration> {
+        self.shared.host.since_1970()
+    }
+}
 
 impl<R: Plain + Threads> Threads for Double<R> {}
 

@@ -7,6 +7,7 @@ use std::io::Write;
 use std::rt::{Env, Files};
 use std::sync::Wait;
 use std::thread::Threads;
+use std::time::Clock;
 use std::{env, fs, io};
 use subcommands::{Locks, run};
 
@@ -31,9 +32,12 @@ pub trait Plain: Wait + Clone + Drop {}
 impl<R: Wait + Clone + Drop> Plain for R {}
 
 /// What a run needs of its host.
-pub trait Host: Files + Locks + Logs + AllocGlobal + Threads + Wait + Sync + Clone + Drop {}
+pub trait Host: Files + Locks + Logs + AllocGlobal + Threads + Wait + Clock + Sync + Clone + Drop {}
 
-impl<R: Files + Locks + Logs + AllocGlobal + Threads + Wait + Sync + Clone + Drop> Host for R {}
+impl<R> Host for R
+where
+    R: Files + Locks + Logs + AllocGlobal + Threads + Wait + Clock + Sync + Clone + Drop,
+{}
 
 /// A builder that starts nothing.
 #[derive(Drop)]
@@ -66,7 +70,7 @@ impl Builders for Idle {
 /// Runs the program on a command line, with builders that `make` makes and the locks of its host.
 pub fn run_by<'a, R, M>(rt: &R, make: &M, words: &'a [&'a str]) -> Outcome
 where
-    R: Files + Locks + AllocGlobal + Threads + Wait + Sync,
+    R: Files + Locks + AllocGlobal + Threads + Wait + Clock + Sync,
     M: Builders,
 {
     let mut out = Vec::new(rt.alloc());

@@ -21,6 +21,7 @@ pub mod Statuses
 pub mod Stops
 pub mod StoreDirs
 pub mod Tasks
+pub mod Tracing
 -- What only private contracts and proofs cite.
 pub mod Filed
 pub mod JournalFiles

@@ -20,6 +20,7 @@ use Rattle.subcommands.specs.Folders.{may_give}
 use Rattle.subcommands.specs.LastLines.{IsLastText}
 use Rattle.subcommands.specs.Locking.{IsKeptOut}
 use Rattle.subcommands.specs.Tasks.{HasPlan, IsNotPlanned}
+use Rattle.subcommands.specs.Tracing.{IsTracedEnd}
 use Rattle.subcommands.specs.RootsStatus.{roots_status}
 use Rattle.subcommands.specs.declared.finish.Finish.{Finish}
 use Rattle.subcommands.specs.declared.stop.Stop.{Stop}
@@ -77,11 +78,17 @@ RunEnds may request task before after result =
 abbrev pub IsNotBegun : RealiseRequest → Stop → Type 0
 IsNotBegun request stop = (stop ≡ JournalNotWritten) ⊎ IsNoFolder request.logs stop
 
+-- how a run over a plan and a journal ends, whose trace may be asked for
+abbrev pub TracedEnds : May → RealiseRequest → Task → (before after : Option Bytes)
+    → Result Finish Stop → Type 0
+TracedEnds may request task before after result = (ended : Result Finish Stop)
+    × RunEnds may request task before after ended × IsTracedEnd request.trace ended result
+
 -- How a run over a plan and a journal ends, whose workers may not start: then nothing is printed.
 abbrev pub TaskEnds : May → RealiseRequest → Task → (before after : Option Bytes)
     → Result Finish Stop → Type 0
 TaskEnds may request task before after result =
-    RunEnds may request task before after result
+    TracedEnds may request task before after result
     ⊎ ((stop : Stop) × (result ≡ Err stop) × (after ≡ before) × IsNotBegun request stop)
 
 -- How a run of a plan ends in the store folder that it holds, by what the journal file gave.

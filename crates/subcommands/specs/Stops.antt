@@ -21,7 +21,7 @@ use Rattle.subcommands.specs.declared.stop.Stop.TheVariants.{BadDraft, BadDrv}
 use Rattle.subcommands.specs.declared.stop.Stop.TheVariants.{BadName, JournalUnreadable, BadJournal}
 use Rattle.subcommands.specs.declared.stop.Stop.TheVariants.{InUse, NixStore, NotLocked}
 use Rattle.subcommands.specs.declared.stop.Stop.TheVariants.{NotWritten, JournalNotWritten}
-use Rattle.subcommands.specs.declared.stop.Stop.TheVariants.{NoLogs, NoPath, NoRunner, Run}
+use Rattle.subcommands.specs.declared.stop.Stop.TheVariants.{NoLogs, NoPath, NoRunner, NoTrace, Run}
 use Rattle.subcommands.specs.declared.stop.Stop.TheVariants.{NoMemory, Unwritable}
 
 -- what ends a run for this fault of its journal
@@ -49,6 +49,7 @@ number_of (NotLocked dir) = 74
 number_of (InUse dir) = 75
 number_of (NixStore dir) = 76
 number_of (NoLogs folder) = 74
+number_of (NoTrace file) = 74
 number_of (NoRunner program) = 77
 
 -- what the line blames: a word as it was given, a path, the journal or the run
@@ -63,6 +64,7 @@ blamed_of (NixStore dir) = dir.now
 blamed_of (NotLocked dir) = dir.now
 blamed_of (NoRunner program) = program.now
 blamed_of (NoLogs folder) = folder.now
+blamed_of (NoTrace file) = file.now
 blamed_of (NoPath word fault) = word.now
 blamed_of (BadDrv path fault) = path
 blamed_of JournalUnreadable = codes "journal"
@@ -89,6 +91,7 @@ stop_fault_words (NixStore dir) = codes "NixStore"
 stop_fault_words (NotLocked dir) = codes "Unwritable"
 stop_fault_words (NoRunner program) = codes "NoRunner"
 stop_fault_words (NoLogs folder) = codes "Unwritable"
+stop_fault_words (NoTrace file) = codes "Unwritable"
 stop_fault_words (NotWritten path) = codes "Unwritable"
 stop_fault_words JournalNotWritten = codes "Unwritable"
 stop_fault_words (Run fault kept) = run_fault_words fault
@@ -118,6 +121,7 @@ status_of (NixStore dir) = CutShort
 status_of (NotLocked dir) = CutShort
 status_of (NoRunner program) = Refused
 status_of (NoLogs folder) = CutShort
+status_of (NoTrace file) = CutShort
 status_of (Run fault kept) = CutShort
 status_of (NotWritten path) = CutShort
 status_of JournalNotWritten = CutShort

@@ -99,6 +99,7 @@ pub fn write_stop_fault(stop: &Stop<'_>, out: &mut Vec<u8>) -> Result<(), AllocE
         Stop::NotLocked(_) => write_name(b"Unwritable", out),
         Stop::NoRunner(_) => write_name(b"NoRunner", out),
         Stop::NoLogs(_) => write_name(b"Unwritable", out),
+        Stop::NoTrace(_) => write_name(b"Unwritable", out),
         Stop::NotWritten(_) => write_name(b"Unwritable", out),
         Stop::JournalNotWritten => write_name(b"Unwritable", out),
         Stop::Run(fault, _) => write_run_fault(*fault, out),

@@ -24,6 +24,7 @@
 //! | `runner`, `logs_folder` | the program that starts the builders of a run; the folder of logs |
 //! | `builders` | the builders of a run |
 //! | `finish`, `last_lines` | how a subcommand ends that isn't stopped; a run's last lines |
+//! | `trace_file` | the trace of a run: its file, written at the end |
 //! | `realise` | the subcommand `realise` |
 //! | `printing`, `program` | printing; one run of the program |
 //! | `process` | that run in a process: its arguments and its standard output |
@@ -58,6 +59,7 @@ mod stop;
 mod store_dir;
 mod taken;
 mod task;
+mod trace_file;
 mod verdict;
 mod waiting;
 mod whole_file;

@@ -13,6 +13,7 @@ use std::io::{BufWriter, ErrorKind, Write};
 use std::rt::{Env, Files};
 use std::sync::Wait;
 use std::thread::Threads;
+use std::time::Clock;
 use std::{env, io};
 
 /// Runs the program on the arguments and the standard output of the process, with the builders that
@@ -20,7 +21,7 @@ use std::{env, io};
 /// is a mistake in the words.
 pub fn run_process<R, M, L, E>(rt: &R, make: &M, locks: &L, err: &mut E) -> Ending
 where
-    R: Env + Files + Print + Threads + Wait + Sync + AllocGlobal,
+    R: Env + Files + Print + Threads + Wait + Clock + Sync + AllocGlobal,
     M: Builders,
     L: Locks,
     E: Write,
@@ -47,7 +48,7 @@ fn let_go<W: Write + Drop>(buffer: BufWriter<W>) -> W
 // Runs the program on the arguments of the process.
 fn run_arguments<R, M, L, O, E>(rt: &R, make: &M, locks: &L, out: &mut O, err: &mut E) -> Ending
 where
-    R: Env + Files + Threads + Wait + Sync + AllocGlobal,
+    R: Env + Files + Threads + Wait + Clock + Sync + AllocGlobal,
     M: Builders,
     L: Locks,
     O: Write,
@@ -70,7 +71,7 @@ fn run_texts<R, M, L, O, E>(
     err: &mut E,
 ) -> Ending
 where
-    R: Files + Threads + Wait + Sync + AllocGlobal,
+    R: Files + Threads + Wait + Clock + Sync + AllocGlobal,
     M: Builders,
     L: Locks,
     O: Write,

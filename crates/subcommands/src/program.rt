@@ -31,6 +31,7 @@ use std::io::Write;
 use std::rt::Files;
 use std::sync::Wait;
 use std::thread::Threads;
+use std::time::Clock;
 
 // The line of a run that ends for want of memory.
 const NO_MEMORY_LINE: &[u8; 27] = b"nix_realise: run: NoMemory\n";
@@ -47,7 +48,7 @@ pub fn run<'a, R, M, L, O, E>(
     err: &mut E,
 ) -> Ending
 where
-    R: Files + Threads + Wait + Sync + AllocGlobal,
+    R: Files + Threads + Wait + Clock + Sync + AllocGlobal,
     M: Builders,
     L: Locks,
     O: Write,
@@ -71,7 +72,7 @@ fn run_request<R, M, L, O, E>(
     err: &mut E,
 ) -> Ending
 where
-    R: Files + Threads + Wait + Sync + AllocGlobal,
+    R: Files + Threads + Wait + Clock + Sync + AllocGlobal,
     M: Builders,
     L: Locks,
     O: Write,
@@ -92,7 +93,7 @@ fn run_subcommand<'a, R, M, L, O>(
     out: &mut O,
 ) -> Result<Finish, Stop<'a>>
 where
-    R: Files + Threads + Wait + Sync + AllocGlobal,
+    R: Files + Threads + Wait + Clock + Sync + AllocGlobal,
     M: Builders,
     L: Locks,
     O: Write,

@@ -22,17 +22,19 @@ use crate::runner::{Runner, runner_of};
 use crate::settled::{journal_bytes, report_of, roots_status};
 use crate::stop::Stop;
 use crate::task::{Task, planned};
+use crate::trace_file::{TraceFile, end_traced};
 use crate::whole_file::Tried;
 use command_line::RealiseRequest;
 use drv_graph::Plan;
 use nix_names::StoreDir;
-use process_build::{Builders, DrvPaths, KeptFolder, KeptFolders};
+use process_build::{Builders, DrvPaths, KeptFolder, KeptFolders, Manner, Tracing};
 use sched_core::{Book, Build, Watch};
 use std::io::Write;
 use std::marker::Brand;
 use std::rt::Files;
 use std::sync::Wait;
 use std::thread::Threads;
+use std::time::Clock;
 use store_run::RunFault;
 use valid_table::Outlet;
 use valid_view::{Name, Naming};
@@ -52,7 +54,7 @@ pub fn realise<'a, R, M, L, O>(
     out: &mut O,
 ) -> Result<Finish, Stop<'a>>
 where
-    R: Files + AllocGlobal + Threads + Wait + Sync,
+    R: Files + AllocGlobal + Threads + Wait + Clock + Sync,
     M: Builders,
     L: Locks,
     O: Write,
@@ -90,7 +92,7 @@ fn run_held<'a, R, M, O>(
     out: &mut O,
 ) -> Result<Finish, Stop<'a>>
 where
-    R: Files + AllocGlobal + Threads + Wait + Sync,
+    R: Files + AllocGlobal + Threads + Wait + Clock + Sync,
     M: Builders,
     O: Write,
     requires runner { runner.path ≡ request.now.runner }
@@ -105,8 +107,7 @@ where
     run_task(rt, make, request, runner, &file, tried, &task, out)
 }
 
-// Makes the folder of logs and the builders for a task, and runs it. It was tried whether the
-// journal can be written.
+// Makes the folder of logs for a task, and runs it. It was tried whether the journal can be written.
 fn run_task<'a, R, M, O>(
     rt: &R,
     make: &M,
@@ -118,7 +119,7 @@ fn run_task<'a, R, M, O>(
     out: &mut O,
 ) -> Result<Finish, Stop<'a>>
 where
-    R: Files + AllocGlobal + Threads + Wait + Sync,
+    R: Files + AllocGlobal + Threads + Wait + Clock + Sync,
     M: Builders,
     O: Write,
     requires runner { runner.path ≡ request.now.runner }
@@ -130,8 +131,44 @@ where
     let kept = kept_folders(rt.alloc(), request, task.plan().len())?;
     let drvs = DrvPaths::of(rt.alloc(), task.plan())?;
     let manner = manner_of(request, runner, logs, kept.as_ref(), &drvs);
-    let builders = make_all(rt.alloc(), make, request, &manner)?;
-    run_built::<R, M, O>(rt, request, file, tried, task, builders, kept.as_ref(), out)
+    run_traced(rt, make, request, &manner, file, tried, task, out)
+}
+
+// Makes the builders for a task, which note its leases if the request asks for a trace, and runs
+// it; then the trace is written.
+fn run_traced<'a, R, M, O>(
+    rt: &R,
+    make: &M,
+    request: &RealiseRequest<'a>,
+    manner: &Manner<'_>,
+    file: &OwnJournal<'_>,
+    tried: Tried<'_>,
+    task: &Task,
+    out: &mut O,
+) -> Result<Finish, Stop<'a>>
+where
+    R: Files + AllocGlobal + Threads + Wait + Clock + Sync,
+    M: Builders,
+    O: Write,
+    requires manner { IsMannerFor request.now (paths_of task.now.plan.nodes) manner.now }
+    requires tried { tried.path.now ≡ string_bytes file.now.path }
+    ensures { TaskEnds M.Builder.may request.now task.now (O.contents out.old) (O.contents out.new)
+        result }
+{
+    let trace = TraceFile::of(rt, request);
+    let make = Tracing::new(rt, make, TraceFile::noted(&trace));
+    let builders = make_all(rt.alloc(), &make, request, manner)?;
+    let ended = run_built::<R, Tracing<'_, R, M>, O>(
+        rt,
+        request,
+        file,
+        tried,
+        task,
+        builders,
+        manner.kept,
+        out,
+    );
+    end_traced(rt, &trace, ended)
 }
 
 // Builds the wanted derivations of a task, by one worker for each builder, writes the journal and
@@ -147,7 +184,7 @@ fn run_built<'a, R, M, O>(
     out: &mut O,
 ) -> Result<Finish, Stop<'a>>
 where
-    R: Files + AllocGlobal + Threads + Wait + Sync,
+    R: Files + AllocGlobal + Threads + Wait + Clock + Sync,
     M: Builders,
     O: Write,
     requires tried { _tried.path.now ≡ string_bytes file.now.path }
@@ -174,7 +211,7 @@ fn run_named<'a, J, R, B, O>(
 ) -> Result<Finish, Stop<'a>>
 where
     J: Naming + Send + Sync,
-    R: Files + AllocGlobal + Threads + Wait + Sync,
+    R: Files + AllocGlobal + Threads + Wait + Clock + Sync,
     B: Build + Watch + Send + Drop,
     O: Write,
     requires named { name ≡ J.book }

@@ -44,6 +44,8 @@ pub enum Stop<'a> {
     NoRunner(&'a str),
     /// The folder of logs at this path, as it was given, cannot be made.
     NoLogs(&'a str),
+    /// The trace file at this path, as it was given, cannot be written.
+    NoTrace(&'a str),
     /// The file at this path cannot be written.
     NotWritten(StorePath),
     /// The journal file cannot be written.
@@ -72,7 +74,7 @@ impl Stop<'_> {
             Stop::Run(fault, _) => fault.number(),
             Stop::BadDraft(_, fault) | Stop::BadDrv(_, fault) => fault.number(),
             Stop::NotWritten(_) | Stop::JournalNotWritten | Stop::Unwritable => 74,
-            Stop::NotLocked(_) | Stop::NoLogs(_) => 74,
+            Stop::NotLocked(_) | Stop::NoLogs(_) | Stop::NoTrace(_) => 74,
             Stop::InUse(_) => 75,
             Stop::NixStore(_) => 76,
             Stop::NoRunner(_) => 77,
@@ -99,6 +101,7 @@ impl Stop<'_> {
             | Stop::NixStore(_)
             | Stop::NotLocked(_)
             | Stop::NoLogs(_)
+            | Stop::NoTrace(_)
             | Stop::Run(..)
             | Stop::NotWritten(_)
             | Stop::JournalNotWritten
@@ -122,6 +125,7 @@ impl Stop<'_> {
             | Stop::NotLocked(word)
             | Stop::NoRunner(word)
             | Stop::NoLogs(word)
+            | Stop::NoTrace(word)
             | Stop::NoPath(word, _) => word.as_bytes(),
             Stop::BadDrv(path, _) | Stop::NotWritten(path) => path.text(),
             Stop::JournalUnreadable | Stop::BadJournal(_) | Stop::JournalNotWritten => b"journal",

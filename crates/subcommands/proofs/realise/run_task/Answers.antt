@@ -1,4 +1,4 @@
-use Rattle.std.proofs.Common.{◌∙◌, ap, inl, inr, refl, Err}
+use Rattle.std.proofs.Common.{◌∙◌, ap, inr, refl, Err}
 use Rattle.std.proofs.lemmas.Result.{err_from_is_err_and}
 use Rattle.subcommands.specs.declared.stop.Stop.TheVariants.{NoMemory}
 use Rattle.subcommands.proofs.realise.run_task.Goals as goal
@@ -21,11 +21,5 @@ returns-in_err-drvs g c =
     let e = err_from_is_err_and step.result step.ensures.1 in
     inr (NoMemory, e.1 ∙ ap Err e.2, refl, inr tt)
 
-pub returns-in_err-builders : goal.returns-in_err-builders
-returns-in_err-builders g c =
-    let step = c.from_residual-in_err-builders in
-    let e = err_from_is_err_and step.result step.ensures.1 in
-    inr (NoMemory, e.1 ∙ ap Err e.2, refl, inr tt)
-
 pub returns : goal.returns
-returns g c = inl c.run_built.ensures
+returns g c = c.run_traced.ensures
