@@ -65,6 +65,9 @@ PLACES = {
         "run_workers",
         "let _ = scope . spawn ( move || work ( rt , alloc , locked , reader , & builder ) )",
     ): "a thread that can't be started is told as ThreadFault, if all of them can't",
+    ("process_build/src/trace.rt", "text", "Err ( AllocError )"): (
+        "memory was refused when a lease was noted, so that the trace has a gap"
+    ),
     ("process_build/src/start.rt", "start", "match command . spawn ( processes ) {"): (
         "starts a process; its error is std's, and goes through Failure"
     ),
@@ -80,6 +83,9 @@ SIZES = {
     ("process_build/src/reading.rt", "names", "NAMES_AT_ONCE"): "4,096 bytes of names",
     ("process_build/src/tally.rt", "new", "unsettled : usize :: MAX"): (
         "no size: no count reaches it"
+    ),
+    ("process_build/src/time.rt", "micros_of", "unwrap_or ( u64 :: MAX"): (
+        "no size: the greatest time that is told"
     ),
     ("ref_scan/src/index.rt", "sieve_of", "slots"): "the slots of a sieve, at most 1,048,576",
     ("build_outcome/src/links.rt", "no_links", "count"): "a list for each output of a derivation",
