@@ -1,5 +1,5 @@
 -- Each byte of a store path stands for itself in a JSON string.
-use Rattle.std.proofs.Common.{◌≡◌, ◌≢◌, ◌<◌, ◌≤◌, ◌==◌, ℕ, Bool, true, List, [], ◌∷◌, ◌++◌, All, arith, rules}
+use Rattle.std.proofs.Common.{◌≡◌, ◌==◌, ℕ, Bool, true, List, [], ◌∷◌, ◌++◌, All, arith, rules}
 use Rattle.std.proofs.Common.{nat_lt, nat_le, not, refl, sym, subst, IsTrue, codes, inl, inr}
 use Rattle.std.specs.Prelude.{◌&&◌}
 use Rattle.std.specs.Char.{is_ascii_alphanumeric}
@@ -9,20 +9,20 @@ use Rattle.std.proofs.lemmas.Bool.Decides.{nat_tests}
 use Rattle.std.proofs.lemmas.List.Elements.{All-append, All-cons, All-nil, All-head, All-tail}
 use Rattle.nix_names.specs.Base32.{alphabet, is_digit}
 use Rattle.nix_names.specs.Names.{IsStoreDir, is_component, is_name, is_name_char}
-use Rattle.nix_names.specs.StorePaths.{IsStorePath, is_hash_part, path_text}
+use Rattle.nix_names.specs.StorePaths.{is_hash_part, path_text}
 use Rattle.process_build.specs.Traces.{IsPlain, PathsArePlain}
 
 -- the byte is neither less than `+` nor greater than `z`, and no backslash
-within : ℕ → Bool
+abbrev within : ℕ → Bool
 within b = nat_le 43 b && nat_lt b 123 && not (b == 92)
 
 plain_within : (b : ℕ) → within b ≡ true → IsPlain b
 plain_within b h =
-    let first = and_parts (nat_le 43 b) (nat_lt b 123 && not (b == 92)) h in
-    let second = and_parts (nat_lt b 123) (not (b == 92)) first.1 in
+    let last = and_parts _ (not (b == 92)) h in
+    let first = and_parts (nat_le 43 b) (nat_lt b 123) last.0 in
     let low = first.0 in
-    let high = second.0 in
-    let other = second.1 in
+    let high = first.1 in
+    let other = last.1 in
     grind (arith, nat_tests)
 
 -- what holds of all holds of the first and of the others

@@ -163,9 +163,8 @@ impl<W: Write> Progress<W> {
         unsettled: usize,
     ) {
         let at = now(rt);
-        self.shown
-            .lock(rt)
-            .begin(rt.alloc(), running, unsettled, at);
+        let mut shown = self.shown.lock(rt);
+        shown.begin(rt.alloc(), running, unsettled, at);
     }
 
     // The job of the lease with this number ended, well or not, and `unsettled` derivations are
@@ -178,8 +177,7 @@ impl<W: Write> Progress<W> {
         unsettled: usize,
     ) {
         let at = now(rt);
-        self.shown
-            .lock(rt)
-            .end(rt.alloc(), number, is_good, unsettled, at);
+        let mut shown = self.shown.lock(rt);
+        shown.end(rt.alloc(), number, is_good, unsettled, at);
     }
 }
