@@ -75,6 +75,9 @@ def cases(scene, port, seen):
         boxed=refused,
         is_tried_plain=False,
     )
+    rights = "^NoNewPrivs:.1$", "^CapBnd:.0*$"
+    looks = " && ".join(f"grep -q '{line}' /proc/self/status" for line in rights)
+    yield Case("no rights", f"{looks} || exit 6; echo > $out", plain="ExitStatus(6)", harms=False)
     yield Case("its own end", "kill -9 $$", "Killed", "ExitStatus(137)", harms=False)
     library = library_in(scene.outside)
     if library:
