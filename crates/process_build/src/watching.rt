@@ -38,8 +38,8 @@ impl<R: Wait + Clock + AllocGlobal, B: Build, W: Write> Build for Watched<'_, R,
 }
 
 impl<R: Wait + Clock + AllocGlobal, B: Watch, W: Write> Watch for Watched<'_, R, B, W> {
-    /// Hears how many derivations are unsettled, which the line tells when the job is run, and tells
-    /// the builder.
+    /// Hears how many derivations are unsettled, which the line tells once the job is run, and
+    /// tells the builder.
     fn begun(&self, unsettled: usize) {
         self.unsettled.set(unsettled);
         self.builder.begun(unsettled);
