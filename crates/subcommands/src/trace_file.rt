@@ -62,7 +62,7 @@ struct TraceWritten<'a> {
 impl<'a> TraceWritten<'a> {
     // By the evidence of writing it.
     fn by(path: &'a str, written: Written<'_>) -> TraceWritten<'a>
-        requires { written.path.now ≡ path.entry.now }
+        requires { written.path.now ≡ path.now }
         ensures { result.path ≡ path.entry }
     {
         written.used();
@@ -92,9 +92,11 @@ fn told_end<'a>(
 ) -> Result<Finish, Stop<'a>>
     ensures { IsToldOf written.entry ended.entry result }
 {
-    let finish = ended?;
-    written?;
-    Ok(finish)
+    match (written, ended) {
+        (_, Err(stop)) => Err(stop),
+        (Err(stop), Ok(_)) => Err(stop),
+        (Ok(_), Ok(finish)) => Ok(finish),
+    }
 }
 
 // What ends a run whose trace file is not written.
