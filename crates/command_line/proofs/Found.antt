@@ -210,7 +210,7 @@ at_level a words subs wanted helps stop is none =
     at_stop a stop subs (subst NotHelp (sym is) other) second.0 has
 
 own_subs : Each IsSub (built command_line).subs
-own_subs = ((inl (inl refl), ((refl, λ e. absurd (false≢true e)), ((refl, λ e. absurd (false≢true e)), ((refl, λ e. absurd (false≢true e)), tt)))), ((inl (inr (inl refl)), ((refl, λ e. absurd (false≢true e)), ((refl, λ e. absurd (false≢true e)), ((refl, λ e. absurd (false≢true e)), ((refl, λ e. absurd (false≢true e)), ((refl, λ e. absurd (false≢true e)), ((refl, λ e. absurd (false≢true e)), tt))))))), ((inl (inr (inr (inl refl))), ((refl, λ e. absurd (false≢true e)), ((refl, λ e. absurd (false≢true e)), ((refl, λ e. absurd (false≢true e)), ((refl, λ e. absurd (false≢true e)), tt))))), ((inl (inr (inr (inr (inl refl)))), ((refl, λ e. absurd (false≢true e)), ((refl, λ e. absurd (false≢true e)), ((refl, λ e. absurd (false≢true e)), ((refl, λ e. absurd (false≢true e)), ((refl, λ e. absurd (false≢true e)), ((refl, λ e. absurd (false≢true e)), tt))))))), ((inl (inr (inr (inr (inr refl)))), ((refl, λ e. absurd (false≢true e)), ((refl, λ e. absurd (false≢true e)), ((refl, λ e. absurd (false≢true e)), ((refl, λ e. (refl, refl)), ((refl, λ e. absurd (false≢true e)), ((refl, λ e. absurd (false≢true e)), ((refl, λ e. absurd (false≢true e)), ((refl, λ e. absurd (false≢true e)), ((refl, λ e. absurd (false≢true e)), ((refl, λ e. absurd (false≢true e)), ((refl, λ e. absurd (false≢true e)), ((refl, λ e. absurd (false≢true e)), tt))))))))))))), ((inr (refl, refl), ((refl, λ e. absurd (false≢true e)), tt)), tt))))))
+own_subs = ((inl (inl refl), ((refl, λ e. absurd (false≢true e)), ((refl, λ e. absurd (false≢true e)), ((refl, λ e. absurd (false≢true e)), tt)))), ((inl (inr (inl refl)), ((refl, λ e. absurd (false≢true e)), ((refl, λ e. absurd (false≢true e)), ((refl, λ e. absurd (false≢true e)), ((refl, λ e. absurd (false≢true e)), ((refl, λ e. absurd (false≢true e)), ((refl, λ e. absurd (false≢true e)), tt))))))), ((inl (inr (inr (inl refl))), ((refl, λ e. absurd (false≢true e)), ((refl, λ e. absurd (false≢true e)), ((refl, λ e. absurd (false≢true e)), ((refl, λ e. absurd (false≢true e)), tt))))), ((inl (inr (inr (inr (inl refl)))), ((refl, λ e. absurd (false≢true e)), ((refl, λ e. absurd (false≢true e)), ((refl, λ e. absurd (false≢true e)), ((refl, λ e. absurd (false≢true e)), ((refl, λ e. absurd (false≢true e)), ((refl, λ e. absurd (false≢true e)), tt))))))), ((inl (inr (inr (inr (inr refl)))), ((refl, λ e. absurd (false≢true e)), ((refl, λ e. absurd (false≢true e)), ((refl, λ e. absurd (false≢true e)), ((refl, λ e. (refl, refl)), ((refl, λ e. absurd (false≢true e)), ((refl, λ e. absurd (false≢true e)), ((refl, λ e. absurd (false≢true e)), ((refl, λ e. absurd (false≢true e)), ((refl, λ e. absurd (false≢true e)), ((refl, λ e. absurd (false≢true e)), ((refl, λ e. absurd (false≢true e)), ((refl, λ e. absurd (false≢true e)), ((refl, λ e. absurd (false≢true e)), tt)))))))))))))), ((inr (refl, refl), ((refl, λ e. absurd (false≢true e)), tt)), tt))))))
 
 -- what is found where there is no fault
 pub found_rows : (words : List Text) → faults_in words ≡ []

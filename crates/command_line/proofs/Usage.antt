@@ -1,5 +1,5 @@
 -- What `clap` finds in the words of a command line.
-use Rattle.std.proofs.Common.{◌≡◌, ◌∙◌, ap, refl, subst, sym, true, ℕ, List, []}
+use Rattle.std.proofs.Common.{◌≡◌, ◌∙◌, ⊎_elim, ap, inl, inr, refl, subst, sym, true, ℕ, List, []}
 use Rattle.clap.specs.Faults.{fault_of, is_simple_and_free}
 use Rattle.clap.specs.Kinds.{HasKind}
 use Rattle.clap.specs.Words.{App, kind_of}
@@ -24,4 +24,5 @@ pub fault_found : (words : List (List ℕ)) (app : App) (error : Error) → app 
     → HasKind (fault_of app words) error → IsUsageFault words (kind_of error)
 unfolding faults_in
 fault_found words app error same has =
-    subst (λ (a : App). HasKind (fault_of a words) error) same has
+    ⊎_elim inl (λ among. inr (inl among))
+    (subst (λ (a : App). HasKind (fault_of a words) error) same has)

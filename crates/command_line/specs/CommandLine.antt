@@ -67,6 +67,10 @@ runner_option = option (codes "runner")
 abbrev pub trace_option : Rule
 trace_option = option (codes "trace")
 
+-- the option with the kind of outputs
+abbrev pub outputs_option : Rule
+outputs_option = option_or (codes "outputs") (codes "plain")
+
 -- one or more words DRV
 abbrev pub drv_words : Rule
 drv_words = record (required_word (codes "DRV")) { action = Some Append }
@@ -100,11 +104,14 @@ run_options name =
 abbrev pub plan_line : App
 plan_line = with_rule (with_rule (run_options (codes "plan")) dot_flag) drv_words
 
--- a subcommand with the options on how builders are started, and on what is kept of their runs
+-- a subcommand with the options on how builders are started, on what is kept of their runs, and on
+-- what they may make
 abbrev pub with_builder_options : App → App
 with_builder_options line =
     with_rule
-    (with_rule (with_rule (with_rule line logs_option) keep_failed_flag) runner_option) trace_option
+    (with_rule
+    (with_rule (with_rule (with_rule line logs_option) keep_failed_flag) runner_option)
+    trace_option) outputs_option
 
 -- the subcommand `realise`
 abbrev pub realise_line : App

@@ -10,6 +10,8 @@ use Rattle.command_line.specs.CommandLine.{command_line}
 use Rattle.command_line.specs.declared.options.AddDrvRequest.{AddDrvRequest}
 use Rattle.command_line.specs.declared.options.AddTextRequest.{AddTextRequest}
 use Rattle.command_line.specs.declared.options.CheckRequest.{CheckRequest}
+use Rattle.command_line.specs.declared.options.OutputKind.{OutputKind}
+use Rattle.command_line.specs.declared.options.OutputKind.TheVariants.{Plain, Nix}
 use Rattle.command_line.specs.declared.options.PlanRequest.{PlanRequest}
 use Rattle.command_line.specs.declared.options.RealiseRequest.{RealiseRequest}
 use Rattle.command_line.specs.declared.options.RunRequest.{RunRequest}
@@ -28,6 +30,19 @@ system_in rows = unwrap_or (first_of (codes "system") rows) (codes "x86_64-linux
 -- the number of builders among them, as a text
 abbrev pub jobs_in : List Row → Bytes
 jobs_in rows = unwrap_or (first_of (codes "jobs") rows) (codes "1")
+
+-- the kind of outputs among them, as a text
+abbrev pub outputs_in : List Row → Bytes
+outputs_in rows = unwrap_or (first_of (codes "outputs") rows) (codes "plain")
+
+-- the text names this kind of outputs (this product's own)
+abbrev pub NamesKind : (text : Bytes) → OutputKind → Type 0
+NamesKind text Plain = text ≡ codes "plain"
+NamesKind text Nix = text ≡ codes "nix"
+
+-- the text names no kind of outputs
+abbrev pub NamesNoKind : (text : Bytes) → Type 0
+NamesNoKind text = (kind : OutputKind) → ¬ NamesKind text kind
 
 -- the word with this name
 abbrev pub word_in : (name : Name) → List Row → Bytes
@@ -102,6 +117,7 @@ pub record IsRealise (rows : List Row) (request : RealiseRequest) : Type 0 where
   pub keep_failed : request.keep_failed ≡ is_flagged (codes "keep-failed") rows
   pub runner : option_map (λ p. p.now) request.runner ≡ first_of (codes "runner") rows
   pub trace : option_map (λ f. f.now) request.trace ≡ first_of (codes "trace") rows
+  pub outputs : NamesKind (outputs_in rows) request.outputs
 
 -- what is asked by a subcommand with this name and these words and options
 abbrev pub IsAskedBy : (name : Name) → List Row → Request → Type 0

@@ -3,10 +3,12 @@
 use Rattle.std.specs.Prelude.{◌≡◌, ◌⊎◌, List, []}
 use Rattle.clap.specs.Faults.{fault_of}
 use Rattle.clap.specs.Kinds.{IsAmong, Kinds}
+use Rattle.clap.specs.Words.{subcommand_of}
 use Rattle.clap.specs.declared.error.kind.ErrorKind.{ErrorKind}
 use Rattle.clap.specs.declared.error.kind.ErrorKind.TheVariants.{OutOfMemory}
 use Rattle.nix_names.specs.Bytes.{Bytes}
 use Rattle.command_line.specs.CommandLine.{command_line}
+use Rattle.command_line.specs.Kinds.{IsKindFaultIn}
 use Rattle.command_line.specs.Requests.{IsRequest}
 use Rattle.command_line.specs.declared.options.Request.{Request}
 
@@ -18,6 +20,8 @@ faults_in words = fault_of command_line words
 abbrev pub IsAsked : (words : List Bytes) → Request → Type 0
 IsAsked words request = IsRequest words request × (faults_in words ≡ [])
 
--- Why the words are not taken: `clap` finds a fault in them, or memory is refused.
+-- Why the words are not taken: `clap` finds a fault in them; or it finds none, and they ask for
+-- outputs of a kind that is none, or memory is refused.
 abbrev pub IsUsageFault : (words : List Bytes) → ErrorKind → Type 0
-IsUsageFault words kind = (kind ≡ OutOfMemory) ⊎ IsAmong kind (faults_in words)
+IsUsageFault words kind = (kind ≡ OutOfMemory) ⊎ (IsAmong kind (faults_in words)
+    ⊎ (IsKindFaultIn (subcommand_of command_line words) kind × (faults_in words ≡ [])))

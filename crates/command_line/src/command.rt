@@ -4,7 +4,8 @@ ghost use Rattle.clap.specs.Words.{app_of, new_app, rule_of, with_subcommand};
 ghost use Rattle.command_line.specs.CommandLine.{add_drv_line, add_text_line, check_line};
 ghost use Rattle.command_line.specs.CommandLine.{command_line, dot_flag, drv_words};
 ghost use Rattle.command_line.specs.CommandLine.{in_nix_store_flag, jobs_option, keep_failed_flag};
-ghost use Rattle.command_line.specs.CommandLine.{logs_option, runner_option, trace_option, wait_flag};
+ghost use Rattle.command_line.specs.CommandLine.{logs_option, outputs_option, runner_option};
+ghost use Rattle.command_line.specs.CommandLine.{trace_option, wait_flag};
 ghost use Rattle.command_line.specs.CommandLine.{with_builder_options};
 ghost use Rattle.command_line.specs.CommandLine.{journal_option, plan_line, realise_line, run_options};
 ghost use Rattle.command_line.specs.CommandLine.{store_dir_option};
@@ -39,6 +40,8 @@ pub const RUNNER: &str = "runner";
 
 pub const TRACE: &str = "trace";
 
+pub const OUTPUTS: &str = "outputs";
+
 pub const DRVS: &str = "DRV";
 
 pub const NAME: &str = "NAME";
@@ -63,6 +66,11 @@ pub const DEFAULT_SYSTEM: &str = "x86_64-linux";
 pub const DEFAULT_JOBS_WORD: &str = "1";
 
 pub const DEFAULT_JOBS: u8 = 1;
+
+// The kinds of outputs; plain ones where none is given.
+pub const PLAIN: &str = "plain";
+
+pub const NIX: &str = "nix";
 
 /// The program's command line.
 pub fn command<'a>(alloc: Global) -> Result<Command<'a>, AllocError>
@@ -174,7 +182,8 @@ fn realise_command<'a>(alloc: Global) -> Result<Command<'a>, AllocError>
     with_builder_options(alloc, command)?.arg(wanted_drvs(alloc))
 }
 
-// A command with the options on how builders are started, and on what is kept of their runs.
+// A command with the options on how builders are started, on what is kept of their runs, and on what
+// they may make.
 fn with_builder_options<'a>(alloc: Global, command: Command<'a>) -> Result<Command<'a>, AllocError>
     ensures { IfOk result (λ more. app_of more ≡ with_builder_options (app_of command.entry)) }
 {
@@ -182,7 +191,8 @@ fn with_builder_options<'a>(alloc: Global, command: Command<'a>) -> Result<Comma
         .arg(logs(alloc))?
         .arg(keep_failed(alloc))?
         .arg(runner(alloc))?
-        .arg(trace(alloc))
+        .arg(trace(alloc))?
+        .arg(outputs(alloc))
 }
 
 // A subcommand that takes a plan and a journal, with the options that both have.
@@ -322,6 +332,18 @@ fn trace<'a>(alloc: Global) -> Arg<'a>
     Arg::new(alloc, TRACE).long(TRACE).value_name("FILE").help(
         "Write to this file when each builder ran, as trace events",
     )
+}
+
+// The option with the kind of outputs.
+fn outputs<'a>(alloc: Global) -> Arg<'a>
+    ensures rule { rule_of result ≡ outputs_option }
+    ensures local { result.global ≡ false }
+{
+    Arg::new(alloc, OUTPUTS)
+        .long(OUTPUTS)
+        .value_name("KIND")
+        .help("What outputs may have: plain, files and folders, or nix, symbolic links too")
+        .default_value(PLAIN)
 }
 
 // One or more words, each the path of a derivation.

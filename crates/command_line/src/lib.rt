@@ -13,6 +13,7 @@ mod options;
 mod words;
 
 pub use options::{
-    AddDrvRequest, AddTextRequest, CheckRequest, PlanRequest, RealiseRequest, Request, RunRequest,
+    AddDrvRequest, AddTextRequest, CheckRequest, OutputKind, PlanRequest, RealiseRequest, Request,
+    RunRequest,
 };
 pub use words::{not_text, request};

@@ -91,4 +91,15 @@ pub struct RealiseRequest<'a> {
     pub runner: Option<&'a str>,
     /// The file that gets the trace events of the run, where one was given.
     pub trace: Option<&'a str>,
+    /// What outputs may have.
+    pub outputs: OutputKind,
+}
+
+/// What outputs may have.
+#[derive(Clone, Copy, Debug, PartialEq, Eq)]
+pub enum OutputKind {
+    /// Files and folders.
+    Plain,
+    /// Symbolic links too.
+    Nix,
 }

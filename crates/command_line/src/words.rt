@@ -1,20 +1,23 @@
 //! The words of a command line, read by `clap`.
-ghost use Rattle.std.specs.Prelude.{◌≡◌, IfErr, IfOk, map, option_map};
+ghost use Rattle.std.specs.Prelude.{◌≡◌, ◌⊎◌, IfErr, IfOk, MatchOption, map, option_map};
 ghost use Rattle.clap.specs.Words.{first_of, found_of, kind_of, rows_of, subcommand_rows_of};
 ghost use Rattle.command_line.specs.Found.{HasJobs, IsFound, IsSubcommand};
 ghost use Rattle.command_line.specs.Usage.{IsAsked, IsUsageFault};
+ghost use Rattle.command_line.specs.Kinds.{IsKindFault, IsKindFaultBy, IsKindFaultIn};
 ghost use Rattle.command_line.specs.Requests.{AreJobs, IsAddDrv, IsAddText, IsAskedBy};
 ghost use Rattle.command_line.specs.Requests.{IsAskedIn, IsCheckRequest};
 ghost use Rattle.command_line.specs.Requests.{IsPlanned, IsRealise, IsRunRequest, drvs_in};
-ghost use Rattle.command_line.specs.Requests.{is_flagged, jobs_in, store_dir_in, system_in, word_in};
+ghost use Rattle.command_line.specs.Requests.{NamesKind, NamesNoKind, is_flagged, jobs_in};
+ghost use Rattle.command_line.specs.Requests.{outputs_in, store_dir_in, system_in, word_in};
 
 use crate::command::{
     ADD_DRV, ADD_TEXT, CHECK, DEFAULT_JOBS, DEFAULT_STORE_DIR, DEFAULT_SYSTEM, DOT, DRVS, FILE,
-    IN_NIX_STORE, JOBS, JOURNAL, KEEP_FAILED, LOGS, NAME, PLAN, REALISE, RUNNER, STORE_DIR, SYSTEM,
-    TRACE, WAIT, command,
+    IN_NIX_STORE, JOBS, JOURNAL, KEEP_FAILED, LOGS, NAME, NIX, OUTPUTS, PLAIN, PLAN, REALISE,
+    RUNNER, STORE_DIR, SYSTEM, TRACE, WAIT, command,
 };
 use crate::options::{
-    AddDrvRequest, AddTextRequest, CheckRequest, PlanRequest, RealiseRequest, Request, RunRequest,
+    AddDrvRequest, AddTextRequest, CheckRequest, OutputKind, PlanRequest, RealiseRequest, Request,
+    RunRequest,
 };
 use clap::error::ErrorKind;
 use clap::{ArgMatches, Error};
@@ -28,13 +31,15 @@ pub fn request<'a>(alloc: Global, words: &'a [&'a str]) -> Result<Request<'a>, E
         (λ e. IsUsageFault (map (λ w. w.now) words.entry.now) (kind_of e)) }
 {
     let matches = command(alloc)?.try_get_matches_from(words)?;
-    Ok(found_request(alloc, &matches)?)
+    found_request(alloc, &matches)
 }
 
 // The request of the subcommand that was found.
-fn found_request<'a>(alloc: Global, matches: &ArgMatches<'a>) -> Result<Request<'a>, AllocError>
+fn found_request<'a>(alloc: Global, matches: &ArgMatches<'a>) -> Result<Request<'a>, Error>
     requires { IsFound (subcommand_rows_of matches.now) }
-    ensures { IfOk result (IsAskedIn (subcommand_rows_of matches.now)) }
+    ensures ok { IfOk result (IsAskedIn (subcommand_rows_of matches.now)) }
+    ensures err { IfErr result (λ e. (kind_of e ≡ ErrorKind.OutOfMemory)
+        ⊎ IsKindFaultIn (subcommand_rows_of matches.now) (kind_of e)) }
 {
     match matches.subcommand() {
         Some((name, found)) => subcommand_request(alloc, name, found),
@@ -47,10 +52,13 @@ fn subcommand_request<'a>(
     alloc: Global,
     name: &str,
     found: &ArgMatches<'a>,
-) -> Result<Request<'a>, AllocError>
+) -> Result<Request<'a>, Error>
     requires name { IsSubcommand name.now }
     requires jobs { HasJobs (rows_of (found_of found.now)) }
-    ensures { IfOk result (IsAskedBy name.now (rows_of (found_of found.now))) }
+    ensures ok { IfOk result (IsAskedBy name.now (rows_of (found_of found.now))) }
+    ensures err { IfErr result
+        (λ e. (kind_of e ≡ ErrorKind.OutOfMemory)
+        ⊎ IsKindFaultBy name.now (rows_of (found_of found.now)) (kind_of e)) }
 {
     match name {
         CHECK => Ok(Request::Check(check_request(alloc, found)?)),
@@ -117,12 +125,12 @@ fn plan_request<'a>(alloc: Global, found: &ArgMatches<'a>) -> Result<PlanRequest
 }
 
 // The request of `realise`, by its matches.
-fn realise_request<'a>(
-    alloc: Global,
-    found: &ArgMatches<'a>,
-) -> Result<RealiseRequest<'a>, AllocError>
+fn realise_request<'a>(alloc: Global, found: &ArgMatches<'a>) -> Result<RealiseRequest<'a>, Error>
     requires { HasJobs (rows_of (found_of found.now)) }
-    ensures { IfOk result (IsRealise (rows_of (found_of found.now))) }
+    ensures ok { IfOk result (IsRealise (rows_of (found_of found.now))) }
+    ensures err { IfErr result
+        (λ e. (kind_of e ≡ ErrorKind.OutOfMemory)
+        ⊎ IsKindFault (outputs_in (rows_of (found_of found.now))) (kind_of e)) }
 {
     Ok(RealiseRequest {
         run: run_request(alloc, found)?,
@@ -133,6 +141,7 @@ fn realise_request<'a>(
         keep_failed: is_flagged(found, KEEP_FAILED),
         runner: value_of(found, RUNNER),
         trace: value_of(found, TRACE),
+        outputs: outputs_of(alloc, found)?,
     })
 }
 
@@ -162,6 +171,42 @@ fn system_of<'a>(found: &ArgMatches<'a>) -> &'a str
     ensures { result.now ≡ system_in (rows_of (found_of found.now)) }
 {
     found.get_str(SYSTEM).unwrap_or(DEFAULT_SYSTEM)
+}
+
+// The kind of outputs that the matches give, or the default one; a fault where the word is no kind.
+#[tactic(auto, using(crate::proofs::Rows::first_row))]
+fn outputs_of(alloc: Global, found: &ArgMatches<'_>) -> Result<OutputKind, Error>
+    ensures ok { IfOk result (NamesKind (outputs_in (rows_of (found_of found.now)))) }
+    ensures err { IfErr result
+        (λ e. (kind_of e ≡ ErrorKind.OutOfMemory)
+        ⊎ IsKindFault (outputs_in (rows_of (found_of found.now))) (kind_of e)) }
+{
+    let name = found.get_str(OUTPUTS).unwrap_or(PLAIN);
+    match kind_named(name) {
+        Some(kind) => Ok(kind),
+        None => Err(no_kind(alloc, name)?),
+    }
+}
+
+// The kind of outputs with this name, if there is one.
+fn kind_named(name: &str) -> Option<OutputKind>
+    ensures { MatchOption result (NamesNoKind name.now) (NamesKind name.now) }
+{
+    match name {
+        PLAIN => Some(OutputKind::Plain),
+        NIX => Some(OutputKind::Nix),
+        _ => None,
+    }
+}
+
+// The usage fault of a word that is no kind of outputs.
+fn no_kind(alloc: Global, word: &str) -> Result<Error, AllocError>
+    ensures { IfOk result (λ e. kind_of e ≡ ErrorKind.InvalidValue) }
+{
+    let message = format!(in alloc;
+        "invalid value '{word}' for '--outputs <KIND>': it is neither plain nor nix"
+    )?;
+    command(alloc)?.error(ErrorKind::InvalidValue, message.as_str())
 }
 
 // The number of builders that the matches give, or the default one.

@@ -1,3 +1,4 @@
+pub mod AllowedLinks
 pub mod BuilderCalls
 pub mod Callable
 pub mod FileReads

@@ -1,13 +1,14 @@
 -- What is answered when a builder has ended, and what may be a part of its outputs.
-use Rattle.std.specs.Prelude.{◌≡◌, ◌≢◌, ◌⊎◌, Bool, true, false, [], Option, Some, None, Result, Ok, Err, length, pos}
-use Rattle.std.specs.Fs.{IsDir, IsFile}
+use Rattle.std.specs.Prelude.{◌≡◌, ◌≢◌, ◌⊎◌, Bool, IsTrue, true, false, ⊤, [], Option, Some, None, Result, Ok, Err, length, pos}
+use Rattle.std.specs.Fs.{IsDir, IsFile, IsSymlink}
 use Rattle.std.specs.Process.{exit_code}
 use Rattle.std.specs.declared.fs.FileType.{FileType}
 use Rattle.std.specs.declared.io.Error.{Error}
 use Rattle.process_build.specs.Errors.{IsNoMemory, IsNotFound}
 use Rattle.process_build.specs.declared.ended.Left.{Left}
 use Rattle.process_build.specs.declared.reading.Node.{Node}
-use Rattle.process_build.specs.declared.reading.Node.TheVariants.{File, Folder}
+use Rattle.process_build.specs.declared.reading.Node.TheVariants as node
+use Rattle.ref_scan.specs.declared.tree.Tree.{Tree, Pieces, Link, Dir'}
 use Rattle.build_outcome.specs.declared.job.Answer.{Answer}
 use Rattle.build_outcome.specs.declared.job.Job.{Job}
 use Rattle.build_outcome.specs.declared.reason.Reason.{Reason}
@@ -48,17 +49,27 @@ abbrev pub MayEnd : Job → Result Answer Reason → Type 0
 MayEnd job (Ok answer) = IsAnswerOf job answer
 MayEnd job (Err reason) = (reason ≡ NoStart) ⊎ (reason ≡ ReadFault) ⊎ (reason ≡ TooLarge)
 
--- the part of an output that lies at a path: a file or a folder; anything else is a read fault
-abbrev pub IsNodeAt : FileType → Result Node Reason → Type 0
-IsNodeAt found (Ok File) = IsFile found
-IsNodeAt found (Ok Folder) = IsDir found
-IsNodeAt found (Err reason) = (reason ≡ ReadFault) × ¬ (IsFile found) × ¬ (IsDir found)
+-- the part of an output that lies at a path: a file, a folder, or a symbolic link where outputs may
+-- have links; anything else is a read fault
+abbrev pub IsNodeAt : (links : Bool) → FileType → Result Node Reason → Type 0
+IsNodeAt links found (Ok node.File) = IsFile found
+IsNodeAt links found (Ok node.Folder) = IsDir found
+IsNodeAt links found (Ok node.Link) = IsSymlink found × IsTrue links
+IsNodeAt links found (Err reason) =
+    (reason ≡ ReadFault) × ¬ (IsFile found) × ¬ (IsDir found) × ¬ (IsSymlink found × IsTrue links)
 
 -- the same, where the answer may also be that nothing lies there: here something does
-abbrev pub IsNodeOf : FileType → Result (Option Node) Reason → Type 0
-IsNodeOf found (Ok (Some node)) = IsNodeAt found (Ok node)
-IsNodeOf found (Ok None) = ⊥
-IsNodeOf found (Err reason) = IsNodeAt found (Err reason)
+abbrev pub IsNodeOf : (links : Bool) → FileType → Result (Option Node) Reason → Type 0
+IsNodeOf links found (Ok (Some part)) = IsNodeAt links found (Ok part)
+IsNodeOf links found (Ok None) = ⊥
+IsNodeOf links found (Err reason) = IsNodeAt links found (Err reason)
+
+-- what is read of a part of an output: a file's pieces, a folder's members, a link's own target
+abbrev pub IsReadAs : Node → Tree → Type 0
+IsReadAs node.File (Pieces parts) = ⊤
+IsReadAs node.Folder (Dir' shape members) = ⊤
+IsReadAs node.Link (Link target) = ⊤
+IsReadAs part tree = ⊥
 
 -- what lies at a path by an error of the system: nothing, exactly where the error is that nothing
 -- is found; else want of memory or a read fault

@@ -16,4 +16,5 @@ pub record IsMannerOf (manner : Manner) (own : OwnManner) : Type 0 where
   pub runner : option_map string_bytes own.runner ≡ option_map (λ r. r.now) manner.runner
   pub logs : option_map string_bytes own.logs ≡ option_map (λ l. l.now) manner.logs
   pub kept : is_some own.kept ≡ is_some manner.kept
+  pub links : own.links ≡ manner.links
   pub drvs : own.drvs ≡ manner.drvs.now

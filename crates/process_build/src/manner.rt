@@ -6,7 +6,8 @@ use crate::drv_paths::DrvPaths;
 use crate::kept_folders::KeptFolders;
 use std::alloc::{AllocError, Global};
 
-/// How the builders of a run build: where, how they are started, and what is kept of them.
+/// How the builders of a run build: where, how they are started, what is kept of them, and what they
+/// may make.
 #[derive(Clone, Copy)]
 pub struct Manner<'a> {
     /// The store folder.
@@ -18,6 +19,8 @@ pub struct Manner<'a> {
     /// The list of the build folders that are kept, those of builders that failed. Without a list
     /// none is kept.
     pub kept: Option<&'a KeptFolders>,
+    /// Whether outputs may have symbolic links.
+    pub links: bool,
     /// The paths of the run's derivations.
     pub drvs: &'a DrvPaths,
 }
@@ -29,6 +32,7 @@ pub struct OwnManner {
     runner: Option<String>,
     logs: Option<String>,
     kept: Option<KeptFolders>,
+    links: bool,
     drvs: DrvPaths,
 }
 
@@ -42,6 +46,7 @@ impl OwnManner {
             runner: owned(alloc, manner.runner)?,
             logs: owned(alloc, manner.logs)?,
             kept: shared(manner.kept)?,
+            links: manner.links,
             drvs: manner.drvs.copy()?,
         })
     }
@@ -72,6 +77,13 @@ impl OwnManner {
         ensures { is_some result ≡ is_some self.now.kept }
     {
         self.kept.as_ref()
+    }
+
+    /// Whether outputs may have symbolic links.
+    pub fn links(&self) -> bool
+        ensures { result ≡ self.now.links }
+    {
+        self.links
     }
 
     /// The paths of the run's derivations.

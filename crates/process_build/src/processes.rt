@@ -239,7 +239,7 @@ impl<R: Files + Logs + AllocGlobal, P: Processes> ProcessBuild<'_, R, P> {
         let place = self.place(&order.folder);
         let ended = run_builder(alloc, self.processes, place, &order.call, outputs)?;
         let trees = match ended.code() {
-            Some(0) => read_outputs(self.rt, job)?,
+            Some(0) => read_outputs(self.rt, job, self.manner.links())?,
             _ => Vec::new(alloc),
         };
         Ok(Left::by(ended, trees))

@@ -1,9 +1,12 @@
 //! What lies at the outputs' paths, read within the limits of an output.
-ghost use Rattle.std.specs.Prelude.{◌≡◌, ◌≤◌, ◌+◌, ◌⊎◌, [], Err, IfErr, IfOk};
+ghost use Rattle.std.specs.Prelude.{◌≡◌, ◌≤◌, ◌+◌, ◌⊎◌, [], All, Err, IfErr, IfOk, IfSome, IsTrue};
 ghost use Rattle.std.specs.Prelude.{IsUtf8, length, string_bytes};
 ghost use Rattle.std.specs.Fs.{file_type};
 ghost use Rattle.std.specs.Io.KnownBytes.{Consumes, IsAtEnd, ReadConsumes};
-ghost use Rattle.process_build.specs.Answers.{IsNodeAt, IsNodeOf, IsNoNode, IsReadingFault};
+ghost use Rattle.process_build.specs.Answers.{IsNodeAt, IsNodeOf, IsNoNode, IsReadAs};
+ghost use Rattle.process_build.specs.Answers.{IsReadingFault};
+ghost use Rattle.process_build.specs.Contents.{IsAllowed};
+ghost use Rattle.ref_scan.specs.declared.tree.Member.{Member};
 ghost use Rattle.process_build.specs.Contents.{child_of, IsMoreThan, IsWhole};
 ghost use Rattle.ref_scan.specs.Trees.{joined};
 ghost use Rattle.build_outcome.specs.declared.reason.Reason.TheVariants.{OutOfMemory, ReadFault};
@@ -26,24 +29,36 @@ const MAX_PIECE: usize = 65_536;
 const NAMES_AT_ONCE: usize = 4_096;
 
 /// What lies at the path of each output of a job, in the job's order, `None` where nothing does; or
-/// the first fault. A folder's entries are read in the byte order of their names.
-pub fn read_outputs<R: Files + AllocGlobal>(rt: &R, job: &Job) -> Result<Vec<Option<Tree>>, Reason>
+/// the first fault. A folder's entries are read in the byte order of their names. Symbolic links are
+/// read where `links` says so, and are a `ReadFault` elsewhere; none is followed.
+pub fn read_outputs<R: Files + AllocGlobal>(
+    rt: &R,
+    job: &Job,
+    links: bool,
+) -> Result<Vec<Option<Tree>>, Reason>
     ensures trees { IfOk result (λ trees. length trees.items ≡ length job.now.outputs.items) }
+    ensures plain { IfOk result (λ trees.
+        All (λ tree. IfSome tree (IsAllowed links)) trees.items) }
     ensures bad { IfErr result IsReadingFault }
 {
     let mut trees = Vec::new(rt.alloc());
     for output in &job.outputs {
-        trees.push(read_output(rt, output.path.as_str())?)?;
+        trees.push(read_output(rt, output.path.as_str(), links)?)?;
     }
     Ok(trees)
 }
 
 // What lies at a path, if anything does.
-fn read_output<R: Files + AllocGlobal>(rt: &R, path: &str) -> Result<Option<Tree>, Reason>
-    ensures { IfErr result IsReadingFault }
+fn read_output<R: Files + AllocGlobal>(
+    rt: &R,
+    path: &str,
+    links: bool,
+) -> Result<Option<Tree>, Reason>
+    ensures plain { IfOk result (λ tree. IfSome tree (IsAllowed links)) }
+    ensures bad { IfErr result IsReadingFault }
 {
-    match node_of(fs::symlink_metadata(rt, path))? {
-        Some(node) => Ok(Some(Reader::new(rt).tree(node, path, MAX_DEPTH - 1)?)),
+    match node_of(fs::symlink_metadata(rt, path), links)? {
+        Some(node) => Ok(Some(Reader::new(rt).tree(node, path, MAX_DEPTH - 1, links)?)),
         None => Ok(None),
     }
 }
@@ -55,33 +70,36 @@ pub enum Node {
     File,
     /// A folder.
     Folder,
+    /// A symbolic link.
+    Link,
 }
 
-// What lies at a path, by the system's answer. A fault if it is neither a file nor a folder.
-fn node_of(asked: io::Result<Metadata>) -> Result<Option<Node>, Reason>
-    ensures found { IfOk asked (λ found. IsNodeOf (file_type found) result) }
+// What lies at a path, by the system's answer. A fault if outputs may not have it.
+fn node_of(asked: io::Result<Metadata>, links: bool) -> Result<Option<Node>, Reason>
+    ensures found { IfOk asked (λ found. IsNodeOf links (file_type found) result) }
     ensures fault { IfErr asked (λ error. IsNoNode error result) }
 {
     match asked {
-        Ok(found) => Ok(Some(node_at(&found)?)),
+        Ok(found) => Ok(Some(node_at(&found, links)?)),
         Err(error) if error.kind() == ErrorKind::NotFound => Ok(None),
         Err(error) => Err(read_fault(error)),
     }
 }
 
-// What was found as a part of an output.
-fn node_at(found: &Metadata) -> Result<Node, Reason>
-    ensures { IsNodeAt (file_type found.now) result }
+// What was found as a part of an output, which may have symbolic links or may not.
+fn node_at(found: &Metadata, links: bool) -> Result<Node, Reason>
+    ensures { IsNodeAt links (file_type found.now) result }
 {
-    match (found.is_file(), found.is_dir()) {
-        (true, _) => Ok(Node::File),
-        (_, true) => Ok(Node::Folder),
+    match (found.is_file(), found.is_dir(), found.is_symlink()) {
+        (true, _, _) => Ok(Node::File),
+        (_, true, _) => Ok(Node::Folder),
+        (_, _, true) if links => Ok(Node::Link),
         _ => Err(Reason::ReadFault),
     }
 }
 
-// Reads one output, and knows how many entries and bytes of files it may still have. Each file is
-// read through the buffer.
+// Reads one output, and knows how many entries and bytes of files and targets it may still have.
+// Each file is read through the buffer.
 #[derive(Drop)]
 struct Reader<'a, R> {
     rt: &'a R,
@@ -101,44 +119,74 @@ impl<'a, R: Files + AllocGlobal> Reader<'a, R> {
         }
     }
 
-    // What lies at a path, by what was found there, with at most `below` levels below its own.
+    // What lies at a path, by what was found there, with at most `below` levels below its own, and
+    // with symbolic links if it may have some.
     #[cycle(tree)]
-    fn tree(&mut self, node: Node, path: &str, below: usize) -> Result<Tree, Reason>
-        ensures { IfErr result IsReadingFault }
+    fn tree(&mut self, node: Node, path: &str, below: usize, links: bool) -> Result<Tree, Reason>
+        requires { node ≡ Node.Link → IsTrue links }
+        ensures tree { IfOk result (IsReadAs node) }
+        ensures plain { IfOk result (IsAllowed links) }
+        ensures bad { IfErr result IsReadingFault }
     {
         match node {
             Node::File => Ok(Tree::Pieces(self.pieces(path)?)),
-            Node::Folder => Ok(Tree::Dir(self.members(path, below)?)),
+            Node::Folder => Ok(Tree::Dir(self.members(path, below, links)?)),
+            Node::Link => Ok(Tree::Link(self.target(path)?)),
         }
     }
 
     // The members of a folder, in the byte order of their names.
     #[cycle(tree)]
-    fn members(&mut self, path: &str, below: usize) -> Result<Vec<Member>, Reason>
-        ensures { IfErr result IsReadingFault }
+    fn members(&mut self, path: &str, below: usize, links: bool) -> Result<Vec<Member>, Reason>
+        ensures plain { IfOk result (λ members.
+            All (λ (m : Member). IsAllowed links m.tree) members.items) }
+        ensures bad { IfErr result IsReadingFault }
     {
         let alloc = self.rt.alloc();
         let mut members = Vec::new(alloc);
         for name in self.names(path)? {
-            members.push(self.member(path, name, below)?)?;
+            members.push(self.member(path, name, below, links)?)?;
         }
         Ok(members)
     }
 
     // The member of a folder with this name, if a level is left for it.
     #[cycle(tree)]
-    fn member(&mut self, path: &str, name: Vec<u8>, below: usize) -> Result<Member, Reason>
-        ensures { IfErr result IsReadingFault }
+    fn member(
+        &mut self,
+        path: &str,
+        name: Vec<u8>,
+        below: usize,
+        links: bool,
+    ) -> Result<Member, Reason>
+        ensures plain { IfOk result (λ (m : Member). IsAllowed links m.tree) }
+        ensures bad { IfErr result IsReadingFault }
     {
         let Some(below) = below.checked_sub(1) else {
             return Err(Reason::TooLarge);
         };
         let path = child_path(self.rt.alloc(), path, &name)?;
-        let Some(node) = node_of(fs::symlink_metadata(self.rt, path.as_str()))? else {
+        let found = fs::symlink_metadata(self.rt, path.as_str());
+        let Some(node) = node_of(found, links)? else {
             return Err(Reason::ReadFault);
         };
-        let tree = self.tree(node, path.as_str(), below)?;
+        let tree = self.tree(node, path.as_str(), below, links)?;
         Ok(Member { name, tree })
+    }
+
+    // The target of a link, which is not followed.
+    fn target(&mut self, path: &str) -> Result<Vec<u8>, Reason>
+        ensures left { IfOk result (λ target.
+            self.new.bytes + length target.items ≡ self.old.bytes) }
+        ensures bad { IfErr result IsReadingFault }
+    {
+        let target = fs::read_link(self.rt, path).map_err(read_fault)?;
+        let target = target.into_string().into_bytes();
+        let Some(left) = self.bytes.checked_sub(target.len()) else {
+            return Err(Reason::TooLarge);
+        };
+        self.bytes = left;
+        Ok(target)
     }
 
     // The names in a folder, in byte order. A link in its place is not followed.

@@ -5,6 +5,7 @@ use process_build::Logs;
 use std::alloc::{Allocator, Global};
 use std::fs::{Metadata, OpenFile, OpenOptions, Permissions};
 use std::io::{ErrorKind, Read, Seek, SeekFrom, Write};
+use std::path::PathBuf;
 use std::process::{Child, Command, ExitStatus, OpenProcess, Processes, Stdio};
 use std::rt::Files;
 use std::sync::{Arc, Mutex, Wait};
@@ -35,6 +36,9 @@ pub enum Event {
     /// Right before the call with this number another process moves what lies at the second path,
     /// if anything does, and makes a link to the first path there.
     Linked(usize, String, String),
+    /// Right before the call with this number another process puts a folder in the place of the file
+    /// or link at this path.
+    Swapped(usize, String),
     /// Right before the call with this number another process asks for the lock of this folder. If
     /// it gets it, the call is refused.
     Asked(usize, String),
@@ -55,6 +59,10 @@ impl Event {
             Event::Made(number, path) if *number == count => fs::create_dir(host, path.as_str()),
             Event::Filled(number, path) if *number == count => fill(host, path),
             Event::Linked(number, to, at) if *number == count => swap(host, to, at),
+            Event::Swapped(number, path) if *number == count => {
+                fs::remove_file(host, path.as_str())?;
+                fs::create_dir(host, path.as_str())
+            }
             Event::Asked(number, dir) if *number == count => ask(host, dir),
             _ => Ok(()),
         }
@@ -217,6 +225,11 @@ impl<R: Plain> Files for Double<R> {
     fn symlink_metadata(&self, path: &str) -> io::Result<Metadata> {
         self.shared.note("lstat", path)?;
         self.shared.host.symlink_metadata(path)
+    }
+
+    fn read_link<B: Allocator>(&self, alloc: B, path: &str) -> io::Result<PathBuf<B>> {
+        self.shared.note("readlink", path)?;
+        self.shared.host.read_link(alloc, path)
     }
 
     fn copy(&self, from: &str, to: &str) -> io::Result<u64> {

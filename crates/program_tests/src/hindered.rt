@@ -28,6 +28,8 @@ pub enum Way {
     FillsFolder(usize, &'static str),
     /// It moves what lies at the second path and makes a link to the first path there.
     Links(usize, &'static str, &'static str),
+    /// It puts a folder in the place of the file or link at a path.
+    Swaps(usize, &'static str),
     /// Right before a call another process asks for the lock of the store folder. If it gets it,
     /// the call is refused.
     AsksForTheLock(usize),
@@ -95,6 +97,14 @@ const LARGE: &str = "Derive([(\"out\",\"\",\"\",\"\")],[],[],\"x86_64-linux\",\"
 
 const WITH_LARGE_OUTPUT: &str = "realiser-journal 2\nD <any>\nO <any.out> \
     sha256:f51b279903037b37ea1828a1021499995718d38016cad6c0da30962a41be052f\n";
+
+// A draft whose builder makes a symbolic link.
+const LINK: &str = "Derive([(\"out\",\"\",\"\",\"\")],[],[],\"x86_64-linux\",\"/bin/sh\",[\"-c\",\
+    \"ln -s /no/such/file $out\"],[(\"PATH\",\"/usr/bin:/bin\"),(\"out\",\"\")])";
+
+const REALISE_LINKS: &str = "nix_realise realise --store-dir <dir> --outputs nix <any>";
+
+const WITH_LINK: &str = "realiser-journal 2\nD <any>\nO <any.out> -\n";
 
 pub const GREETED: (&str, &str, u8) = ("<text>\n", "", 0);
 
@@ -376,6 +386,27 @@ static RUN: [Row; 4] = [
     },
 ];
 
+// What lies at an output is a link when it is looked at, and something else when it is read.
+static SWAPPED: [Row; 2] = [
+    Row {
+        name: "link-swapped-for-a-folder",
+        before: &[Step::Put("any", LINK)],
+        line: REALISE_LINKS,
+        way: Way::Swaps(17, "<any.out>"),
+        told: ("failed <any>: ReadFault\n", "", 1),
+        after: &[Step::Holds(JOURNAL, "realiser-journal 2\n")],
+    },
+    // The target that is read is what is registered.
+    Row {
+        name: "link-swapped-for-another",
+        before: &[Step::Put("any", LINK)],
+        line: REALISE_LINKS,
+        way: Way::Links(17, "/no/other/file", "<any.out>"),
+        told: BUILT,
+        after: &[Step::Holds(JOURNAL, WITH_LINK)],
+    },
+];
+
 // A path becomes a link between two calls: the link's target is never changed.
 static LINKED: [Row; 5] = [
     Row {
@@ -430,7 +461,7 @@ static LINKED: [Row; 5] = [
 ];
 
 /// The tables of all rows.
-pub fn tables() -> [&'static [Row]; 9] {
+pub fn tables() -> [&'static [Row]; 10] {
     [
         &SHORT,
         &INTERRUPTED,
@@ -439,6 +470,7 @@ pub fn tables() -> [&'static [Row]; 9] {
         &TAKEN,
         &RUN,
         &LINKED,
+        &SWAPPED,
         &locked::LOCKED,
         &locked::HOLDING,
     ]
@@ -460,6 +492,7 @@ pub fn event_of(alloc: Global, scene: &Scene, way: &Way) -> Result<Event, Fail> 
             let to = scene.said(alloc, to)?;
             Ok(Event::Linked(*number, to, scene.said(alloc, at)?))
         }
+        Way::Swaps(number, path) => Ok(Event::Swapped(*number, scene.said(alloc, path)?)),
         Way::AsksForTheLock(number) => Ok(Event::Asked(*number, scene.said(alloc, "<dir>")?)),
         Way::Refuses(number, kind) => Ok(Event::Refused(*number, *kind)),
     }

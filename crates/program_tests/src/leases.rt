@@ -187,7 +187,7 @@ fn folders_behind_the_line_of_progress(rt: HostRuntime) -> Result<(), Fail> {
     for number in [1, 64, u64::MAX] {
         let double = Double::new(rt.clone()?, rt.clone()?, Event::Nothing)?;
         let make = ByProcesses::new(&double, &double);
-        let progress = Progress::new(Vec::new(rt.alloc()));
+        let progress = Progress::new(rt.alloc(), None, Vec::new(rt.alloc()));
         let make = Watching::new(&rt, &make, &progress);
         let build = make.builder(rt.alloc(), &scene.site.manner(&drvs))?;
         let is_right = is_in_its_folder(&double, &build, (folder, &job), number)?;

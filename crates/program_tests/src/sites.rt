@@ -92,7 +92,8 @@ impl Site {
         Ok(job.outputs.push(JobOutput { name, path })?)
     }
 
-    /// A builder of this folder that no runner starts, that keeps no log and no build folder.
+    /// A builder of this folder that no runner starts, that keeps no log and no build folder, and
+    /// whose outputs have no symbolic links.
     pub fn builder<'a, R, P>(
         &self,
         alloc: Global,
@@ -118,6 +119,7 @@ impl Site {
             runner: None,
             logs: None,
             kept: None,
+            links: false,
             drvs,
         }
     }

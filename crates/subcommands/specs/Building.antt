@@ -1,6 +1,6 @@
 -- What a run makes of the system's answers on the program that starts its builders, and on the
 -- folder of logs; and how its builders build.
-use Rattle.std.specs.Prelude.{◌≡◌, ◌≢◌, ◌⊎◌, List, Option, Some, None, Result, Ok, Err, bit_and, is_some, slice_get}
+use Rattle.std.specs.Prelude.{◌≡◌, ◌≢◌, ◌⊎◌, Bool, true, false, List, Option, Some, None, Result, Ok, Err, bit_and, is_some, slice_get}
 use Rattle.std.specs.Borrow.{Bor}
 use Rattle.std.specs.Fs.{IsFile, file_type, metadata_mode}
 use Rattle.std.specs.declared.fs.Metadata.{Metadata}
@@ -8,6 +8,8 @@ use Rattle.nix_names.specs.Bytes.{Bytes, Path}
 use Rattle.process_build.specs.declared.failures.Failure.{Failure}
 use Rattle.process_build.specs.declared.failures.Failure.TheVariants as failure
 use Rattle.process_build.specs.declared.manner.Manner.{Manner}
+use Rattle.command_line.specs.declared.options.OutputKind.{OutputKind}
+use Rattle.command_line.specs.declared.options.OutputKind.TheVariants.{Plain, Nix}
 use Rattle.command_line.specs.declared.options.RealiseRequest.{RealiseRequest}
 use Rattle.subcommands.specs.declared.logs_folder.LogsFolder.{LogsFolder}
 use Rattle.subcommands.specs.declared.runner.Found.{Found}
@@ -57,6 +59,11 @@ IsNoFolder word (NoLogs blamed) = word ≡ Some blamed
 IsNoFolder word NoMemory = Unit {0}
 IsNoFolder word stop = ⊥
 
+-- outputs of a kind may have symbolic links
+abbrev pub may_link : OutputKind → Bool
+may_link Plain = false
+may_link Nix = true
+
 -- The manner is the one that a request asks for, over a plan's derivations with these paths.
 pub record IsMannerFor (request : RealiseRequest) (drvs : List Path) (manner : Manner)
     : Type 0 where
@@ -64,4 +71,5 @@ pub record IsMannerFor (request : RealiseRequest) (drvs : List Path) (manner : M
   pub runner : manner.runner ≡ request.runner
   pub logs : manner.logs ≡ request.logs
   pub kept : is_some manner.kept ≡ request.keep_failed
+  pub links : manner.links ≡ may_link request.outputs
   pub drvs_are : manner.drvs.now ≡ drvs

@@ -4,7 +4,7 @@ ghost use Rattle.subcommands.specs.Building.{IsMannerFor};
 
 use crate::logs_folder::LogsFolder;
 use crate::runner::Runner;
-use command_line::RealiseRequest;
+use command_line::{OutputKind, RealiseRequest};
 use process_build::{Builders, DrvPaths, KeptFolders, Manner};
 use std::alloc::{AllocError, Global};
 
@@ -42,6 +42,7 @@ pub fn manner_of<'m, 'a: 'm>(
         runner: runner.path(),
         logs: logs.path(),
         kept,
+        links: matches!(request.outputs, OutputKind::Nix),
         drvs,
     }
 }

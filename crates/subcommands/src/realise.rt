@@ -43,9 +43,9 @@ use valid_view::{Name, Naming};
 /// looked whether the runner, if one is named, may be executed; the plan is loaded; it is looked
 /// whether Nix manages the store folder, and its lock is taken; then the journal is read, it is
 /// tested whether the journal can be written, and the folder of logs, if one is named, is made. The
-/// first fault ends the run, and nothing is built. Once the workers gave a book, the journal is written, whether the
-/// book is settled or not; then the lock is let go. Nothing is printed where the book isn't
-/// settled, or where the journal is not written.
+/// first fault ends the run, and nothing is built. Once the workers gave a book, the journal is
+/// written, whether the book is settled or not; then the lock is let go. Nothing is printed where
+/// the book isn't settled, or where the journal is not written.
 pub fn realise<'a, R, M, L, O>(
     rt: &R,
     make: &M,

@@ -13,10 +13,15 @@ subcommand_request-requires-clause-jobs c =
     let is = met c.args.matches.now _ _ c.in-Some.ensures.name c.in-Some.ensures.rows in
     (subst IsFound is c.requires).1
 
-pub returns : goal.returns
-returns c =
+pub returns-clause-ok : goal.returns-clause-ok
+returns-clause-ok c =
     let is = met c.args.matches.now _ _ c.in-Some.ensures.name c.in-Some.ensures.rows in
-    rw is c.subcommand_request.ensures
+    rw is c.subcommand_request.ensures.ok
+
+pub returns-clause-err : goal.returns-clause-err
+returns-clause-err c =
+    let is = met c.args.matches.now _ _ c.in-Some.ensures.name c.in-Some.ensures.rows in
+    rw is c.subcommand_request.ensures.err
 
 pub unreachable-requires : goal.unreachable-requires
 unreachable-requires c =

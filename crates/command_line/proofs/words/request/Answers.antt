@@ -1,12 +1,13 @@
-use Rattle.std.proofs.Common.{◌≡◌, ◌∙◌, ap, map, refl, subst, sym, true, ℕ, List}
-use Rattle.std.proofs.lemmas.Result.{err_from_is_err_and}
+use Rattle.std.proofs.Common.{◌≡◌, ◌∙◌, ap, inl, inr, map, refl, subst, sym, true, ℕ, List, ⊎_elim}
+use Rattle.std.proofs.lemmas.Result.{IfErr-weaker, IfOk-weaker, err_from_is_err_and}
 use Rattle.clap.specs.Faults.{is_simple_and_free}
-use Rattle.clap.specs.Words.{App, is_simple, subcommand_of}
+use Rattle.clap.specs.Words.{App, is_simple, kind_of, subcommand_of}
 use Rattle.clap.proofs.OnLiterals.{clap_on_literals}
 use Rattle.command_line.proofs.Found.{found_rows}
 use Rattle.command_line.proofs.Usage.{fault_found, is_free, none_found}
 use Rattle.command_line.specs.CommandLine.{command_line}
 use Rattle.command_line.specs.Found.{IsFound}
+use Rattle.command_line.specs.Kinds.{IsKindFaultIn}
 use Rattle.command_line.specs.Requests.{IsAskedIn}
 use Rattle.command_line.proofs.words.request.Goals as goal
 
@@ -44,4 +45,20 @@ returns-clause-ok c =
     let none =
     none_found words _ line
     (c.in_ok-matches.ensures.kinds (ap is_simple_and_free line ∙ is_free)) in
-    (subst (λ f. IsAskedIn f c.in_ok-found_request.field-0) same c.in_ok-found_request.ensures, none)
+    IfOk-weaker c.found_request.result _ _
+    (λ request asked. (subst (λ f. IsAskedIn f request) same asked, none))
+    c.found_request.ensures.ok
+
+pub returns-clause-err : goal.returns-clause-err
+returns-clause-err c =
+    let line = c.in_ok-command.ensures in
+    let words : List (List ℕ) = map (λ w. w.now) c.args.words.now in
+    let matches = c.in_ok-matches.ensures.matches (ap is_simple line ∙ is_read) in
+    let same = matches.1 ∙ ap (λ (app : App). subcommand_of app words) line in
+    let none =
+    none_found words _ line
+    (c.in_ok-matches.ensures.kinds (ap is_simple_and_free line ∙ is_free)) in
+    IfErr-weaker c.found_request.result _ _
+    (λ e fault. ⊎_elim inl
+    (λ of_kind. inr (inr (subst (λ f. IsKindFaultIn f (kind_of e)) same of_kind, none))) fault)
+    c.found_request.ensures.err
