@@ -65,6 +65,11 @@ PLACES = {
         "run_workers",
         "let _ = scope . spawn ( move || work ( rt , alloc , locked , reader , & builder ) )",
     ): "a thread that can't be started is told as ThreadFault, if all of them can't",
+    (
+        "store_run/src/kept_run.rt",
+        "run_beside",
+        "let _ = scope . spawn ( move || keep_on ( rt , alloc , locked , text , place ) )",
+    ): "without its thread nothing is kept while the run goes on, and the run ends as ever",
     ("process_build/src/trace.rt", "text", "Err ( AllocError )"): (
         "memory was refused when a lease was noted, so that the trace has a gap"
     ),

@@ -344,7 +344,7 @@ fn worked<J: Naming, O: Tells<J>, B: Build + Watch, R: Wait + Print>(
     requires { IsAnswered B.may book.run book.history }
     ensures { IsAnswered B.may result.0.run result.0.history }
 {
-    let locked = Locked::new(book);
+    let locked: Locked<O, B> = Locked::new(book);
     begins(rt, "work");
     work(rt, alloc, &locked, reader, builder);
     ends(rt, "work");

@@ -301,7 +301,7 @@ left_leaves = (refl, refl)
 
 pub right_leaves : Leaves false right_answer
 unfolding right_answer
-right_leaves = (refl, (no_members, (refl, refl), refl))
+right_leaves = (refl, (no_members, refl, refl))
 
 pub left_may : may_leave left_job (Ok left_answer)
 left_may = search (rules, left_answer, left_builder, left_job, left_is_job, left_leaves)

@@ -1,6 +1,7 @@
 pub mod Alike
 pub mod AlonePlans
 pub mod Answered
+pub mod Bases
 pub mod Carried
 pub mod CutOpenings
 pub mod CutReports
@@ -12,6 +13,7 @@ pub mod DiamondRuns
 pub mod ExampleJobs
 pub mod Examined
 pub mod GivenOutcomes
+pub mod KeptTexts
 pub mod Interruptions
 pub mod OneOutcome
 pub mod OneThreads

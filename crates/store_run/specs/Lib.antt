@@ -3,6 +3,7 @@ pub mod Builders
 pub mod DiamondExample
 pub mod GivenOutcomes
 pub mod Interruptions
+pub mod Keeping
 pub mod Numbers
 pub mod OneThread
 pub mod Realising
@@ -14,4 +15,5 @@ pub mod Workers
 -- What only private contracts and proofs cite.
 pub mod Ending
 pub mod Finding
+pub mod Looking
 pub mod Sharing

@@ -11,17 +11,27 @@
 //! | `locked` | the shared book behind a lock, on which workers wait |
 //! | `worker` | what one worker does |
 //! | `run` | a run, from a plan and a journal to a settled book |
+//! | `basis` | what a run is over, as a type |
+//! | `kept_run` | a run beside whose workers a keeper keeps what they register |
+//! | `keeper`, `bell`, `pause` | the keeper, and its pauses |
+//! | `kept_text` | the text of what a run has registered, as it goes on |
 //! | `lent` | whether a book is over the lent plan, system and entries |
 //! | `fault` | why a run ends without a settled book |
 //! | `laws` | laws of every run, over the definitions |
 #![tactic(auto)]
 
+mod basis;
+mod bell;
 mod fault;
 mod found;
+mod keeper;
+mod kept_run;
+mod kept_text;
 pub mod laws;
 mod lent;
 mod locked;
 mod monitor;
+mod pause;
 mod refusal;
 mod run;
 mod shared;
@@ -29,7 +39,10 @@ mod turn;
 mod verdict;
 mod worker;
 
+pub use basis::Basis;
 pub use fault::RunFault;
+pub use keeper::Keep;
+pub use kept_run::realise_kept;
 pub use locked::Locked;
 pub use monitor::{Listen, LockCall};
 pub use run::{Ended, realise};

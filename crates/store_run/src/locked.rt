@@ -2,30 +2,42 @@
 ghost use Rattle.std.specs.Prelude.{IfSome};
 ghost use Rattle.store_run.specs.Builders.{IsAnswered};
 ghost use Rattle.store_run.specs.Finding.{IsToldOfSeeds, MayBeFound};
+ghost use Rattle.store_run.specs.Looking.{IsLook};
 ghost use Rattle.store_run.specs.Sharing.{IfGiven};
 
+use crate::basis::Basis;
+use crate::bell::Bell;
 use crate::found::{Found, LeaseEnd};
+use crate::kept_text::{KeptText, News};
 use crate::monitor::{Listen, Monitor};
 use crate::shared::Shared;
 use crate::turn::{Step, Turn};
 use sched_core::{Book, BookFault, Build, Lease};
+use std::alloc::Global;
+use std::marker::Brand;
+use std::sync::Wait;
+use std::time::{Clock, Duration};
 use valid_table::Outlet;
 use valid_view::{Naming, Tells, ViewReader};
 
 /// The book of a run behind a lock, and the condition on which workers wait for work. Whenever the
 /// lock is free, the book's history is legal, its tables agree with it, and what became of each
-/// derivation is a verdict on what a builder of this type may give.
-pub struct Locked<O: Outlet, B: Build> {
-    shared: Monitor<Shared<O, B>>,
+/// derivation is a verdict on what a builder of this type may give. The run is over the basis.
+pub struct Locked<O: Outlet, B: Build, S: Basis = Brand> {
+    shared: Monitor<Shared<O, B, S>>,
+    // Rung once all workers have ended.
+    end: Bell,
 }
 
-impl<O: Outlet, B: Build> Locked<O, B> {
+impl<O: Outlet, B: Build, S: Basis> Locked<O, B, S> {
     /// A book behind a lock.
-    pub fn new(book: Book<O>) -> Locked<O, B>
-        requires { IsAnswered B.may book.run book.history }
+    pub fn new(book: Book<O>) -> Locked<O, B, S>
+        requires answered { IsAnswered B.may book.run book.history }
+        requires over { S.is_over book.run book.history.opening }
     {
         Locked {
             shared: Monitor::new(Shared::new(book)),
+            end: Bell::new(),
         }
     }
 
@@ -82,6 +94,34 @@ impl<O: Outlet, B: Build> Locked<O, B> {
         (end, turn)
     }
 
+    // What the book has that a keeper's text has not, by one look, in one hold of the lock.
+    pub(crate) fn look<R: Listen, J: Naming>(
+        &self,
+        rt: &R,
+        alloc: Global,
+        text: &KeptText<J>,
+    ) -> Option<News<J>>
+    where
+        O: Tells<J>,
+        ensures { IfSome result (IsLook B.may S.is_over text.now.shown) }
+    {
+        let mut held = self.shared.lock(rt);
+        let news = held.value().look(alloc, text);
+        drop(held);
+        news
+    }
+
+    // Says to the keeper that all workers have ended.
+    pub(crate) fn ends<R: Wait>(&self, rt: &R) {
+        self.end.ring(rt);
+    }
+
+    // Waits until all workers have ended, so long at most, or until the thread wakes by itself.
+    // Says whether they have. Does not take the lock.
+    pub(crate) fn ends_within<R: Wait + Clock>(&self, rt: &R, pause: Duration) -> bool {
+        self.end.rings_within(rt, pause)
+    }
+
     /// The book, and why the run stopped, if it did.
     pub fn into_parts(self) -> (Book<O>, Option<BookFault>)
         ensures { IsAnswered B.may result.0.run result.0.history }
@@ -90,8 +130,8 @@ impl<O: Outlet, B: Build> Locked<O, B> {
     }
 
     // What the workers shared.
-    pub(crate) fn into_shared(self) -> Shared<O, B> {
-        let Locked { shared } = self;
+    pub(crate) fn into_shared(self) -> Shared<O, B, S> {
+        let Locked { shared, end: _ } = self;
         shared.into_inner()
     }
 }

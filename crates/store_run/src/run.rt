@@ -8,6 +8,7 @@ ghost use Rattle.store_run.specs.Realising.{IsOverLent, IsRealised, IsRunFault, 
 ghost use Rattle.store_run.specs.Workers.{AreWorkers};
 ghost use Rattle.store_run.specs.declared.fault.RunFault.TheVariants.{NoMemory, NoView};
 
+use crate::basis::Basis;
 use crate::fault::RunFault;
 use crate::lent::is_over;
 use crate::locked::Locked;
@@ -23,7 +24,7 @@ use valid_table::{Journal, Outlet, TableFault};
 use valid_view::{Name, Naming, OpenFault, Tells, ViewReader, ViewWriter};
 
 // The greatest number of workers.
-const MOST_WORKERS: usize = 64;
+pub(crate) const MOST_WORKERS: usize = 64;
 
 /// A run's book, whose outlet is a view, or why there is no settled one.
 pub type Ended<'a, J, R> = Result<
@@ -77,7 +78,7 @@ pub fn realise<
 
 // A book over the lent plan, system and entries, in which nothing began, and `count` readers of its
 // outlet, which is a view.
-fn opened_over<'a, J: Naming + Send, R: Wait>(
+pub(crate) fn opened_over<'a, J: Naming + Send, R: Wait>(
     rt: &'a R,
     alloc: Global,
     name: Name,
@@ -91,6 +92,7 @@ fn opened_over<'a, J: Naming + Send, R: Wait>(
     ensures over { IfOk result
         (λ pair. IsOverLent plan.now system.now journal.now.entries pair.0) }
     ensures opened { IfOk result (λ pair. pair.0.history ≡ opened journal.now.entries) }
+    ensures shown { IfOk result (λ pair. pair.0.shown ≡ journal.now.entries) }
     ensures err { IfErr result (λ fault. (fault ≡ NoMemory) ⊎ (fault ≡ NoView)) }
 {
     let copies = copied(alloc, plan, journal, system)?;
@@ -112,6 +114,7 @@ fn book_over<O: Outlet, J: Naming>(
     ensures over { IfOk result
         (λ pair. IsOverLent copies.0 copies.2.items copies.1.entries pair.0) }
     ensures opened { IfOk result (λ pair. pair.0.history ≡ opened copies.1.entries) }
+    ensures shown { IfOk view (λ seen. IfOk result (λ pair. pair.0.shown ≡ O.shown seen.0)) }
     ensures err { MatchResult view (λ pair. IfErr result (λ fault. fault ≡ NoMemory))
         (λ opening. result ≡ Err (fault_of_opening opening)) }
 {
@@ -173,10 +176,10 @@ where
 
 // Lets each builder work in a thread of its own, with a reader of its own, until all threads have
 // ended. A builder for which no thread can be made is left out.
-fn run_workers<R, J, O, B>(
+pub(crate) fn run_workers<R, J, O, B, S>(
     rt: &R,
     alloc: Global,
-    locked: &Locked<O, B>,
+    locked: &Locked<O, B, S>,
     builders: Vec<B>,
     readers: Vec<ViewReader<J>>,
 )
@@ -185,6 +188,7 @@ where
     J: Naming + Send + Sync,
     O: Tells<J> + Send,
     B: Build + Watch + Send + Drop,
+    S: Basis + Send,
 {
     thread::scope(thread::scope_env(), rt, |scope| {
         for (builder, reader) in builders.into_iter().zip(readers) {
@@ -196,7 +200,7 @@ where
 // How a run ends whose workers have ended, by what they shared. The book is given in any case. A
 // fault comes with a book that isn't over the lent plan, system and entries, and with one that isn't
 // settled. A settled book is given without a fault, whatever stopped the run.
-fn ending<O: Outlet, B: Build>(
+pub(crate) fn ending<O: Outlet, B: Build>(
     shared: Shared<O, B>,
     plan: &Plan,
     system: &[u8],
@@ -228,7 +232,7 @@ fn fault_by(stop: Option<BookFault>) -> RunFault
 
 // What a run hands out, by how it ended: its book, with the fault if there is one. A book that isn't
 // over the lent plan, system and entries is closed.
-fn handed_out<O: Outlet>(
+pub(crate) fn handed_out<O: Outlet>(
     ended: Result<Book<O>, (RunFault, Book<O>)>,
 ) -> Result<Book<O>, (RunFault, Option<Book<O>>)>
     ensures { IsHandedOut ended result }

@@ -1,5 +1,5 @@
 //! What the workers of a run share.
-ghost use Rattle.std.specs.Prelude.{◌≡◌, ◌⊎◌, Err, IfErr, List, None, Ok, OnOk};
+ghost use Rattle.std.specs.Prelude.{◌≡◌, ◌⊎◌, Err, IfErr, IfSome, List, None, Ok, OnOk};
 ghost use Rattle.valid_table.specs.declared.entry.Entry.{Entry};
 ghost use Rattle.sched_core.specs.Books.{IsBooksLease};
 ghost use Rattle.run_states.specs.Courses.{IsUnsettled};
@@ -8,39 +8,47 @@ ghost use Rattle.run_states.specs.declared.fault.BookFault.TheVariants.{NoView};
 ghost use Rattle.build_outcome.specs.declared.reason.Reason.TheVariants.{OutOfMemory};
 ghost use Rattle.store_run.specs.Builders.{IsAnswered, MayComeTo};
 ghost use Rattle.store_run.specs.Finding.{HasCaughtUp, IsToldOfSeeds, MayBeFound};
+ghost use Rattle.store_run.specs.Looking.{IsLook};
 ghost use Rattle.store_run.specs.Sharing.{IfGiven, IsEnding, IsNoting, IsNotingVerdict, IsLeaseRegistering, IsStep, IsStopping, IsWake};
 ghost use Rattle.store_run.specs.declared.found.LeaseEnd.TheVariants.{Stopped};
 
+use crate::basis::Basis;
 use crate::found::{Found, LeaseEnd};
+use crate::kept_text::{KeptText, News};
 use crate::refusal::{Refusal, fail, finish, look, next};
 use crate::turn::{Step, Turn, Wake};
 use sched_core::{Book, BookFault, Build, Checked, Job, Lease, Reason};
-use std::marker::{Model, PhantomData};
+use std::alloc::Global;
+use std::marker::{Brand, Model, PhantomData};
 use valid_table::Outlet;
 use valid_view::{Naming, Tells, ViewReader};
 
-/// The book of a run and why the run stops, once a call was refused. A contract sees both. What became of each derivation is a verdict on what a builder may give.
-pub struct Shared<O: Outlet, B: Build> {
+/// The book of a run and why the run stops, once a call was refused. A contract sees both. What
+/// became of each derivation is a verdict on what a builder may give, and the run is over the basis.
+pub struct Shared<O: Outlet, B: Build, S: Basis = Brand> {
     book: Book<O>,
     stop: Option<Refusal>,
-    of: PhantomData<B>,
+    of: PhantomData<(B, S)>,
 }
 
-impl<O: Outlet, B: Build> Model for Shared<O, B> {
+impl<O: Outlet, B: Build, S: Basis> Model for Shared<O, B, S> {
     ghost use Rattle.store_run.specs.Builders.{IsAnswered};
+    ghost use Rattle.store_run.specs.Looking.{IsLook};
     ghost use Rattle.store_run.specs.Sharing.{Share};
 
     ghost Value = { Share };
 
     ghost view = { λ s. record { book = s.book; stop = s.stop } };
 
-    ghost invariant = { λ s. IsAnswered B.may s.book.run s.book.history };
+    ghost invariant = { λ s. IsAnswered B.may s.book.run s.book.history
+        × S.is_over s.book.run s.book.history.opening };
 }
 
-impl<O: Outlet, B: Build> Shared<O, B> {
-    /// A book that builders of a type share, before anything stops the run.
-    pub fn new(book: Book<O>) -> Shared<O, B>
-        requires { IsAnswered B.may book.run book.history }
+impl<O: Outlet, B: Build, S: Basis> Shared<O, B, S> {
+    /// A book over a basis that builders of a type share, before anything stops the run.
+    pub fn new(book: Book<O>) -> Shared<O, B, S>
+        requires answered { IsAnswered B.may book.run book.history }
+        requires over { S.is_over book.run book.history.opening }
         ensures book { result.book ≡ book }
         ensures stop { result.stop ≡ None }
     {
@@ -117,6 +125,29 @@ impl<O: Outlet, B: Build> Shared<O, B> {
                 BookFault::NoMemory => self.fail(lease, Reason::OutOfMemory),
                 _ => self.give_up(lease, refusal),
             },
+        }
+    }
+
+    // What the book has that a keeper's text has not, in one look.
+    pub(crate) fn look<J: Naming>(&self, alloc: Global, text: &KeptText<J>) -> Option<News<J>>
+    where
+        O: Tells<J>,
+        ensures { IfSome result (IsLook B.may S.is_over text.now.shown) }
+    {
+        // Its contract says that the history is legal.
+        let _ = self.book.events();
+        text.look(alloc, &self.book)
+    }
+
+    // The same, over any basis.
+    pub(crate) fn over_any(self) -> Shared<O, B>
+        ensures { result ≡ self }
+    {
+        let Shared { book, stop, of: _ } = self;
+        Shared {
+            book,
+            stop,
+            of: PhantomData,
         }
     }
 

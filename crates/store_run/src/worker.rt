@@ -2,6 +2,7 @@
 ghost use Rattle.std.specs.Prelude.{IfSome};
 ghost use Rattle.store_run.specs.Finding.{IsToldOfSeeds};
 
+use crate::basis::Basis;
 use crate::found::LeaseEnd;
 use crate::locked::Locked;
 use crate::monitor::{Deaf, Listen};
@@ -18,10 +19,10 @@ use valid_view::{Naming, Tells, ViewReader};
 /// refused to the worker, the derivation of its lease fails for that reason. The builder hears of
 /// each lease that was taken and of each that has ended, also without the lock; the other workers
 /// that can go on were woken before.
-pub fn work<R: Wait, J: Naming, O: Tells<J>, B: Build + Watch>(
+pub fn work<R: Wait, J: Naming, O: Tells<J>, B: Build + Watch, S: Basis>(
     rt: &R,
     alloc: Global,
-    locked: &Locked<O, B>,
+    locked: &Locked<O, B, S>,
     reader: ViewReader<J>,
     builder: &B,
 ) {
@@ -29,10 +30,10 @@ pub fn work<R: Wait, J: Naming, O: Tells<J>, B: Build + Watch>(
 }
 
 /// Does what `work` does; the handle hears of each call of the lock.
-pub fn work_heard<R: Listen, J: Naming, O: Tells<J>, B: Build + Watch>(
+pub fn work_heard<R: Listen, J: Naming, O: Tells<J>, B: Build + Watch, S: Basis>(
     rt: &R,
     alloc: Global,
-    locked: &Locked<O, B>,
+    locked: &Locked<O, B, S>,
     mut reader: ViewReader<J>,
     builder: &B,
 ) {
@@ -51,10 +52,10 @@ pub fn work_heard<R: Listen, J: Naming, O: Tells<J>, B: Build + Watch>(
 
 // Builds the job of a lease, and ends the lease. Gives the next lease, and how many wanted
 // derivations were unsettled when it was taken; none where the run ends.
-fn build<R: Listen, J: Naming, O: Tells<J>, B: Build + Watch>(
+fn build<R: Listen, J: Naming, O: Tells<J>, B: Build + Watch, S: Basis>(
     rt: &R,
     alloc: Global,
-    locked: &Locked<O, B>,
+    locked: &Locked<O, B, S>,
     reader: &mut ViewReader<J>,
     builder: &B,
     mut lease: Lease<O::Told>,

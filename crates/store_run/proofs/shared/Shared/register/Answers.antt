@@ -4,6 +4,7 @@ use Rattle.build_outcome.specs.declared.reason.Reason.TheVariants.{OutOfMemory}
 use Rattle.store_run.specs.Builders.{MayComeTo}
 use Rattle.store_run.specs.Sharing.{IsNoting, IsLeaseRegistering, IsWanting, Share}
 use Rattle.store_run.proofs.Answered.{after_finishing, came_may_refer}
+use Rattle.store_run.proofs.Bases.{over_finishing}
 use Rattle.store_run.proofs.Wanting.{wanting_registers}
 use Rattle.store_run.proofs.shared.Shared.register.Goals as goal
 
@@ -21,9 +22,12 @@ invariant_of-self g c =
     let came = subst (λ (s : Share). IsBooksLease s.book.run s.book.history c.args.lease.job
     c.args.lease.number
     → MayComeTo g.B.Build.may s.book.history.entries c.args.lease.job (Ok c.args.checked))
-    (sym c.self.view_is) c.requires in
-    after_finishing g.B.Build.may c.self.inside.book c.finish.new.book _ _ _ c.self.invariant came
-    c.in-Ok.ensures.ok
+    (sym c.self.view_is) c.requires in (
+      after_finishing g.B.Build.may c.self.inside.book c.finish.new.book _ _ _ c.self.invariant.0
+          came c.in-Ok.ensures.ok,
+      over_finishing g.S.Basis.is_over c.self.inside.book c.finish.new.book _ _ _
+          c.self.invariant.1 c.in-Ok.ensures.ok,
+    )
 
 pub returns-in-NoMemory : goal.returns-in-NoMemory
 returns-in-NoMemory g c =

@@ -2,10 +2,11 @@ use Rattle.std.proofs.Common.{◌≡◌, ◌⊎◌, Bool, false, inr, refl, subs
 use Rattle.std.specs.Option.{is_some}
 use Rattle.store_run.specs.Sharing.{IsOver, IsRefused, Share}
 use Rattle.store_run.proofs.Answered.{after_beginning, told_at}
+use Rattle.store_run.proofs.Bases.{over_beginning}
 use Rattle.store_run.proofs.shared.Shared.step.Goals as goal
 
 pub invariant_of-self : goal.invariant_of-self
-invariant_of-self g c = search (rules, after_beginning)
+invariant_of-self g c = search (rules, after_beginning, over_beginning)
 
 -- src/shared.rt:62:5
 pub returns-in-Ok-Some-clause-told : goal.returns-in-Ok-Some-clause-told

@@ -7,5 +7,5 @@ use Rattle.store_run.proofs.run.fn.run_workers.scope.Goals as goal
 -- a worker may go to a thread, since the bounds say so of its parts
 pub spawn-requires-send-F : goal.spawn-requires-send-F
 spawn-requires-send-F g c κs within =
-    let bounds = c.requires.1.1.1.1.1 in
+    let bounds = c.requires.1.1.1.1.1.1 in
     search (sendable, crosses, reader_send, locked_sync, bounds) depth 60 fits 20000

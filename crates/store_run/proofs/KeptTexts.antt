@@ -1,0 +1,83 @@
+-- How the text of a run's entries goes on.
+use Rattle.std.proofs.Common.{◌≡◌, ◌∙◌, ◌++◌, ℕ, List, Result, Ok, Err, OnOk, ap, ap₂, subst, sym, refl, cond, length, take, take_at}
+use Rattle.std.proofs.Math.Seq.{take-length}
+use Rattle.std.specs.Result.{is_ok}
+use Rattle.nix_names.specs.Bytes.{Bytes}
+use Rattle.valid_table.specs.Written.{written_text}
+use Rattle.valid_table.specs.declared.entry.Entry.{Entry}
+use Rattle.valid_table.proofs.WrittenTexts.{text_goes_on}
+use Rattle.build_outcome.specs.declared.job.Answer.{Answer}
+use Rattle.build_outcome.specs.declared.job.Job.{Job}
+use Rattle.build_outcome.specs.declared.reason.Reason.{Reason}
+use Rattle.run_states.specs.Runs.{Run}
+use Rattle.drv_graph.specs.Plans.{Graph}
+use Rattle.sched_core.specs.Books.{Ledger}
+use Rattle.store_run.specs.Keeping.{IsKeptText, MayKeepEach}
+use Rattle.store_run.specs.Realising.{IsOverLent}
+use Rattle.store_run.specs.Looking.{IsLook, IsNews, Looked}
+
+-- the fresh lines after the text of what was shown are the text of what is shown
+pub shown_goes_on : (known entries : List Entry) (looked : Looked) (before after : Bytes)
+    → IsNews known entries looked → before ≡ written_text known
+    → after ≡ before ++ looked.fresh → after ≡ written_text looked.shown
+shown_goes_on known entries looked before after news is more =
+    more
+    ∙ (ap (λ b. b ++ looked.fresh) is
+    ∙ (ap (λ l. written_text known ++ l) news.fresh_lines
+    ∙ (sym (text_goes_on known news.fresh) ∙ sym (ap written_text news.goes_on))))
+
+-- the lines of what waits after that are the text of all entries
+pub all_goes_on : (known entries : List Entry) (looked : Looked) (before after : Bytes)
+    → IsNews known entries looked → before ≡ written_text looked.shown
+    → after ≡ before ++ looked.waiting → after ≡ written_text entries
+all_goes_on known entries looked before after news is more =
+    more
+    ∙ (ap (λ b. b ++ looked.waiting) is
+    ∙ (ap (λ l. written_text looked.shown ++ l) news.waiting_lines
+    ∙ (sym (text_goes_on looked.shown news.waiting) ∙ sym (ap written_text news.all))))
+
+-- a list to which something may have been added begins with what it was
+pub still_begins : {T E : Type 0} (r : Result T E) (n : ℕ) (before more after : Bytes)
+    → n ≡ length before → after ≡ cond (is_ok r) (before ++ more) before
+    → take n after ≡ before
+still_begins (Ok x) n before more after len is = rw (is, len) (take_at before more _ refl)
+still_begins (Err e) n before more after len is = rw (is, len) (take-length before)
+
+-- where something was added, what holds of the sum
+pub added : {T E P : Type 0} (r : Result T E) (before more after : Bytes)
+    → after ≡ cond (is_ok r) (before ++ more) before → (after ≡ before ++ more → P) → OnOk r P
+added (Ok x) before more after is holds = holds is
+added (Err e) before more after is holds = tt
+
+-- the text of the entries that a look found may be handed over
+pub may_be_kept : (may : Job → Result Answer Reason → Type 0)
+    (is_over : Run → List Entry → Type 0) (may_keep : Bytes → Type 0) (known : List Entry)
+    (looked : Looked) (text bytes : Bytes) → MayKeepEach may is_over may_keep
+    → IsLook may is_over known looked
+    → ((entries : List Entry) → IsNews known entries looked → text ≡ written_text entries)
+    → bytes ≡ text → may_keep bytes
+may_be_kept may is_over may_keep known looked text bytes each look is same =
+    each look.run look.history.opening bytes look.over (record {
+      history = look.history;
+      opening_is = refl;
+      legal = look.legal;
+      answered = look.answered;
+      text_is = same ∙ is look.history.entries look.news;
+    })
+
+-- the run over a plan, for a system
+abbrev run_of : Graph → Bytes → Run
+run_of graph system = record { graph = graph; system = system }
+
+-- what is kept of the run of a book over what was lent, is kept of the run over that
+pub kept_of_lent : (may : Job → Result Answer Reason → Type 0) (plan : Graph) (system : Bytes)
+    (entries : List Entry) (book : Ledger) (run : Run) (opening : List Entry) (text : Bytes)
+    → IsOverLent plan system entries book
+    → (run ≡ book.run) × (opening ≡ book.history.opening) → IsKeptText may run opening text
+    → IsKeptText may (record { graph = plan; system = system }) entries text
+kept_of_lent may plan system entries book run opening text over is kept =
+    let lent : Run = record { graph = plan; system = system } in
+    let same : book.run ≡ lent =
+    ap₂ (λ (g : Graph) (s : Bytes). run_of g s) over.plan_is over.system_is in
+    subst (λ (r : Run). IsKeptText may r entries text) (is.0 ∙ same)
+    (subst (λ (o : List Entry). IsKeptText may run o text) (is.1 ∙ over.opening_is) kept)

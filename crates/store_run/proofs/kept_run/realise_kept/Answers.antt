@@ -1,0 +1,37 @@
+use Rattle.std.proofs.Common.{◌∙◌, ◌≤◌, subst, sym, vec_len}
+use Rattle.store_run.specs.Builders.{answered_opening}
+use Rattle.store_run.specs.Workers.{AreWorkers}
+use Rattle.store_run.proofs.KeptTexts.{kept_of_lent}
+use Rattle.store_run.proofs.RunEndings.{are_workers, at_err, at_ok}
+use Rattle.store_run.proofs.kept_run.realise_kept.Given.{Over}
+use Rattle.store_run.proofs.kept_run.realise_kept.Goals as goal
+
+pub run_kept-shared-requires-clause-answered : goal.run_kept-shared-requires-clause-answered
+run_kept-shared-requires-clause-answered g c κs within =
+    rw c.in-Ok.ensures.opened (answered_opening c.args.journal.now.entries)
+
+pub run_kept-shared-requires-clause-each : goal.run_kept-shared-requires-clause-each
+run_kept-shared-requires-clause-each g c κs within = λ run opening text is kept.
+    c.requires.each text
+    (kept_of_lent g.B.Build.may _ _ _ c.in-Ok.opened.0 run opening text c.in-Ok.ensures.over is
+    kept)
+
+-- there is a right number of workers
+workers : (g : Over) (c : goal.After-handed_out g) → AreWorkers (vec_len c.args.builders)
+workers g c =
+    are_workers (vec_len c.args.builders) (sym c.is_empty.ensures ∙ c.if-is_empty.false)
+    (subst (λ n. n ≤ 64) c.len.ensures c.if-len-gt-MOST_WORKERS.false)
+
+pub returns-clause-ok : goal.returns-clause-ok
+returns-clause-ok g c =
+    at_ok g.B.Build.may c.args.plan.now c.args.system.now c.args.journal.now.entries
+    (vec_len c.args.builders) (workers g c) c.run_kept-shared.result c.ending.ensures.legal
+    c.ending.ensures.answered c.ending.result c.handed_out.result c.ending.ensures.end
+    c.handed_out.ensures
+
+pub returns-clause-err : goal.returns-clause-err
+returns-clause-err g c =
+    at_err g.B.Build.may c.args.plan.now c.args.system.now c.args.journal.now.entries
+    (vec_len c.args.builders) (workers g c) c.run_kept-shared.result c.ending.ensures.legal
+    c.ending.ensures.answered c.ending.result c.handed_out.result c.ending.ensures.end
+    c.handed_out.ensures

@@ -1,0 +1,21 @@
+//! What a run is over, as a type.
+
+use std::marker::Brand;
+
+/// What a run is over: a plan, a system, and the entries that it opens with. A contract says by it
+/// which run a book behind a lock belongs to.
+pub trait Basis {
+    ghost use Rattle.std.specs.Prelude.{List};
+    ghost use Rattle.run_states.specs.Runs.{Run};
+    ghost use Rattle.valid_table.specs.declared.entry.Entry.{Entry};
+
+    // Whether a run that opens with some entries is over this.
+    ghost is_over: { Run → List Entry → Type 0 };
+}
+
+// Any run is over this.
+impl Basis for Brand {
+    ghost use Rattle.std.specs.Prelude.{⊤};
+
+    ghost is_over = { λ run opening. ⊤ };
+}

@@ -1,0 +1,114 @@
+//! The keeper of a run: a thread beside the workers that keeps what they register.
+ghost use Rattle.store_run.specs.Keeping.{MayKeepEach};
+
+use crate::basis::Basis;
+use crate::kept_text::KeptText;
+use crate::locked::Locked;
+use crate::monitor::Deaf;
+use crate::pause::pause_after;
+use sched_core::Build;
+use std::alloc::Global;
+use std::marker::{Model, PhantomData};
+use std::sync::Wait;
+use std::time::{Clock, Duration, Instant};
+use valid_view::{Naming, Tells};
+
+/// Where the text of what a run has registered is put while the run goes on.
+pub trait Keep {
+    ghost use Rattle.nix_names.specs.Bytes.{Bytes};
+
+    // The texts that may be put there.
+    ghost may_keep: { Bytes → Type 0 };
+
+    /// Puts a text in place of the one before, and says whether that was done; where it was not,
+    /// another call comes, also where nothing more is registered. No lock is held, and no worker
+    /// waits for it.
+    fn keep(&mut self, text: &[u8]) -> bool
+        requires { may_keep text.now };
+}
+
+// Where each text may be put that is kept of a run over the basis.
+#[derive(Drop)]
+pub(crate) struct Place<B: Build, S: Basis, K: Keep> {
+    keep: K,
+    of: PhantomData<(B, S)>,
+}
+
+impl<B: Build, S: Basis, K: Keep> Model for Place<B, S, K> {
+    ghost use Rattle.store_run.specs.Keeping.{MayKeepEach};
+
+    ghost Value = { Unit {0} };
+
+    ghost view = { λ p. tt };
+
+    ghost invariant = { λ p. MayKeepEach B.may S.is_over K.may_keep };
+}
+
+impl<B: Build, S: Basis, K: Keep> Place<B, S, K> {
+    // A place where each such text may be put.
+    pub(crate) fn new(keep: K) -> Place<B, S, K>
+        requires { MayKeepEach B.may S.is_over K.may_keep }
+    {
+        Place {
+            keep,
+            of: PhantomData,
+        }
+    }
+}
+
+// Keeps what is registered behind a lock, again and again, until all workers have ended. Begins with
+// the text of the opening entries.
+pub(crate) fn keep_on<R, J, O, B, S, K>(
+    rt: &R,
+    alloc: Global,
+    locked: &Locked<O, B, S>,
+    mut text: KeptText<J>,
+    mut place: Place<B, S, K>,
+)
+where
+    R: Wait + Clock,
+    J: Naming,
+    O: Tells<J>,
+    B: Build,
+    S: Basis,
+    K: Keep + Drop,
+{
+    let mut took = None;
+    for _ in rt.forever() {
+        if locked.ends_within(rt, pause_after(took)) {
+            return;
+        }
+        took = keep_new(rt, alloc, locked, &mut text, &mut place);
+    }
+    unreachable!()
+}
+
+// Puts the text of what is registered behind a lock in its place, if that has more entries than the
+// text that was kept last. Says how long that took, if the clock can be read; none where there is
+// nothing new, or where memory is refused.
+fn keep_new<R, J, O, B, S, K>(
+    rt: &R,
+    alloc: Global,
+    locked: &Locked<O, B, S>,
+    text: &mut KeptText<J>,
+    place: &mut Place<B, S, K>,
+) -> Option<Duration>
+where
+    R: Wait + Clock,
+    J: Naming,
+    O: Tells<J>,
+    B: Build,
+    S: Basis,
+    K: Keep,
+{
+    let start = Instant::now(rt).ok();
+    let news = locked.look(&Deaf::over(rt), alloc, text)?;
+    let count = news.count();
+    let Ok(()) = text.go_on(news) else {
+        return None;
+    };
+    if place.keep.keep(text.bytes()) {
+        text.was_kept(count);
+    }
+    start?.elapsed(rt).ok()
+}

@@ -1,0 +1,159 @@
+//! A run beside whose workers a keeper keeps what they register.
+ghost use Rattle.std.specs.Prelude.{◌≡◌, IfErr, IfOk, IfSome, vec_len};
+ghost use Rattle.nix_names.specs.Bytes.{Bytes};
+ghost use Rattle.run_states.specs.Runs.{Run};
+ghost use Rattle.valid_table.specs.Written.{written_text};
+ghost use Rattle.store_run.specs.Builders.{IsAnswered};
+ghost use Rattle.store_run.specs.Keeping.{IsKeptText, MayKeepEach};
+ghost use Rattle.store_run.specs.Realising.{IsRealised, IsRunFault};
+
+use crate::basis::Basis;
+use crate::fault::RunFault;
+use crate::keeper::{Keep, Place, keep_on};
+use crate::kept_text::KeptText;
+use crate::locked::Locked;
+use crate::run::{Ended, MOST_WORKERS, ending, handed_out, opened_over, run_workers};
+use crate::shared::Shared;
+use drv_graph::Plan;
+use sched_core::{Book, Build, Watch};
+use std::alloc::Global;
+use std::marker::Brand;
+use std::sync::Wait;
+use std::thread;
+use std::thread::Threads;
+use std::time::Clock;
+use valid_table::Journal;
+use valid_view::{Name, Naming, Tells, ViewReader};
+
+/// Does what `realise` does, and keeps what is registered while the run goes on. A thread beside
+/// the workers hands texts to the place: each is the text of all entries that the book had at one
+/// moment, of a legal history of the run, in which what became of each derivation is a verdict on
+/// what a builder may give. No text is handed over where nothing was registered since the last one
+/// that was kept, nor in the first half second. The thread has ended whenever the call returns;
+/// what was registered last may not have been handed over. Where no thread can be made, nothing is.
+/// The lock is held for the lines of new entries alone, and no worker waits for the place. Takes
+/// memory for the text, once.
+pub fn realise_kept<
+    'a,
+    J: Naming + Send + Sync,
+    R: Threads + Wait + Clock + Sync,
+    B: Build + Watch + Send + Drop,
+    K: Keep + Send + Drop,
+>(
+    rt: &'a R,
+    alloc: Global,
+    name: Name,
+    plan: &Plan,
+    journal: &Journal,
+    system: &[u8],
+    builders: Vec<B>,
+    place: K,
+) -> Ended<'a, J, R>
+    requires name { name ≡ J.book }
+    requires each { (text : Bytes)
+        → IsKeptText B.may (record { graph = plan.now; system = system.now }) journal.now.entries
+        text
+        → K.may_keep text }
+    ensures ok { IfOk result
+        (IsRealised B.may plan.now system.now journal.now.entries (vec_len builders)) }
+    ensures err { IfErr result (λ e. IsRunFault B.may plan.now system.now journal.now.entries
+        (vec_len builders) e.0 e.1) }
+{
+    if builders.is_empty() || builders.len() > MOST_WORKERS {
+        return Err((RunFault::NoWorkers, None));
+    }
+    let count = builders.len();
+    let (book, readers) = match opened_over::<J, R>(rt, alloc, name, plan, journal, system, count) {
+        Ok(opened) => opened,
+        Err(fault) => return Err((fault, None)),
+    };
+    let shared = run_kept::<Brand, R, J, _, B, K>(
+        rt, alloc, book, readers, builders, journal, place,
+    );
+    handed_out(ending(shared, plan, system, journal))
+}
+
+// Lets the builders work over a book, which opened with a journal, and keeps what they register,
+// until all workers have ended. Gives what they shared.
+fn run_kept<S, R, J, O, B, K>(
+    rt: &R,
+    alloc: Global,
+    book: Book<O>,
+    readers: Vec<ViewReader<J>>,
+    builders: Vec<B>,
+    opening: &Journal,
+    place: K,
+) -> Shared<O, B>
+where
+    S: Basis + Send,
+    R: Threads + Wait + Clock + Sync,
+    J: Naming + Send + Sync,
+    O: Tells<J> + Send,
+    B: Build + Watch + Send + Drop,
+    K: Keep + Send + Drop,
+    requires answered { IsAnswered B.may book.run book.history }
+    requires over { S.is_over book.run book.history.opening }
+    requires shown { book.shown ≡ opening.now.entries }
+    requires each { MayKeepEach B.may S.is_over K.may_keep }
+{
+    let text = first_text(alloc, &book, opening);
+    let locked = Locked::<O, B, S>::new(book);
+    match text {
+        Some(text) => {
+            run_beside(
+                rt,
+                alloc,
+                &locked,
+                builders,
+                readers,
+                text,
+                Place::new(place),
+            );
+        }
+        None => run_workers(rt, alloc, &locked, builders, readers),
+    }
+    locked.into_shared().over_any()
+}
+
+// The text of the entries that a book opened with, which are those of a journal; none where nothing
+// can be built, or where memory is refused.
+fn first_text<J: Naming, O: Tells<J>>(
+    alloc: Global,
+    book: &Book<O>,
+    opening: &Journal,
+) -> Option<KeptText<J>>
+    requires { book.now.shown ≡ opening.now.entries }
+    ensures shown { IfSome result (λ text. text.shown ≡ opening.now.entries) }
+    ensures text { IfSome result (λ text. text.text ≡ written_text opening.now.entries) }
+{
+    if book.settled() {
+        return None;
+    }
+    KeptText::open(alloc, opening, &O::front(book.tell())).ok()
+}
+
+// Lets the workers work, and a keeper keep what they register in a thread of its own, until all
+// threads have ended. Where no thread can be made for the keeper, nothing is kept.
+fn run_beside<S, R, J, O, B, K>(
+    rt: &R,
+    alloc: Global,
+    locked: &Locked<O, B, S>,
+    builders: Vec<B>,
+    readers: Vec<ViewReader<J>>,
+    text: KeptText<J>,
+    place: Place<B, S, K>,
+)
+where
+    S: Basis + Send,
+    R: Threads + Wait + Clock + Sync,
+    J: Naming + Send + Sync,
+    O: Tells<J> + Send,
+    B: Build + Watch + Send + Drop,
+    K: Keep + Send + Drop,
+{
+    thread::scope(thread::scope_env(), rt, |scope| {
+        let _ = scope.spawn(move || keep_on(rt, alloc, locked, text, place));
+        run_workers(rt, alloc, locked, builders, readers);
+        locked.ends(rt);
+    });
+}

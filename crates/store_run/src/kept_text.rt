@@ -1,0 +1,166 @@
+//! The text of what a run has registered, as it goes on.
+ghost use Rattle.std.specs.Prelude.{◌≡◌, ◌++◌, IfErr, IfOk, IfSome, List, OnOk};
+ghost use Rattle.valid_table.specs.Written.{written_text};
+ghost use Rattle.valid_table.specs.declared.entry.Entry.{Entry};
+ghost use Rattle.store_run.specs.Looking.{IsNews};
+
+use sched_core::Book;
+use std::alloc::{AllocError, Global};
+use std::marker::Model;
+use valid_table::{Entry, Journal, TableFault, write_lines};
+use valid_view::{Front, Naming, Tells};
+
+// The text of the entries of a run, as far as a keeper has looked. It begins with the text of the
+// entries that were shown then.
+#[derive(Drop)]
+pub(crate) struct KeptText<J: Naming> {
+    bytes: Vec<u8>,
+    shown: Front<J>,
+    // How many of the bytes are the text of what was shown.
+    shown_len: usize,
+    // How many entries the text had that was kept last.
+    kept: usize,
+}
+
+impl<J: Naming> Model for KeptText<J> {
+    ghost use Rattle.std.specs.Prelude.{◌≡◌, take};
+    ghost use Rattle.valid_table.specs.Written.{written_text};
+    ghost use Rattle.store_run.specs.Looking.{Keeping};
+
+    ghost Value = { Keeping };
+
+    ghost view = { λ k. record { shown = k.shown; text = k.bytes.items; kept = k.kept } };
+
+    ghost invariant = { λ k. take k.shown_len k.bytes.items ≡ written_text k.shown };
+}
+
+// What a look at a book gives: what is shown now, the lines of what is new of it, the lines of what
+// waits, and how many entries there are.
+#[derive(Drop)]
+pub(crate) struct News<J: Naming> {
+    shown: Front<J>,
+    fresh: Vec<u8>,
+    waiting: Vec<u8>,
+    count: usize,
+}
+
+impl<J: Naming> Model for News<J> {
+    ghost use Rattle.store_run.specs.Looking.{Looked};
+
+    ghost Value = { Looked };
+
+    ghost view = { λ n. record {
+      shown = n.shown;
+      fresh = n.fresh.items;
+      waiting = n.waiting.items;
+      count = n.count;
+    } };
+}
+
+impl<J: Naming> KeptText<J> {
+    // The text of a journal, whose entries are shown, and which is kept.
+    pub(crate) fn open(
+        alloc: Global,
+        journal: &Journal,
+        shown: &Front<J>,
+    ) -> Result<KeptText<J>, TableFault>
+        requires { shown.now ≡ journal.now.entries }
+        ensures shown { IfOk result (λ text. text.shown ≡ journal.now.entries) }
+        ensures text { IfOk result (λ text. text.text ≡ written_text journal.now.entries) }
+        ensures err { IfErr result (λ e. e ≡ TableFault.NoMemory) }
+    {
+        let bytes = journal.write(alloc)?;
+        Ok(KeptText {
+            shown_len: bytes.len(),
+            bytes,
+            shown: shown.again(),
+            kept: journal.entries().len(),
+        })
+    }
+
+    // What a book has that the text that was kept last has not; none where there is nothing, or
+    // where memory is refused. Costs the lines of the entries that are new since the last look, and
+    // of those that wait.
+    pub(crate) fn look<O: Tells<J>>(&self, alloc: Global, book: &Book<O>) -> Option<News<J>>
+        ensures { IfSome result (IsNews self.now.shown book.now.history.entries) }
+    {
+        let entries = book.journal().entries();
+        if entries.len() == self.kept {
+            return None;
+        }
+        what_is_new(alloc, &self.shown, O::front(book.tell()), entries)
+    }
+
+    // Goes on with what a look gave. Then the text is that of all entries that there were. Where
+    // memory is refused, it begins with the text of what is shown, as before.
+    pub(crate) fn go_on(&mut self, news: News<J>) -> Result<(), AllocError>
+        requires { (entries : List Entry) × IsNews self.old.shown entries news }
+        ensures { OnOk result ((entries : List Entry) → IsNews self.old.shown entries news
+            → self.new.text ≡ written_text entries) }
+    {
+        let News {
+            shown,
+            fresh,
+            waiting,
+            count: _,
+        } = news;
+        self.bytes.truncate(self.shown_len);
+        self.bytes.extend_from_slice(&fresh)?;
+        self.shown_len = self.bytes.len();
+        self.shown = shown;
+        self.bytes.extend_from_slice(&waiting)
+    }
+
+    // The text.
+    pub(crate) fn bytes(&self) -> &[u8]
+        ensures { result.now ≡ self.now.text }
+    {
+        &self.bytes
+    }
+
+    // Takes note that a text of so many entries was kept.
+    pub(crate) fn was_kept(&mut self, count: usize)
+        ensures shown { self.new.shown ≡ self.old.shown }
+        ensures text { self.new.text ≡ self.old.text }
+        ensures kept { self.new.kept ≡ count }
+    {
+        self.kept = count;
+    }
+}
+
+impl<J: Naming> News<J> {
+    // How many entries there are.
+    pub(crate) fn count(&self) -> usize
+        ensures { result ≡ self.now.count }
+    {
+        self.count
+    }
+}
+
+// What some entries, which begin with what is shown now, have that was not shown before.
+fn what_is_new<J: Naming>(
+    alloc: Global,
+    known: &Front<J>,
+    shown: Front<J>,
+    entries: &[Entry],
+) -> Option<News<J>>
+    requires { (waiting : List Entry) × (entries.now ≡ shown ++ waiting) }
+    ensures { IfSome result (IsNews known.now entries.now) }
+{
+    let (before, now) = (known.len() as usize, shown.len() as usize);
+    // Its contract says that the shorter of the two begins the longer.
+    let _ = known.longer(&shown);
+    if now < before {
+        return None;
+    }
+    let (all, waiting) = entries.split_at(now);
+    let (_, fresh) = all.split_at(before);
+    let fresh = write_lines(alloc, fresh).ok()?;
+    let waiting = write_lines(alloc, waiting).ok()?;
+    Some(News {
+        shown,
+        fresh,
+        waiting,
+        count: entries.len(),
+    })
+}
