@@ -124,8 +124,10 @@ class Realise(Runs):
     def place_of(self, calls, at):
         call = calls[at]
         path = call.path.split(" > ")[-1]
-        if call.kind in ("print", "wait", "thread"):
-            return {"print": "", "wait": "end", "thread": self.threads()}[call.kind]
+        if call.kind in ("print", "wait"):
+            return {"print": "", "wait": "end"}[call.kind]
+        if call.kind == "thread":
+            return self.thread_of(calls, at)
         if self.is_of_lock(call):
             return "lock"
         if path.endswith("/var/nix/db/db.sqlite"):
@@ -162,7 +164,10 @@ class Realise(Runs):
         is_shared = any(it.path.split(" > ")[-1] == to for it in moves if not it.is_refused)
         return [False, True] if calls[at].kind == "rename" and is_shared else [False]
 
-    def threads(self):
+    def thread_of(self, calls, at):
+        """Whose thread a call starts. The first one keeps the journal while the run goes on."""
+        if not any(it.kind == "thread" for it in calls[:at]):
+            return "keeper"
         return "only" if self.jobs == 1 else "one of two"
 
     def is_taken(self, path):

@@ -49,6 +49,7 @@ ROWS = [
     ("realise", "look", "database of Nix", "ever", "new"),
     ("realise", "look create", "journal tried", "unwritten", "old"),
     ("realise", "remove", "journal tried", "unwritten", "left"),
+    ("realise", "thread", "keeper", "ever", "new"),
     ("realise", "thread", "only", "no thread", "old"),
     ("realise", "thread", "one of two", "ever", "new"),
     ("realise", "look", "free place", "NoStart", "less"),

@@ -21,6 +21,7 @@ mod closing;
 mod heard;
 mod heard_runs;
 mod hearing;
+mod keeping;
 mod leases;
 mod locking;
 mod many;

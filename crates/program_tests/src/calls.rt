@@ -12,7 +12,7 @@ use std::sync::Wait;
 use std::test::Fail;
 use std::thread::Threads;
 use std::time::Clock;
-use subcommands::Locks;
+use subcommands::{Locks, Places};
 
 // The kinds of error with which each call is refused.
 const KINDS: [ErrorKind; 5] = [
@@ -398,7 +398,7 @@ fn add_cases<'a>(cases: &mut Vec<Case<'a>>, row: &'a Row) -> Result<(), AllocErr
 /// What a run wrote, and its status.
 pub fn ran<R, M>(rt: &R, make: &M, line: &str) -> Result<Outcome, Fail>
 where
-    R: Files + Locks + AllocGlobal + Threads + Wait + Clock + Sync,
+    R: Files + Locks + Places + AllocGlobal + Threads + Wait + Clock + Sync,
     M: Builders,
 {
     let words: Vec<&str> = line.split(' ').collect(rt.alloc())?;

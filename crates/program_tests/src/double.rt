@@ -102,7 +102,7 @@ pub struct Log {
 }
 
 /// A log that a runtime and its open files share, and the host that makes the calls.
-#[derive(Drop)]
+#[derive(Clone, Drop)]
 pub struct Shared<R> {
     rt: R,
     host: HostRuntime,
@@ -132,20 +132,11 @@ impl<R: Plain> Shared<R> {
             _ => usize::MAX,
         }
     }
-
-    // Another handle of the same log.
-    fn again(&self) -> io::Result<Shared<R>> {
-        Ok(Shared {
-            rt: self.rt.clone()?,
-            host: self.host.clone()?,
-            log: self.log.clone()?,
-        })
-    }
 }
 
 /// A runtime over another runtime: the host makes its calls of files, and the other one waits, and
 /// starts threads and processes. So the bounds of what is generic in it stay small.
-#[derive(Drop)]
+#[derive(Clone, Drop)]
 pub struct Double<R> {
     shared: Shared<R>,
 }
@@ -204,7 +195,7 @@ impl<R: Plain> Files for Double<R> {
         let options = format!(in self.shared.host.alloc(); "{how:?}")?;
         self.shared.note(name_of(options.as_str()), path)?;
         Ok(Noted {
-            shared: self.shared.again()?,
+            shared: self.shared.clone()?,
             file: self.shared.host.open_file(how, path)?,
         })
     }
@@ -212,7 +203,7 @@ impl<R: Plain> Files for Double<R> {
     fn open_dir(&self, path: &str) -> io::Result<Listed<R, <HostRuntime as Files>::Dir>> {
         self.shared.note("list", path)?;
         Ok(Listed {
-            shared: self.shared.again()?,
+            shared: self.shared.clone()?,
             dir: self.shared.host.open_dir(path)?,
         })
     }
@@ -391,7 +382,7 @@ impl<R: Plain + Processes> Processes for Double<R> {
         self.shared.note("spawn", called.as_str())?;
         let child = self.shared.rt.spawn(command, stdin, stdout, stderr)?;
         let watched = Watched {
-            shared: self.shared.again()?,
+            shared: self.shared.clone()?,
             child,
         };
         Ok(Child::from_parts(watched, None, None, None))

@@ -2,10 +2,10 @@
 //! process changes files.
 use crate::calls::DRAFT;
 use crate::double::Event;
-use crate::locked;
 use crate::running::{Host, Outcome};
 use crate::scene::Scene;
 use crate::steps::Step;
+use crate::{changed, keeping, locked};
 use process_build::Builders;
 use std::alloc::Global;
 use std::io::ErrorKind;
@@ -60,12 +60,6 @@ pub const FILE: Step = Step::Write("<dir>/file", "hello\n");
 
 pub const TEXT: Step = Step::TextPath("text", "greeting", "hello\n");
 
-const KEPT: Step = Step::Folder("<dir>/kept");
-
-const KEPT_FILE: Step = Step::Write("<dir>/kept/file", "hello\n");
-
-const STILL_KEPT: Step = Step::Holds("<dir>/kept/file", "hello\n");
-
 pub const JOURNAL: &str = "<dir>/realiser-journal";
 
 const TEMPORARY: &str = "<dir>/.nix_realise-0";
@@ -85,9 +79,6 @@ const ANOTHER: &str = "realiser-journal 2\nA <dir>/aaaaaaaaaaaaaaaaaaaaaaaaaaaaa
 const WITH_BOTH: &str = "realiser-journal 2\nA <dir>/aaaaaaaaaaaaaaaaaaaaaaaaaaaaaaaa-x -\nA \
     <text> sha256:5891b5b522d5df086d0ff0b110fbd9d21bb4fc7163af34d08286a2e846f6be03\n";
 
-const WITH_LINKED_OUTPUT: &str = "realiser-journal 2\nD <any>\nO <any.out> \
-    sha256:5891b5b522d5df086d0ff0b110fbd9d21bb4fc7163af34d08286a2e846f6be03\n";
-
 pub const WITH_OUTPUT: &str = "realiser-journal 2\nD <any>\nO <any.out> \
     sha256:9ccbd3f1b19a1cdfd8d7c6ae48e9e822e2345f5be1a6187b19e41486c6941004\n";
 
@@ -97,14 +88,6 @@ const LARGE: &str = "Derive([(\"out\",\"\",\"\",\"\")],[],[],\"x86_64-linux\",\"
 
 const WITH_LARGE_OUTPUT: &str = "realiser-journal 2\nD <any>\nO <any.out> \
     sha256:f51b279903037b37ea1828a1021499995718d38016cad6c0da30962a41be052f\n";
-
-// A draft whose builder makes a symbolic link.
-const LINK: &str = "Derive([(\"out\",\"\",\"\",\"\")],[],[],\"x86_64-linux\",\"/bin/sh\",[\"-c\",\
-    \"ln -s /no/such/file $out\"],[(\"PATH\",\"/usr/bin:/bin\"),(\"out\",\"\")])";
-
-const REALISE_LINKS: &str = "nix_realise realise --store-dir <dir> --outputs nix <any>";
-
-const WITH_LINK: &str = "realiser-journal 2\nD <any>\nO <any.out> -\n";
 
 pub const GREETED: (&str, &str, u8) = ("<text>\n", "", 0);
 
@@ -303,40 +286,6 @@ static WRITTEN: [Row; 5] = [
     },
 ];
 
-// What lies at the path of the build folder is moved aside.
-const LEFT_FOLDER: Step = Step::Folder("<dir>/.build-0");
-
-const LEFT_FILE: Step = Step::Write("<dir>/.build-0/file", "left");
-
-static TAKEN: [Row; 2] = [
-    // Another worker moves a folder, or a file, to the free name before this one does: the next
-    // name is taken, and what the other worker moved stays.
-    Row {
-        name: "free-name-taken-for-a-folder",
-        before: &[PUT, LEFT_FOLDER, LEFT_FILE],
-        line: REALISE,
-        way: Way::FillsFolder(16, "<dir>/.nix_realise-left-0"),
-        told: BUILT,
-        after: &[
-            Step::Holds("<dir>/.nix_realise-left-0/file", "other"),
-            Step::Holds(JOURNAL, WITH_OUTPUT),
-            Step::Left(5),
-        ],
-    },
-    Row {
-        name: "free-name-taken-for-a-file",
-        before: &[PUT, LEFT_FOLDER, LEFT_FILE],
-        line: REALISE,
-        way: Way::Writes(16, "<dir>/.nix_realise-left-0", "other"),
-        told: BUILT,
-        after: &[
-            Step::Holds("<dir>/.nix_realise-left-0", "other"),
-            Step::Holds(JOURNAL, WITH_OUTPUT),
-            Step::Left(5),
-        ],
-    },
-];
-
 static RUN: [Row; 4] = [
     // Another process makes the build folder, or the output. With the build folder there, no
     // builder is started; an output there is written over.
@@ -386,91 +335,18 @@ static RUN: [Row; 4] = [
     },
 ];
 
-// What lies at an output is a link when it is looked at, and something else when it is read.
-static SWAPPED: [Row; 2] = [
-    Row {
-        name: "link-swapped-for-a-folder",
-        before: &[Step::Put("any", LINK)],
-        line: REALISE_LINKS,
-        way: Way::Swaps(17, "<any.out>"),
-        told: ("failed <any>: ReadFault\n", "", 1),
-        after: &[Step::Holds(JOURNAL, "realiser-journal 2\n")],
-    },
-    // The target that is read is what is registered.
-    Row {
-        name: "link-swapped-for-another",
-        before: &[Step::Put("any", LINK)],
-        line: REALISE_LINKS,
-        way: Way::Links(17, "/no/other/file", "<any.out>"),
-        told: BUILT,
-        after: &[Step::Holds(JOURNAL, WITH_LINK)],
-    },
-];
-
-// A path becomes a link between two calls: the link's target is never changed.
-static LINKED: [Row; 5] = [
-    Row {
-        name: "old-output-linked",
-        before: &[PUT, KEPT, KEPT_FILE, Step::Folder("<any.out>")],
-        line: REALISE,
-        way: Way::Links(12, "<dir>/kept", "<any.out>"),
-        told: BUILT,
-        after: &[STILL_KEPT, Step::Holds("<any.out>", "made\n")],
-    },
-    Row {
-        name: "build-folder-linked",
-        before: &[PUT, KEPT, KEPT_FILE],
-        line: REALISE,
-        way: Way::Links(21, "<dir>/kept", "<dir>/.build-0"),
-        told: BUILT,
-        after: &[
-            STILL_KEPT,
-            Step::Stands("<dir>/.build-0", false),
-            Step::Holds(JOURNAL, WITH_OUTPUT),
-        ],
-    },
-    // What is read is what is registered.
-    Row {
-        name: "output-linked-unread",
-        before: &[PUT, KEPT, KEPT_FILE],
-        line: REALISE,
-        way: Way::Links(17, "<dir>/kept/file", "<any.out>"),
-        told: BUILT,
-        after: &[STILL_KEPT, Step::Holds(JOURNAL, WITH_LINKED_OUTPUT)],
-    },
-    Row {
-        name: "journal-linked",
-        before: &[PUT, KEPT, KEPT_FILE],
-        line: REALISE,
-        way: Way::Links(27, "<dir>/kept/file", JOURNAL),
-        told: BUILT,
-        after: &[STILL_KEPT, Step::Holds(JOURNAL, WITH_OUTPUT)],
-    },
-    Row {
-        name: "text-linked",
-        before: &[FILE, TEXT, KEPT, Step::Write("<dir>/kept/file", "kept")],
-        line: ADD,
-        way: Way::Links(10, "<dir>/kept/file", "<text>"),
-        told: GREETED,
-        after: &[
-            Step::Holds("<dir>/kept/file", "kept"),
-            Step::Holds("<text>", "hello\n"),
-            Step::Holds(JOURNAL, WITH_TEXT),
-        ],
-    },
-];
-
 /// The tables of all rows.
-pub fn tables() -> [&'static [Row]; 10] {
+pub fn tables() -> [&'static [Row]; 11] {
     [
         &SHORT,
         &INTERRUPTED,
         &READ,
         &WRITTEN,
-        &TAKEN,
+        &changed::TAKEN,
         &RUN,
-        &LINKED,
-        &SWAPPED,
+        &changed::LINKED,
+        &changed::SWAPPED,
+        &keeping::KEPT,
         &locked::LOCKED,
         &locked::HOLDING,
     ]

@@ -8,6 +8,8 @@
 //! | `starts`, `folders`, `outputs` | a builder's start, its folder, the reading of its outputs |
 //! | `calls`, `leases` | the system calls, each refused in turn; the system calls of each lease |
 //! | `hindered` | short reads and writes, signals, and other processes that get in the way |
+//! | `changed` | other processes that change what lies at a path |
+//! | `keeping` | refused writes of the journal while a run goes on |
 //! | `locked` | runs that find the store folder locked, and the time for which they lock it |
 //! | `doubled` | the runs of these tables, on a double |
 //! | `double` | a runtime that logs system calls, and lets something happen between them |
@@ -18,6 +20,8 @@
 
 #[cfg(test)]
 mod calls;
+#[cfg(test)]
+mod changed;
 #[cfg(test)]
 mod checks;
 #[cfg(test)]
@@ -32,6 +36,8 @@ mod files;
 mod folders;
 #[cfg(test)]
 mod hindered;
+#[cfg(test)]
+mod keeping;
 #[cfg(test)]
 mod leases;
 #[cfg(test)]

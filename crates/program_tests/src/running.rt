@@ -9,7 +9,7 @@ use std::sync::Wait;
 use std::thread::Threads;
 use std::time::Clock;
 use std::{env, fs, io};
-use subcommands::{Locks, run};
+use subcommands::{Locks, Places, run};
 
 /// The empty derivation.
 pub const NOTHING: &[u8; 28] = b"Derive([],[],[],\"\",\"\",[],[])";
@@ -32,11 +32,21 @@ pub trait Plain: Wait + Clone + Drop {}
 impl<R: Wait + Clone + Drop> Plain for R {}
 
 /// What a run needs of its host.
-pub trait Host: Files + Locks + Logs + AllocGlobal + Threads + Wait + Clock + Sync + Clone + Drop {}
+pub trait Host: Files
+    + Locks
+    + Places
+    + Logs
+    + AllocGlobal
+    + Threads
+    + Wait
+    + Clock
+    + Sync
+    + Clone
+    + Drop {}
 
 impl<R> Host for R
 where
-    R: Files + Locks + Logs + AllocGlobal + Threads + Wait + Clock + Sync + Clone + Drop,
+    R: Files + Locks + Places + Logs + AllocGlobal + Threads + Wait + Clock + Sync + Clone + Drop,
 {}
 
 /// A builder that starts nothing.
@@ -70,7 +80,7 @@ impl Builders for Idle {
 /// Runs the program on a command line, with builders that `make` makes and the locks of its host.
 pub fn run_by<'a, R, M>(rt: &R, make: &M, words: &'a [&'a str]) -> Outcome
 where
-    R: Files + Locks + AllocGlobal + Threads + Wait + Clock + Sync,
+    R: Files + Locks + Places + AllocGlobal + Threads + Wait + Clock + Sync,
     M: Builders,
 {
     let mut out = Vec::new(rt.alloc());

@@ -75,6 +75,9 @@ impl Scene {
             Step::NoProcess(args, env) => self.refuses(rt, args, env),
             Step::Script(script, outputs, made) => self.builds(rt, script, outputs, made),
             Step::TextPath(word, name, text) => self.name_text(rt.alloc(), word, name, text),
+            Step::InOrder(first, second, one, other) => {
+                self.name_in_order(rt.alloc(), [first, second], [one, other])
+            }
             other => self.finds(rt, other),
         }
     }

@@ -29,6 +29,8 @@ pub enum Step {
     Script(&'static str, &'static [&'static str], Made),
     /// A word for the path that a text gets under a name.
     TextPath(&'static str, &'static str, &'static str),
+    /// Two words for two texts, the first word for the lesser text.
+    InOrder(&'static str, &'static str, &'static str, &'static str),
     /// A file is written with a text.
     Write(&'static str, &'static str),
     /// A folder is made, and the folders above it.

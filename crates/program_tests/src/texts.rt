@@ -76,4 +76,22 @@ impl Scene {
         self.names.bind(alloc, word, path)?;
         Ok(true)
     }
+
+    // Names two texts, the lesser one by the first word.
+    pub(crate) fn name_in_order(
+        &mut self,
+        alloc: Global,
+        [first, second]: [&str; 2],
+        [one, other]: [&str; 2],
+    ) -> Result<bool, Fail> {
+        let (one, other) = (self.said(alloc, one)?, self.said(alloc, other)?);
+        let (less, more) = if one <= other {
+            (one, other)
+        } else {
+            (other, one)
+        };
+        self.names.bind(alloc, first, less)?;
+        self.names.bind(alloc, second, more)?;
+        Ok(true)
+    }
 }

@@ -1,9 +1,11 @@
 //! The journal file of a run: its path, read and written.
 ghost use Rattle.std.specs.Prelude.{◌≡◌, IfOk, option_map, string_bytes};
+ghost use Rattle.nix_names.specs.Bytes.{Bytes};
 ghost use Rattle.subcommands.specs.Files.{IsReadFrom};
 ghost use Rattle.subcommands.specs.JournalFiles.{journal_path_of};
 
 use crate::files::{Given, read_journal};
+use crate::journal_keeper::Places;
 use crate::locks::Holding;
 use crate::whole_file::{Tried, Unwritten, Written, try_out, write_whole};
 use std::alloc::{AllocError, Global};
@@ -85,6 +87,14 @@ impl<'h> OwnJournal<'h> {
         ensures { IfOk result (λ tried. tried.path.now ≡ string_bytes self.entry.now.path) }
     {
         try_out(rt, self.path.as_str())
+    }
+
+    /// The place that keeps the file while a run goes on.
+    pub fn place<P: Places>(&self, alloc: Global, places: &P) -> Result<P::Place, AllocError>
+        ensures at { IfOk result (λ place. P.keeps_at place (string_bytes self.now.path)) }
+        ensures each { IfOk result (λ _. (text : Bytes) → P.Place.may_keep text) }
+    {
+        places.place(String::from_str(alloc, self.path.as_str())?)
     }
 
     /// Puts a file with these bytes in place of the journal file, if there is one.

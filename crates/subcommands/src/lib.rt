@@ -8,6 +8,7 @@
 //! | `folder` | derivations read from the files of a folder |
 //! | `whole_file` | a file that is written whole or not at all |
 //! | `journal_file` | the journal file: its path, read and written |
+//! | `journal_keeper` | the journal file, as it is written while a run goes on |
 //! | `locks`, `waiting` | the lock of a store folder; the line that tells that a run waits for it |
 //! | `nix_store` | whether Nix manages a store folder |
 //! | `stop` | why a run ends without its report |
@@ -42,6 +43,7 @@ mod finish;
 mod folder;
 mod graph_words;
 mod journal_file;
+mod journal_keeper;
 mod kept;
 mod last_lines;
 mod locks;
@@ -66,6 +68,7 @@ mod whole_file;
 
 pub use check::check_lines;
 pub use folder::FolderSource;
+pub use journal_keeper::{InJournal, Places};
 pub use locks::Locks;
 pub use process::run_process;
 pub use program::{print_no_memory, refuse_words, run};

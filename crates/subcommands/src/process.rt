@@ -4,6 +4,7 @@ ghost use Rattle.std.specs.Io.Buffered.{writer_inner};
 ghost use Rattle.clap.specs.declared.error.kind.ErrorKind.TheVariants.{OutOfMemory};
 ghost use Rattle.subcommands.specs.ProgramEndings.{ProgramEnds, UsageEnds};
 
+use crate::journal_keeper::Places;
 use crate::locks::Locks;
 use crate::program::{print_no_memory, refuse_words, run};
 use crate::status::Ending;
@@ -17,18 +18,18 @@ use std::time::Clock;
 use std::{env, io};
 
 /// Runs the program on the arguments and the standard output of the process, with the builders that
-/// `make` makes and the locks that `locks` takes. Says how the run ended. A word that is not UTF-8
-/// is a mistake in the words.
-pub fn run_process<R, M, L, E>(rt: &R, make: &M, locks: &L, err: &mut E) -> Ending
+/// `make` makes, and the locks and the places of journals of `host`. Says how the run ended. A word
+/// that is not UTF-8 is a mistake in the words.
+pub fn run_process<R, M, L, E>(rt: &R, make: &M, host: &L, err: &mut E) -> Ending
 where
     R: Env + Files + Print + Threads + Wait + Clock + Sync + AllocGlobal,
     M: Builders,
-    L: Locks,
+    L: Locks + Places,
     E: Write,
 {
     match BufWriter::new(rt.alloc(), io::writer(rt)) {
         Ok(mut out) => {
-            let ending = run_arguments(rt, make, locks, &mut out, err);
+            let ending = run_arguments(rt, make, host, &mut out, err);
             let_go(out);
             ending
         }
@@ -46,16 +47,16 @@ fn let_go<W: Write + Drop>(buffer: BufWriter<W>) -> W
 }
 
 // Runs the program on the arguments of the process.
-fn run_arguments<R, M, L, O, E>(rt: &R, make: &M, locks: &L, out: &mut O, err: &mut E) -> Ending
+fn run_arguments<R, M, L, O, E>(rt: &R, make: &M, host: &L, out: &mut O, err: &mut E) -> Ending
 where
     R: Env + Files + Threads + Wait + Clock + Sync + AllocGlobal,
     M: Builders,
-    L: Locks,
+    L: Locks + Places,
     O: Write,
     E: Write,
 {
     match arguments(rt) {
-        Ok(arguments) => run_texts(rt, make, locks, &arguments, out, err),
+        Ok(arguments) => run_texts(rt, make, host, &arguments, out, err),
         Err(error) if error.kind() == ErrorKind::InvalidData => refuse_words(rt.alloc(), out, err),
         Err(_) => print_no_memory(err),
     }
@@ -65,7 +66,7 @@ where
 fn run_texts<R, M, L, O, E>(
     rt: &R,
     make: &M,
-    locks: &L,
+    host: &L,
     arguments: &[String],
     out: &mut O,
     err: &mut E,
@@ -73,7 +74,7 @@ fn run_texts<R, M, L, O, E>(
 where
     R: Files + Threads + Wait + Clock + Sync + AllocGlobal,
     M: Builders,
-    L: Locks,
+    L: Locks + Places,
     O: Write,
     E: Write,
     ensures { ProgramEnds M.Builder.may (map string_bytes arguments.now)
@@ -82,7 +83,7 @@ where
         (O.contents out.old, O.contents out.new) (E.contents err.old, E.contents err.new) result }
 {
     match texts(rt.alloc(), arguments) {
-        Ok(words) => run(rt, make, locks, &words, out, err),
+        Ok(words) => run(rt, make, host, &words, out, err),
         Err(_) => print_no_memory(err),
     }
 }

@@ -15,6 +15,7 @@ use crate::check::check_lines;
 use crate::fault_words::stop_line;
 use crate::finish::{Finish, quietly};
 use crate::folder::FolderSource;
+use crate::journal_keeper::Places;
 use crate::locks::Locks;
 use crate::plan::plan;
 use crate::printing::{print_bytes, print_text};
@@ -37,12 +38,12 @@ use std::time::Clock;
 const NO_MEMORY_LINE: &[u8; 27] = b"nix_realise: run: NoMemory\n";
 
 /// Runs the program on a command line, whose first word is the program's own name, with the
-/// builders that `make` makes and the locks that `locks` takes. Says how the run ended, and whether
-/// that was told.
+/// builders that `make` makes, and the locks and the places of journals of `host`. Says how the run
+/// ended, and whether that was told.
 pub fn run<'a, R, M, L, O, E>(
     rt: &R,
     make: &M,
-    locks: &L,
+    host: &L,
     words: &'a [&'a str],
     out: &mut O,
     err: &mut E,
@@ -50,14 +51,14 @@ pub fn run<'a, R, M, L, O, E>(
 where
     R: Files + Threads + Wait + Clock + Sync + AllocGlobal,
     M: Builders,
-    L: Locks,
+    L: Locks + Places,
     O: Write,
     E: Write,
     ensures { ProgramEnds M.Builder.may (map (λ w. w.now) words.entry.now)
         (O.contents out.old, O.contents out.new) (E.contents err.old, E.contents err.new) result }
 {
     match request(rt.alloc(), words) {
-        Ok(request) => run_request(rt, make, locks, &request, out, err),
+        Ok(request) => run_request(rt, make, host, &request, out, err),
         Err(fault) => print_usage(rt.alloc(), &fault, out, err),
     }
 }
@@ -66,7 +67,7 @@ where
 fn run_request<R, M, L, O, E>(
     rt: &R,
     make: &M,
-    locks: &L,
+    host: &L,
     request: &Request<'_>,
     out: &mut O,
     err: &mut E,
@@ -74,13 +75,13 @@ fn run_request<R, M, L, O, E>(
 where
     R: Files + Threads + Wait + Clock + Sync + AllocGlobal,
     M: Builders,
-    L: Locks,
+    L: Locks + Places,
     O: Write,
     E: Write,
     ensures { RequestEnds M.Builder.may request.now
         (O.contents out.old, O.contents out.new) (E.contents err.old, E.contents err.new) result }
 {
-    let outcome = run_subcommand(rt, make, locks, request, out);
+    let outcome = run_subcommand(rt, make, host, request, out);
     end(rt.alloc(), outcome, err)
 }
 
@@ -88,24 +89,24 @@ where
 fn run_subcommand<'a, R, M, L, O>(
     rt: &R,
     make: &M,
-    locks: &L,
+    host: &L,
     request: &Request<'a>,
     out: &mut O,
 ) -> Result<Finish, Stop<'a>>
 where
     R: Files + Threads + Wait + Clock + Sync + AllocGlobal,
     M: Builders,
-    L: Locks,
+    L: Locks + Places,
     O: Write,
     ensures { SubcommandEnds M.Builder.may request.now (O.contents out.old, O.contents out.new)
         result }
 {
     match request {
         Request::Check(request) => quietly(check(rt, request, out)),
-        Request::AddText(request) => quietly(add_text(rt, locks, request, out)),
+        Request::AddText(request) => quietly(add_text(rt, host, request, out)),
         Request::AddDrv(request) => quietly(add_drv(rt, request, out)),
         Request::Plan(request) => quietly(plan(rt, request, out)),
-        Request::Realise(request) => realise(rt, make, locks, request, out),
+        Request::Realise(request) => realise(rt, make, host, request, out),
     }
 }
 

@@ -1,5 +1,6 @@
 //! The subcommand `realise`.
 ghost use Rattle.std.specs.Prelude.{◌≡◌, All, IfErr, IfOk, is_some, length, string_bytes, true};
+ghost use Rattle.nix_names.specs.Bytes.{Bytes};
 ghost use Rattle.drv_graph.specs.Nodes.{paths_of};
 ghost use Rattle.run_states.specs.Courses.{IsRunSettled};
 ghost use Rattle.subcommands.specs.Locking.{IsKeptOut};
@@ -12,6 +13,7 @@ use crate::builders::{kept_folders, make_all, manner_of};
 use crate::finish::Finish;
 use crate::folder::FolderSource;
 use crate::journal_file::OwnJournal;
+use crate::journal_keeper::{Places, RunJournal};
 use crate::kept::Kept;
 use crate::last_lines::last_lines;
 use crate::locks::{Held, Holding, Locks, hold};
@@ -23,7 +25,6 @@ use crate::settled::{journal_bytes, report_of, roots_status};
 use crate::stop::Stop;
 use crate::task::{Task, planned};
 use crate::trace_file::{TraceFile, end_traced};
-use crate::whole_file::Tried;
 use command_line::RealiseRequest;
 use drv_graph::Plan;
 use nix_names::StoreDir;
@@ -35,7 +36,7 @@ use std::rt::Files;
 use std::sync::Wait;
 use std::thread::Threads;
 use std::time::Clock;
-use store_run::RunFault;
+use store_run::{Keep, RunFault, realise_kept};
 use valid_table::Outlet;
 use valid_view::{Name, Naming};
 
@@ -43,28 +44,39 @@ use valid_view::{Name, Naming};
 /// looked whether the runner, if one is named, may be executed; the plan is loaded; it is looked
 /// whether Nix manages the store folder, and its lock is taken; then the journal is read, it is
 /// tested whether the journal can be written, and the folder of logs, if one is named, is made. The
-/// first fault ends the run, and nothing is built. Once the workers gave a book, the journal is
-/// written, whether the book is settled or not; then the lock is let go. Nothing is printed where
-/// the book isn't settled, or where the journal is not written.
+/// first fault ends the run, and nothing is built. While the workers build, the journal is written
+/// again and again, in the place that `host` makes; a fault of such a write is not told. Once the
+/// workers gave a book, the journal is written, whether the book is settled or not; then the lock is
+/// let go. Nothing is printed where the book isn't settled, or where the journal is not written.
 pub fn realise<'a, R, M, L, O>(
     rt: &R,
     make: &M,
-    locks: &L,
+    host: &L,
     request: &RealiseRequest<'a>,
     out: &mut O,
 ) -> Result<Finish, Stop<'a>>
 where
     R: Files + AllocGlobal + Threads + Wait + Clock + Sync,
     M: Builders,
-    L: Locks,
+    L: Locks + Places,
     O: Write,
     ensures { RealiseEnds M.Builder.may request.now (O.contents out.old) (O.contents out.new)
         result }
 {
     let runner = runner_of(rt, request.runner)?;
     let (dir, plan) = planned(rt.alloc(), &mut FolderSource::new(rt), &request.run)?;
-    let held = enter(rt, locks, request)?;
-    run_held(rt, make, request, runner, held.holding(), &dir, plan, out)
+    let held = enter(rt, host, request)?;
+    run_held(
+        rt,
+        make,
+        host,
+        request,
+        runner,
+        held.holding(),
+        &dir,
+        plan,
+        out,
+    )
 }
 
 // Takes the lock of the request's store folder, unless Nix manages that.
@@ -81,9 +93,10 @@ fn enter<'a, R: Files + AllocGlobal, L: Locks>(
 }
 
 // Runs a plan in the store folder that is held.
-fn run_held<'a, R, M, O>(
+fn run_held<'a, R, M, P, O>(
     rt: &R,
     make: &M,
+    places: &P,
     request: &RealiseRequest<'a>,
     runner: Runner<'a>,
     holding: Holding<'_>,
@@ -94,6 +107,7 @@ fn run_held<'a, R, M, O>(
 where
     R: Files + AllocGlobal + Threads + Wait + Clock + Sync,
     M: Builders,
+    P: Places,
     O: Write,
     requires runner { runner.path ≡ request.now.runner }
     requires held { holding.dir.now ≡ request.now.run.store_dir.now }
@@ -104,26 +118,34 @@ where
     let file = OwnJournal::new(rt.alloc(), holding, request.run.journal)?;
     let task = Task::new(rt.alloc(), &request.run, dir, plan, file.read(rt))?;
     let tried = file.try_out(rt)?;
-    run_task(rt, make, request, runner, &file, tried, &task, out)
+    let place = file.place(rt.alloc(), places)?;
+    let journal = RunJournal {
+        file: &file,
+        tried,
+        place,
+    };
+    run_task::<R, M, P, O>(rt, make, request, runner, journal, &task, out)
 }
 
 // Makes the folder of logs for a task, and runs it. It was tried whether the journal can be written.
-fn run_task<'a, R, M, O>(
+fn run_task<'a, R, M, P, O>(
     rt: &R,
     make: &M,
     request: &RealiseRequest<'a>,
     runner: Runner<'a>,
-    file: &OwnJournal<'_>,
-    tried: Tried<'_>,
+    journal: RunJournal<'_, '_, P::Place>,
     task: &Task,
     out: &mut O,
 ) -> Result<Finish, Stop<'a>>
 where
     R: Files + AllocGlobal + Threads + Wait + Clock + Sync,
     M: Builders,
+    P: Places,
     O: Write,
     requires runner { runner.path ≡ request.now.runner }
-    requires tried { tried.path.now ≡ string_bytes file.now.path }
+    requires tried { journal.tried.path.now ≡ string_bytes journal.file.now.path }
+    requires place { P.keeps_at journal.place (string_bytes journal.file.now.path) }
+    requires each { (text : Bytes) → P.Place.may_keep text }
     ensures { TaskEnds M.Builder.may request.now task.now (O.contents out.old) (O.contents out.new)
         result }
 {
@@ -131,53 +153,48 @@ where
     let kept = kept_folders(rt.alloc(), request, task.plan().len())?;
     let drvs = DrvPaths::of(rt.alloc(), task.plan())?;
     let manner = manner_of(request, runner, logs, kept.as_ref(), &drvs);
-    run_traced(rt, make, request, &manner, file, tried, task, out)
+    run_traced::<R, M, P, O>(rt, make, request, &manner, journal, task, out)
 }
 
 // Makes the builders for a task, which note its leases if the request asks for a trace, and runs
 // it; then the trace is written.
-fn run_traced<'a, R, M, O>(
+fn run_traced<'a, R, M, P, O>(
     rt: &R,
     make: &M,
     request: &RealiseRequest<'a>,
     manner: &Manner<'_>,
-    file: &OwnJournal<'_>,
-    tried: Tried<'_>,
+    journal: RunJournal<'_, '_, P::Place>,
     task: &Task,
     out: &mut O,
 ) -> Result<Finish, Stop<'a>>
 where
     R: Files + AllocGlobal + Threads + Wait + Clock + Sync,
     M: Builders,
+    P: Places,
     O: Write,
     requires manner { IsMannerFor request.now (paths_of task.now.plan.nodes) manner.now }
-    requires tried { tried.path.now ≡ string_bytes file.now.path }
+    requires tried { journal.tried.path.now ≡ string_bytes journal.file.now.path }
+    requires place { P.keeps_at journal.place (string_bytes journal.file.now.path) }
+    requires each { (text : Bytes) → P.Place.may_keep text }
     ensures { TaskEnds M.Builder.may request.now task.now (O.contents out.old) (O.contents out.new)
         result }
 {
     let trace = TraceFile::of(rt, request);
     let make = Tracing::new(rt, make, TraceFile::noted(&trace));
     let builders = make_all(rt.alloc(), &make, request, manner)?;
-    let ended = run_built::<R, Tracing<'_, R, M>, O>(
-        rt,
-        request,
-        file,
-        tried,
-        task,
-        builders,
-        manner.kept,
-        out,
+    let kept = manner.kept;
+    let ended = run_built::<R, Tracing<'_, R, M>, P, O>(
+        rt, request, journal, task, builders, kept, out,
     );
     end_traced(rt, &trace, ended)
 }
 
 // Builds the wanted derivations of a task, by one worker for each builder, writes the journal and
 // prints the report. It was tried whether the journal can be written.
-fn run_built<'a, R, M, O>(
+fn run_built<'a, R, M, P, O>(
     rt: &R,
     request: &RealiseRequest<'a>,
-    file: &OwnJournal<'_>,
-    _tried: Tried<'_>,
+    journal: RunJournal<'_, '_, P::Place>,
     task: &Task,
     builders: Vec<M::Builder>,
     kept: Option<&KeptFolders>,
@@ -186,8 +203,11 @@ fn run_built<'a, R, M, O>(
 where
     R: Files + AllocGlobal + Threads + Wait + Clock + Sync,
     M: Builders,
+    P: Places,
     O: Write,
-    requires tried { _tried.path.now ≡ string_bytes file.now.path }
+    requires tried { journal.tried.path.now ≡ string_bytes journal.file.now.path }
+    requires place { P.keeps_at journal.place (string_bytes journal.file.now.path) }
+    requires each { (text : Bytes) → P.Place.may_keep text }
     requires count { length builders.items ≡ request.now.jobs }
     requires manner { (manner : Manner)
         × IsMannerFor request.now (paths_of task.now.plan.nodes) manner
@@ -195,15 +215,15 @@ where
     ensures { RunEnds M.Builder.may request.now task.now (O.contents out.old) (O.contents out.new)
         result }
 {
-    run_named::<Brand, _, _, _>(rt, Name::new(), request, file, task, builders, kept, out)
+    run_named::<Brand, _, _, _, _>(rt, Name::new(), request, journal, task, builders, kept, out)
 }
 
 // Does what `run_built` does, over a view of this name.
-fn run_named<'a, J, R, B, O>(
+fn run_named<'a, J, R, B, K, O>(
     rt: &R,
     name: Name,
     request: &RealiseRequest<'a>,
-    file: &OwnJournal<'_>,
+    journal: RunJournal<'_, '_, K>,
     task: &Task,
     builders: Vec<B>,
     kept: Option<&KeptFolders>,
@@ -213,14 +233,17 @@ where
     J: Naming + Send + Sync,
     R: Files + AllocGlobal + Threads + Wait + Clock + Sync,
     B: Build + Watch + Send + Drop,
+    K: Keep + Send + Drop,
     O: Write,
     requires named { name ≡ J.book }
     requires jobs { length builders.items ≡ request.now.jobs }
+    requires each { (text : Bytes) → K.may_keep text }
     ensures { RunEnds B.may request.now task.now (O.contents out.old) (O.contents out.new) result }
 {
+    let RunJournal { file, place, .. } = journal;
     let system = request.run.system.as_bytes();
-    let (plan, journal) = (task.plan(), task.journal());
-    match store_run::realise::<J, R, B>(rt, rt.alloc(), name, plan, journal, system, builders) {
+    let (plan, opening) = (task.plan(), task.journal());
+    match realise_kept::<J, R, B, K>(rt, rt.alloc(), name, plan, opening, system, builders, place) {
         Ok(book) => end(rt, request, file, book, kept, out),
         Err((fault, book)) => Err(fall_short(rt, file, fault, book)),
     }

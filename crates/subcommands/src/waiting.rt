@@ -3,7 +3,9 @@ ghost use Rattle.std.specs.Prelude.{◌≡◌, ◌++◌, OnOk, codes};
 ghost use Rattle.std.specs.Io.KnownBytes.{Appends};
 ghost use Rattle.subcommands.specs.Waiting.{waiting_line};
 
+use crate::journal_keeper::Places;
 use crate::locks::Locks;
+use std::alloc::AllocError;
 use std::io;
 use std::io::Write;
 
@@ -45,6 +47,16 @@ impl<L: Locks, W: Write + Copy> Locks for Telling<'_, L, W> {
         let answer = self.locks.lock(dir, waits);
         let _ = to.write_all(NO_LINE);
         answer
+    }
+}
+
+impl<L: Places, W> Places for Telling<'_, L, W> {
+    type Place = L::Place;
+
+    ghost keeps_at = { L.keeps_at };
+
+    fn place(&self, path: String) -> Result<L::Place, AllocError> {
+        self.locks.place(path)
     }
 }
 

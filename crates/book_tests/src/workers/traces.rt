@@ -36,7 +36,8 @@ fn parts_of(alloc: Global, journal: &Journal) -> Result<(Vec<Entry>, Vec<u8>), F
     Ok((copied(alloc, journal.entries())?, journal.write(alloc)?))
 }
 
-fn traces_of<O: Outlet>(alloc: Global, book: &Book<O>) -> Result<Traces, Fail> {
+/// What the book of a run leaves behind, if it is settled.
+pub(super) fn traces_of<O: Outlet>(alloc: Global, book: &Book<O>) -> Result<Traces, Fail> {
     if !book.settled() {
         return Err("something can still be built".into());
     }
@@ -51,8 +52,8 @@ fn traces_of<O: Outlet>(alloc: Global, book: &Book<O>) -> Result<Traces, Fail> {
     })
 }
 
-// The book of a run that went to its end. The book of any other run is closed.
-fn settled<O: Outlet>(
+/// The book of a run that went to its end. The book of any other run is closed.
+pub(super) fn settled<O: Outlet>(
     ended: Result<Book<O>, (RunFault, Option<Book<O>>)>,
 ) -> Result<Book<O>, RunFault> {
     let (fault, left) = match ended {

@@ -35,6 +35,18 @@ returns-in_err-tried g c =
     let fault = not_begun c.args.request.now e.0 e.2.1 in
     (gave, inr (c.in_ok-task.task, made.0, journal, inr (e.0, e.1, refl, fault)))
 
+pub returns-in_err-place : goal.returns-in_err-place
+returns-in_err-place g c =
+    let gave : FileBytes = journal_bytes c.read.result in
+    let step = c.from_residual-in_err-place in
+    let e = err_from_is_err_and step.result step.ensures.1 in
+    let made = c.in_ok-task.ensures.ok in
+    let journal =
+    subst (λ d. IsJournalOf d gave (Ok c.in_ok-task.task.journal)) c.requires.dir made.1 in (
+      gave,
+      inr (c.in_ok-task.task, made.0, journal, inr (NoMemory, e.1 ∙ ap Err e.2, refl, inr tt)),
+    )
+
 pub returns : goal.returns
 returns g c =
     let gave : FileBytes = journal_bytes c.read.result in
