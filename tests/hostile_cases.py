@@ -47,6 +47,8 @@ class Case:
     traced: bool = True
     # Whether a child of the builder has to run still when the first run has ended.
     stays: bool = False
+    # Options of both runs.
+    options: tuple = ()
 
     def next(self):
         if self.second:
@@ -97,6 +99,15 @@ def kinds():
         yield Case(name, f"at=$out; {script}", READ_FAULT, stands=stands, root=root)
         inner = f"mkdir $out; echo x > $out/a; at=$out/b; {script}"
         yield Case(name + " in a folder", inner, READ_FAULT, stands="folder", root=root)
+
+
+def linked():
+    """The same where outputs may have links, which are read and not followed; and links that come
+    and go while they are read."""
+    for case in (*kinds(), *swaps_of_outputs()):
+        first = BUILT if "link" in case.name else case.first
+        name = f"{case.name}, where links may be"
+        yield dataclasses.replace(case, name=name, first=first, options=("--outputs", "nix"))
 
 
 def limits():
@@ -173,31 +184,41 @@ def beside():
     yield Case("a hard link for the output", "ln $W/file $out", stands="file")
 
 
+ANY_ANSWER = (READ_FAULT, TOO_LARGE, failed('MissingOutput("out")'), BUILT)
+MANY_FILES = "mkdir -p $out/d; for i in $(seq 300); do : > $out/d/$i; : > $out/$i; done; "
+
+
+def swaps_of_outputs():
+    """Links that come and go, in the place of a folder, while the program reads it."""
+    read = {"also": ANY_ANSWER, "between": stop}
+    for name, at in (("for", "$out"), ("in", "$out/d")):
+        yield Case(f"a link {name} the output while it is read", MANY_FILES + swapping(at), **read)
+
+
 def swaps():
-    """Links that come and go while the program reads or removes."""
-    any_answer = (READ_FAULT, TOO_LARGE, failed('MissingOutput("out")'), BUILT)
-    read = {"also": any_answer, "between": stop}
+    """Links that come and go, and files that grow, while the program reads or removes."""
+    yield from swaps_of_outputs()
     removed = {"beside": ("*",), "between": stop}
-    many = "mkdir -p $out/d; for i in $(seq 300); do : > $out/d/$i; : > $out/$i; done; "
-    yield Case("a link for the output while it is read", many + swapping("$out"), **read)
-    yield Case("a link in the output while it is read", many + swapping("$out/d"), **read)
     fill = "for i in $(seq 300); do mkdir -p d/$i; : > d/$i/f; done; echo made > $out; "
     top = swapping("$NIX_BUILD_TOP")
     yield Case("a link for the build folder while it is removed", fill + top, **removed)
     yield Case("a link in the build folder while it is removed", fill + swapping("d"), **removed)
-    keep = many + swapping("$out/d") + "sleep 0.1; exit 5"
+    keep = MANY_FILES + swapping("$out/d") + "sleep 0.1; exit 5"
     five = failed("ExitStatus(5)")
     yield Case("a link in an old output while it is removed", keep, five, beside=("*",))
     grow = "echo > $out; " + LOOP.format(400, "head -c 500000 /dev/zero >> $out")
-    yield Case("a file that grows", grow, **read)
+    yield Case("a file that grows", grow, also=ANY_ANSWER, between=stop)
 
 
 SWAP = """
 import contextlib, os, sys
-at, moved, watched, stop, rounds = sys.argv[1:]
+at, folder, rounds = sys.argv[1:]
+moved, watched, stop, begun = (f"{folder}/{name}" for name in ("moved", "watched", "stop", "begun"))
 for number in range(int(rounds)):
     if number % 50 == 0 and os.path.exists(stop):
         break
+    if number == 1:
+        open(begun, "w").close()
     for act, words in ((os.rename, (at, moved)), (os.symlink, (watched, at)), (os.unlink, (at,)),
                        (os.rename, (moved, at))):
         with contextlib.suppress(OSError):
@@ -206,8 +227,10 @@ for number in range(int(rounds)):
 
 
 def swapping(at):
-    """What puts a link to the watched folder at a place and takes it away again, many times."""
-    return f"{sys.executable} -c '{SWAP}' {at} $F/moved $W $F/stop $(cat $F/rounds)" + CHILD
+    """What puts a link to the watched folder at a place and takes it away again, many times. The
+    builder goes on when that has begun."""
+    begin = f"{sys.executable} -c '{SWAP}' {at} $F $(cat $F/rounds)" + CHILD
+    return begin + "until [ -e $F/begun ]; do sleep 0.01; done; "
 
 
 def small_disks():
@@ -236,5 +259,5 @@ def stop(site):
 
 def cases():
     """All of them."""
-    for group in (ends, beside, kinds, limits, swaps, small_disks):
+    for group in (ends, beside, kinds, limits, swaps, linked, small_disks):
         yield from group()
