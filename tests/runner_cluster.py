@@ -12,6 +12,7 @@ import time
 NODES = ("node1", "node2")
 # What runs, each started in the foreground, so that it ends by its process id.
 PROGRAMS = ("/usr/sbin/munged", "/usr/sbin/slurmctld", "/usr/sbin/slurmd", "/usr/bin/srun")
+CANCEL, QUEUE = "/usr/bin/scancel", "/usr/bin/squeue"
 PATIENCE = 60
 CONFIGURATION = """
 ClusterName=trial
@@ -34,6 +35,7 @@ SelectType=select/cons_tres
 SelectTypeParameters=CR_Core
 JobAcctGatherType=jobacct_gather/none
 ReturnToService=2
+KillWait=2
 MpiDefault=none
 PartitionName=all Nodes={nodes} Default=YES MaxTime=INFINITE State=UP
 """
@@ -119,9 +121,27 @@ class Cluster:
 
     def is_ready(self):
         """Whether a job runs on each of the two nodes at once."""
-        words = ["/usr/bin/srun", "--quiet", "--immediate=1", f"--nodes={len(NODES)}", "/bin/true"]
-        known = {"SLURM_CONF": str(self.configuration)}
-        return subprocess.run(words, env=known, capture_output=True, check=False).returncode == 0
+        words = ["--quiet", "--immediate=1", f"--nodes={len(NODES)}", "/bin/true"]
+        return self.ask(PROGRAMS[-1], *words) == ""
+
+    def ask(self, *words):
+        """What a command of Slurm's prints; none where it fails, or takes too long."""
+        known = {"env": {"SLURM_CONF": str(self.configuration)}, "timeout": PATIENCE}
+        try:
+            return subprocess.run(words, check=True, capture_output=True, text=True, **known).stdout
+        except subprocess.SubprocessError:
+            return None
+
+    def is_idle(self):
+        """Whether no job runs or waits, so far as the cluster answers."""
+        return not self.ask(QUEUE, "--noheader")
+
+    def cancel(self):
+        """Ends the jobs of a run that was ended, with their builders: they would outlive the
+        cluster."""
+        if len(self.started) > 1 and not self.is_idle():
+            self.ask(CANCEL, f"--user={os.getuid()}")
+            self.until("all jobs have ended", self.is_idle)
 
     def until(self, what, holds):
         """Waits until something holds; fails where a part of the cluster has ended."""
@@ -145,6 +165,10 @@ class Cluster:
 
     def close(self):
         """Ends what was started, the last first, and removes the folder."""
+        try:
+            self.cancel()
+        except AssertionError as fault:
+            print(f"the cluster: {fault}")
         for run in reversed(self.started):
             run.send_signal(signal.SIGTERM)
             try:

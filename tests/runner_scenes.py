@@ -4,6 +4,7 @@ import ast
 import os
 import pathlib
 import re
+import signal
 import subprocess
 import sys
 import time
@@ -119,6 +120,27 @@ def edited(name, folder, **values):
     copy.write_text(text)
     copy.chmod(0o755)
     return copy
+
+
+def limited_run(words, seconds):
+    """What a run writes and its status, as `run` gives them. It may take so many seconds: then it
+    is ended, as it is where this script is, with the builders that it has started here."""
+    pipes = {"stdout": subprocess.PIPE, "stderr": subprocess.PIPE, "text": True}
+    with subprocess.Popen(words, start_new_session=True, **pipes) as started:
+        try:
+            out, err = started.communicate(timeout=seconds)
+        except subprocess.TimeoutExpired:
+            raise Fault(f"an end within {seconds} s of {' '.join(words)}", "none") from None
+        finally:
+            if started.poll() is None:
+                os.killpg(started.pid, signal.SIGKILL)
+    return started.returncode, out, err
+
+
+def last_lines(folder, count=5):
+    """The last lines of each log in a folder."""
+    texts = [(file.name, file.read_text(errors="replace")) for file in sorted(folder.glob("*.log"))]
+    return "".join("\n".join([f"{name}:", *text.splitlines()[-count:], ""]) for name, text in texts)
 
 
 def report(path, output, reason=None):

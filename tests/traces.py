@@ -70,7 +70,8 @@ def paths_of(arguments, call):
         found.append(os.path.normpath(path))
     if call in ("symlink", "symlinkat"):
         found = found[-1:]
-    if call.startswith("exec"):
+    # Behind the path stand words, or what a link leads to.
+    if call.startswith(("exec", "readlink")):
         found = found[:1]
     if not found and FD.match(arguments):
         found.append(plain(FD.match(arguments).group(1)))
