@@ -78,7 +78,9 @@ def parts(module, start, end, pattern):
 def type_item(module, found):
     """The item of a type, a constant or a trait, with its fields or variants."""
     kind, start = found[1], found.start()
-    end = next(it for it in range(found.end(), len(module.code)) if module.code[it] in "{;(" or module.code.startswith("=", it))
+    # What stands after `=` is a value, or the default of a type parameter.
+    ends = "{;(" if kind in ("struct", "enum", "trait") else "{;(="
+    end = next(it for it in range(found.end(), len(module.code)) if module.code[it] in ends)
     text = module.raw[start:end] if kind != "const" and kind != "type" else module.raw[start : module.code.index(";", start)]
     item = Item(module, start, one_line(text.removeprefix("pub ")).replace(" {", ""))
     item.title, item.code = f"{kind} {found[2]}", text.rstrip().removesuffix("{").rstrip()
