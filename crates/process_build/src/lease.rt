@@ -30,7 +30,7 @@ pub struct Lease {
     pub worker: usize,
     /// When it began, in microseconds after its run.
     pub start: u64,
-    /// How many microseconds later it ended.
+    /// How many microseconds later its builder ended.
     pub length: u64,
     /// Whether its outputs were registered.
     pub is_good: bool,
@@ -51,8 +51,8 @@ impl Running {
         })
     }
 
-    /// The lease, which the worker with this number ended at this time, well or not. A clock that
-    /// went back gives the length 0.
+    /// The lease, which the worker with this number ended, well or not, after its builder ended at
+    /// this time. A clock that went back gives the length 0.
     pub fn ended(self, worker: usize, at: u64, is_good: bool) -> Lease
         ensures { result ≡ lease_of self worker at is_good }
     {

@@ -89,15 +89,15 @@ impl Trace {
         now(rt).saturating_sub(self.began)
     }
 
-    // Notes that a worker ended a lease now, well or not.
-    pub(crate) fn note<R: Wait + Clock>(
+    // Notes a lease that a worker ended, well or not, and whose builder ended at this time.
+    pub(crate) fn note<R: Wait>(
         &self,
         rt: &R,
         running: Option<Running>,
         worker: usize,
+        at: u64,
         is_good: bool,
     ) {
-        let at = self.time(rt);
         let mut noted = self.noted.lock(rt);
         match running {
             Some(running) => noted.add(running.ended(worker, at, is_good)),

@@ -20,6 +20,8 @@ pub struct Traced<'a, R, B> {
     drvs: DrvPaths,
     trace: Option<&'a Trace>,
     running: Cell<Option<Running>>,
+    // When the builder of the last job ended.
+    end: Cell<u64>,
 }
 
 impl<R: Wait + Clock + AllocGlobal, B: Build> Build for Traced<'_, R, B> {
@@ -33,7 +35,11 @@ impl<R: Wait + Clock + AllocGlobal, B: Build> Build for Traced<'_, R, B> {
             self.running
                 .set(Running::of(self.rt.alloc(), drv, number, start));
         }
-        self.builder.run(number, job)
+        let outcome = self.builder.run(number, job);
+        if let Some(trace) = self.trace {
+            self.end.set(trace.time(self.rt));
+        }
+        outcome
     }
 }
 
@@ -46,7 +52,8 @@ impl<R: Wait + Clock + AllocGlobal, B: Watch> Watch for Traced<'_, R, B> {
     /// Notes that a job's lease ended, and tells the builder.
     fn ended(&self, is_good: bool, unsettled: usize) {
         if let Some(trace) = self.trace {
-            trace.note(self.rt, self.running.take(), self.worker, is_good);
+            let running = self.running.take();
+            trace.note(self.rt, running, self.worker, self.end.get(), is_good);
         }
         self.builder.ended(is_good, unsettled);
     }
@@ -99,6 +106,7 @@ where
             drvs,
             trace: self.trace,
             running: Cell::new(None),
+            end: Cell::new(0),
         })
     }
 }
