@@ -94,7 +94,7 @@ fn method_and_digest(output: &Output) -> Option<(Method, Digest)>
         let digest = Digest::of_digits(Algorithm::Sha256, &output.hash)?;
         return Some((Method::Recursive, digest));
     }
-    let algorithm = Algorithm::named(&output.algo)?;
+    let algorithm = Algorithm::of_name(&output.algo)?;
     let digest = Digest::of_digits(algorithm, &output.hash)?;
     Some((Method::Flat, digest))
 }

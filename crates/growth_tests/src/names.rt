@@ -163,7 +163,7 @@ fn are_words_told(digest: &Digest, inner: &[u8; 32]) -> bool {
     let algorithm = digest.algorithm();
     Digest::of_digits(algorithm, NOTHING.split_at(7).1) == Some(*digest)
         && Digest::of_text(NOTHING) == Some(*digest)
-        && Algorithm::named(algorithm.name()) == Some(Algorithm::Sha256)
+        && Algorithm::of_name(algorithm.name()) == Some(Algorithm::Sha256)
         && digest.bytes() == inner.as_slice()
         && fold20(inner) == FOLDED
         && is_name(b"empty")

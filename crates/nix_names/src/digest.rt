@@ -35,7 +35,7 @@ impl Algorithm {
     }
 
     /// The algorithm with this name, if there is one.
-    pub fn named(name: &[u8]) -> Option<Algorithm>
+    pub fn of_name(name: &[u8]) -> Option<Algorithm>
         ensures { MatchOption result ((algorithm : AnAlgorithm) → name.now ≢ name_of algorithm)
             (λ algorithm. name.now ≡ name_of algorithm) }
     {
@@ -98,10 +98,10 @@ impl Digest {
             × (digits.now ≡ digits_of digest)) }
     {
         match algorithm {
-            Algorithm::Md5 => decoded(digits).map(Digest::Md5),
-            Algorithm::Sha1 => decoded(digits).map(Digest::Sha1),
-            Algorithm::Sha256 => decoded(digits).map(Digest::Sha256),
-            Algorithm::Sha512 => decoded(digits).map(Digest::Sha512),
+            Algorithm::Md5 => decode_hex(digits).map(Digest::Md5),
+            Algorithm::Sha1 => decode_hex(digits).map(Digest::Sha1),
+            Algorithm::Sha256 => decode_hex(digits).map(Digest::Sha256),
+            Algorithm::Sha512 => decode_hex(digits).map(Digest::Sha512),
         }
     }
 
@@ -113,7 +113,7 @@ impl Digest {
             (λ digest. IsDigest digest × (text.now ≡ text_of digest)) }
     {
         let (name, digits) = halves(text)?;
-        let algorithm = Algorithm::named(name)?;
+        let algorithm = Algorithm::of_name(name)?;
         Digest::of_digits(algorithm, digits)
     }
 
@@ -123,7 +123,7 @@ impl Digest {
     {
         let bytes = self.bytes();
         let mut room = [0; 128];
-        out.extend_from_slice(encoded(bytes, &mut room))
+        out.extend_from_slice(encode_hex(bytes, &mut room))
     }
 
     /// Adds the text: the algorithm's name, a colon and the digits. Want of memory is its only
@@ -163,7 +163,7 @@ fn halves(text: &[u8]) -> Option<(&[u8], &[u8])>
 }
 
 // The bytes with these lower-case hexadecimal digits; `None` if the text is something else.
-fn decoded<const N: usize>(digits: &[u8]) -> Option<[u8; N]>
+fn decode_hex<const N: usize>(digits: &[u8]) -> Option<[u8; N]>
     requires { N ≤ 64 }
     ensures { MatchOption result
         ((bytes : List ℕ) → length bytes ≡ N → All (λ b. b < 256) bytes
@@ -176,7 +176,7 @@ fn decoded<const N: usize>(digits: &[u8]) -> Option<[u8; N]>
     }
     let bytes = read_pairs(digits);
     let mut room = [0; 128];
-    if digits == encoded(array_bytes(&bytes), &mut room) {
+    if digits == encode_hex(array_bytes(&bytes), &mut room) {
         Some(bytes)
     } else {
         None
@@ -207,7 +207,7 @@ fn nibble(digit: u8) -> u8
 }
 
 // The lower-case hexadecimal digits of at most 64 bytes, in this room.
-fn encoded<'a>(bytes: &[u8], room: &'a mut [u8; 128]) -> &'a [u8]
+fn encode_hex<'a>(bytes: &[u8], room: &'a mut [u8; 128]) -> &'a [u8]
     requires { length bytes.now ≤ 64 }
     ensures { result.now ≡ encode_lower bytes.now }
 {

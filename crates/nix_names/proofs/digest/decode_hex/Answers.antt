@@ -2,7 +2,7 @@ use Rattle.std.proofs.Common.{ap, ◌∙◌}
 use Rattle.hex.specs.Hex.{encode_lower}
 use Rattle.nix_names.proofs.DigestPairs.{no_count}
 use Rattle.nix_names.proofs.Tests.{told_same}
-use Rattle.nix_names.proofs.digest.decoded.Goals as goal
+use Rattle.nix_names.proofs.digest.decode_hex.Goals as goal
 
 pub returns-then-digits : goal.returns-then-digits
 returns-then-digits g c =
@@ -13,5 +13,5 @@ returns-then-eq g c = (
   c.array_bytes.ensures.size.0,
   c.array_bytes.ensures.size.1,
   told_same _ _ (encode_lower c.read_pairs-bytes.result) c.eq.result c.eq.ensures
-      (c.encoded.ensures ∙ ap encode_lower c.array_bytes.ensures.value) c.if-eq.true,
+      (c.encode_hex.ensures ∙ ap encode_lower c.array_bytes.ensures.value) c.if-eq.true,
 )
