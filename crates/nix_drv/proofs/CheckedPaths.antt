@@ -117,11 +117,11 @@ good_more view dir text items i d below at same good here =
     (subst (λ (t : List ℕ). IsPathOf dir t) same here))
 
 -- the list with one more text
-pub added_more : {A : Type 0} (view : A → List ℕ) (front refs after : List (List ℕ)) (text : List ℕ)
-    (items : List A) (i : ℕ) (d : A) → i < length items → d ≡ get_or items i d → text ≡ view d
-    → refs ≡ front ++ map view (take i items) → after ≡ refs ++ text ∷ [] → after ≡ front
-    ++ map view (take (i + 1) items)
-added_more view front refs after text items i d below at same before pushed =
+pub added_more : {A : Type 0} (view : A → List ℕ) (prefix refs after : List (List ℕ))
+    (text : List ℕ) (items : List A) (i : ℕ) (d : A) → i < length items → d ≡ get_or items i d
+    → text ≡ view d → refs ≡ prefix ++ map view (take i items) → after ≡ refs ++ text ∷ []
+    → after ≡ prefix ++ map view (take (i + 1) items)
+added_more view prefix refs after text items i d below at same before pushed =
     search (rules, append_assoc, items_more)
 
 -- a derivation's paths begin with those of its inputs

@@ -5,7 +5,7 @@ use Rattle.std.proofs.lemmas.List.{append-nil, length-append}
 use Rattle.nix_drv.specs.Grammar.{Begins, separated, each_with_comma}
 use Rattle.nix_drv.specs.Reading.{◌>>=◌, before, next_at, elements_at, elements_of, left_of}
 use Rattle.nix_drv.proofs.Steps.{StopsAt, Told, bind_shrinks, left-before}
-use Rattle.nix_drv.proofs.Strings.{fronts_of_one}
+use Rattle.nix_drv.proofs.Strings.{prefixes_of_one}
 use Rattle.nix_drv.proofs.Readers.{IsReader, reader_shrinks}
 
 -- ---- nothing is given back
@@ -64,26 +64,26 @@ elements_open one h s =
 abbrev pub elements_text : {A : Type 0} → (A → List ℕ) → List A → List ℕ
 elements_text text_of vs = separated text_of vs ++ 93 ∷ []
 
--- a front of one or more elements
-abbrev pub FrontOfSome : {A : Type 0} → (A → List ℕ) → (List ℕ → Type 0) → List ℕ → Type 0
-FrontOfSome {A} text_of IsFrontOf front =
-    ((whole : List A) × (last : List ℕ) × (front ≡ each_with_comma text_of whole ++ last)
-    × IsFrontOf last)
+-- a prefix of one or more elements
+abbrev pub PrefixOfSome : {A : Type 0} → (A → List ℕ) → (List ℕ → Type 0) → List ℕ → Type 0
+PrefixOfSome {A} text_of IsPrefixOf prefix =
+    ((whole : List A) × (last : List ℕ) × (prefix ≡ each_with_comma text_of whole ++ last)
+    × IsPrefixOf last)
     ⊎ ((v : A) × (whole : List A) × (last : List ℕ)
-    × (front ≡ separated text_of (v ∷ whole) ++ last) × Begins last (93 ∷ []))
+    × (prefix ≡ separated text_of (v ∷ whole) ++ last) × Begins last (93 ∷ []))
 
 abbrev pub ToldSome : {A : Type 0} → (A → List ℕ) → (List ℕ → Type 0) → List ℕ
     → Result (List A × List ℕ) ℕ → Type 0
-ToldSome text_of IsFrontOf s (Ok ([], rest)) = ⊥
-ToldSome text_of IsFrontOf s (Ok (v ∷ vs, rest)) = s ≡ elements_text text_of (v ∷ vs) ++ rest
-ToldSome text_of IsFrontOf s (Err left) = StopsAt (FrontOfSome text_of IsFrontOf) s left
+ToldSome text_of IsPrefixOf s (Ok ([], rest)) = ⊥
+ToldSome text_of IsPrefixOf s (Ok (v ∷ vs, rest)) = s ≡ elements_text text_of (v ∷ vs) ++ rest
+ToldSome text_of IsPrefixOf s (Err left) = StopsAt (PrefixOfSome text_of IsPrefixOf) s left
 
-comma_front : {A : Type 0} (text_of : A → List ℕ) (IsFrontOf : List ℕ → Type 0) (v : A)
-    (front : List ℕ) → FrontOfSome text_of IsFrontOf front
-    → FrontOfSome text_of IsFrontOf (text_of v ++ 44 ∷ front)
-comma_front text_of IsFrontOf v front (inl at) =
+comma_prefix : {A : Type 0} (text_of : A → List ℕ) (IsPrefixOf : List ℕ → Type 0) (v : A)
+    (prefix : List ℕ) → PrefixOfSome text_of IsPrefixOf prefix
+    → PrefixOfSome text_of IsPrefixOf (text_of v ++ 44 ∷ prefix)
+comma_prefix text_of IsPrefixOf v prefix (inl at) =
     inl (v ∷ at.0, at.1, ap (λ (t : List ℕ). text_of v ++ 44 ∷ t) at.2 ∙ simp append_assoc, at.3)
-comma_front text_of IsFrontOf v front (inr at) =
+comma_prefix text_of IsPrefixOf v prefix (inr at) =
     inr (
       v,
       at.0 ∷ at.1,
@@ -92,71 +92,71 @@ comma_front text_of IsFrontOf v front (inr at) =
       at.4,
     )
 
-told_comma : {A : Type 0} (text_of : A → List ℕ) (IsFrontOf : List ℕ → Type 0) (v : A) (s : List ℕ)
-    (r : Result (List A × List ℕ) ℕ) → ToldSome text_of IsFrontOf s r
-    → ToldSome text_of IsFrontOf (text_of v ++ 44 ∷ s) (before (v ∷ []) r)
-told_comma text_of IsFrontOf v s (Ok ([], rest)) told = absurd told
-told_comma text_of IsFrontOf v s (Ok (w ∷ ws, rest)) told = search (rules, append_assoc)
-told_comma text_of IsFrontOf v s (Err left) told = record {
-  front = text_of v ++ 44 ∷ told.front;
+told_comma : {A : Type 0} (text_of : A → List ℕ) (IsPrefixOf : List ℕ → Type 0) (v : A) (s : List ℕ)
+    (r : Result (List A × List ℕ) ℕ) → ToldSome text_of IsPrefixOf s r
+    → ToldSome text_of IsPrefixOf (text_of v ++ 44 ∷ s) (before (v ∷ []) r)
+told_comma text_of IsPrefixOf v s (Ok ([], rest)) told = absurd told
+told_comma text_of IsPrefixOf v s (Ok (w ∷ ws, rest)) told = search (rules, append_assoc)
+told_comma text_of IsPrefixOf v s (Err left) told = record {
+  prefix = text_of v ++ 44 ∷ told.prefix;
   rest = told.rest;
   parts = ap (λ (t : List ℕ). text_of v ++ 44 ∷ t) told.parts ∙ simp append_assoc;
-  is_front = comma_front text_of IsFrontOf v _ told.is_front;
+  is_prefix = comma_prefix text_of IsPrefixOf v _ told.is_prefix;
   is_left = told.is_left;
 }
 
 -- behind an element stands neither a comma nor the bracket
-stops_there : {A : Type 0} (text_of : A → List ℕ) (IsFrontOf : List ℕ → Type 0) (v : A) (t : List ℕ)
-    → StopsAt (FrontOfSome text_of IsFrontOf) (text_of v ++ t) (length t)
-stops_there text_of IsFrontOf v t = record {
-  front = text_of v;
+stops_there : {A : Type 0} (text_of : A → List ℕ) (IsPrefixOf : List ℕ → Type 0) (v : A)
+    (t : List ℕ) → StopsAt (PrefixOfSome text_of IsPrefixOf) (text_of v ++ t) (length t)
+stops_there text_of IsPrefixOf v t = record {
+  prefix = text_of v;
   rest = t;
   parts = refl;
-  is_front = inr (v, [], [], sym (append-nil (text_of v)), (93 ∷ [], refl));
+  is_prefix = inr (v, [], [], sym (append-nil (text_of v)), (93 ∷ [], refl));
   is_left = refl;
 }
 
-next_told : {A : Type 0} (text_of : A → List ℕ) (IsFrontOf : List ℕ → Type 0)
+next_told : {A : Type 0} (text_of : A → List ℕ) (IsPrefixOf : List ℕ → Type 0)
     (others : List ℕ → Result (List A × List ℕ) ℕ) (v : A) (t : List ℕ)
-    → ((s : List ℕ) → length s < length t → ToldSome text_of IsFrontOf s (others s))
-    → ToldSome text_of IsFrontOf (text_of v ++ t) (next_at others v t)
-next_told text_of IsFrontOf others v [] h = stops_there text_of IsFrontOf v []
-next_told text_of IsFrontOf others v (b ∷ s) h =
+    → ((s : List ℕ) → length s < length t → ToldSome text_of IsPrefixOf s (others s))
+    → ToldSome text_of IsPrefixOf (text_of v ++ t) (next_at others v t)
+next_told text_of IsPrefixOf others v [] h = stops_there text_of IsPrefixOf v []
+next_told text_of IsPrefixOf others v (b ∷ s) h =
     search (rules, cond_both, eqb, eqb-true, told_comma, append_assoc, stops_there)
 
-some_told : {A : Type 0} (text_of : A → List ℕ) (IsFrontOf : List ℕ → Type 0) (s : List ℕ)
+some_told : {A : Type 0} (text_of : A → List ℕ) (IsPrefixOf : List ℕ → Type 0) (s : List ℕ)
     (r : Result (A × List ℕ) ℕ) (next : A × List ℕ → Result (List A × List ℕ) ℕ)
-    → Told text_of IsFrontOf s r
+    → Told text_of IsPrefixOf s r
     → ((x : A × List ℕ) → s ≡ text_of x.0 ++ x.1
-    → ToldSome text_of IsFrontOf (text_of x.0 ++ x.1) (next x))
-    → ToldSome text_of IsFrontOf s (r >>= next)
-some_told text_of IsFrontOf s (Ok x) next told h = search rules
-some_told text_of IsFrontOf s (Err left) next told h = search rules
+    → ToldSome text_of IsPrefixOf (text_of x.0 ++ x.1) (next x))
+    → ToldSome text_of IsPrefixOf s (r >>= next)
+some_told text_of IsPrefixOf s (Ok x) next told h = search rules
+some_told text_of IsPrefixOf s (Err left) next told h = search rules
 
-pub elements_told : {A : Type 0} (text_of : A → List ℕ) (IsFrontOf : List ℕ → Type 0)
-    (one : List ℕ → Result (A × List ℕ) ℕ) → ((s : List ℕ) → Told text_of IsFrontOf s (one s))
-    → (n : ℕ) (s : List ℕ) → length s < n → ToldSome text_of IsFrontOf s (elements_at one n s)
+pub elements_told : {A : Type 0} (text_of : A → List ℕ) (IsPrefixOf : List ℕ → Type 0)
+    (one : List ℕ → Result (A × List ℕ) ℕ) → ((s : List ℕ) → Told text_of IsPrefixOf s (one s))
+    → (n : ℕ) (s : List ℕ) → length s < n → ToldSome text_of IsPrefixOf s (elements_at one n s)
 unfolding elements_at
-elements_told text_of IsFrontOf one told zero s lt = absurd (omega arith)
-elements_told text_of IsFrontOf one told (suc n) s lt =
-    some_told text_of IsFrontOf s _ (λ x. next_at (elements_at one n) x.0 x.1) (told s)
-    (λ x e. next_told text_of IsFrontOf (elements_at one n) x.0 x.1
-    (λ t short. elements_told text_of IsFrontOf one told n t
+elements_told text_of IsPrefixOf one told zero s lt = absurd (omega arith)
+elements_told text_of IsPrefixOf one told (suc n) s lt =
+    some_told text_of IsPrefixOf s _ (λ x. next_at (elements_at one n) x.0 x.1) (told s)
+    (λ x e. next_told text_of IsPrefixOf (elements_at one n) x.0 x.1
+    (λ t short. elements_told text_of IsPrefixOf one told n t
     (omega (arith, ap length e, length-append (text_of x.0) x.1))))
 
 -- ---- what is written is read, and nothing more
 
-pub elements-again : {A : Type 0} {text_of : A → List ℕ} {IsFrontOf : List ℕ → Type 0}
-    {one : List ℕ → Result (A × List ℕ) ℕ} → IsReader text_of IsFrontOf one
+pub elements-again : {A : Type 0} {text_of : A → List ℕ} {IsPrefixOf : List ℕ → Type 0}
+    {one : List ℕ → Result (A × List ℕ) ℕ} → IsReader text_of IsPrefixOf one
     → (v : A) (vs : List A) (rest : List ℕ) → elements_of one
     (elements_text text_of (v ∷ vs) ++ rest) ≡ Ok (v ∷ vs, rest)
-elements-again {A} {text_of} {IsFrontOf} {one} r v [] rest =
+elements-again {A} {text_of} {IsPrefixOf} {one} r v [] rest =
     rw (
       append_assoc,
       elements_open one (reader_shrinks r) _,
       r.again v (93 ∷ rest),
     ) refl
-elements-again {A} {text_of} {IsFrontOf} {one} r v (w ∷ ws) rest =
+elements-again {A} {text_of} {IsPrefixOf} {one} r v (w ∷ ws) rest =
     let regrouped : elements_text text_of (v ∷ w ∷ ws) ++ rest ≡ text_of v ++ 44
     ∷ (elements_text text_of (w ∷ ws) ++ rest) = simp append_assoc in
     rw (
@@ -168,23 +168,23 @@ elements-again {A} {text_of} {IsFrontOf} {one} r v (w ∷ ws) rest =
     (ap (before (v ∷ [])) (elements-again r w _ _))
 
 -- reading goes on behind an element
-open_again : {A : Type 0} {text_of : A → List ℕ} {IsFrontOf : List ℕ → Type 0}
-    {one : List ℕ → Result (A × List ℕ) ℕ} → IsReader text_of IsFrontOf one → (v : A) (t : List ℕ)
+open_again : {A : Type 0} {text_of : A → List ℕ} {IsPrefixOf : List ℕ → Type 0}
+    {one : List ℕ → Result (A × List ℕ) ℕ} → IsReader text_of IsPrefixOf one → (v : A) (t : List ℕ)
     → elements_of one (text_of v ++ t) ≡ next_at (elements_of one) v t
-open_again {A} {text_of} {IsFrontOf} {one} r v t =
+open_again {A} {text_of} {IsPrefixOf} {one} r v t =
     rw (elements_open one (reader_shrinks r) _, r.again v t) refl
 
-pub elements_shrinks : {A : Type 0} {text_of : A → List ℕ} {IsFrontOf : List ℕ → Type 0}
-    {one : List ℕ → Result (A × List ℕ) ℕ} → IsReader text_of IsFrontOf one → (s : List ℕ)
+pub elements_shrinks : {A : Type 0} {text_of : A → List ℕ} {IsPrefixOf : List ℕ → Type 0}
+    {one : List ℕ → Result (A × List ℕ) ℕ} → IsReader text_of IsPrefixOf one → (s : List ℕ)
     → left_of (elements_of one s) ≤ length s
-elements_shrinks {A} {text_of} {IsFrontOf} {one} r s =
+elements_shrinks {A} {text_of} {IsPrefixOf} {one} r s =
     elements_at-shrinks one (reader_shrinks r) _ s
 
-pub part-longest : {A : Type 0} {text_of : A → List ℕ} {IsFrontOf : List ℕ → Type 0}
-    {one : List ℕ → Result (A × List ℕ) ℕ} → IsReader text_of IsFrontOf one
-    → (whole : List A) (last rest : List ℕ) → IsFrontOf last
+pub part-longest : {A : Type 0} {text_of : A → List ℕ} {IsPrefixOf : List ℕ → Type 0}
+    {one : List ℕ → Result (A × List ℕ) ℕ} → IsReader text_of IsPrefixOf one
+    → (whole : List A) (last rest : List ℕ) → IsPrefixOf last
     → left_of (elements_of one ((each_with_comma text_of whole ++ last) ++ rest)) ≤ length rest
-part-longest {A} {text_of} {IsFrontOf} {one} r [] last rest at =
+part-longest {A} {text_of} {IsPrefixOf} {one} r [] last rest at =
     rw (elements_open one (reader_shrinks r) _)
     (omega (
       arith,
@@ -192,7 +192,7 @@ part-longest {A} {text_of} {IsFrontOf} {one} r [] last rest at =
           (λ x. next_shrinks (elements_of one) _ _ (elements_shrinks r)),
       r.longest last rest at,
     ))
-part-longest {A} {text_of} {IsFrontOf} {one} r (v ∷ whole) last rest at =
+part-longest {A} {text_of} {IsPrefixOf} {one} r (v ∷ whole) last rest at =
     let regrouped : (each_with_comma text_of (v ∷ whole) ++ last) ++ rest ≡ text_of v ++ 44
     ∷ ((each_with_comma text_of whole ++ last) ++ rest) = simp append_assoc in
     rw (
@@ -202,18 +202,18 @@ part-longest {A} {text_of} {IsFrontOf} {one} r (v ∷ whole) last rest at =
     )
     (part-longest r whole last rest at)
 
-pub end-longest : {A : Type 0} {text_of : A → List ℕ} {IsFrontOf : List ℕ → Type 0}
-    {one : List ℕ → Result (A × List ℕ) ℕ} → IsReader text_of IsFrontOf one
+pub end-longest : {A : Type 0} {text_of : A → List ℕ} {IsPrefixOf : List ℕ → Type 0}
+    {one : List ℕ → Result (A × List ℕ) ℕ} → IsReader text_of IsPrefixOf one
     → (v : A) (whole : List A) (last rest : List ℕ) → Begins last (93 ∷ [])
     → left_of (elements_of one ((separated text_of (v ∷ whole) ++ last) ++ rest)) ≤ length rest
-end-longest {A} {text_of} {IsFrontOf} {one} r v [] last rest at =
+end-longest {A} {text_of} {IsPrefixOf} {one} r v [] last rest at =
     rw (append_assoc, open_again r v _)
-    (elim (fronts_of_one 93 last at.0 at.1) [
+    (elim (prefixes_of_one 93 last at.0 at.1) [
       | inl e ↦ rw e (next_shrinks (elements_of one) v rest (elements_shrinks r))
       | inr e ↦ rw e
           (omega arith)
     ])
-end-longest {A} {text_of} {IsFrontOf} {one} r v (w ∷ ws) last rest at =
+end-longest {A} {text_of} {IsPrefixOf} {one} r v (w ∷ ws) last rest at =
     let regrouped : (separated text_of (v ∷ w ∷ ws) ++ last) ++ rest ≡ text_of v ++ 44
     ∷ ((separated text_of (w ∷ ws) ++ last) ++ rest) = simp append_assoc in
     rw (

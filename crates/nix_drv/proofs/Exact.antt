@@ -1,8 +1,8 @@
--- Reading by a grammar answers with the one value, or stops behind the longest front.
+-- Reading by a grammar answers with the one value, or stops behind the longest prefix.
 use Rattle.std.proofs.Common.{◌≡◌, ◌≢◌, ℕ, ◌-◌, ◌≤◌, List, [], ◌∷◌, ◌++◌, length, Result, Ok, Err, refl, sym, ap, subst, ◌∙◌, rules}
 use Rattle.std.proofs.lemmas.Bool.{ne_eqb}
 use Rattle.std.proofs.lemmas.List.{append-nil, length-append, nil_from_length}
-use Rattle.nix_drv.specs.Grammar.{Grammar, Fixed, Str, Then, Many, Value, text, IsText, IsFront, IsFrontOfBytes, IsFrontOfElements, IsLongestFront, first_byte, IsNoBracket, IsClear}
+use Rattle.nix_drv.specs.Grammar.{Grammar, Fixed, Str, Then, Many, Value, text, IsText, IsTextPrefix, IsPrefixOfBytes, IsPrefixOfElements, IsLongestPrefix, first_byte, IsNoBracket, IsClear}
 use Rattle.nix_drv.specs.Reading.{bytes_at, list_at, read, left_of}
 use Rattle.nix_drv.proofs.Steps.{StopsAt, Told}
 use Rattle.nix_drv.proofs.Strings.{bytes_text}
@@ -20,27 +20,27 @@ refuses_bracket (Then a b) clear s = rw (refuses_bracket a clear s) refl
 refuses_bracket (Many order g) clear s = refl
 
 -- reading is exact for every grammar that is clear
-pub reader : (g : Grammar) → IsClear g → IsReader (text g) (IsFront g) (read g)
-unfolding read text IsFront
+pub reader : (g : Grammar) → IsClear g → IsReader (text g) (IsTextPrefix g) (read g)
+unfolding read text IsTextPrefix
 reader (Fixed bytes) clear = fixed_reader _
-reader Str clear = behind_reader _ bytes_text IsFrontOfBytes (bytes_at _) bytes_reader
+reader Str clear = behind_reader _ bytes_text IsPrefixOfBytes (bytes_at _) bytes_reader
 reader (Then a b) clear = search (rules, both_reader, reader a clear.0, reader b clear.1)
 reader (Many order g) clear =
-    behind_reader _ (elements_text (text g)) (IsFrontOfElements (text g) (IsFront g))
+    behind_reader _ (elements_text (text g)) (IsPrefixOfElements (text g) (IsTextPrefix g))
     (list_at (read g))
-    (list_reader (text g) (IsFront g) (read g) (reader g clear.0) (refuses_bracket g clear.1))
+    (list_reader (text g) (IsTextPrefix g) (read g) (reader g clear.0) (refuses_bracket g clear.1))
 
 -- ---- what the public call cites
 
-stops : (g : Grammar) → ((v : Value g) → IsFront g (text g v))
-    → (s : List ℕ) (r : Result (Value g × List ℕ) ℕ) → Told (text g) (IsFront g) s r
-    → StopsAt (IsFront g) s (left_of r)
+stops : (g : Grammar) → ((v : Value g) → IsTextPrefix g (text g v))
+    → (s : List ℕ) (r : Result (Value g × List ℕ) ℕ) → Told (text g) (IsTextPrefix g) s r
+    → StopsAt (IsTextPrefix g) s (left_of r)
 stops g whole s (Ok x) told = search rules
 stops g whole s (Err left) told = told
 
--- before what is left lies the longest front
+-- before what is left lies the longest prefix
 pub read-longest : (g : Grammar) → IsClear g → (s : List ℕ)
-    → IsLongestFront g s (length s - left_of (read g s))
+    → IsLongestPrefix g s (length s - left_of (read g s))
 read-longest g clear s = search (rules, reader, stops, length-append)
 
 pub read-shrinks : (g : Grammar) → IsClear g → (s : List ℕ) → left_of (read g s) ≤ length s
@@ -73,7 +73,7 @@ pub read_whole : (g : Grammar) → IsClear g → (s : List ℕ) (v : Value g) (r
     ≡ Ok (v, rest) → length rest ≡ 0 → IsText g v s
 read_whole g clear s v rest e none = search (rules, reader, nil_from_length, append-nil)
 
--- what leaves bytes is no text, and stands behind the longest front
+-- what leaves bytes is no text, and stands behind the longest prefix
 pub surplus_no_text : (g : Grammar) → IsClear g → (s : List ℕ) (w : Value g) (rest : List ℕ)
     → read g s ≡ Ok (w, rest) → length rest ≢ 0 → (v : Value g) → IsText g v s → ⊥
 surplus_no_text g clear s w rest e some v is = search (rules, rest_is, read-text)
@@ -83,13 +83,13 @@ pub surplus_fits : (g : Grammar) → IsClear g → (s : List ℕ) (v : Value g) 
 surplus_fits g clear s v rest e = subst (λ (r : Result (Value g × List ℕ) ℕ). left_of r ≤ length s)
     e (read-shrinks g clear s)
 
-pub surplus_front : (g : Grammar) → IsClear g → (s : List ℕ) (v : Value g) (rest : List ℕ)
-    → read g s ≡ Ok (v, rest) → IsLongestFront g s (length s - length rest)
-surplus_front g clear s v rest e =
-    subst (λ (r : Result (Value g × List ℕ) ℕ). IsLongestFront g s (length s - left_of r)) e
+pub surplus_prefix : (g : Grammar) → IsClear g → (s : List ℕ) (v : Value g) (rest : List ℕ)
+    → read g s ≡ Ok (v, rest) → IsLongestPrefix g s (length s - length rest)
+surplus_prefix g clear s v rest e =
+    subst (λ (r : Result (Value g × List ℕ) ℕ). IsLongestPrefix g s (length s - left_of r)) e
     (read-longest g clear s)
 
--- where reading stops lies no text, and the longest front before it
+-- where reading stops lies no text, and the longest prefix before it
 pub stop_no_text : (g : Grammar) → IsClear g → (s : List ℕ) (left : ℕ) → read g s ≡ Err left
     → (v : Value g) → IsText g v s → ⊥
 stop_no_text g clear s left e v is = search (rules, read-text)
@@ -99,8 +99,8 @@ pub stop_fits : (g : Grammar) → IsClear g → (s : List ℕ) (left : ℕ) → 
 stop_fits g clear s left e = subst (λ (r : Result (Value g × List ℕ) ℕ). left_of r ≤ length s) e
     (read-shrinks g clear s)
 
-pub stop_front : (g : Grammar) → IsClear g → (s : List ℕ) (left : ℕ) → read g s ≡ Err left
-    → IsLongestFront g s (length s - left)
-stop_front g clear s left e =
-    subst (λ (r : Result (Value g × List ℕ) ℕ). IsLongestFront g s (length s - left_of r)) e
+pub stop_prefix : (g : Grammar) → IsClear g → (s : List ℕ) (left : ℕ) → read g s ≡ Err left
+    → IsLongestPrefix g s (length s - left)
+stop_prefix g clear s left e =
+    subst (λ (r : Result (Value g × List ℕ) ℕ). IsLongestPrefix g s (length s - left_of r)) e
     (read-longest g clear s)

@@ -1,13 +1,13 @@
 -- Reading a form part by part, each with the fixed bytes before it.
 use Rattle.std.proofs.Common.{◌≡◌, ℕ, List, [], ◌∷◌, Result, Ok, Err, refl, rules}
-use Rattle.nix_drv.specs.declared.fault.Stop.{Stop}
-use Rattle.nix_drv.specs.declared.fault.Stop.TheVariants.{NoMemory, Left}
+use Rattle.nix_drv.specs.declared.fault.ParseFault.{ParseFault}
+use Rattle.nix_drv.specs.declared.fault.ParseFault.TheVariants.{NoMemory, Left}
 use Rattle.std.specs.Prelude.{codes}
 use Rattle.nix_drv.specs.Derivation.{comma, entry_form, input_form, build_form}
 use Rattle.nix_drv.specs.Grammar.{ListOrder, Rising, Free, Grammar, Value, Fixed, Str, Then, Many}
 use Rattle.nix_drv.specs.Reading.{◌>>=◌, fixed_at, read}
 use Rattle.nix_drv.specs.Behind.{string_behind, strings_behind, list_behind}
-use Rattle.nix_drv.specs.Stops.{Fails}
+use Rattle.nix_drv.specs.ParseFaults.{Fails}
 
 -- a value that was read, behind others
 abbrev with_one : {A B : Type 0} → A → B × List ℕ → Result ((A × B) × List ℕ) ℕ
@@ -52,14 +52,14 @@ list_then : (bytes : List ℕ) (order : ListOrder) (g b : Grammar) (s : List ℕ
 unfolding read list_behind
 list_then bytes order g b s = search (rules, after_fixed)
 
-fails_on : {X Y : Type 0} (stop : Stop) (r : Result X ℕ) (f : X → Result Y ℕ) → Fails stop r
+fails_on : {X Y : Type 0} (stop : ParseFault) (r : Result X ℕ) (f : X → Result Y ℕ) → Fails stop r
     → Fails stop (r >>= f)
 fails_on NoMemory r f fails = tt
 fails_on (Left left) r f fails = rw fails refl
 
 -- ---- fixed bytes
 
-pub fixed_fails : (stop : Stop) (bytes s : List ℕ) → Fails stop (fixed_at bytes s)
+pub fixed_fails : (stop : ParseFault) (bytes s : List ℕ) → Fails stop (fixed_at bytes s)
     → Fails stop (read (Fixed bytes) s)
 unfolding read
 fixed_fails stop bytes s fails = fails
@@ -71,11 +71,11 @@ fixed_read bytes s rest e = e
 
 -- ---- a string and what follows it
 
-pub string_fails : (stop : Stop) (bytes : List ℕ) (b : Grammar) (s : List ℕ)
+pub string_fails : (stop : ParseFault) (bytes : List ℕ) (b : Grammar) (s : List ℕ)
     → Fails stop (string_behind bytes s) → Fails stop (read (Then (Fixed bytes) (Then Str b)) s)
 string_fails stop bytes b s fails = search (rules, string_then, fails_on, with_two)
 
-pub string_later : (stop : Stop) (bytes : List ℕ) (b : Grammar) (s v rest : List ℕ)
+pub string_later : (stop : ParseFault) (bytes : List ℕ) (b : Grammar) (s v rest : List ℕ)
     → string_behind bytes s ≡ Ok (v, rest) → Fails stop (read b rest)
     → Fails stop (read (Then (Fixed bytes) (Then Str b)) s)
 string_later stop bytes b s v rest e fails = search (rules, string_then, fails_on, with_two)
@@ -87,13 +87,13 @@ string_read bytes b s v rest w end e more = rw (string_then _ b s, e, more) refl
 
 -- ---- a list and what follows it
 
-pub list_fails : (stop : Stop) (bytes : List ℕ) (order : ListOrder) (g b : Grammar) (s : List ℕ)
-    → Fails stop (list_behind bytes (read g) s)
+pub list_fails : (stop : ParseFault) (bytes : List ℕ) (order : ListOrder) (g b : Grammar)
+    (s : List ℕ) → Fails stop (list_behind bytes (read g) s)
     → Fails stop (read (Then (Fixed bytes) (Then (Many order g) b)) s)
 list_fails stop bytes order g b s fails = search (rules, list_then, fails_on, with_two)
 
-pub list_later : (stop : Stop) (bytes : List ℕ) (order : ListOrder) (g b : Grammar) (s : List ℕ)
-    (v : List (Value g)) (rest : List ℕ) → list_behind bytes (read g) s ≡ Ok (v, rest)
+pub list_later : (stop : ParseFault) (bytes : List ℕ) (order : ListOrder) (g b : Grammar)
+    (s : List ℕ) (v : List (Value g)) (rest : List ℕ) → list_behind bytes (read g) s ≡ Ok (v, rest)
     → Fails stop (read b rest) → Fails stop (read (Then (Fixed bytes) (Then (Many order g) b)) s)
 list_later stop bytes order g b s v rest e fails = search (rules, list_then, fails_on, with_two)
 
@@ -139,12 +139,12 @@ strings_then : (bytes : List ℕ) (b : Grammar) (s : List ℕ) → read (TwoStri
 unfolding strings_behind
 strings_then bytes b s = search (rules, string_then, after_strings)
 
-pub strings_fails : (stop : Stop) (bytes : List ℕ) (b : Grammar) (s : List ℕ)
+pub strings_fails : (stop : ParseFault) (bytes : List ℕ) (b : Grammar) (s : List ℕ)
     → Fails stop (strings_behind bytes s) → Fails stop
     (read (Then (Fixed bytes) (Then Str (Then (Fixed (44 ∷ [])) (Then Str b)))) s)
 strings_fails stop bytes b s fails = search (rules, strings_then, fails_on, strings_with)
 
-pub strings_later : (stop : Stop) (bytes : List ℕ) (b : Grammar) (s v u rest : List ℕ)
+pub strings_later : (stop : ParseFault) (bytes : List ℕ) (b : Grammar) (s v u rest : List ℕ)
     → strings_behind bytes s ≡ Ok ((v, u), rest) → Fails stop (read b rest)
     → Fails stop (read (Then (Fixed bytes) (Then Str (Then (Fixed (44 ∷ [])) (Then Str b)))) s)
 strings_later stop bytes b s v u rest e fails = search (rules, strings_then, fails_on)

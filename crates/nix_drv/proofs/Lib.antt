@@ -23,7 +23,7 @@ pub mod CheckedOrder
 pub mod CheckedListings
 pub mod CheckedTexts
 pub mod OwnPathLaws
-pub mod Fronts
+pub mod Prefixes
 pub mod OneAnswer
 pub mod Places
 pub mod Searches

@@ -2,14 +2,14 @@
 use Rattle.std.proofs.Common.{◌≡◌, ℕ, suc, ◌≤◌, eqb, List, [], ◌∷◌, ◌++◌, length, map, Result, Ok, Err, refl, sym, ap, subst, ◌∙◌, rules}
 use Rattle.std.proofs.lemmas.Bool.{cases_Bool}
 use Rattle.std.proofs.lemmas.List.{map-append}
-use Rattle.nix_drv.specs.declared.fault.Stop.{Stop}
-use Rattle.nix_drv.specs.declared.fault.Stop.TheVariants.{NoMemory, Left}
+use Rattle.nix_drv.specs.declared.fault.ParseFault.{ParseFault}
+use Rattle.nix_drv.specs.declared.fault.ParseFault.TheVariants.{NoMemory, Left}
 use Rattle.nix_drv.specs.declared.element.Next.{Next}
 use Rattle.nix_drv.specs.declared.element.Next.TheVariants.{Comma, End}
 use Rattle.nix_drv.specs.Grammar.{Grammar, Free, Many, IsClear}
 use Rattle.nix_drv.specs.Reading.{◌>>=◌, before, next_at, elements_of, read, left_of}
 use Rattle.nix_drv.specs.Listings.{sign_at}
-use Rattle.nix_drv.specs.Stops.{Fails}
+use Rattle.nix_drv.specs.ParseFaults.{Fails}
 use Rattle.nix_drv.proofs.Steps.{before-before}
 use Rattle.nix_drv.proofs.Readers.{reader_shrinks}
 use Rattle.nix_drv.proofs.Elements.{elements_open}
@@ -55,7 +55,7 @@ open_sign {A} one h s = search (rules, with_sign, next_open, elements_open)
 -- no element was read, and so no list
 pub element_fails : {A : Type 0} (one : List ℕ → Result (A × List ℕ) ℕ)
     → ((s : List ℕ) → left_of (one s) ≤ length s)
-    → (stop : Stop) (items : List A) (s : List ℕ) (total : Result (List A × List ℕ) ℕ)
+    → (stop : ParseFault) (items : List A) (s : List ℕ) (total : Result (List A × List ℕ) ℕ)
     → before items (elements_of one s) ≡ total → Fails stop (one s) → Fails stop total
 element_fails one h NoMemory items s total so_far fails = tt
 element_fails {A} one h (Left left) items s total so_far fails =
@@ -71,7 +71,7 @@ after_element {A} one h items s v after total so_far e = search (rules, open_sig
 -- neither a comma nor the end stands behind the element
 pub sign_fails : {A : Type 0} (one : List ℕ → Result (A × List ℕ) ℕ)
     → ((s : List ℕ) → left_of (one s) ≤ length s)
-    → (stop : Stop) (items : List A) (s : List ℕ) (v : A) (after : List ℕ)
+    → (stop : ParseFault) (items : List A) (s : List ℕ) (v : A) (after : List ℕ)
     (total : Result (List A × List ℕ) ℕ)
     → before items (elements_of one s) ≡ total → one s ≡ Ok (v, after) → Fails stop (sign_at after)
     → Fails stop total

@@ -5,7 +5,7 @@ use Rattle.nix_names.specs.StorePaths.{IsDrvPath, IsPathOf, name_of}
 use Rattle.nix_names.proofs.FirstElements.{no_first, one_first}
 use Rattle.nix_drv.specs.declared.fault.DrvFault.{DrvFault}
 use Rattle.nix_drv.specs.declared.fault.DrvFault.TheVariants.{NoMemory, Syntax, Order, TooLong, TextPathMismatch, NotADrvName, NotSorted, BadReference}
-use Rattle.nix_drv.specs.Grammar.{Grammar, IsLongestFront}
+use Rattle.nix_drv.specs.Grammar.{Grammar, IsLongestPrefix}
 use Rattle.nix_drv.specs.Order.{IsFirstViolation}
 use Rattle.nix_drv.specs.Derivation.{Drv, derivation_form, drv_value}
 use Rattle.nix_drv.specs.Outcome.{IsReading}
@@ -17,8 +17,8 @@ use Rattle.nix_drv.proofs.OwnPathLaws.{one_own_path}
 
 -- ---- reading
 
-one_place : (g : Grammar) (input : List ℕ) (p q : ℕ) → IsLongestFront g input p
-    → IsLongestFront g input q → p ≡ q
+one_place : (g : Grammar) (input : List ℕ) (p q : ℕ) → IsLongestPrefix g input p
+    → IsLongestPrefix g input q → p ≡ q
 one_place g input p q one other = search rules
 
 one_violation : (d e : Drv) (p q : ℕ) → d ≡ e → IsFirstViolation derivation_form (drv_value d) p

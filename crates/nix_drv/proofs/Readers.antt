@@ -1,29 +1,29 @@
 -- Readers that are exact: of fixed bytes, of something behind one byte, and of two parts in order.
 use Rattle.std.proofs.Common.{◌≡◌, ℕ, ◌≤◌, false, List, [], ◌∷◌, ◌++◌, length, Result, Ok, Err, refl, sym, ap, ◌∙◌, append_assoc, arith, inl, inr, ◌⊎◌, rules}
 use Rattle.std.proofs.lemmas.List.{append-nil}
-use Rattle.nix_drv.specs.Grammar.{Begins, IsFrontOfBytes}
+use Rattle.nix_drv.specs.Grammar.{Begins, IsPrefixOfBytes}
 use Rattle.nix_drv.specs.Reading.{◌>>=◌, fixed_at, bytes_at, left_of}
 use Rattle.nix_drv.proofs.Steps.{Told, told_shrinks, bind_shrinks}
 use Rattle.nix_drv.proofs.Fixed.{fixed-told, fixed-again, fixed-longest}
 use Rattle.nix_drv.proofs.Strings.{bytes_text, bytes-told, bytes-again, bytes-longest}
 
--- reading answers with the value of the text before the rest, or stops behind the longest front
-pub record IsReader {A : Type 0} (text_of : A → List ℕ) (IsFrontOf : List ℕ → Type 0)
+-- reading answers with the value of the text before the rest, or stops behind the longest prefix
+pub record IsReader {A : Type 0} (text_of : A → List ℕ) (IsPrefixOf : List ℕ → Type 0)
     (reading : List ℕ → Result (A × List ℕ) ℕ) : Type 0 where
-  pub told : (s : List ℕ) → Told text_of IsFrontOf s (reading s)
+  pub told : (s : List ℕ) → Told text_of IsPrefixOf s (reading s)
   pub again : (v : A) (rest : List ℕ) → reading (text_of v ++ rest) ≡ Ok (v, rest)
-  pub longest : (front rest : List ℕ) → IsFrontOf front → left_of (reading (front ++ rest))
+  pub longest : (prefix rest : List ℕ) → IsPrefixOf prefix → left_of (reading (prefix ++ rest))
       ≤ length rest
-  pub whole : (v : A) → IsFrontOf (text_of v)
-  pub none : IsFrontOf []
+  pub whole : (v : A) → IsPrefixOf (text_of v)
+  pub none : IsPrefixOf []
 
-pub reader_shrinks : {A : Type 0} {text_of : A → List ℕ} {IsFrontOf : List ℕ → Type 0}
-    {reading : List ℕ → Result (A × List ℕ) ℕ} → IsReader text_of IsFrontOf reading → (s : List ℕ)
+pub reader_shrinks : {A : Type 0} {text_of : A → List ℕ} {IsPrefixOf : List ℕ → Type 0}
+    {reading : List ℕ → Result (A × List ℕ) ℕ} → IsReader text_of IsPrefixOf reading → (s : List ℕ)
     → left_of (reading s) ≤ length s
-reader_shrinks {A} {text_of} {IsFrontOf} {reading} r s = search (rules, told_shrinks)
+reader_shrinks {A} {text_of} {IsPrefixOf} {reading} r s = search (rules, told_shrinks)
 
 pub fixed_reader : (bytes : List ℕ) → IsReader {A = Unit {0}} (λ _. bytes)
-    (λ front. Begins front bytes) (fixed_at bytes)
+    (λ prefix. Begins prefix bytes) (fixed_at bytes)
 fixed_reader bytes = record {
   told = fixed-told bytes;
   again = λ v rest. fixed-again bytes rest;
@@ -32,7 +32,7 @@ fixed_reader bytes = record {
   none = (bytes, refl);
 }
 
-pub bytes_reader : IsReader bytes_text IsFrontOfBytes (bytes_at false)
+pub bytes_reader : IsReader bytes_text IsPrefixOfBytes (bytes_at false)
 bytes_reader = record {
   told = bytes-told false;
   again = bytes-again;
@@ -43,48 +43,48 @@ bytes_reader = record {
 
 -- ---- behind one byte
 
-abbrev pub FrontBehind : ℕ → (List ℕ → Type 0) → List ℕ → Type 0
-FrontBehind b IsFrontOf front = Begins front (b ∷ [])
-    ⊎ ((more : List ℕ) × (front ≡ b ∷ more) × IsFrontOf more)
+abbrev pub PrefixBehind : ℕ → (List ℕ → Type 0) → List ℕ → Type 0
+PrefixBehind b IsPrefixOf prefix = Begins prefix (b ∷ [])
+    ⊎ ((more : List ℕ) × (prefix ≡ b ∷ more) × IsPrefixOf more)
 
 abbrev pub read_behind : {A : Type 0} → ℕ → (List ℕ → Result (A × List ℕ) ℕ) → List ℕ
     → Result (A × List ℕ) ℕ
 read_behind b reading s = fixed_at (b ∷ []) s >>= λ x. reading x.1
 
-second_told : {A : Type 0} (b : ℕ) (text_of : A → List ℕ) (IsFrontOf : List ℕ → Type 0)
-    (s t : List ℕ) (r : Result (A × List ℕ) ℕ) → s ≡ b ∷ t → Told text_of IsFrontOf t r
-    → Told (λ v. b ∷ text_of v) (FrontBehind b IsFrontOf) s r
-second_told b text_of IsFrontOf s t (Ok x) e told = e ∙ ap (λ (u : List ℕ). b ∷ u) told
-second_told b text_of IsFrontOf s t (Err left) e told = record {
-  front = b ∷ told.front;
+second_told : {A : Type 0} (b : ℕ) (text_of : A → List ℕ) (IsPrefixOf : List ℕ → Type 0)
+    (s t : List ℕ) (r : Result (A × List ℕ) ℕ) → s ≡ b ∷ t → Told text_of IsPrefixOf t r
+    → Told (λ v. b ∷ text_of v) (PrefixBehind b IsPrefixOf) s r
+second_told b text_of IsPrefixOf s t (Ok x) e told = e ∙ ap (λ (u : List ℕ). b ∷ u) told
+second_told b text_of IsPrefixOf s t (Err left) e told = record {
+  prefix = b ∷ told.prefix;
   rest = told.rest;
   parts = e ∙ ap (λ (u : List ℕ). b ∷ u) told.parts;
-  is_front = inr (told.front, refl, told.is_front);
+  is_prefix = inr (told.prefix, refl, told.is_prefix);
   is_left = told.is_left;
 }
 
-behind_told : {A : Type 0} (b : ℕ) (text_of : A → List ℕ) (IsFrontOf : List ℕ → Type 0)
+behind_told : {A : Type 0} (b : ℕ) (text_of : A → List ℕ) (IsPrefixOf : List ℕ → Type 0)
     (reading : List ℕ → Result (A × List ℕ) ℕ)
-    → ((t : List ℕ) → Told text_of IsFrontOf t (reading t))
+    → ((t : List ℕ) → Told text_of IsPrefixOf t (reading t))
     → (s : List ℕ) (first : Result (Unit {0} × List ℕ) ℕ)
-    → Told (λ _. b ∷ []) (λ front. Begins front (b ∷ [])) s first
-    → Told (λ v. b ∷ text_of v) (FrontBehind b IsFrontOf) s (first >>= λ x. reading x.1)
-behind_told b text_of IsFrontOf reading h s (Ok x) told = search (rules, second_told, told)
-behind_told b text_of IsFrontOf reading h s (Err left) told = search rules
+    → Told (λ _. b ∷ []) (λ prefix. Begins prefix (b ∷ [])) s first
+    → Told (λ v. b ∷ text_of v) (PrefixBehind b IsPrefixOf) s (first >>= λ x. reading x.1)
+behind_told b text_of IsPrefixOf reading h s (Ok x) told = search (rules, second_told, told)
+behind_told b text_of IsPrefixOf reading h s (Err left) told = search rules
 
-pub behind_reader : {A : Type 0} (b : ℕ) (text_of : A → List ℕ) (IsFrontOf : List ℕ → Type 0)
-    (reading : List ℕ → Result (A × List ℕ) ℕ) → IsReader text_of IsFrontOf reading
-    → IsReader (λ v. b ∷ text_of v) (FrontBehind b IsFrontOf) (read_behind b reading)
-behind_reader b text_of IsFrontOf reading r = record {
-  told = λ s. behind_told b text_of IsFrontOf reading r.told s _
+pub behind_reader : {A : Type 0} (b : ℕ) (text_of : A → List ℕ) (IsPrefixOf : List ℕ → Type 0)
+    (reading : List ℕ → Result (A × List ℕ) ℕ) → IsReader text_of IsPrefixOf reading
+    → IsReader (λ v. b ∷ text_of v) (PrefixBehind b IsPrefixOf) (read_behind b reading)
+behind_reader b text_of IsPrefixOf reading r = record {
+  told = λ s. behind_told b text_of IsPrefixOf reading r.told s _
       (fixed-told (b ∷ []) s);
   again = λ v rest. rw (fixed-again (b ∷ []) (text_of v ++ rest)) (r.again v rest);
-  longest = λ front rest at. elim at [
+  longest = λ prefix rest at. elim at [
     | inl begins ↦ omega (
       arith,
-      bind_shrinks (fixed_at (b ∷ []) (front ++ rest)) (λ x. reading x.1)
+      bind_shrinks (fixed_at (b ∷ []) (prefix ++ rest)) (λ x. reading x.1)
           (λ x. reader_shrinks r _),
-      fixed-longest _ front rest begins,
+      fixed-longest _ prefix rest begins,
     )
     | inr more ↦ rw (more.1, fixed-again (b ∷ []) (more.0 ++ rest)) (r.longest more.0 rest more.2)
   ];
@@ -94,10 +94,10 @@ behind_reader b text_of IsFrontOf reading r = record {
 
 -- ---- two parts in order
 
-abbrev pub FrontOfBoth : {A : Type 0} → (A → List ℕ) → (List ℕ → Type 0) → (List ℕ → Type 0)
+abbrev pub PrefixOfBoth : {A : Type 0} → (A → List ℕ) → (List ℕ → Type 0) → (List ℕ → Type 0)
     → List ℕ → Type 0
-FrontOfBoth {A} first_text IsFirst IsSecond front = IsFirst front
-    ⊎ ((v : A) × (more : List ℕ) × (front ≡ first_text v ++ more) × IsSecond more)
+PrefixOfBoth {A} first_text IsFirst IsSecond prefix = IsFirst prefix
+    ⊎ ((v : A) × (more : List ℕ) × (prefix ≡ first_text v ++ more) × IsSecond more)
 
 abbrev pub read_both : {A B : Type 0} → (List ℕ → Result (A × List ℕ) ℕ)
     → (List ℕ → Result (B × List ℕ) ℕ) → List ℕ → Result ((A × B) × List ℕ) ℕ
@@ -107,15 +107,15 @@ later_told : {A B : Type 0} (first_text : A → List ℕ) (second_text : B → L
     (IsFirst IsSecond : List ℕ → Type 0) (s t : List ℕ) (v : A) (r : Result (B × List ℕ) ℕ) → s
     ≡ first_text v ++ t → Told second_text IsSecond t r
     → Told {A = A × B} (λ w. first_text w.0 ++ second_text w.1)
-    (FrontOfBoth first_text IsFirst IsSecond) s (r >>= λ y. Ok ((v, y.0), y.1))
+    (PrefixOfBoth first_text IsFirst IsSecond) s (r >>= λ y. Ok ((v, y.0), y.1))
 later_told first_text second_text IsFirst IsSecond s t v (Ok y) e told =
     search (rules, told, append_assoc)
 later_told first_text second_text IsFirst IsSecond s t v (Err left) e told = record {
-  front = first_text v ++ told.front;
+  prefix = first_text v ++ told.prefix;
   rest = told.rest;
   parts = e ∙ ap (λ (u : List ℕ). first_text v ++ u) told.parts
-      ∙ sym (append_assoc (first_text v) told.front told.rest);
-  is_front = inr (v, told.front, refl, told.is_front);
+      ∙ sym (append_assoc (first_text v) told.prefix told.rest);
+  is_prefix = inr (v, told.prefix, refl, told.is_prefix);
   is_left = told.is_left;
 }
 
@@ -124,7 +124,7 @@ both_told : {A B : Type 0} (first_text : A → List ℕ) (second_text : B → Li
     → ((t : List ℕ) → Told second_text IsSecond t (second t))
     → (s : List ℕ) (first : Result (A × List ℕ) ℕ) → Told first_text IsFirst s first
     → Told {A = A × B} (λ w. first_text w.0 ++ second_text w.1)
-    (FrontOfBoth first_text IsFirst IsSecond) s
+    (PrefixOfBoth first_text IsFirst IsSecond) s
     (first >>= λ x. second x.1 >>= λ y. Ok ((x.0, y.0), y.1))
 both_told first_text second_text IsFirst IsSecond second h s (Ok x) told =
     later_told first_text second_text IsFirst IsSecond s _ _ _ told (h x.1)
@@ -135,21 +135,21 @@ pub both_reader : {A B : Type 0} (first_text : A → List ℕ) (second_text : B 
     (second : List ℕ → Result (B × List ℕ) ℕ)
     → IsReader first_text IsFirst first → IsReader second_text IsSecond second
     → IsReader {A = A × B} (λ w. first_text w.0 ++ second_text w.1)
-    (FrontOfBoth first_text IsFirst IsSecond) (read_both first second)
+    (PrefixOfBoth first_text IsFirst IsSecond) (read_both first second)
 both_reader {A} {B} first_text second_text IsFirst IsSecond first second a b = record {
   told = λ s. both_told first_text second_text IsFirst IsSecond second b.told s (first s)
       (a.told s);
   again = λ v rest. rw (append_assoc, a.again v.0 (second_text v.1 ++ rest), b.again v.1 rest) refl;
-  longest = λ front rest at.
+  longest = λ prefix rest at.
       let pair : A → B × List ℕ → Result ((A × B) × List ℕ) ℕ = λ v y. Ok ((v, y.0), y.1) in
       let second_shrinks : (v : A) (t : List ℕ) → left_of (second t >>= pair v)
       ≤ left_of (second t) = λ v t. bind_shrinks (second t) (pair v) (λ y. omega arith) in
       elim at [
         | inl begins ↦ omega (
           arith,
-          bind_shrinks (first (front ++ rest)) (λ x. second x.1 >>= pair x.0)
+          bind_shrinks (first (prefix ++ rest)) (λ x. second x.1 >>= pair x.0)
               (λ x. omega (arith, second_shrinks x.0 x.1, reader_shrinks b x.1)),
-          a.longest front rest begins,
+          a.longest prefix rest begins,
         )
         | inr more ↦ rw (more.2, append_assoc, a.again more.0 (more.1 ++ rest))
             (omega (arith, second_shrinks more.0 (more.1 ++ rest), b.longest more.1 rest more.3))

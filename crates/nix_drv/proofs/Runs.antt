@@ -6,11 +6,11 @@ use Rattle.std.proofs.lemmas.Grind.{common_steps}
 use Rattle.std.proofs.lemmas.List.{append-nil, nil_from_length}
 use Rattle.std.proofs.lemmas.List.Quantifiers.{position-Some}
 use Rattle.std.proofs.lemmas.List.Sums.{fails_before_first}
-use Rattle.nix_drv.specs.declared.fault.Stop.{Stop}
-use Rattle.nix_drv.specs.declared.fault.Stop.TheVariants.{NoMemory, Left}
+use Rattle.nix_drv.specs.declared.fault.ParseFault.{ParseFault}
+use Rattle.nix_drv.specs.declared.fault.ParseFault.TheVariants.{NoMemory, Left}
 use Rattle.nix_drv.specs.Strings.{is_plain}
 use Rattle.nix_drv.specs.Reading.{◌>>=◌, before, fixed_at, escape_at, byte_at, bytes_at}
-use Rattle.nix_drv.specs.Stops.{Fails}
+use Rattle.nix_drv.specs.ParseFaults.{Fails}
 use Rattle.nix_drv.proofs.Steps.{before_none, before-before}
 use Rattle.nix_drv.proofs.Strings.{IsPlain, by_byte, by_letter, bytes_at-plain, bytes_at-refused}
 
@@ -70,7 +70,7 @@ abbrev following : Result (Option ℕ × List ℕ) ℕ → Result (List ℕ × L
 following r = r >>= λ x. follow x.0 x.1
 
 -- no byte was read, and so no string
-pub byte_fails : (stop : Stop) (items s : List ℕ) (total : Result (List ℕ × List ℕ) ℕ)
+pub byte_fails : (stop : ParseFault) (items s : List ℕ) (total : Result (List ℕ × List ℕ) ℕ)
     → before items (bytes_at false s) ≡ total → Fails stop (byte_at s) → Fails stop total
 byte_fails NoMemory items s total so_far fails = tt
 byte_fails (Left left) items s total so_far fails = search (rules, bytes_open, following)

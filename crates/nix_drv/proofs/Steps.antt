@@ -3,32 +3,32 @@ use Rattle.std.proofs.Common.{◌≡◌, ℕ, ◌≤◌, List, [], ◌++◌, len
 use Rattle.std.proofs.lemmas.List.{length-append}
 use Rattle.nix_drv.specs.Reading.{◌>>=◌, before, left_of}
 
--- a front of which so many bytes of s are left
-pub record StopsAt (Front : List ℕ → Type 0) (s : List ℕ) (left : ℕ) : Type 0 where
-  pub front : List ℕ
+-- a prefix of which so many bytes of s are left
+pub record StopsAt (Prefix : List ℕ → Type 0) (s : List ℕ) (left : ℕ) : Type 0 where
+  pub prefix : List ℕ
   pub rest : List ℕ
-  pub parts : s ≡ front ++ rest
-  pub is_front : Front front
+  pub parts : s ≡ prefix ++ rest
+  pub is_prefix : Prefix prefix
   pub is_left : length rest ≡ left
 
--- what was read is the text before the rest, and a fault stands behind a front
+-- what was read is the text before the rest, and a fault stands behind a prefix
 abbrev pub Told : {A : Type 0} → (A → List ℕ) → (List ℕ → Type 0) → List ℕ → Result (A × List ℕ) ℕ
     → Type 0
-Told text_of Front s (Ok x) = s ≡ text_of x.0 ++ x.1
-Told text_of Front s (Err left) = StopsAt Front s left
+Told text_of Prefix s (Ok x) = s ≡ text_of x.0 ++ x.1
+Told text_of Prefix s (Err left) = StopsAt Prefix s left
 
--- no front leaves less than the reading
+-- no prefix leaves less than the reading
 abbrev pub Longest : {A : Type 0} → (List ℕ → Type 0) → (List ℕ → Result (A × List ℕ) ℕ) → Type 0
-Longest Front reading = (front rest : List ℕ) → Front front → left_of (reading (front ++ rest))
+Longest Prefix reading = (prefix rest : List ℕ) → Prefix prefix → left_of (reading (prefix ++ rest))
     ≤ length rest
 
-pub le_by_front : (s front rest : List ℕ) → s ≡ front ++ rest → length rest ≤ length s
-le_by_front s front rest e = omega (arith, ap length e, length-append front rest)
+pub le_by_prefix : (s prefix rest : List ℕ) → s ≡ prefix ++ rest → length rest ≤ length s
+le_by_prefix s prefix rest e = omega (arith, ap length e, length-append prefix rest)
 
-pub told_shrinks : {A : Type 0} (text_of : A → List ℕ) (Front : List ℕ → Type 0) (s : List ℕ)
-    (reading : Result (A × List ℕ) ℕ) → Told text_of Front s reading → left_of reading ≤ length s
-told_shrinks text_of Front s (Ok x) told = le_by_front s _ _ told
-told_shrinks text_of Front s (Err left) told = search (rules, le_by_front)
+pub told_shrinks : {A : Type 0} (text_of : A → List ℕ) (Prefix : List ℕ → Type 0) (s : List ℕ)
+    (reading : Result (A × List ℕ) ℕ) → Told text_of Prefix s reading → left_of reading ≤ length s
+told_shrinks text_of Prefix s (Ok x) told = le_by_prefix s _ _ told
+told_shrinks text_of Prefix s (Err left) told = search (rules, le_by_prefix)
 
 -- what follows leaves no more
 pub bind_shrinks : {A B : Type 0} (reading : Result (A × List ℕ) ℕ)
@@ -37,16 +37,16 @@ pub bind_shrinks : {A B : Type 0} (reading : Result (A × List ℕ) ℕ)
 bind_shrinks (Ok x) next h = h x
 bind_shrinks (Err left) next h = omega arith
 
-pub left-before : {A : Type 0} (front : List A) (reading : Result (List A × List ℕ) ℕ)
-    → left_of (before front reading) ≡ left_of reading
-left-before front (Ok x) = refl
-left-before front (Err left) = refl
+pub left-before : {A : Type 0} (prefix : List A) (reading : Result (List A × List ℕ) ℕ)
+    → left_of (before prefix reading) ≡ left_of reading
+left-before prefix (Ok x) = refl
+left-before prefix (Err left) = refl
 
 pub before_none : {A : Type 0} (reading : Result (List A × List ℕ) ℕ) → before [] reading ≡ reading
 before_none (Ok x) = refl
 before_none (Err left) = refl
 
-pub before-before : {A : Type 0} (front more : List A) (reading : Result (List A × List ℕ) ℕ)
-    → before front (before more reading) ≡ before (front ++ more) reading
-before-before front more (Ok x) = search (rules, append_assoc, front)
-before-before front more (Err left) = refl
+pub before-before : {A : Type 0} (prefix more : List A) (reading : Result (List A × List ℕ) ℕ)
+    → before prefix (before more reading) ≡ before (prefix ++ more) reading
+before-before prefix more (Ok x) = search (rules, append_assoc, prefix)
+before-before prefix more (Err left) = refl

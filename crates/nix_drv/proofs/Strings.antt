@@ -3,7 +3,7 @@ use Rattle.std.proofs.Common.{◌≡◌, ℕ, suc, ◌≤◌, Bool, true, false,
 use Rattle.std.specs.List.{flat_map}
 use Rattle.std.proofs.lemmas.Bool.{cases_Bool, eqb-true}
 use Rattle.nix_drv.specs.Strings.{spelling, unescaped}
-use Rattle.nix_drv.specs.Grammar.{Begins, IsFrontOfBytes}
+use Rattle.nix_drv.specs.Grammar.{Begins, IsPrefixOfBytes}
 use Rattle.nix_drv.specs.Reading.{before, bytes_at, left_of}
 use Rattle.nix_drv.proofs.Steps.{StopsAt, Told, Longest, left-before, before_none, before-before}
 use Rattle.std.proofs.lemmas.List.{append-nil}
@@ -75,34 +75,34 @@ abbrev pub bytes_text : List ℕ → List ℕ
 bytes_text v = flat_map spelling v ++ 34 ∷ []
 
 told_before : (b : ℕ) (s : List ℕ) (r : Result (List ℕ × List ℕ) ℕ)
-    → Told bytes_text IsFrontOfBytes s r → Told bytes_text IsFrontOfBytes (spelling b ++ s)
+    → Told bytes_text IsPrefixOfBytes s r → Told bytes_text IsPrefixOfBytes (spelling b ++ s)
     (before (b ∷ []) r)
 told_before b s (Ok x) told = search (rules, append_assoc)
 told_before b s (Err left) told = record {
-  front = spelling b ++ told.front;
+  prefix = spelling b ++ told.prefix;
   rest = told.rest;
   parts = ap (λ (t : List ℕ). spelling b ++ t) told.parts ∙ simp append_assoc;
-  is_front = (
-    b ∷ told.is_front.0,
-    told.is_front.1,
-    ap (λ (t : List ℕ). spelling b ++ t) told.is_front.2 ∙ simp append_assoc,
-    told.is_front.3,
+  is_prefix = (
+    b ∷ told.is_prefix.0,
+    told.is_prefix.1,
+    ap (λ (t : List ℕ). spelling b ++ t) told.is_prefix.2 ∙ simp append_assoc,
+    told.is_prefix.3,
   );
   is_left = told.is_left;
 }
 
 -- nothing of what comes is part of a string
-stops_here : (s : List ℕ) (left : ℕ) → length s ≡ left → StopsAt IsFrontOfBytes s left
+stops_here : (s : List ℕ) (left : ℕ) → length s ≡ left → StopsAt IsPrefixOfBytes s left
 stops_here s left e = search rules
 
 -- a backslash can still become an escape, and what follows it cannot
-stops_behind : (s : List ℕ) (left : ℕ) → length s ≡ left → StopsAt IsFrontOfBytes (92 ∷ s) left
+stops_behind : (s : List ℕ) (left : ℕ) → length s ≡ left → StopsAt IsPrefixOfBytes (92 ∷ s) left
 unfolding spelling
 stops_behind s left e = record {
-  front = 92 ∷ [];
+  prefix = 92 ∷ [];
   rest = s;
   parts = refl;
-  is_front = ([], 92 ∷ [], refl, inl (34, (34 ∷ [], refl)));
+  is_prefix = ([], 92 ∷ [], refl, inl (34, (34 ∷ [], refl)));
   is_left = e;
 }
 
@@ -112,7 +112,7 @@ lead true = 92 ∷ []
 lead false = []
 
 pub bytes-told : (escaped : Bool) (s : List ℕ)
-    → Told bytes_text IsFrontOfBytes (lead escaped ++ s) (bytes_at escaped s)
+    → Told bytes_text IsPrefixOfBytes (lead escaped ++ s) (bytes_at escaped s)
 unfolding spelling bytes_at
 bytes-told true [] = stops_behind [] 0 refl
 bytes-told false [] = stops_here [] 0 refl
@@ -166,34 +166,34 @@ bytes-shrinks false (b ∷ s) =
 
 -- ---- how far is read
 
-nil_of_nil : (front more : List ℕ) → [] ≡ front ++ more → front ≡ []
+nil_of_nil : (prefix more : List ℕ) → [] ≡ prefix ++ more → prefix ≡ []
 nil_of_nil [] more e = refl
-nil_of_nil (x ∷ front) more e = absurd cc
+nil_of_nil (x ∷ prefix) more e = absurd cc
 
-pub fronts_of_one : (x : ℕ) (front more : List ℕ) → x ∷ [] ≡ front ++ more → (front ≡ [])
-    ⊎ (front ≡ x ∷ [])
-fronts_of_one x [] more e = inl refl
-fronts_of_one x (y ∷ front) more e = search (rules, nil_of_nil)
+pub prefixes_of_one : (x : ℕ) (prefix more : List ℕ) → x ∷ [] ≡ prefix ++ more → (prefix ≡ [])
+    ⊎ (prefix ≡ x ∷ [])
+prefixes_of_one x [] more e = inl refl
+prefixes_of_one x (y ∷ prefix) more e = search (rules, nil_of_nil)
 
-fronts_of_two : (x y : ℕ) (front more : List ℕ) → x ∷ y ∷ [] ≡ front ++ more → (front ≡ [])
-    ⊎ (front ≡ x ∷ []) ⊎ (front ≡ x ∷ y ∷ [])
-fronts_of_two x y [] more e = inl refl
-fronts_of_two x y (z ∷ front) more e = search (rules, fronts_of_one)
+prefixes_of_two : (x y : ℕ) (prefix more : List ℕ) → x ∷ y ∷ [] ≡ prefix ++ more → (prefix ≡ [])
+    ⊎ (prefix ≡ x ∷ []) ⊎ (prefix ≡ x ∷ y ∷ [])
+prefixes_of_two x y [] more e = inl refl
+prefixes_of_two x y (z ∷ prefix) more e = search (rules, prefixes_of_one)
 
 -- a beginning of a spelling is empty, a backslash, or whole
-fronts_of_spelling : (b : ℕ) (front more : List ℕ) → spelling b ≡ front ++ more → (front ≡ [])
-    ⊎ (front ≡ 92 ∷ []) ⊎ (front ≡ spelling b)
+prefixes_of_spelling : (b : ℕ) (prefix more : List ℕ) → spelling b ≡ prefix ++ more → (prefix ≡ [])
+    ⊎ (prefix ≡ 92 ∷ []) ⊎ (prefix ≡ spelling b)
 unfolding spelling
-fronts_of_spelling = search (rules, by_byte, fronts_of_two, fronts_of_one, spelling-plain)
+prefixes_of_spelling = search (rules, by_byte, prefixes_of_two, prefixes_of_one, spelling-plain)
 
--- a last front that is none, a backslash, a spelling or the quote leaves nothing more to read
+-- a last prefix that is none, a backslash, a spelling or the quote leaves nothing more to read
 last_leaves : (last rest : List ℕ) → ((b : ℕ) × Begins last (spelling b)) ⊎ Begins last (34 ∷ [])
     → left_of (bytes_at false (last ++ rest)) ≤ length rest
 unfolding bytes_at
 last_leaves last rest (inl at) =
-    search (rules, fronts_of_spelling, bytes-shrinks, bytes_at-spelling, left-before)
-last_leaves last rest (inr at) = search (rules, fronts_of_one, bytes-shrinks)
+    search (rules, prefixes_of_spelling, bytes-shrinks, bytes_at-spelling, left-before)
+last_leaves last rest (inr at) = search (rules, prefixes_of_one, bytes-shrinks)
 
-pub bytes-longest : Longest IsFrontOfBytes (bytes_at false)
-bytes-longest front rest at =
+pub bytes-longest : Longest IsPrefixOfBytes (bytes_at false)
+bytes-longest prefix rest at =
     search (rules, append_assoc, bytes_at-spellings, left-before, last_leaves)

@@ -11,10 +11,10 @@ one_value_each g clear v w bytes is also = value_is _ _
     (sym (read-text g clear v _ is) ∙ read-text g clear w _ also)
 
 pub no_text_within : (g : Grammar) → IsClear g → HasNoTextWithin g
-no_text_within g clear v w front whole is also begins =
+no_text_within g clear v w prefix whole is also begins =
     let two : read g whole ≡ Ok (w, []) = read-text g clear w _ also in
     let one : read g whole ≡ Ok (v, begins.0) =
     ap (read g) (begins.1 ∙ ap (λ (t : List ℕ). t ++ begins.0) is)
     ∙ read-again g clear v _ in
     let none : begins.0 ≡ [] = rest_is _ _ (sym one ∙ two) in
-    sym (append-nil front) ∙ ap (λ (t : List ℕ). front ++ t) (sym none) ∙ sym begins.1
+    sym (append-nil prefix) ∙ ap (λ (t : List ℕ). prefix ++ t) (sym none) ∙ sym begins.1

@@ -4,7 +4,7 @@ use Rattle.std.specs.Prelude.{◌≡◌, ◌≢◌, ℕ, ◌≤◌, ◌⊎◌, L
 use Rattle.nix_names.specs.Bytes.{Bytes}
 use Rattle.nix_drv.specs.Strings.{spelling, string_text}
 
--- Whether the elements of a list must rise by their keys. Texts and fronts do not depend on it.
+-- Whether the elements of a list must rise by their keys. Texts and prefixes do not depend on it.
 pub data ListOrder : Type 0 where
   Rising : ListOrder
   Free : ListOrder
@@ -46,47 +46,47 @@ text (Many order g) vs = 91 ∷ separated (text g) vs ++ 93 ∷ []
 abbrev pub IsText : (g : Grammar) → Value g → Bytes → Type 0
 IsText g v bytes = bytes ≡ text g v
 
--- the bytes of the whole begin with those of the front
-abbrev pub Begins : (front whole : Bytes) → Type 0
-Begins front whole = (rest : Bytes) × (whole ≡ front ++ rest)
+-- the bytes of the whole begin with those of the prefix
+abbrev pub Begins : (prefix whole : Bytes) → Type 0
+Begins prefix whole = (rest : Bytes) × (whole ≡ prefix ++ rest)
 
--- a front of a string behind its first quote: the texts of some bytes, and then a beginning of the
+-- a prefix of a string behind its first quote: the texts of some bytes, and then a beginning of the
 -- text of one more byte or of the last quote
-abbrev pub IsFrontOfBytes : Bytes → Type 0
-IsFrontOfBytes front =
-    (whole last : Bytes) × (front ≡ flat_map spelling whole ++ last)
+abbrev pub IsPrefixOfBytes : Bytes → Type 0
+IsPrefixOfBytes prefix =
+    (whole last : Bytes) × (prefix ≡ flat_map spelling whole ++ last)
     × (((byte : ℕ) × Begins last (spelling byte)) ⊎ Begins last (34 ∷ []))
 
--- a front of a list behind its first bracket: the texts of some elements with a comma after each,
--- and then a front of one more; or the texts of all elements, and then a beginning of the last
+-- a prefix of a list behind its first bracket: the texts of some elements with a comma after each,
+-- and then a prefix of one more; or the texts of all elements, and then a beginning of the last
 -- bracket
-abbrev pub IsFrontOfElements : {A : Type 0} → (A → Bytes) → (Bytes → Type 0) → Bytes → Type 0
-IsFrontOfElements {A} text_of IsElementFront front =
-    ((whole : List A) × (last : Bytes) × (front ≡ each_with_comma text_of whole ++ last)
-    × IsElementFront last)
-    ⊎ ((whole : List A) × (last : Bytes) × (front ≡ separated text_of whole ++ last)
+abbrev pub IsPrefixOfElements : {A : Type 0} → (A → Bytes) → (Bytes → Type 0) → Bytes → Type 0
+IsPrefixOfElements {A} text_of IsElementPrefix prefix =
+    ((whole : List A) × (last : Bytes) × (prefix ≡ each_with_comma text_of whole ++ last)
+    × IsElementPrefix last)
+    ⊎ ((whole : List A) × (last : Bytes) × (prefix ≡ separated text_of whole ++ last)
     × Begins last (93 ∷ []))
 
--- A front: bytes that more bytes can complete to a text of the grammar. Of fixed bytes it is a
--- beginning of them; of two parts it is a front of the first, or a text of the first and then a
--- front of the second.
-unfoldable pub IsFront : (g : Grammar) → Bytes → Type 0
-IsFront (Fixed bytes) front = Begins front bytes
-IsFront Str front = Begins front (34 ∷ [])
-    ⊎ ((more : Bytes) × (front ≡ 34 ∷ more) × IsFrontOfBytes more)
-IsFront (Then a b) front = IsFront a front
-    ⊎ ((v : Value a) × (more : Bytes) × (front ≡ text a v ++ more) × IsFront b more)
-IsFront (Many order g) front = Begins front (91 ∷ [])
-    ⊎ ((more : Bytes) × (front ≡ 91 ∷ more) × IsFrontOfElements (text g) (IsFront g) more)
+-- A prefix: bytes that more bytes can complete to a text of the grammar. Of fixed bytes it is a
+-- beginning of them; of two parts it is a prefix of the first, or a text of the first and then a
+-- prefix of the second.
+unfoldable pub IsTextPrefix : (g : Grammar) → Bytes → Type 0
+IsTextPrefix (Fixed bytes) prefix = Begins prefix bytes
+IsTextPrefix Str prefix = Begins prefix (34 ∷ [])
+    ⊎ ((more : Bytes) × (prefix ≡ 34 ∷ more) × IsPrefixOfBytes more)
+IsTextPrefix (Then a b) prefix = IsTextPrefix a prefix
+    ⊎ ((v : Value a) × (more : Bytes) × (prefix ≡ text a v ++ more) × IsTextPrefix b more)
+IsTextPrefix (Many order g) prefix = Begins prefix (91 ∷ [])
+    ⊎ ((more : Bytes) × (prefix ≡ 91 ∷ more) × IsPrefixOfElements (text g) (IsTextPrefix g) more)
 
--- The longest beginning of the input that is a front has this length.
-pub record IsLongestFront (g : Grammar) (input : Bytes) (place : ℕ) : Type 0 where
-  pub front : Bytes
+-- The longest beginning of the input that is a prefix has this length.
+pub record IsLongestPrefix (g : Grammar) (input : Bytes) (place : ℕ) : Type 0 where
+  pub prefix : Bytes
   pub rest : Bytes
-  pub parts : input ≡ front ++ rest
-  pub is_front : IsFront g front
-  pub is_place : length front ≡ place
-  pub longest : (other more : Bytes) → IsFront g other → input ≡ other ++ more → length other
+  pub parts : input ≡ prefix ++ rest
+  pub is_prefix : IsTextPrefix g prefix
+  pub is_place : length prefix ≡ place
+  pub longest : (other more : Bytes) → IsTextPrefix g other → input ≡ other ++ more → length other
       ≤ place
 
 -- the byte with which each text of the grammar begins; none where its first part is no bytes

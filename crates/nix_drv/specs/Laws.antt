@@ -3,7 +3,7 @@ use Rattle.std.specs.Prelude.{◌≡◌, ◌≢◌, ◌↔◌, Result, Err}
 use Rattle.nix_names.specs.Bytes.{Bytes, Dir, Path}
 use Rattle.nix_drv.specs.declared.fault.DrvFault.{DrvFault}
 use Rattle.nix_drv.specs.declared.fault.DrvFault.TheVariants.{NoMemory, BadReference}
-use Rattle.nix_drv.specs.Grammar.{Grammar, Value, IsText, Begins, IsFront, text}
+use Rattle.nix_drv.specs.Grammar.{Grammar, Value, IsText, Begins, IsTextPrefix, text}
 use Rattle.nix_drv.specs.Order.{InOrder, KeysRise}
 use Rattle.nix_drv.specs.Derivation.{Drv, IsLooseText}
 use Rattle.nix_drv.specs.Outcome.{IsReading}
@@ -20,18 +20,18 @@ HasOneValueEach g = (v w : Value g) (bytes : Bytes) → IsText g v bytes → IsT
 
 -- no text begins another
 abbrev pub HasNoTextWithin : Grammar → Type 0
-HasNoTextWithin g = (v w : Value g) (front whole : Bytes) → IsText g v front → IsText g w whole
-    → Begins front whole → front ≡ whole
+HasNoTextWithin g = (v w : Value g) (prefix whole : Bytes) → IsText g v prefix → IsText g w whole
+    → Begins prefix whole → prefix ≡ whole
 
 -- a value keeps the order rules exactly where, in each list that must rise, each key is less than
 -- the next one
 abbrev pub OrderMeansRising : Grammar → Type 0
 OrderMeansRising g = (v : Value g) → InOrder g v ↔ KeysRise g v
 
--- some bytes are a front exactly where a text begins with them
-abbrev pub FrontsAreBeginnings : Grammar → Type 0
-FrontsAreBeginnings g = (front : Bytes) → IsFront g front
-    ↔ ((v : Value g) × Begins front (text g v))
+-- some bytes are a prefix exactly where a text begins with them
+abbrev pub PrefixesBeginTexts : Grammar → Type 0
+PrefixesBeginTexts g = (prefix : Bytes) → IsTextPrefix g prefix
+    ↔ ((v : Value g) × Begins prefix (text g v))
 
 -- no bytes are the text of two derivations
 abbrev pub HasOneDerivationEach : Type 0
@@ -40,8 +40,8 @@ HasOneDerivationEach = (drv other : Drv) (bytes : Bytes) → IsLooseText drv byt
 
 -- no derivation's text begins another's
 abbrev pub HasNoDerivationWithin : Type 0
-HasNoDerivationWithin = (drv other : Drv) (front whole : Bytes) → IsLooseText drv front
-    → IsLooseText other whole → Begins front whole → front ≡ whole
+HasNoDerivationWithin = (drv other : Drv) (prefix whole : Bytes) → IsLooseText drv prefix
+    → IsLooseText other whole → Begins prefix whole → prefix ≡ whole
 
 -- two answers of reading for one input are equal, unless one of them is want of memory
 abbrev pub HasOneReading : Type 0

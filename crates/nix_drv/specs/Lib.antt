@@ -19,4 +19,4 @@ pub mod Listings
 pub mod Ordering
 pub mod Passing
 pub mod Reading
-pub mod Stops
+pub mod ParseFaults

@@ -3,8 +3,8 @@ use Rattle.std.specs.Prelude.{ℕ, suc, ◌==◌, if◌then◌else◌, List, [],
 use Rattle.nix_names.specs.Bytes.{Bytes}
 use Rattle.nix_drv.specs.declared.element.Next.{Next}
 use Rattle.nix_drv.specs.declared.element.Next.TheVariants.{Comma, End}
-use Rattle.nix_drv.specs.declared.element.Order.{Order}
-use Rattle.nix_drv.specs.declared.element.Order.TheVariants as order
+use Rattle.nix_drv.specs.declared.element.KeyOrder.{KeyOrder}
+use Rattle.nix_drv.specs.declared.element.KeyOrder.TheVariants as order
 use Rattle.nix_drv.specs.Grammar.{ListOrder, Rising, Free, separated}
 use Rattle.nix_drv.specs.Reading.{◌>>=◌, fixed_at, list_at}
 
@@ -29,6 +29,6 @@ sign_at (b ∷ s) = if b == 44 then Ok (Comma, s) else if b == 93 then Ok (End, 
     else Err (suc (length s))
 
 -- the order of a list, which the program has in a type of its own
-abbrev pub order_of : Order → ListOrder
+abbrev pub order_of : KeyOrder → ListOrder
 order_of order.Rising = Rising
 order_of order.Free = Free

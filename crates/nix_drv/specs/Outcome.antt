@@ -4,7 +4,7 @@ use Rattle.std.specs.declared.alloc.Global.{Global}
 use Rattle.nix_names.specs.Bytes.{Bytes}
 use Rattle.nix_drv.specs.declared.fault.DrvFault.{DrvFault}
 use Rattle.nix_drv.specs.declared.fault.DrvFault.TheVariants.{NoMemory, Syntax, Order, TooLong, TextPathMismatch, NotADrvName, NotSorted, BadReference}
-use Rattle.nix_drv.specs.Grammar.{IsLongestFront}
+use Rattle.nix_drv.specs.Grammar.{IsLongestPrefix}
 use Rattle.nix_drv.specs.Order.{InOrder, IsFirstViolation}
 use Rattle.nix_drv.specs.Derivation.{Drv, drv_value, derivation_form, IsLooseText, IsDrvText}
 
@@ -21,7 +21,7 @@ abbrev pub IsReading : Bytes → Result Drv DrvFault → Type 0
 IsReading input (Ok drv) = (length input ≤ max_len) × IsDrvText drv input
 IsReading input (Err TooLong) = max_len < length input
 IsReading input (Err (Syntax place)) = (length input ≤ max_len)
-    × ((drv : Drv) → ¬ IsLooseText drv input) × IsLongestFront derivation_form input place
+    × ((drv : Drv) → ¬ IsLooseText drv input) × IsLongestPrefix derivation_form input place
 IsReading input (Err (Order place)) = (length input ≤ max_len)
     × ((drv : Drv) × IsLooseText drv input × IsFirstViolation derivation_form (drv_value drv) place)
 IsReading input (Err NoMemory) = length input ≤ max_len

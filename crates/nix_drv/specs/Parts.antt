@@ -6,7 +6,7 @@ use Rattle.nix_drv.specs.declared.derivation.Output.{Output as OutputStruct}
 use Rattle.nix_drv.specs.declared.derivation.Input.{Input as InputStruct}
 use Rattle.nix_drv.specs.declared.derivation.EnvEntry.{EnvEntry as EnvEntryStruct}
 use Rattle.nix_drv.specs.declared.derivation.Parts.{Parts}
-use Rattle.nix_drv.specs.declared.forms.Build.{Build}
+use Rattle.nix_drv.specs.declared.forms.BuildParts.{BuildParts}
 use Rattle.nix_drv.specs.Grammar.{Value}
 use Rattle.nix_drv.specs.Derivation.{Output, Input, EnvEntry, Drv, output_value, input_value, entry_value, build_form, derivation_form}
 
@@ -68,7 +68,7 @@ parts_build p = (
 )
 
 -- the same of the structure that holds just these
-abbrev pub build_of : Build → Value build_form
+abbrev pub build_of : BuildParts → Value build_form
 build_of b = (
   b.system.items,
   (

@@ -1,5 +1,5 @@
 -- Reading bytes from the left by a grammar. A reading is the value and the bytes behind it, or,
--- where there is no value, the number of the bytes behind the longest front.
+-- where there is no value, the number of the bytes behind the longest prefix.
 use Rattle.std.specs.Prelude.{ℕ, zero, suc, Bool, true, false, ◌==◌, if◌then◌else◌, is_some, List, [], ◌∷◌, ◌++◌, length, Option, Some, None, Result, Ok, Err}
 use Rattle.nix_names.specs.Bytes.{Bytes}
 use Rattle.nix_drv.specs.Strings.{is_plain, unescaped}
@@ -19,7 +19,7 @@ fixed_at (b ∷ bytes) (c ∷ s) = if b == c then fixed_at bytes s else Err (suc
 
 -- a reading of a list, with more values in front of those that were read
 abbrev pub before : {A : Type 0} → List A → Result (List A × Bytes) ℕ → Result (List A × Bytes) ℕ
-before front reading = reading >>= λ x. Ok (front ++ x.0, x.1)
+before prefix reading = reading >>= λ x. Ok (prefix ++ x.0, x.1)
 
 -- Reads the bytes of a string up to its last quote. Where `escaped` holds, a backslash was read,
 -- and the letter of an escape comes first.
@@ -80,7 +80,7 @@ read Str s = fixed_at (34 ∷ []) s >>= λ x. bytes_at false x.1
 read (Then a b) s = read a s >>= λ x. read b x.1 >>= λ y. Ok ((x.0, y.0), y.1)
 read (Many order g) s = fixed_at (91 ∷ []) s >>= λ x. list_at (read g) x.1
 
--- the number of the bytes behind the value that was read, or behind the longest front
+-- the number of the bytes behind the value that was read, or behind the longest prefix
 abbrev pub left_of : {A : Type 0} → Result (A × Bytes) ℕ → ℕ
 left_of (Ok x) = length x.1
 left_of (Err left) = left

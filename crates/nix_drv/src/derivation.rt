@@ -52,7 +52,9 @@ pub struct EnvEntry {
 /// What a derivation is made of (Nix manual, "Store Derivation"), in any order.
 #[derive(Debug, Drop)]
 pub struct Parts {
+    /// The outputs.
     pub outputs: Vec<Output>,
+    /// The input derivations: those of which it uses outputs.
     pub inputs: Vec<Input>,
     /// The store paths of the sources.
     pub sources: Vec<Vec<u8>>,
@@ -67,7 +69,8 @@ pub struct Parts {
 }
 
 impl Parts {
-    /// A copy of the parts.
+    /// A copy of the parts. Want of memory is its only fault. Takes time in proportion to the
+    /// bytes.
     pub fn copy(&self, alloc: Global) -> Result<Parts, AllocError>
         ensures { IfOk result (λ copy. drv_of copy ≡ drv_of self.now) }
     {
@@ -75,7 +78,7 @@ impl Parts {
     }
 
     /// The text of the parts, whether or not they are in order, with these input derivations in
-    /// place of their own. Takes time in proportion to the text.
+    /// place of their own. Want of memory is its only fault. Takes time in proportion to the text.
     pub fn text_with_inputs(&self, alloc: Global, inputs: &[Input]) -> Result<Vec<u8>, AllocError>
         ensures { IfOk result
             (λ bytes. IsLooseText (record (drv_of self.now) { inputs = map input_of inputs.now })

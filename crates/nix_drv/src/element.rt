@@ -6,9 +6,9 @@ ghost use Rattle.nix_drv.specs.Order.{key as key_of, breaks as breaks_of};
 ghost use Rattle.nix_drv.specs.Listings.{sign_at, list_read, list_text, others_text, order_of};
 ghost use Rattle.nix_drv.specs.Reading.{elements_of, read as read_of};
 ghost use Rattle.nix_drv.specs.Passing.{pass as pass_of};
-ghost use Rattle.nix_drv.specs.Stops.{Gives};
+ghost use Rattle.nix_drv.specs.ParseFaults.{Gives};
 
-use crate::fault::Stop;
+use crate::fault::ParseFault;
 use crate::reading::fixed_of;
 use std::alloc::{AllocError, Global};
 
@@ -25,7 +25,7 @@ pub(crate) trait Element {
         ensures { result.now ≡ key_of form (value self.now) };
 
     // The element at the head of the bytes, and the bytes behind it.
-    fn read(alloc: Global, bytes: &[u8]) -> Result<(Self, &[u8]), Stop>
+    fn read(alloc: Global, bytes: &[u8]) -> Result<(Self, &[u8]), ParseFault>
         ensures { Gives (λ x. (value x.0, x.1.now)) result (read_of form bytes.now) };
 
     // The place behind the element's text, which begins at this place, or the place of the first
@@ -47,7 +47,7 @@ pub(crate) trait Element {
 
 // Whether the elements of a list must rise by their keys.
 #[derive(Clone, Copy)]
-pub(crate) enum Order {
+pub(crate) enum KeyOrder {
     Rising,
     Free,
 }
@@ -59,14 +59,14 @@ enum Next {
 }
 
 // What the head of the bytes is, and the bytes behind it.
-fn next_of(bytes: &[u8]) -> Result<(Next, &[u8]), Stop>
+fn next_of(bytes: &[u8]) -> Result<(Next, &[u8]), ParseFault>
     ensures { Gives (λ x. (x.0, x.1.now)) result (sign_at bytes.now) }
 {
     match bytes {
-        [] => Err(Stop::Left(0)),
+        [] => Err(ParseFault::Left(0)),
         [b',', rest @ ..] => Ok((Next::Comma, rest)),
         [b']', rest @ ..] => Ok((Next::End, rest)),
-        _ => Err(Stop::Left(bytes.len())),
+        _ => Err(ParseFault::Left(bytes.len())),
     }
 }
 
@@ -74,7 +74,7 @@ fn next_of(bytes: &[u8]) -> Result<(Next, &[u8]), Stop>
 pub(crate) fn read_list<T: Element + Drop>(
     alloc: Global,
     bytes: &[u8],
-) -> Result<(Vec<T>, &[u8]), Stop>
+) -> Result<(Vec<T>, &[u8]), ParseFault>
     ensures { Gives (λ x. (map T.value x.0.items, x.1.now)) result
         (list_read (read_of T.form) bytes.now) }
 {
@@ -87,7 +87,10 @@ pub(crate) fn read_list<T: Element + Drop>(
 
 // The elements of a list of one or more elements, and the bytes behind the list. The bytes begin
 // behind the list's first bracket.
-fn read_elements<T: Element + Drop>(alloc: Global, bytes: &[u8]) -> Result<(Vec<T>, &[u8]), Stop>
+fn read_elements<T: Element + Drop>(
+    alloc: Global,
+    bytes: &[u8],
+) -> Result<(Vec<T>, &[u8]), ParseFault>
     ensures { Gives (λ x. (map T.value x.0.items, x.1.now)) result
         (elements_of (read_of T.form) bytes.now) }
 {
@@ -105,11 +108,11 @@ fn read_elements<T: Element + Drop>(alloc: Global, bytes: &[u8]) -> Result<(Vec<
 
 // Whether an element with this key breaks the order of its list. The element before it, if there is
 // one, has the key `before`.
-fn breaks(order: Order, before: Option<&[u8]>, key: &[u8]) -> bool
+fn breaks(order: KeyOrder, before: Option<&[u8]>, key: &[u8]) -> bool
     ensures { result ≡ breaks_of (order_of order) (option_map (λ k. k.now) before.entry) key.now }
 {
     match (order, before) {
-        (Order::Rising, Some(before)) => !before.cmp(key).is_lt(),
+        (KeyOrder::Rising, Some(before)) => !before.cmp(key).is_lt(),
         _ => false,
     }
 }
@@ -117,7 +120,11 @@ fn breaks(order: Order, before: Option<&[u8]>, key: &[u8]) -> bool
 // The place behind the list's text, which begins at this place, or the place of the first element
 // that breaks the order of its list. A place above `usize::MAX` counts as `usize::MAX`.
 #[tactic(auto, unfolding(crate::specs::Passing::pass))]
-pub(crate) fn pass_list<T: Element>(order: Order, items: &[T], place: usize) -> Result<usize, usize>
+pub(crate) fn pass_list<T: Element>(
+    order: KeyOrder,
+    items: &[T],
+    place: usize,
+) -> Result<usize, usize>
     ensures { result ≡ pass_of (Many (order_of order) T.form) place (map T.value items.now) }
 {
     if items.is_empty() {

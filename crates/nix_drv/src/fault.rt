@@ -75,9 +75,9 @@ impl<T: Drop> From<AllocFailed<T>> for DrvFault {
     }
 }
 
-// Why a reader stopped.
+// Why no value was read.
 #[derive(Debug, Drop)]
-pub(crate) enum Stop {
+pub(crate) enum ParseFault {
     // Memory was refused.
     NoMemory,
     // The bytes are no text. This is the number of bytes behind the longest beginning that more
@@ -85,22 +85,22 @@ pub(crate) enum Stop {
     Left(usize),
 }
 
-impl From<AllocError> for Stop {
-    ghost use Rattle.nix_drv.specs.declared.fault.Stop.TheVariants.{NoMemory};
+impl From<AllocError> for ParseFault {
+    ghost use Rattle.nix_drv.specs.declared.fault.ParseFault.TheVariants.{NoMemory};
 
     ghost from_gives = { λ _ e. e ≡ NoMemory };
 
-    fn from(_e: AllocError) -> Stop {
-        Stop::NoMemory
+    fn from(_e: AllocError) -> ParseFault {
+        ParseFault::NoMemory
     }
 }
 
-impl<T: Drop> From<AllocFailed<T>> for Stop {
-    ghost use Rattle.nix_drv.specs.declared.fault.Stop.TheVariants.{NoMemory};
+impl<T: Drop> From<AllocFailed<T>> for ParseFault {
+    ghost use Rattle.nix_drv.specs.declared.fault.ParseFault.TheVariants.{NoMemory};
 
     ghost from_gives = { λ _ e. e ≡ NoMemory };
 
-    fn from(_e: AllocFailed<T>) -> Stop {
-        Stop::NoMemory
+    fn from(_e: AllocFailed<T>) -> ParseFault {
+        ParseFault::NoMemory
     }
 }

@@ -8,20 +8,24 @@ ghost use Rattle.nix_drv.specs.Reading.{read as read_of};
 ghost use Rattle.nix_drv.specs.Passing.{pass as pass_of};
 ghost use Rattle.nix_drv.specs.Behind.{string_behind, strings_behind, list_behind};
 ghost use Rattle.nix_drv.specs.Listings.{list_text};
-ghost use Rattle.nix_drv.specs.Stops.{Gives};
+ghost use Rattle.nix_drv.specs.ParseFaults.{Gives};
 ghost use Rattle.nix_drv.specs.Strings.{string_text};
 ghost use Rattle.nix_drv.specs.Parts.{drv_of, bytes_of, output_of, input_of, entry_of, build_of, parts_build, parts_value};
 
 use crate::derivation::{EnvEntry, Input, Output, Parts};
-use crate::element::{Element, Order, copy_list, pass_list, read_list, write_list};
-use crate::fault::Stop;
+use crate::element::{Element, KeyOrder, copy_list, pass_list, read_list, write_list};
+use crate::fault::ParseFault;
 use crate::reading::{fixed_of, str_of};
 use crate::writing::{pass_str, write_string};
 use std::alloc::{AllocError, Global};
 
 // The string behind the wanted bytes, and the bytes behind it.
 #[tactic(auto, unfolding(crate::specs::Behind::string_behind))]
-fn read_str<'a>(alloc: Global, wanted: &[u8], bytes: &'a [u8]) -> Result<(Vec<u8>, &'a [u8]), Stop>
+fn read_str<'a>(
+    alloc: Global,
+    wanted: &[u8],
+    bytes: &'a [u8],
+) -> Result<(Vec<u8>, &'a [u8]), ParseFault>
     ensures { Gives (λ x. (x.0.items, x.1.now)) result (string_behind wanted.now bytes.now) }
 {
     let rest = fixed_of(bytes, wanted)?;
@@ -34,7 +38,7 @@ fn read_strs<'a>(
     alloc: Global,
     wanted: &[u8],
     bytes: &'a [u8],
-) -> Result<((Vec<u8>, Vec<u8>), &'a [u8]), Stop>
+) -> Result<((Vec<u8>, Vec<u8>), &'a [u8]), ParseFault>
     ensures { Gives
         (λ x. ((x.0.0.items, x.0.1.items), x.1.now)) result (strings_behind wanted.now bytes.now) }
 {
@@ -49,7 +53,7 @@ fn read_items<'a, T: Element + Drop>(
     alloc: Global,
     wanted: &[u8],
     bytes: &'a [u8],
-) -> Result<(Vec<T>, &'a [u8]), Stop>
+) -> Result<(Vec<T>, &'a [u8]), ParseFault>
     ensures { Gives
         (λ x. (map T.value x.0.items, x.1.now)) result
         (list_behind wanted.now (read_of T.form) bytes.now) }
@@ -105,7 +109,7 @@ impl Element for Vec<u8> {
         self
     }
 
-    fn read(alloc: Global, bytes: &[u8]) -> Result<(Self, &[u8]), Stop> {
+    fn read(alloc: Global, bytes: &[u8]) -> Result<(Self, &[u8]), ParseFault> {
         str_of(alloc, bytes)
     }
 
@@ -135,7 +139,7 @@ impl Element for EnvEntry {
         &self.key
     }
 
-    fn read(alloc: Global, bytes: &[u8]) -> Result<(Self, &[u8]), Stop> {
+    fn read(alloc: Global, bytes: &[u8]) -> Result<(Self, &[u8]), ParseFault> {
         let ((key, value), rest) = read_strs(alloc, b"(", bytes)?;
         let rest = fixed_of(rest, b")")?;
         Ok((EnvEntry { key, value }, rest))
@@ -173,7 +177,7 @@ impl Element for Input {
         &self.path
     }
 
-    fn read(alloc: Global, bytes: &[u8]) -> Result<(Self, &[u8]), Stop> {
+    fn read(alloc: Global, bytes: &[u8]) -> Result<(Self, &[u8]), ParseFault> {
         let (path, rest) = read_str(alloc, b"(", bytes)?;
         let (names, rest) = read_items(alloc, b",", rest)?;
         let rest = fixed_of(rest, b")")?;
@@ -183,7 +187,7 @@ impl Element for Input {
     #[tactic(auto, unfolding(crate::specs::Passing::pass))]
     fn pass(&self, place: usize) -> Result<usize, usize> {
         let at = pass_str(&self.path, place.saturating_add(1));
-        let at = pass_list(Order::Rising, &self.names, at.saturating_add(1))?;
+        let at = pass_list(KeyOrder::Rising, &self.names, at.saturating_add(1))?;
         Ok(at.saturating_add(1))
     }
 
@@ -213,7 +217,7 @@ impl Element for Output {
         &self.name
     }
 
-    fn read(alloc: Global, bytes: &[u8]) -> Result<(Self, &[u8]), Stop> {
+    fn read(alloc: Global, bytes: &[u8]) -> Result<(Self, &[u8]), ParseFault> {
         let ((name, path), rest) = read_strs(alloc, b"(", bytes)?;
         let ((algo, hash), rest) = read_strs(alloc, b",", rest)?;
         let rest = fixed_of(rest, b")")?;
@@ -258,7 +262,7 @@ impl Element for Output {
 
 // The system, builder, arguments and environment of a derivation.
 #[derive(Drop)]
-struct Build {
+struct BuildParts {
     system: Vec<u8>,
     builder: Vec<u8>,
     args: Vec<Vec<u8>>,
@@ -266,7 +270,7 @@ struct Build {
 }
 
 // The system, builder, arguments and environment behind a comma, and the bytes behind them.
-fn read_build(alloc: Global, bytes: &[u8]) -> Result<(Build, &[u8]), Stop>
+fn read_build(alloc: Global, bytes: &[u8]) -> Result<(BuildParts, &[u8]), ParseFault>
     ensures { Gives
         (λ x. ((tt, build_of x.0), x.1.now)) result (read_of (Then comma build_form) bytes.now) }
 {
@@ -274,7 +278,7 @@ fn read_build(alloc: Global, bytes: &[u8]) -> Result<(Build, &[u8]), Stop>
     let (args, rest) = read_items(alloc, b",", rest)?;
     let (env, rest) = read_items(alloc, b",", rest)?;
     let rest = fixed_of(rest, b")")?;
-    let build = Build {
+    let build = BuildParts {
         system,
         builder,
         args,
@@ -284,7 +288,7 @@ fn read_build(alloc: Global, bytes: &[u8]) -> Result<(Build, &[u8]), Stop>
 }
 
 // The parts at the head of the bytes, and the bytes behind them.
-pub(crate) fn read_parts(alloc: Global, bytes: &[u8]) -> Result<(Parts, &[u8]), Stop>
+pub(crate) fn read_parts(alloc: Global, bytes: &[u8]) -> Result<(Parts, &[u8]), ParseFault>
     ensures { Gives (λ x. (parts_value x.0, x.1.now)) result (read_of derivation_form bytes.now) }
 {
     let (outputs, rest) = read_items(alloc, b"Derive(", bytes)?;
@@ -311,8 +315,8 @@ fn pass_build(parts: &Parts, place: usize) -> Result<usize, usize>
 {
     let at = pass_str(&parts.system, place);
     let at = pass_str(&parts.builder, at.saturating_add(1));
-    let at = pass_list(Order::Free, &parts.args, at.saturating_add(1))?;
-    let at = pass_list(Order::Rising, &parts.env, at.saturating_add(1))?;
+    let at = pass_list(KeyOrder::Free, &parts.args, at.saturating_add(1))?;
+    let at = pass_list(KeyOrder::Rising, &parts.env, at.saturating_add(1))?;
     Ok(at.saturating_add(1))
 }
 
@@ -322,9 +326,9 @@ fn pass_build(parts: &Parts, place: usize) -> Result<usize, usize>
 pub(crate) fn pass_parts(parts: &Parts) -> Result<usize, usize>
     ensures { result ≡ pass_of derivation_form 0 (parts_value parts.now) }
 {
-    let at = pass_list(Order::Rising, &parts.outputs, 7)?;
-    let at = pass_list(Order::Rising, &parts.inputs, at.saturating_add(1))?;
-    let at = pass_list(Order::Rising, &parts.sources, at.saturating_add(1))?;
+    let at = pass_list(KeyOrder::Rising, &parts.outputs, 7)?;
+    let at = pass_list(KeyOrder::Rising, &parts.inputs, at.saturating_add(1))?;
+    let at = pass_list(KeyOrder::Rising, &parts.sources, at.saturating_add(1))?;
     pass_build(parts, at.saturating_add(1))
 }
 
@@ -358,10 +362,10 @@ pub(crate) fn write_parts(
 }
 
 // A copy of the system, builder, arguments and environment of the parts.
-fn copy_build(alloc: Global, parts: &Parts) -> Result<Build, AllocError>
+fn copy_build(alloc: Global, parts: &Parts) -> Result<BuildParts, AllocError>
     ensures { IfOk result (λ copy. build_of copy ≡ parts_build parts.now) }
 {
-    Ok(Build {
+    Ok(BuildParts {
         system: parts.system.copy(alloc)?,
         builder: parts.builder.copy(alloc)?,
         args: copy_list(alloc, &parts.args)?,

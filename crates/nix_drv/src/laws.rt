@@ -1,7 +1,7 @@
 //! Laws of texts, answers and own paths, proved from the definitions that contracts use.
 
 ghost use Rattle.nix_drv.specs.Grammar.{Grammar, IsClear};
-ghost use Rattle.nix_drv.specs.Laws.{HasOneTextEach, HasOneValueEach, HasNoTextWithin, OrderMeansRising, FrontsAreBeginnings, HasOneDerivationEach, HasNoDerivationWithin, HasOneReading, HasOneCheck};
+ghost use Rattle.nix_drv.specs.Laws.{HasOneTextEach, HasOneValueEach, HasNoTextWithin, OrderMeansRising, PrefixesBeginTexts, HasOneDerivationEach, HasNoDerivationWithin, HasOneReading, HasOneCheck};
 ghost use Rattle.nix_drv.specs.Derivation.{derivation_form};
 ghost use Rattle.nix_drv.specs.Equality.{EqualDerivationsAreSame};
 ghost use Rattle.nix_drv.specs.Outcome.{ReadsBack};
@@ -16,10 +16,10 @@ pub fn texts_tell_values()
     ensures derivations { IsClear derivation_form }
 {}
 
-/// Some bytes are a front of a grammar exactly where the text of some value begins with them. So
-/// the longest front of an input is its longest beginning with which a text begins.
-pub fn fronts_are_beginnings()
-    ensures { (g : Grammar) → FrontsAreBeginnings g }
+/// Some bytes are a prefix by a grammar exactly where the text of some value begins with them. So
+/// the longest prefix of an input is its longest beginning with which a text begins.
+pub fn prefixes_begin_texts()
+    ensures { (g : Grammar) → PrefixesBeginTexts g }
 {}
 
 /// No two derivations have the same text, and no derivation's text begins another's, whether or not

@@ -3,12 +3,12 @@
 ghost use Rattle.std.specs.Prelude.{◌≡◌, false};
 ghost use Rattle.nix_drv.specs.Grammar.{Str};
 ghost use Rattle.nix_drv.specs.Reading.{bytes_at, escape_at, byte_at, fixed_at, read};
-ghost use Rattle.nix_drv.specs.Stops.{Gives};
+ghost use Rattle.nix_drv.specs.ParseFaults.{Gives};
 ghost use Rattle.nix_drv.specs.Outcome.{IsReading};
 
 use crate::derivation::Derivation;
 use crate::escapes::{letter_of, plain_len, unescape};
-use crate::fault::{DrvFault, Stop};
+use crate::fault::{DrvFault, ParseFault};
 use crate::forms::read_parts;
 use std::alloc::Global;
 
@@ -16,16 +16,16 @@ use std::alloc::Global;
 pub const MAX_LEN: usize = 4_194_304;
 
 // The bytes behind the wanted ones, with which the bytes must begin.
-pub(crate) fn fixed_of<'a>(bytes: &'a [u8], wanted: &[u8]) -> Result<&'a [u8], Stop>
+pub(crate) fn fixed_of<'a>(bytes: &'a [u8], wanted: &[u8]) -> Result<&'a [u8], ParseFault>
     ensures { Gives (λ rest. (tt, rest.now)) result (fixed_at wanted.now bytes.now) }
 {
     let mut rest = bytes;
     'wanted: for byte in wanted {
         let [first, after @ ..] = rest else {
-            return Err(Stop::Left(0));
+            return Err(ParseFault::Left(0));
         };
         if first != byte {
-            return Err(Stop::Left(rest.len()));
+            return Err(ParseFault::Left(rest.len()));
         }
         rest = after;
     }
@@ -33,28 +33,28 @@ pub(crate) fn fixed_of<'a>(bytes: &'a [u8], wanted: &[u8]) -> Result<&'a [u8], S
 }
 
 // The byte whose escape has the letter at the head of the bytes, and the bytes behind the letter.
-fn escape_of(bytes: &[u8]) -> Result<(Option<u8>, &[u8]), Stop>
+fn escape_of(bytes: &[u8]) -> Result<(Option<u8>, &[u8]), ParseFault>
     ensures { Gives (λ x. (x.0, x.1.now)) result (escape_at bytes.now) }
 {
     match bytes {
-        [] => Err(Stop::Left(0)),
+        [] => Err(ParseFault::Left(0)),
         [letter, rest @ ..] => match unescape(*letter) {
-            None => Err(Stop::Left(bytes.len())),
+            None => Err(ParseFault::Left(bytes.len())),
             escaped => Ok((escaped, rest)),
         },
     }
 }
 
 // The first byte of the rest of a string, or none at its last quote, and the bytes behind it.
-fn byte_of(bytes: &[u8]) -> Result<(Option<u8>, &[u8]), Stop>
+fn byte_of(bytes: &[u8]) -> Result<(Option<u8>, &[u8]), ParseFault>
     ensures { Gives (λ x. (x.0, x.1.now)) result (byte_at bytes.now) }
 {
     match bytes {
-        [] => Err(Stop::Left(0)),
+        [] => Err(ParseFault::Left(0)),
         [b'"', rest @ ..] => Ok((None, rest)),
         [b'\\', rest @ ..] => escape_of(rest),
         [byte, rest @ ..] => match letter_of(*byte) {
-            Some(_) => Err(Stop::Left(bytes.len())),
+            Some(_) => Err(ParseFault::Left(bytes.len())),
             None => Ok((Some(*byte), rest)),
         },
     }
@@ -62,7 +62,7 @@ fn byte_of(bytes: &[u8]) -> Result<(Option<u8>, &[u8]), Stop>
 
 // The string at the head of the bytes, and the bytes behind it.
 #[tactic(auto, unfolding(crate::specs::Reading::read))]
-pub(crate) fn str_of(alloc: Global, bytes: &[u8]) -> Result<(Vec<u8>, &[u8]), Stop>
+pub(crate) fn str_of(alloc: Global, bytes: &[u8]) -> Result<(Vec<u8>, &[u8]), ParseFault>
     ensures { Gives (λ x. (x.0.items, x.1.now)) result (read Str bytes.now) }
 {
     let rest = fixed_of(bytes, b"\"")?;
@@ -70,7 +70,7 @@ pub(crate) fn str_of(alloc: Global, bytes: &[u8]) -> Result<(Vec<u8>, &[u8]), St
 }
 
 // The string whose first quote is just before the bytes, and the bytes behind its last quote.
-fn spelled_of(alloc: Global, bytes: &[u8]) -> Result<(Vec<u8>, &[u8]), Stop>
+fn spelled_of(alloc: Global, bytes: &[u8]) -> Result<(Vec<u8>, &[u8]), ParseFault>
     ensures { Gives (λ x. (x.0.items, x.1.now)) result (bytes_at false bytes.now) }
 {
     let mut rest = bytes;
@@ -110,7 +110,7 @@ pub fn read(alloc: Global, input: &[u8]) -> Result<Derivation, DrvFault>
                 Err(DrvFault::Syntax(input.len() - rest.len()))
             }
         }
-        Err(Stop::Left(left)) => Err(DrvFault::Syntax(input.len() - left)),
-        Err(Stop::NoMemory) => Err(DrvFault::NoMemory),
+        Err(ParseFault::Left(left)) => Err(DrvFault::Syntax(input.len() - left)),
+        Err(ParseFault::NoMemory) => Err(DrvFault::NoMemory),
     }
 }

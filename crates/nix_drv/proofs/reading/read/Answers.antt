@@ -1,6 +1,6 @@
 use Rattle.std.proofs.Common.{◌≤◌, length, sym, arith, rules}
 use Rattle.std.proofs.lemmas.Bool.{eqb-true}
-use Rattle.nix_drv.proofs.Exact.{surplus_no_text, surplus_fits, surplus_front, stop_no_text, stop_fits, stop_front}
+use Rattle.nix_drv.proofs.Exact.{surplus_no_text, surplus_fits, surplus_prefix, stop_no_text, stop_fits, stop_prefix}
 use Rattle.nix_drv.proofs.Derivations.{derivation_clear, read_in_order, read_first}
 use Rattle.nix_drv.proofs.reading.read.Goals as goal
 
@@ -11,10 +11,10 @@ pub overflow_sub-result-in-Err-Left : goal.overflow_sub-result-in-Err-Left
 overflow_sub-result-in-Err-Left c = search (rules, stop_fits, derivation_clear)
 
 pub returns-else-is_empty : goal.returns-else-is_empty
-returns-else-is_empty c = search (rules, surplus_no_text, derivation_clear, surplus_front)
+returns-else-is_empty c = search (rules, surplus_no_text, derivation_clear, surplus_prefix)
 
 pub returns-in-Err-Left : goal.returns-in-Err-Left
-returns-in-Err-Left c = search (rules, stop_no_text, derivation_clear, stop_front)
+returns-in-Err-Left c = search (rules, stop_no_text, derivation_clear, stop_prefix)
 
 pub returns-in-Ok-in_order : goal.returns-in-Ok-in_order
 returns-in-Ok-in_order c = (

@@ -10,7 +10,7 @@ behind_run : (items more rest run special : List ℕ) (n : ℕ) (total : Result 
     → n ≤ length rest → ((k : ℕ) → k < n → is_plain (get_or rest k 0) ≡ true)
     → before items (bytes_at false rest) ≡ total → more ≡ items ++ run → run ≡ take n rest
     → special ≡ drop n rest → before more (bytes_at false special) ≡ total
-behind_run items more rest run special n total fits plain so_far is front back =
+behind_run items more rest run special n total fits plain so_far is prefix back =
     search (rules, run_read)
 
 pub returns-in_err-byte : goal.returns-in_err-byte

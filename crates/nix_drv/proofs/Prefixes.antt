@@ -1,25 +1,25 @@
--- A front is just a beginning of a text, in every grammar.
+-- A prefix is just a beginning of a text, in every grammar.
 use Rattle.std.proofs.Common.{◌≡◌, ◌⊎◌, inl, inr, ℕ, List, [], ◌∷◌, ◌++◌, refl, sym, ap, ◌∙◌, append_assoc, rules}
 use Rattle.std.specs.List.{flat_map}
 use Rattle.std.proofs.lemmas.List.{append-nil}
 use Rattle.nix_drv.specs.Strings.{spelling}
-use Rattle.nix_drv.specs.Grammar.{Grammar, Fixed, Str, Then, Many, Value, text, separated, each_with_comma, Begins, IsFront, IsFrontOfBytes, IsFrontOfElements}
-use Rattle.nix_drv.specs.Laws.{FrontsAreBeginnings}
-use Rattle.nix_drv.proofs.Elements.{FrontOfSome}
+use Rattle.nix_drv.specs.Grammar.{Grammar, Fixed, Str, Then, Many, Value, text, separated, each_with_comma, Begins, IsTextPrefix, IsPrefixOfBytes, IsPrefixOfElements}
+use Rattle.nix_drv.specs.Laws.{PrefixesBeginTexts}
+use Rattle.nix_drv.proofs.Elements.{PrefixOfSome}
 
 -- a beginning of two parts is one of the first, or the first and a beginning of the second
-begins_parts : (front x y rest : List ℕ) → x ++ y ≡ front ++ rest → Begins front x
-    ⊎ ((more : List ℕ) × (front ≡ x ++ more) × Begins more y)
-begins_parts front [] y rest e = inr (front, refl, (rest, e))
+begins_parts : (prefix x y rest : List ℕ) → x ++ y ≡ prefix ++ rest → Begins prefix x
+    ⊎ ((more : List ℕ) × (prefix ≡ x ++ more) × Begins more y)
+begins_parts prefix [] y rest e = inr (prefix, refl, (rest, e))
 begins_parts [] (b ∷ x) y rest e = inl (b ∷ x, refl)
-begins_parts (c ∷ front) (b ∷ x) y rest e =
+begins_parts (c ∷ prefix) (b ∷ x) y rest e =
     let head : b ≡ c = cc in
-    let tail : x ++ y ≡ front ++ rest = cc in
-    elim (begins_parts front x y rest tail) [
+    let tail : x ++ y ≡ prefix ++ rest = cc in
+    elim (begins_parts prefix x y rest tail) [
       | inl at ↦ inl (
         at.0,
         ap (λ (t : List ℕ). b ∷ t) at.1
-            ∙ ap (λ (k : ℕ). k ∷ (front ++ at.0)) head,
+            ∙ ap (λ (k : ℕ). k ∷ (prefix ++ at.0)) head,
       )
       | inr at ↦ inr (
         at.0,
@@ -29,19 +29,20 @@ begins_parts (c ∷ front) (b ∷ x) y rest e =
       )
     ]
 
-begins_more : (front x y : List ℕ) → Begins front x → Begins front (x ++ y)
-begins_more front x y at = (at.0 ++ y, ap (λ (t : List ℕ). t ++ y) at.1 ∙ append_assoc front at.0 y)
+begins_more : (prefix x y : List ℕ) → Begins prefix x → Begins prefix (x ++ y)
+begins_more prefix x y at =
+    (at.0 ++ y, ap (λ (t : List ℕ). t ++ y) at.1 ∙ append_assoc prefix at.0 y)
 
--- ---- a beginning is a front
+-- ---- a beginning is a prefix
 
 begins_bytes : (v more rest : List ℕ) → flat_map spelling v ++ 34 ∷ [] ≡ more ++ rest
-    → IsFrontOfBytes more
+    → IsPrefixOfBytes more
 begins_bytes [] more rest e = ([], more, refl, inr (rest, e))
 begins_bytes (b ∷ v) more rest e =
     elim (begins_parts _ _ _ _
     (sym (append_assoc (spelling b) (flat_map spelling v) (34 ∷ [])) ∙ e)) [
       | inl at ↦ ([], more, refl, inl (b, at))
-      | inr at ↦ let later : IsFrontOfBytes at.0 = begins_bytes v _ _ at.2.1 in (
+      | inr at ↦ let later : IsPrefixOfBytes at.0 = begins_bytes v _ _ at.2.1 in (
         b ∷ later.0,
         later.1,
         at.1 ∙ ap (λ (t : List ℕ). spelling b ++ t) later.2
@@ -51,13 +52,13 @@ begins_bytes (b ∷ v) more rest e =
     ]
 
 -- behind the text of an element stands a comma, and a beginning of the others
-begins_behind : {A : Type 0} (text_of : A → List ℕ) (IsFrontOf : List ℕ → Type 0) (v w : A)
+begins_behind : {A : Type 0} (text_of : A → List ℕ) (IsPrefixOf : List ℕ → Type 0) (v w : A)
     (vs : List A) (behind rest : List ℕ) → 44 ∷ separated text_of (w ∷ vs) ++ 93 ∷ [] ≡ behind
     ++ rest
     → ((more later : List ℕ) → separated text_of (w ∷ vs) ++ 93 ∷ [] ≡ more ++ later
-    → FrontOfSome text_of IsFrontOf more) → FrontOfSome text_of IsFrontOf (text_of v ++ behind)
-begins_behind text_of IsFrontOf v w vs [] rest e others = inr (v, [], [], refl, (93 ∷ [], refl))
-begins_behind {A} text_of IsFrontOf v w vs (c ∷ behind) rest e others =
+    → PrefixOfSome text_of IsPrefixOf more) → PrefixOfSome text_of IsPrefixOf (text_of v ++ behind)
+begins_behind text_of IsPrefixOf v w vs [] rest e others = inr (v, [], [], refl, (93 ∷ [], refl))
+begins_behind {A} text_of IsPrefixOf v w vs (c ∷ behind) rest e others =
     let comma : 44 ≡ c = cc in
     let tail : separated text_of (w ∷ vs) ++ 93 ∷ [] ≡ behind ++ rest = cc in
     let here : (t : List ℕ) → behind ≡ t → text_of v ++ c ∷ behind ≡ text_of v ++ 44
@@ -81,56 +82,56 @@ begins_behind {A} text_of IsFrontOf v w vs (c ∷ behind) rest e others =
       )
     ]
 
-begins_some : {A : Type 0} (text_of : A → List ℕ) (IsFrontOf : List ℕ → Type 0)
-    → ((v : A) (f : List ℕ) → Begins f (text_of v) → IsFrontOf f)
+begins_some : {A : Type 0} (text_of : A → List ℕ) (IsPrefixOf : List ℕ → Type 0)
+    → ((v : A) (f : List ℕ) → Begins f (text_of v) → IsPrefixOf f)
     → (v : A) (vs : List A) (more rest : List ℕ) → separated text_of (v ∷ vs) ++ 93 ∷ [] ≡ more
-    ++ rest → FrontOfSome text_of IsFrontOf more
-begins_some text_of IsFrontOf one v [] more rest e =
+    ++ rest → PrefixOfSome text_of IsPrefixOf more
+begins_some text_of IsPrefixOf one v [] more rest e =
     elim (begins_parts _ _ _ _ e)
     [ inl at ↦ inl ([], more, refl, one v more at) | inr at ↦ inr (v, [], at.0, at.1, at.2) ]
-begins_some {A} text_of IsFrontOf one v (w ∷ vs) more rest e =
+begins_some {A} text_of IsPrefixOf one v (w ∷ vs) more rest e =
     elim (begins_parts _ _ _ _
     (sym (append_assoc (text_of v) (44 ∷ separated text_of (w ∷ vs)) (93 ∷ [])) ∙ e)) [
       | inl at ↦ inl ([], more, refl, one v more at)
       | inr at ↦
-          let some : FrontOfSome text_of IsFrontOf (text_of v ++ at.0) =
-          begins_behind text_of IsFrontOf v w _ _ _ at.2.1
-          (λ t later is. begins_some text_of IsFrontOf one w vs t later is) in
+          let some : PrefixOfSome text_of IsPrefixOf (text_of v ++ at.0) =
+          begins_behind text_of IsPrefixOf v w _ _ _ at.2.1
+          (λ t later is. begins_some text_of IsPrefixOf one w vs t later is) in
           rw at.1 some
     ]
 
-begins_elements : {A : Type 0} (text_of : A → List ℕ) (IsFrontOf : List ℕ → Type 0)
-    → ((v : A) (f : List ℕ) → Begins f (text_of v) → IsFrontOf f)
+begins_elements : {A : Type 0} (text_of : A → List ℕ) (IsPrefixOf : List ℕ → Type 0)
+    → ((v : A) (f : List ℕ) → Begins f (text_of v) → IsPrefixOf f)
     → (vs : List A) (more rest : List ℕ) → separated text_of vs ++ 93 ∷ [] ≡ more ++ rest
-    → IsFrontOfElements text_of IsFrontOf more
-begins_elements text_of IsFrontOf one [] more rest e = inr ([], more, refl, (rest, e))
-begins_elements {A} text_of IsFrontOf one (v ∷ vs) more rest e =
-    elim (begins_some text_of IsFrontOf one v _ more rest e)
+    → IsPrefixOfElements text_of IsPrefixOf more
+begins_elements text_of IsPrefixOf one [] more rest e = inr ([], more, refl, (rest, e))
+begins_elements {A} text_of IsPrefixOf one (v ∷ vs) more rest e =
+    elim (begins_some text_of IsPrefixOf one v _ more rest e)
     [ inl at ↦ inl at | inr at ↦ inr (at.0 ∷ at.1, at.2, at.3, at.4) ]
 
 -- a beginning of a byte and more is none, or the byte and a beginning of the rest
-begins_byte : (b : ℕ) (s front rest : List ℕ) (P : List ℕ → Type 0)
-    → ((more later : List ℕ) → s ≡ more ++ later → P more) → b ∷ s ≡ front ++ rest
-    → Begins front (b ∷ []) ⊎ ((more : List ℕ) × (front ≡ b ∷ more) × P more)
+begins_byte : (b : ℕ) (s prefix rest : List ℕ) (P : List ℕ → Type 0)
+    → ((more later : List ℕ) → s ≡ more ++ later → P more) → b ∷ s ≡ prefix ++ rest
+    → Begins prefix (b ∷ []) ⊎ ((more : List ℕ) × (prefix ≡ b ∷ more) × P more)
 begins_byte b s [] rest P others e = inl (b ∷ [], refl)
 begins_byte b s (c ∷ more) rest P others e = search rules
 
-begins_front : (g : Grammar) (v : Value g) (front : List ℕ) → Begins front (text g v)
-    → IsFront g front
-unfolding text IsFront
-begins_front (Fixed bytes) v front at = at
-begins_front Str v front at = begins_byte _ _ _ _ IsFrontOfBytes (begins_bytes v) at.1
-begins_front (Then a b) v front at =
+begins_prefix : (g : Grammar) (v : Value g) (prefix : List ℕ) → Begins prefix (text g v)
+    → IsTextPrefix g prefix
+unfolding text IsTextPrefix
+begins_prefix (Fixed bytes) v prefix at = at
+begins_prefix Str v prefix at = begins_byte _ _ _ _ IsPrefixOfBytes (begins_bytes v) at.1
+begins_prefix (Then a b) v prefix at =
     elim (begins_parts _ _ _ _ at.1) [
-      | inl first ↦ inl (begins_front a v.0 front first)
-      | inr second ↦ inr (v.0, second.0, second.1, begins_front b _ _ second.2)
+      | inl first ↦ inl (begins_prefix a v.0 prefix first)
+      | inr second ↦ inr (v.0, second.0, second.1, begins_prefix b _ _ second.2)
     ]
-begins_front (Many order g) vs front at =
+begins_prefix (Many order g) vs prefix at =
     begins_byte _ _ _ _
-    (IsFrontOfElements (text g) (IsFront g))
-    (begins_elements (text g) (IsFront g) (begins_front g) _) at.1
+    (IsPrefixOfElements (text g) (IsTextPrefix g))
+    (begins_elements (text g) (IsTextPrefix g) (begins_prefix g) _) at.1
 
--- ---- a front is a beginning
+-- ---- a prefix is a beginning
 
 -- each grammar has a value
 some_value : (g : Grammar) → Value g
@@ -144,7 +145,7 @@ spellings-append : (v w : List ℕ) → flat_map spelling (v ++ w) ≡ flat_map 
 spellings-append [] w = refl
 spellings-append (b ∷ v) w = search (rules, append_assoc, spellings-append v w)
 
-bytes_begin : (more : List ℕ) → IsFrontOfBytes more → (v : List ℕ)
+bytes_begin : (more : List ℕ) → IsPrefixOfBytes more → (v : List ℕ)
     × Begins more (flat_map spelling v ++ 34 ∷ [])
 bytes_begin more (at0, at1, at2, inl at) =
     let one : flat_map spelling (at.0 ∷ []) ≡ at1 ++ at.1.0 =
@@ -170,11 +171,11 @@ separated-last text_of (w ∷ []) v = search (rules, append_assoc)
 separated-last text_of (w ∷ u ∷ whole) v =
     search (rules, append_assoc, separated-last text_of (u ∷ whole) v)
 
-elements_begin : {A : Type 0} (text_of : A → List ℕ) (IsFrontOf : List ℕ → Type 0)
-    → ((f : List ℕ) → IsFrontOf f → (v : A) × Begins f (text_of v)) → (more : List ℕ)
-    → IsFrontOfElements text_of IsFrontOf more → (vs : List A)
+elements_begin : {A : Type 0} (text_of : A → List ℕ) (IsPrefixOf : List ℕ → Type 0)
+    → ((f : List ℕ) → IsPrefixOf f → (v : A) × Begins f (text_of v)) → (more : List ℕ)
+    → IsPrefixOfElements text_of IsPrefixOf more → (vs : List A)
     × Begins more (separated text_of vs ++ 93 ∷ [])
-elements_begin text_of IsFrontOf one more (inl at) =
+elements_begin text_of IsPrefixOf one more (inl at) =
     let last = one at.1 at.3 in (
       at.0 ++ last.0 ∷ [],
       (
@@ -183,14 +184,14 @@ elements_begin text_of IsFrontOf one more (inl at) =
             (simp append_assoc),
       ),
     )
-elements_begin text_of IsFrontOf one more (inr at) = search (rules, append_assoc)
+elements_begin text_of IsPrefixOf one more (inr at) = search (rules, append_assoc)
 
-front_begins : (g : Grammar) (front : List ℕ) → IsFront g front → (v : Value g)
-    × Begins front (text g v)
-unfolding text IsFront
-front_begins (Fixed bytes) front at = (tt, at)
-front_begins Str front (inl at) = ([], begins_more _ _ _ at)
-front_begins Str front (inr at) =
+prefix_begins : (g : Grammar) (prefix : List ℕ) → IsTextPrefix g prefix → (v : Value g)
+    × Begins prefix (text g v)
+unfolding text IsTextPrefix
+prefix_begins (Fixed bytes) prefix at = (tt, at)
+prefix_begins Str prefix (inl at) = ([], begins_more _ _ _ at)
+prefix_begins Str prefix (inr at) =
     let whole = bytes_begin _ at.2 in (
       whole.0,
       (
@@ -199,11 +200,11 @@ front_begins Str front (inr at) =
             ∙ ap (λ (t : List ℕ). t ++ whole.1.0) (sym at.1),
       ),
     )
-front_begins (Then a b) front (inl at) =
-    let first = front_begins a _ at in
+prefix_begins (Then a b) prefix (inl at) =
+    let first = prefix_begins a _ at in
     ((first.0, some_value b), begins_more _ _ _ first.1)
-front_begins (Then a b) front (inr at) =
-    let second = front_begins b _ at.3 in (
+prefix_begins (Then a b) prefix (inr at) =
+    let second = prefix_begins b _ at.3 in (
       (at.0, second.0),
       (
         second.1.0,
@@ -212,9 +213,9 @@ front_begins (Then a b) front (inr at) =
             ∙ ap (λ (t : List ℕ). t ++ second.1.0) (sym at.2),
       ),
     )
-front_begins (Many order g) front (inl at) = ([], begins_more _ _ _ at)
-front_begins (Many order g) front (inr at) =
-    let whole = elements_begin (text g) (IsFront g) (front_begins g) _ at.2 in (
+prefix_begins (Many order g) prefix (inl at) = ([], begins_more _ _ _ at)
+prefix_begins (Many order g) prefix (inr at) =
+    let whole = elements_begin (text g) (IsTextPrefix g) (prefix_begins g) _ at.2 in (
       whole.0,
       (
         whole.1.0,
@@ -223,5 +224,5 @@ front_begins (Many order g) front (inr at) =
       ),
     )
 
-pub fronts_are_beginnings : (g : Grammar) → FrontsAreBeginnings g
-fronts_are_beginnings g front = (front_begins g _, λ (v, at). begins_front g v _ at)
+pub prefixes_begin_texts : (g : Grammar) → PrefixesBeginTexts g
+prefixes_begin_texts g prefix = (prefix_begins g _, λ (v, at). begins_prefix g v _ at)
