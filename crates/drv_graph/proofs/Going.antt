@@ -3,11 +3,11 @@ use Rattle.std.proofs.Common.{◌≡◌, ◌∙◌, ℕ, List, [], ◌∷◌, �
 use Rattle.std.specs.Prelude.{⊤}
 use Rattle.nix_drv.specs.Sources.{Answer}
 use Rattle.drv_graph.specs.Walks.{IsGoingOn, IsStepping, LeavesNone}
-use Rattle.drv_graph.specs.declared.found.Found.{Found}
-use Rattle.drv_graph.specs.declared.found.Visit.{Visit}
+use Rattle.drv_graph.specs.declared.walk_state.WalkState.{WalkState}
+use Rattle.drv_graph.specs.declared.walk_state.Visit.{Visit}
 
 -- the derivation is kept open, with one number more
-pub went_along : (dir : List ℕ) (gives : List ℕ → Answer → Type 0) (before after : Found)
+pub went_along : (dir : List ℕ) (gives : List ℕ → Answer → Type 0) (before after : WalkState)
     (below visits : List Visit) (visit next : Visit) (child : Option Visit) (made : ⊤)
     → LeavesNone before after → child ≡ None → IsStepping dir gives before.marks after.marks visit
     next (Ok child) → visits ≡ below ++ next ∷ []
@@ -18,7 +18,7 @@ went_along dir gives before after below visits visit next None made none is step
     inr (inl (next, none, step, shape))
 
 -- another one is opened
-pub went_down : (dir : List ℕ) (gives : List ℕ → Answer → Type 0) (before after : Found)
+pub went_down : (dir : List ℕ) (gives : List ℕ → Answer → Type 0) (before after : WalkState)
     (below pushed visits : List Visit) (visit next child : Visit) (made : ⊤)
     → LeavesNone before after → IsStepping dir gives before.marks after.marks visit next
     (Ok (Some child)) → pushed ≡ below ++ next ∷ [] → visits ≡ pushed ++ child ∷ []

@@ -22,8 +22,8 @@ use Rattle.drv_graph.specs.Walks.{HasAllNumbers, IsWalkSoFar, IsLeaving, IsLeavi
 use Rattle.indexmap.specs.IndexMap.{keys}
 use Rattle.drv_graph.specs.declared.fault.GraphFault.{GraphFault}
 use Rattle.drv_graph.specs.declared.fault.GraphFault.TheVariants.{NoMemory}
-use Rattle.drv_graph.specs.declared.found.Found.{Found}
-use Rattle.drv_graph.specs.declared.found.Visit.{Visit}
+use Rattle.drv_graph.specs.declared.walk_state.WalkState.{WalkState}
+use Rattle.drv_graph.specs.declared.walk_state.Visit.{Visit}
 use Rattle.drv_graph.specs.declared.kinds.Kind.{Kind}
 use Rattle.drv_graph.specs.declared.node.PlanNode.{PlanNode}
 use Rattle.drv_graph.specs.Twins.{are_twins}
@@ -161,7 +161,7 @@ kept_push kept one right new =
 
 -- what was left is right with one derivation more
 found_right :
-    (dir : List ℕ) (kept : List PlanNode) (after : Found) (one : PlanNode)
+    (dir : List ℕ) (kept : List PlanNode) (after : WalkState) (one : PlanNode)
     (owners : List ℕ → Option ℕ) (outputs : List (List ℕ)) →
     AreKept kept →
     AreDistinct (paths_of (nodes_of kept)) →
@@ -223,7 +223,7 @@ its_first dir kept visit kind owners first entered right are owned_right =
 
 -- a derivation is left
 pub leaving_kept :
-    (dir : List ℕ) (before after : Found) (visit : Visit) (kind : Kind) (hash : List ℕ)
+    (dir : List ℕ) (before after : WalkState) (visit : Visit) (kind : Kind) (hash : List ℕ)
     (outputs sources : Vec (List ℕ)) (first : ℕ) (given : List PlanNode) (entered : List (List ℕ))
     (owners : List ℕ → Option ℕ) (result : Result ⊤ GraphFault) →
     IsWalkSoFar dir before →

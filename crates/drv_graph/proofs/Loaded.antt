@@ -16,8 +16,8 @@ use Rattle.drv_graph.specs.Plans.{AreLawful, AreLeft, AreNumbers, IsPlan, IsReac
 use Rattle.drv_graph.specs.Plans.AreLeft.{none_left}
 use Rattle.drv_graph.specs.PlanNodes.{AreKept, IsPlanNode, nodes_of}
 use Rattle.drv_graph.specs.SoundGraphs.{IsSound}
-use Rattle.drv_graph.specs.Walks.{AreMarks, IsEmptyFound, IsReachedAll, IsVisited, IsWalked, marked}
-use Rattle.drv_graph.specs.declared.found.Found.{Found}
+use Rattle.drv_graph.specs.Walks.{AreMarks, IsEmptyWalk, IsReachedAll, IsVisited, IsWalked, marked}
+use Rattle.drv_graph.specs.declared.walk_state.WalkState.{WalkState}
 use Rattle.drv_graph.proofs.Marks.{marks_none}
 use Rattle.drv_graph.proofs.Numbers.{numbers_grow, numbers_within}
 use Rattle.drv_graph.proofs.OwnOutputs.{all_named}
@@ -28,7 +28,7 @@ use Rattle.drv_graph.proofs.SameSources.{walked_by}
 
 -- What the first roots reach was left, in plan order, and these are their numbers.
 pub record IsReachedSome (dir : List ℕ) (gives : List ℕ → Answer → Type 0)
-    (roots done : List (List ℕ)) (found : Found) (numbers : List ℕ) : Type 0 where
+    (roots done : List (List ℕ)) (found : WalkState) (numbers : List ℕ) : Type 0 where
   pub walked : IsWalked dir gives roots found []
   pub in_order : (nodes : List Node) → All (Contains nodes) (nodes_of found.nodes.items)
       → AreLeft nodes [] done (paths_of (nodes_of found.nodes.items))
@@ -47,16 +47,16 @@ distinct_none : IsDistinct (pointwise nat_eq) []
 unfolding IsDistinct
 distinct_none = tt
 
-no_keys : (found : Found) → IsEmptyFound found → length (keys found.marks)
+no_keys : (found : WalkState) → IsEmptyWalk found → length (keys found.marks)
     ≡ length found.nodes.items + 0
 no_keys found empty = search rules
 
-no_more : (found : Found) → IsEmptyFound found → length (keys found.marks) ≤ max_nodes
+no_more : (found : WalkState) → IsEmptyWalk found → length (keys found.marks) ≤ max_nodes
 no_more found empty = search (rules, no_keys)
 
 -- nothing was left yet
 pub loading_begins : (dir : List ℕ) (gives : List ℕ → Answer → Type 0) (roots : List (List ℕ))
-    (found : Found) (numbers : List ℕ) → IsEmptyFound found → numbers ≡ []
+    (found : WalkState) (numbers : List ℕ) → IsEmptyWalk found → numbers ≡ []
     → IsDistinct nat_eq numbers → IsReachedSome dir gives roots [] found numbers
 loading_begins dir gives roots found numbers empty none once = record {
   walked = record {
@@ -89,7 +89,7 @@ loading_begins dir gives roots found numbers empty none once = record {
 -- one more root
 pub loading_more :
     (dir : List ℕ) (G H : List ℕ → Answer → Type 0) (roots done : List (List ℕ))
-    (found after : Found) (numbers next : List ℕ) (root : List ℕ) (number : ℕ) →
+    (found after : WalkState) (numbers next : List ℕ) (root : List ℕ) (number : ℕ) →
     GivesSame G H →
     IsReachedSome dir G roots done found numbers →
     IsVisited dir H roots root found after number →
@@ -119,7 +119,7 @@ loading_more dir G H roots done found after numbers next root number same some v
 
 -- behind all roots
 pub loading_ends : (dir : List ℕ) (gives : List ℕ → Answer → Type 0) (roots : List (List ℕ))
-    (place : ℕ) (found : Found) (numbers : List ℕ) → length roots ≤ place
+    (place : ℕ) (found : WalkState) (numbers : List ℕ) → length roots ≤ place
     → IsReachedSome dir gives roots (take place roots) found numbers
     → IsReachedAll dir gives roots found numbers
 loading_ends dir gives roots place found numbers all some =
@@ -135,13 +135,13 @@ loading_ends dir gives roots place found numbers all some =
 
 -- there are no more than a plan may have
 few_found : (dir : List ℕ) (gives : List ℕ → Answer → Type 0) (roots : List (List ℕ))
-    (found : Found) (numbers : List ℕ) → IsReachedAll dir gives roots found numbers
+    (found : WalkState) (numbers : List ℕ) → IsReachedAll dir gives roots found numbers
     → length (nodes_of found.nodes.items) ≤ max_nodes
 few_found dir gives roots found numbers all = search (rules, length-map)
 
 -- what was found is the plan
 pub plan_found : (dir : List ℕ) (gives : List ℕ → Answer → Type 0) (roots : List (List ℕ))
-    (found : Found) (numbers : List ℕ) → IsReachedAll dir gives roots found numbers
+    (found : WalkState) (numbers : List ℕ) → IsReachedAll dir gives roots found numbers
     → IsPlan dir gives roots (record { nodes = nodes_of found.nodes.items; roots = numbers })
 plan_found dir gives roots found numbers all =
     let order = all.in_order (nodes_of found.nodes.items)
@@ -158,7 +158,7 @@ plan_found dir gives roots found numbers all =
 
 -- and is right without its source
 pub sound_found : (dir : List ℕ) (gives : List ℕ → Answer → Type 0) (roots : List (List ℕ))
-    (found : Found) (numbers : List ℕ) → IsReachedAll dir gives roots found numbers
+    (found : WalkState) (numbers : List ℕ) → IsReachedAll dir gives roots found numbers
     → AreKept found.nodes.items
     × IsSound (record { nodes = nodes_of found.nodes.items; roots = numbers })
 sound_found dir gives roots found numbers all = (

@@ -13,7 +13,7 @@ use Rattle.drv_graph.specs.declared.fault.GraphFault.TheVariants.{NoMemory, At, 
 use Rattle.drv_graph.specs.declared.fault.NodeFault.TheVariants.{Unreadable, TooMany, Text, Cycle, Outputs, OutputClash}
 use Rattle.drv_graph.specs.declared.fault.OutputFault.{OutputFault}
 use Rattle.drv_graph.specs.declared.kinds.Kind.{Kind}
-use Rattle.drv_graph.specs.declared.found.Found.{Found}
+use Rattle.drv_graph.specs.declared.walk_state.WalkState.{WalkState}
 
 pub gives_back : (G H : List ℕ → Answer → Type 0) → GivesSame G H → GivesSame H G
 gives_back G H same path answer = search rules
@@ -45,7 +45,7 @@ module _ (dir : List ℕ) (G H : List ℕ → Answer → Type 0) (same : GivesSa
   checked_by path answer checked = search (rules, stands_by, given_by)
 
   -- what was left and is open is right by the other source too
-  pub walked_by : (roots : List (List ℕ)) (found : Found) (pending : List (List ℕ))
+  pub walked_by : (roots : List (List ℕ)) (found : WalkState) (pending : List (List ℕ))
       → IsWalked dir H roots found pending → IsWalked dir G roots found pending
   walked_by roots found pending walked = search (rules, given_by, All-weaker, reached_by)
 

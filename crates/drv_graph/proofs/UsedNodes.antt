@@ -16,7 +16,7 @@ use Rattle.drv_graph.specs.Walks.{IsLeavingFault, IsOutputFaultAt, IsUsed, visit
 use Rattle.drv_graph.specs.declared.fault.GraphFault.{GraphFault}
 use Rattle.drv_graph.specs.declared.fault.GraphFault.TheVariants.{NoMemory, At, Draft, Name}
 use Rattle.drv_graph.specs.declared.fault.OutputFault.{OutputFault}
-use Rattle.drv_graph.specs.declared.found.Visit.{Visit}
+use Rattle.drv_graph.specs.declared.walk_state.Visit.{Visit}
 use Rattle.drv_graph.specs.declared.kinds.Kind.{Kind}
 use Rattle.drv_graph.specs.declared.node.PlanNode.{PlanNode}
 use Rattle.drv_graph.specs.declared.outputs.UsedInput.{UsedInput}

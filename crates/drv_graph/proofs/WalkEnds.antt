@@ -20,8 +20,8 @@ use Rattle.drv_graph.specs.declared.fault.GraphFault.TheVariants.{NoMemory, At, 
 use Rattle.drv_graph.specs.declared.fault.NodeFault.TheVariants.{Unreadable, TooMany, Text, Cycle, Outputs, OutputClash}
 use Rattle.drv_graph.specs.declared.fault.OutputFault.{OutputFault}
 use Rattle.drv_graph.specs.declared.kinds.Kind.{Kind}
-use Rattle.drv_graph.specs.declared.found.Found.{Found}
-use Rattle.drv_graph.specs.declared.found.Visit.{Visit}
+use Rattle.drv_graph.specs.declared.walk_state.WalkState.{WalkState}
+use Rattle.drv_graph.specs.declared.walk_state.Visit.{Visit}
 use Rattle.drv_graph.proofs.Marks.{marks_left, pending_not_left}
 use Rattle.drv_graph.proofs.Numbers.{numbers_grow}
 use Rattle.drv_graph.proofs.PathLists.{distinct_push}
@@ -53,7 +53,7 @@ open_grows dir gives roots root nodes more (v ∷ vs) are = (
 -- the innermost open derivation is left
 pub walk_leaves :
     (dir : List ℕ) (gives : List ℕ → Answer → Type 0) (roots : List (List ℕ)) (root : List ℕ)
-    (start : List Node) (found after : Found) (visit : Visit) (visits : List Visit) →
+    (start : List Node) (found after : WalkState) (visit : Visit) (visits : List Visit) →
     IsWalk dir gives roots root start found (visit ∷ visits) →
     HasAllNumbers visit →
     LeavesVisit dir found after visit →
@@ -171,7 +171,7 @@ on_cycle dir gives roots root nodes (v ∷ vs) path are wanted has =
 
 -- each path that was met is reached
 met_reached : (dir : List ℕ) (gives : List ℕ → Answer → Type 0) (roots : List (List ℕ))
-    (root : List ℕ) (start : List Node) (found : Found) (visits : List Visit)
+    (root : List ℕ) (start : List Node) (found : WalkState) (visits : List Visit)
     → IsWalk dir gives roots root start found visits → (path : List ℕ)
     → Contains (keys found.marks) path → IsReachedBy (MayUse dir gives) roots path
 met_reached dir gives roots root start found visits walk path has =
@@ -191,7 +191,7 @@ met_reached dir gives roots root start found visits walk path has =
         ((walk.walked.marks.numbered path n).0 is))
 
 too_many : (dir : List ℕ) (gives : List ℕ → Answer → Type 0) (roots : List (List ℕ)) (root : List ℕ)
-    (start : List Node) (found : Found) (visits : List Visit) (path : List ℕ)
+    (start : List Node) (found : WalkState) (visits : List Visit) (path : List ℕ)
     → IsWalk dir gives roots root start found visits → IsReachedBy (MayUse dir gives) roots path
     → marked found.marks path ≡ None → AreDistinct (keys found.marks) → max_nodes
     ≤ length (keys found.marks) → ReachTooMany (MayUse dir gives) roots
@@ -211,7 +211,7 @@ too_many dir gives roots root start found visits path walk reached none distinct
 -- a fault of what is wanted next is true
 pub meeting_fault :
     (dir : List ℕ) (gives : List ℕ → Answer → Type 0) (roots : List (List ℕ)) (root : List ℕ)
-    (start : List Node) (found : Found) (visits : List Visit) (path : List ℕ)
+    (start : List Node) (found : WalkState) (visits : List Visit) (path : List ℕ)
     (fault : GraphFault) →
     Contains roots root →
     IsWalk dir gives roots root start found visits →
@@ -258,7 +258,7 @@ meeting_fault dir gives roots root start found visits path fault has_root walk w
 -- what the check of the innermost open derivation may answer behind what was left
 checked_behind :
     (dir : List ℕ) (gives : List ℕ → Answer → Type 0) (roots : List (List ℕ)) (root : List ℕ)
-    (start : List Node) (found : Found) (visit : Visit) (visits : List Visit)
+    (start : List Node) (found : WalkState) (visit : Visit) (visits : List Visit)
     (answer : Result Kind OutputFault) →
     IsWalk dir gives roots root start found (visit ∷ visits) →
     MayAnswer dir (nodes_of found.nodes.items) (visited visit) answer →
@@ -269,7 +269,7 @@ checked_behind dir gives roots root start found visit visits answer walk check =
 -- a fault of the innermost open derivation is true
 pub leaving_fault :
     (dir : List ℕ) (gives : List ℕ → Answer → Type 0) (roots : List (List ℕ)) (root : List ℕ)
-    (start : List Node) (found : Found) (visit : Visit) (visits : List Visit)
+    (start : List Node) (found : WalkState) (visit : Visit) (visits : List Visit)
     (fault : GraphFault) →
     IsWalk dir gives roots root start found (visit ∷ visits) →
     IsLeavingFault dir found.nodes.items visit fault →

@@ -16,8 +16,8 @@ use Rattle.drv_graph.specs.Walks.{IsGoingOn, IsMeetingFault, IsReadingFault, IsV
 use Rattle.drv_graph.specs.declared.fault.GraphFault.{GraphFault}
 use Rattle.drv_graph.specs.declared.fault.GraphFault.TheVariants.{NoMemory, At, Draft, Name}
 use Rattle.drv_graph.specs.declared.fault.NodeFault.TheVariants.{Unreadable, TooMany, Text, Cycle, Outputs, OutputClash}
-use Rattle.drv_graph.specs.declared.found.Found.{Found}
-use Rattle.drv_graph.specs.declared.found.Visit.{Visit}
+use Rattle.drv_graph.specs.declared.walk_state.WalkState.{WalkState}
+use Rattle.drv_graph.specs.declared.walk_state.Visit.{Visit}
 use Rattle.drv_graph.specs.Plans.AreLeft.{none_left, passed_over}
 use Rattle.std.proofs.lemmas.List.Elements.{All-nil}
 use Rattle.drv_graph.proofs.InStore.{sources_in_store}
@@ -68,13 +68,13 @@ reverse_push below visit = reverse-append below (visit ∷ [])
 
 module _ (dir : List ℕ) (G H : List ℕ → Answer → Type 0) (roots : List (List ℕ)) (root : List ℕ)
     (start : List Node) where
-  popped : (found : Found) (before below : List Visit) (visit : Visit)
+  popped : (found : WalkState) (before below : List Visit) (visit : Visit)
       → IsWalk dir G roots root start found (reverse before) → before ≡ below ++ visit ∷ []
       → IsWalk dir G roots root start found (visit ∷ reverse below)
   popped found before below visit walk parts = search (rules, reverse, reverse_push)
 
   -- what is asked of the innermost open derivation
-  pub popped_is : (found : Found) (before below : List Visit) (visit : Visit)
+  pub popped_is : (found : WalkState) (before below : List Visit) (visit : Visit)
       → IsWalk dir G roots root start found (reverse before) → before ≡ below ++ visit ∷ []
       → IsVisit (nodes_of found.nodes.items) visit × (marked found.marks visit.path ≡ Some None)
       × (Contains (paths_of (nodes_of found.nodes.items)) visit.path → ⊥)
@@ -89,13 +89,13 @@ module _ (dir : List ℕ) (G H : List ℕ → Answer → Type 0) (roots : List (
       )
 
   -- its sources are in the folder
-  pub popped_sources : (found : Found) (before below : List Visit) (visit : Visit)
+  pub popped_sources : (found : WalkState) (before below : List Visit) (visit : Visit)
       → IsWalk dir G roots root start found (reverse before) → before ≡ below ++ visit ∷ []
       → All (IsPathOf dir) visit.drv.sources
   popped_sources found before below visit walk parts =
       sources_in_store _ _ (popped _ _ _ _ walk parts).pending.0.stands.found.in_store
 
-  wanted_input : (found : Found) (visit : Visit) (below : List Visit) (input : List ℕ)
+  wanted_input : (found : WalkState) (visit : Visit) (below : List Visit) (input : List ℕ)
       → IsWalk dir G roots root start found (visit ∷ below)
       → slice_get visit.inputs.items (length visit.numbers.items) ≡ Some input
       → IsWanted root (visit ∷ below) input
@@ -103,7 +103,7 @@ module _ (dir : List ℕ) (G H : List ℕ → Answer → Type 0) (roots : List (
 
   -- the walk goes on
   pub walk_goes_on :
-      (found after : Found) (before below rest : List Visit) (visit : Visit) (made : ⊤) →
+      (found after : WalkState) (before below rest : List Visit) (visit : Visit) (made : ⊤) →
       Contains roots root →
       GivesSame G H →
       IsWalk dir G roots root start found (reverse before) →
@@ -132,7 +132,8 @@ module _ (dir : List ℕ) (G H : List ℕ → Answer → Type 0) (roots : List (
 
   -- or ends with a fault, which is true
   pub walk_stops :
-      (found after : Found) (before below rest : List Visit) (visit : Visit) (fault : GraphFault) →
+      (found after : WalkState) (before below rest : List Visit) (visit : Visit)
+      (fault : GraphFault) →
       Contains roots root →
       GivesSame G H →
       IsWalk dir G roots root start found (reverse before) →
@@ -150,8 +151,9 @@ module _ (dir : List ℕ) (G H : List ℕ → Answer → Type 0) (roots : List (
       (same_meeting _ G H found.marks _ _ same input.is_true)
 
   -- at the root nothing is open
-  pub root_opens : (found after : Found) (visits : List Visit) (child : Visit) → Contains roots root
-      → GivesSame G H → IsWalk dir G roots root start found (reverse visits) → length visits ≡ 0
+  pub root_opens : (found after : WalkState) (visits : List Visit) (child : Visit)
+      → Contains roots root → GivesSame G H
+      → IsWalk dir G roots root start found (reverse visits) → length visits ≡ 0
       → LeavesNone found after → Opens dir H found.marks after.marks root child
       → IsWalk dir G roots root start after (child ∷ [])
   root_opens found after [] child has_root same walk none left opens =
@@ -160,8 +162,9 @@ module _ (dir : List ℕ) (G H : List ℕ → Answer → Type 0) (roots : List (
   root_opens found after (v ∷ vs) child has_root same walk none left opens =
       absurd (omega (arith, none))
 
-  pub root_stops : (found : Found) (visits : List Visit) (fault : GraphFault) → Contains roots root
-      → GivesSame G H → IsWalk dir G roots root start found (reverse visits) → length visits ≡ 0
+  pub root_stops : (found : WalkState) (visits : List Visit) (fault : GraphFault)
+      → Contains roots root → GivesSame G H
+      → IsWalk dir G roots root start found (reverse visits) → length visits ≡ 0
       → IsMeetingFault dir H found.marks root fault → IsLoading dir G roots (Err fault)
   root_stops found [] fault has_root same walk none at =
       meeting_fault _ G _ _ _ _ [] root fault has_root walk refl
@@ -171,7 +174,7 @@ module _ (dir : List ℕ) (G H : List ℕ → Answer → Type 0) (roots : List (
 -- the root was left, so the walk is done
 pub walk_ends :
     (dir : List ℕ) (G : List ℕ → Answer → Type 0) (roots : List (List ℕ)) (root : List ℕ)
-    (before found : Found) (visits : List Visit) (number : ℕ) →
+    (before found : WalkState) (visits : List Visit) (number : ℕ) →
     IsWalk dir G roots root (nodes_of before.nodes.items) found (reverse visits) →
     length visits ≡ 0 →
     marked found.marks root ≡ Some (Some number) →
@@ -224,7 +227,7 @@ vec_fits v = omega (arith, v.ok.0, v.small)
 
 -- a walk that goes on has less to do
 pub less_going :
-    (dir : List ℕ) (H : List ℕ → Answer → Type 0) (found after : Found)
+    (dir : List ℕ) (H : List ℕ → Answer → Type 0) (found after : WalkState)
     (before below rest : List Visit) (visit : Visit) (made : ⊤) →
     before ≡ below ++ visit ∷ [] →
     IsGoingOn dir H found after below visit rest (Ok made) →

@@ -10,8 +10,8 @@ use Rattle.drv_graph.specs.Plans.{AreLeft, AreNumbers, IsReachedBy, MayBeAt, May
 use Rattle.drv_graph.specs.Plans.AreLeft.{passed_over, left_behind_inputs}
 use Rattle.drv_graph.specs.PlanNodes.{nodes_of}
 use Rattle.drv_graph.specs.Walks.{Advances, AreMarks, IsWalkSoFar, IsVisit, IsWalked, LeavesNone, Opens, marked, pending_of, visited}
-use Rattle.drv_graph.specs.declared.found.Found.{Found}
-use Rattle.drv_graph.specs.declared.found.Visit.{Visit}
+use Rattle.drv_graph.specs.declared.walk_state.WalkState.{WalkState}
+use Rattle.drv_graph.specs.declared.walk_state.Visit.{Visit}
 use Rattle.drv_graph.proofs.Marks.{marks_opened, new_not_left, new_not_pending}
 use Rattle.drv_graph.proofs.Numbers.{numbers_push}
 use Rattle.drv_graph.proofs.PlanOrder.{left_later, reached_more}
@@ -54,7 +54,7 @@ visits_of visits = map visited visits
 -- A walk from a root: what was left and what is open is right, and leads on to the end by plan
 -- order.
 pub record IsWalk (dir : List ℕ) (gives : List ℕ → Answer → Type 0) (roots : List (List ℕ))
-    (root : List ℕ) (start : List Node) (found : Found) (visits : List Visit) : Type 0 where
+    (root : List ℕ) (start : List Node) (found : WalkState) (visits : List Visit) : Type 0 where
   pub walked : IsWalked dir gives roots found (pending_of visits)
   pub pending : AreOpen dir gives roots root (nodes_of found.nodes.items) visits
   pub more : List Node
@@ -112,14 +112,14 @@ wanted_reached dir gives roots root nodes (v ∷ vs) path has_root are wanted =
     search (rules, reached_more, uses_input)
 
 -- what was left stays right where nothing is left
-found_same : (dir : List ℕ) (found after : Found) → LeavesNone found after → IsWalkSoFar dir found
-    → IsWalkSoFar dir after
+found_same : (dir : List ℕ) (found after : WalkState) → LeavesNone found after
+    → IsWalkSoFar dir found → IsWalkSoFar dir after
 found_same dir found after none right = search rules
 
 -- what is wanted is opened
 pub walk_opens :
     (dir : List ℕ) (gives : List ℕ → Answer → Type 0) (roots : List (List ℕ)) (root : List ℕ)
-    (start : List Node) (found after : Found) (visits : List Visit) (path : List ℕ)
+    (start : List Node) (found after : WalkState) (visits : List Visit) (path : List ℕ)
     (child : Visit) →
     Contains roots root →
     IsWalk dir gives roots root start found visits →
@@ -198,7 +198,7 @@ walk_opens dir gives roots root start found after visits path child has_root wal
 -- the innermost open derivation gets the number of its next input
 pub walk_advances :
     (dir : List ℕ) (gives : List ℕ → Answer → Type 0) (roots : List (List ℕ)) (root : List ℕ)
-    (start : List Node) (found after : Found) (visit next : Visit) (visits : List Visit) →
+    (start : List Node) (found after : WalkState) (visit next : Visit) (visits : List Visit) →
     IsWalk dir gives roots root start found (visit ∷ visits) →
     LeavesNone found after →
     Advances found.marks after.marks visit next →

@@ -24,11 +24,11 @@ use Rattle.drv_graph.specs.declared.fault.NodeFault.{NodeFault}
 use Rattle.drv_graph.specs.declared.fault.NodeFault.TheVariants.{Unreadable, TooMany, Text, Cycle, Outputs, OutputClash}
 use Rattle.drv_graph.specs.declared.fault.OutputFault.{OutputFault}
 use Rattle.drv_graph.specs.declared.fault.OutputFault.TheVariants.{NoMemory as NoRoom}
-use Rattle.drv_graph.specs.declared.found.Found.{Found}
-use Rattle.drv_graph.specs.declared.found.Visit.{Visit}
-use Rattle.drv_graph.specs.declared.load.Reached.{Reached}
-use Rattle.drv_graph.specs.declared.walk.Met.{Met}
-use Rattle.drv_graph.specs.declared.walk.Met.TheVariants.{Done, New}
+use Rattle.drv_graph.specs.declared.walk_state.WalkState.{WalkState}
+use Rattle.drv_graph.specs.declared.walk_state.Visit.{Visit}
+use Rattle.drv_graph.specs.declared.load.LoadedGraph.{LoadedGraph}
+use Rattle.drv_graph.specs.declared.walk.Meeting.{Meeting}
+use Rattle.drv_graph.specs.declared.walk.Meeting.TheVariants.{Done, New}
 use Rattle.drv_graph.specs.declared.node.PlanNode.{PlanNode}
 
 -- a path's mark: none where the path wasn't met, one without a number while its derivation is open,
@@ -80,7 +80,7 @@ kept_visit visit kind hash outputs sources first =
     }
 
 -- What a walk found so far is right.
-pub record IsWalkSoFar (dir : Dir) (found : Found) : Type 0 where
+pub record IsWalkSoFar (dir : Dir) (found : WalkState) : Type 0 where
   pub kept : AreKept found.nodes.items
   pub distinct : AreDistinct (paths_of (nodes_of found.nodes.items))
   pub lawful : AreLawful dir (nodes_of found.nodes.items)
@@ -89,7 +89,7 @@ pub record IsWalkSoFar (dir : Dir) (found : Found) : Type 0 where
   pub owners : AreOwners (owned found.owners) (outputs_of found.nodes.items)
 
 -- A derivation was left: it is the last node now.
-pub record LeavesVisit (dir : Dir) (before after : Found) (visit : Visit) : Type 0 where
+pub record LeavesVisit (dir : Dir) (before after : WalkState) (visit : Visit) : Type 0 where
   pub nodes : nodes_of after.nodes.items ≡ nodes_of before.nodes.items ++ visited visit ∷ []
   pub found : IsWalkSoFar dir after
   pub marks : SetsEntry (marked before.marks) (marked after.marks) visit.path
@@ -109,7 +109,7 @@ IsLeavingFault dir kept visit (At path OutputClash) =
 IsLeavingFault dir kept visit fault = ⊥
 
 -- what leaving an open derivation answers
-abbrev pub IsLeaving : (dir : Dir) → (before after : Found) → Visit → Result ⊤ GraphFault
+abbrev pub IsLeaving : (dir : Dir) → (before after : WalkState) → Visit → Result ⊤ GraphFault
     → Type 0
 IsLeaving dir before after visit (Ok _) = LeavesVisit dir before after visit
 IsLeaving dir before after visit (Err fault) = IsLeavingFault dir before.nodes.items visit fault
@@ -208,7 +208,7 @@ IsMeetingFault dir gives before path fault =
 -- what meeting a path answers: its number where it was left, or the derivation that is opened for
 -- it
 abbrev pub IsMeeting : {S : Type 0} → (dir : Dir) → (gives : Path → Answer → Type 0)
-    → (before after : IndexMap Path (Option ℕ) S) → (path : Path) → Result Met GraphFault
+    → (before after : IndexMap Path (Option ℕ) S) → (path : Path) → Result Meeting GraphFault
     → Type 0
 IsMeeting dir gives before after path (Ok (Done number)) = (after ≡ before)
     × (marked before path ≡ Some (Some number))
@@ -259,13 +259,13 @@ abbrev pub HasAllNumbers : Visit → Type 0
 HasAllNumbers visit = length visit.inputs.items ≤ length visit.numbers.items
 
 -- No derivation was left.
-pub record LeavesNone (before after : Found) : Type 0 where
+pub record LeavesNone (before after : WalkState) : Type 0 where
   pub nodes : after.nodes ≡ before.nodes
   pub owners : after.owners ≡ before.owners
 
 -- what going on with the innermost open derivation answers; the others, outermost first, stay below
 -- it
-abbrev pub IsGoingOn : (dir : Dir) → (gives : Path → Answer → Type 0) → (before after : Found)
+abbrev pub IsGoingOn : (dir : Dir) → (gives : Path → Answer → Type 0) → (before after : WalkState)
     → (below : List Visit) → (visit : Visit) → (visits : List Visit) → Result ⊤ GraphFault → Type 0
 IsGoingOn dir gives before after below visit visits (Ok _) =
     (HasAllNumbers visit × LeavesVisit dir before after visit × (visits ≡ below))
@@ -280,7 +280,7 @@ IsGoingOn dir gives before after below visit visits (Err fault) =
 
 -- What was left and what is open is right: the source may give it, and the roots reach it.
 pub record IsWalked (dir : Dir) (gives : Path → Answer → Type 0) (roots : List Path)
-    (found : Found) (pending : List Path) : Type 0 where
+    (found : WalkState) (pending : List Path) : Type 0 where
   pub right : IsWalkSoFar dir found
   pub given : All (λ (n : Node). MayBeAt dir gives n.path n.drv) (nodes_of found.nodes.items)
   pub reached : All (IsReachedBy (MayUse dir gives) roots) (paths_of (nodes_of found.nodes.items))
@@ -297,7 +297,7 @@ pub record LeavesInOrder (before after : List Node) (paths : List Path) : Type 0
 
 -- A root and all that it reaches are left.
 pub record IsVisited (dir : Dir) (gives : Path → Answer → Type 0) (roots : List Path)
-    (root : Path) (before after : Found) (number : ℕ) : Type 0 where
+    (root : Path) (before after : WalkState) (number : ℕ) : Type 0 where
   pub walked : IsWalked dir gives roots after []
   pub in_order : LeavesInOrder (nodes_of before.nodes.items) (nodes_of after.nodes.items)
       (root ∷ [])
@@ -305,19 +305,19 @@ pub record IsVisited (dir : Dir) (gives : Path → Answer → Type 0) (roots : L
 
 -- what walking from a root answers
 abbrev pub IsWalking : (dir : Dir) → (gives : Path → Answer → Type 0) → (roots : List Path)
-    → (root : Path) → (before after : Found) → Result ℕ GraphFault → Type 0
+    → (root : Path) → (before after : WalkState) → Result ℕ GraphFault → Type 0
 IsWalking dir gives roots root before after (Ok number) =
     IsVisited dir gives roots root before after number
 IsWalking dir gives roots root before after (Err fault) = IsLoading dir gives roots (Err fault)
 
 -- nothing was met
-abbrev pub IsEmptyFound : Found → Type 0
-IsEmptyFound found = (found.nodes.items ≡ []) × (found.marks.entries ≡ [])
+abbrev pub IsEmptyWalk : WalkState → Type 0
+IsEmptyWalk found = (found.nodes.items ≡ []) × (found.marks.entries ≡ [])
     × (found.owners.entries ≡ [])
 
 -- All that roots reach was left, in plan order, and these are the roots' numbers.
 pub record IsReachedAll (dir : Dir) (gives : Path → Answer → Type 0) (roots : List Path)
-    (found : Found) (numbers : List ℕ) : Type 0 where
+    (found : WalkState) (numbers : List ℕ) : Type 0 where
   pub walked : IsWalked dir gives roots found []
   pub in_order : (nodes : List Node) → All (Contains nodes) (nodes_of found.nodes.items)
       → AreLeft nodes [] roots (paths_of (nodes_of found.nodes.items))
@@ -326,7 +326,7 @@ pub record IsReachedAll (dir : Dir) (gives : Path → Answer → Type 0) (roots 
 
 -- what walking from all roots answers
 abbrev pub IsWalkingAll : (dir : Dir) → (gives : Path → Answer → Type 0)
-    → (roots : List Path) → Result Reached GraphFault → Type 0
+    → (roots : List Path) → Result LoadedGraph GraphFault → Type 0
 IsWalkingAll dir gives roots (Ok reached) = IsReachedAll dir gives roots reached.found
     reached.roots.keys
 IsWalkingAll dir gives roots (Err fault) = IsLoading dir gives roots (Err fault)

@@ -16,11 +16,11 @@ ghost use Rattle.drv_graph.specs.Plans.{AreNumbers};
 ghost use Rattle.drv_graph.specs.UsedInputs.{drvs_of_uses, hashes_of, paths_of_uses as used_paths_of};
 
 use crate::fault::{GraphFault, NodeFault, OutputFault};
-use crate::found::used_inputs;
 use crate::outputs::{UsedInput, expected_outputs};
 use crate::paths::known_paths;
 use crate::placing::place;
 use crate::plan::Plan;
+use crate::walk_state::used_inputs;
 use nix_drv::{Derivation, DrvFault, DrvSource, MAX_LEN, named_text_path, references, write};
 use nix_names::{StoreDir, StorePath, is_name};
 use std::alloc::Global;

@@ -6,7 +6,7 @@
 //! | `plan`, `plan_eq` | plans: loaded, what they tell of each derivation, and when two are equal |
 //! | `load` | how all that some roots reach is found |
 //! | `walk` | how derivations are walked, depth first |
-//! | `found` | what a walk found so far, and how it leaves a derivation |
+//! | `walk_state` | the state of a walk, and how it leaves a derivation |
 //! | `owning` | which derivation owns an output path |
 //! | `node` | a derivation of a plan, and what is kept beside it |
 //! | `kinds`, `kind_of` | the kinds of outputs, and a derivation's kind |
@@ -24,7 +24,6 @@
 mod expected;
 mod fault;
 mod fill;
-mod found;
 mod kind_of;
 mod kinds;
 pub mod laws;
@@ -39,6 +38,7 @@ mod plan;
 mod plan_eq;
 mod values;
 mod walk;
+mod walk_state;
 
 pub use fault::{GraphFault, NodeFault, OutputFault};
 pub use fill::fill_outputs;

@@ -2,20 +2,20 @@
 ghost use Rattle.std.specs.Prelude.{◌≡◌, ◌≤◌, IfErr};
 ghost use Rattle.nix_drv.specs.Sources.{GivesSame};
 ghost use Rattle.drv_graph.specs.Loading.{IsCountedFault};
-ghost use Rattle.drv_graph.specs.Walks.{IsEmptyFound, IsWalkingAll};
+ghost use Rattle.drv_graph.specs.Walks.{IsEmptyWalk, IsWalkingAll};
 
 use crate::fault::GraphFault;
-use crate::found::Found;
 use crate::walk::walk;
+use crate::walk_state::WalkState;
 use indexmap::{IndexMap, IndexSet};
 use nix_drv::DrvSource;
 use nix_names::{StoreDir, StorePath};
 use std::alloc::Global;
 
-// What the roots reach, and their numbers, each once.
+// A walk that reached all that the roots reach, and the numbers of the roots, each once.
 #[derive(Debug, Drop)]
-pub(crate) struct Reached {
-    pub(crate) found: Found,
+pub(crate) struct LoadedGraph {
+    pub(crate) found: WalkState,
     pub(crate) roots: IndexSet<usize>,
 }
 
@@ -25,30 +25,30 @@ pub(crate) fn walk_all<S: DrvSource>(
     source: &mut S,
     dir: &StoreDir,
     roots: &[StorePath],
-) -> Result<Reached, GraphFault>
+) -> Result<LoadedGraph, GraphFault>
     ensures keeps { GivesSame (S.gives source.old) (S.gives source.new) }
     ensures counts { S.failures source.old ≤ S.failures source.new }
     ensures device { IfErr result (IsCountedFault (S.gives source.old) (S.failures source.old)
         (S.failures source.new)) }
     ensures walking { IsWalkingAll dir.now (S.gives source.old) roots.now result }
 {
-    let mut found = nothing(alloc);
+    let mut found = empty_walk(alloc);
     let mut numbers = IndexSet::new(alloc);
     'roots: for place in 0..roots.len() {
         let number = walk(alloc, source, dir, &mut found, roots, place)?;
         numbers.insert(number)?;
     }
-    Ok(Reached {
+    Ok(LoadedGraph {
         found,
         roots: numbers,
     })
 }
 
-// What a walk has found at its beginning: nothing.
-fn nothing(alloc: Global) -> Found
-    ensures { IsEmptyFound result }
+// The state of a walk that begins: nothing was found.
+fn empty_walk(alloc: Global) -> WalkState
+    ensures { IsEmptyWalk result }
 {
-    Found {
+    WalkState {
         nodes: Vec::new(alloc),
         marks: IndexMap::new(alloc),
         owners: IndexMap::new(alloc),

@@ -44,8 +44,8 @@ pub(crate) fn text_by_hashes(
     requires { length hashes.now ≡ length drv.now.inputs }
     ensures { IfOk result (λ text. IsModuloText drv.now hashes.now mask text.items) }
 {
-    let replaced = replaced(alloc, drv.inputs(), hashes)?;
-    let united = united(alloc, replaced)?;
+    let replaced = inputs_by_hash(alloc, drv.inputs(), hashes)?;
+    let united = unite_inputs(alloc, replaced)?;
     let inputs = united.as_slice();
     if mask {
         masked_text(alloc, drv, inputs)
@@ -59,12 +59,16 @@ fn masked_text(alloc: Global, drv: &Derivation, inputs: &[Input]) -> Result<Vec<
     ensures { IfOk result
         (λ text. IsLooseText (with_inputs (masked drv.now) (map input_of inputs.now)) text.items) }
 {
-    masked(alloc, drv)?.text_with_inputs(alloc, inputs)
+    masked_parts(alloc, drv)?.text_with_inputs(alloc, inputs)
 }
 
 // Input derivations whose paths are replaced by their hashes, in hex digits, with room for these
 // alone.
-fn replaced(alloc: Global, inputs: &[Input], hashes: &[[u8; 32]]) -> Result<Vec<Input>, AllocError>
+fn inputs_by_hash(
+    alloc: Global,
+    inputs: &[Input],
+    hashes: &[[u8; 32]],
+) -> Result<Vec<Input>, AllocError>
     requires { length hashes.now ≡ length inputs.now }
     ensures value { IfOk result (λ placed. map input_of placed.items
         ≡ replaced (map input_of inputs.now) hashes.now) }
@@ -112,7 +116,7 @@ fn copy_names(alloc: Global, names: &[Vec<u8>]) -> Result<Vec<Vec<u8>>, AllocErr
 
 // Inputs in rising order of their paths, those of one path as one, with their names in rising
 // order, each once.
-fn united(alloc: Global, mut inputs: Vec<Input>) -> Result<Vec<Input>, AllocError>
+fn unite_inputs(alloc: Global, mut inputs: Vec<Input>) -> Result<Vec<Input>, AllocError>
     ensures { IfOk result
         (λ united. IsUnited (map input_of inputs.items) (map input_of united.items)) }
 {
@@ -122,8 +126,8 @@ fn united(alloc: Global, mut inputs: Vec<Input>) -> Result<Vec<Input>, AllocErro
     Ok(gathered)
 }
 
-// Inputs that are sorted by path, those of one path as one, with the names of all. There is room for
-// as many as there were.
+// Inputs that are sorted by path, those of one path as one, with the names of all. There is room
+// for as many as there were.
 fn gather(alloc: Global, inputs: Vec<Input>) -> Result<Vec<Input>, AllocError>
     requires { IsSorted (slice_cmp nat_cmp) (map path_of inputs.items) }
     ensures value { IfOk result
@@ -169,7 +173,7 @@ fn sort_names(inputs: &mut [Input])
 }
 
 // A derivation's parts, in which the paths of its outputs are empty.
-fn masked(alloc: Global, drv: &Derivation) -> Result<Parts, AllocError>
+fn masked_parts(alloc: Global, drv: &Derivation) -> Result<Parts, AllocError>
     ensures { IfOk result (λ parts. drv_of parts ≡ masked drv.now) }
 {
     let mut parts = drv.parts().copy(alloc)?;

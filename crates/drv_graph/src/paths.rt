@@ -26,34 +26,34 @@ fn known_path(alloc: Global, dir: &StoreDir, text: &[u8]) -> Result<StorePath, G
 
 // A value in which a text names a store path.
 pub(crate) trait NamesPath {
-    // That text.
-    ghost spelled: { Self → Path };
+    // The text of the path.
+    ghost path_text: { Self → Path };
 
-    // That text.
-    fn spelled(&self) -> &[u8]
-        ensures { result.now ≡ spelled self.now };
+    // The text of the path.
+    fn path_text(&self) -> &[u8]
+        ensures { result.now ≡ path_text self.now };
 }
 
 impl NamesPath for Input {
-    ghost spelled = { path_of };
+    ghost path_text = { path_of };
 
-    fn spelled(&self) -> &[u8] {
+    fn path_text(&self) -> &[u8] {
         &self.path
     }
 }
 
 impl NamesPath for Output {
-    ghost spelled = { text_path_of };
+    ghost path_text = { text_path_of };
 
-    fn spelled(&self) -> &[u8] {
+    fn path_text(&self) -> &[u8] {
         &self.path
     }
 }
 
 impl NamesPath for Vec<u8> {
-    ghost spelled = { bytes_of };
+    ghost path_text = { bytes_of };
 
-    fn spelled(&self) -> &[u8] {
+    fn path_text(&self) -> &[u8] {
         self
     }
 }
@@ -64,14 +64,14 @@ pub(crate) fn known_paths<T: NamesPath>(
     dir: &StoreDir,
     named: &[T],
 ) -> Result<Vec<StorePath>, GraphFault>
-    requires { All (IsPathOf dir.now) (map T.spelled named.now) }
-    ensures ok { IfOk result (λ paths. paths.items ≡ map T.spelled named.now) }
+    requires { All (IsPathOf dir.now) (map T.path_text named.now) }
+    ensures ok { IfOk result (λ paths. paths.items ≡ map T.path_text named.now) }
     ensures room { IfOk result (λ paths. vec_capacity paths ≡ length named.now) }
     ensures err { IfErr result (λ fault. fault ≡ GraphFault.NoMemory) }
 {
     let mut paths = Vec::with_capacity(alloc, named.len())?;
     for one in named {
-        paths.push_reserved(known_path(alloc, dir, one.spelled())?);
+        paths.push_reserved(known_path(alloc, dir, one.path_text())?);
     }
     Ok(paths)
 }

@@ -13,10 +13,10 @@ ghost use Rattle.drv_graph.specs.SoundGraphs.{IsSound};
 ghost use Rattle.drv_graph.specs.Twins.{first_twin_of};
 
 use crate::fault::GraphFault;
-use crate::found::Found;
 use crate::kinds::Kind;
-use crate::load::{Reached, walk_all};
+use crate::load::{LoadedGraph, walk_all};
 use crate::node::{PlanNode, copy_nodes, same_nodes};
+use crate::walk_state::WalkState;
 use nix_drv::{Derivation, DrvSource};
 use nix_names::{StoreDir, StorePath};
 use std::alloc::Global;
@@ -66,9 +66,9 @@ impl Plan {
             (S.failures source.old) (S.failures source.new)) }
         ensures loading { IsLoading dir.now (S.gives source.old) roots.now result }
     {
-        let Reached { found, roots } = walk_all(alloc, source, dir, roots)?;
+        let LoadedGraph { found, roots } = walk_all(alloc, source, dir, roots)?;
         let roots = Vec::from_slice(alloc, roots.as_slice())?;
-        let Found {
+        let WalkState {
             nodes,
             marks: _,
             owners: _,

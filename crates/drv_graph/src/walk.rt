@@ -10,8 +10,8 @@ ghost use Rattle.drv_graph.specs.PlanNodes.{nodes_of};
 ghost use Rattle.drv_graph.specs.Walks.{IsFetching, IsWalkSoFar, IsGoingOn, IsMeeting, IsOpening, IsReadingOf, IsStepping, IsTextFaultAt, IsVisit, IsWalked, IsWalking, marked};
 
 use crate::fault::{GraphFault, NodeFault};
-use crate::found::{Found, Visit, leave};
 use crate::paths::known_paths;
+use crate::walk_state::{Visit, WalkState, leave};
 use indexmap::IndexMap;
 use nix_drv::{Derivation, DrvFault, DrvSource, SourceFault, check_text};
 use nix_names::{StoreDir, StorePath};
@@ -20,9 +20,9 @@ use std::alloc::Global;
 // The greatest number of derivations in a plan.
 const MAX_NODES: usize = 65536;
 
-// What meeting a path answers.
+// What a path is that a walk meets.
 #[derive(Debug, Drop)]
-pub(crate) enum Met {
+pub(crate) enum Meeting {
     // The derivation with this number was left before.
     Done(usize),
     // This derivation is opened.
@@ -35,7 +35,7 @@ pub(crate) fn walk<S: DrvSource>(
     alloc: Global,
     source: &mut S,
     dir: &StoreDir,
-    found: &mut Found,
+    found: &mut WalkState,
     roots: &[StorePath],
     place: usize,
 ) -> Result<usize, GraphFault>
@@ -54,8 +54,8 @@ pub(crate) fn walk<S: DrvSource>(
         match visits.pop() {
             Some(visit) => go_on(alloc, source, dir, found, &mut visits, visit)?,
             None => match meet(alloc, source, dir, &mut found.marks, root)? {
-                Met::Done(number) => return Ok(number),
-                Met::New(visit) => visits.push(visit)?,
+                Meeting::Done(number) => return Ok(number),
+                Meeting::New(visit) => visits.push(visit)?,
             },
         }
     }
@@ -67,7 +67,7 @@ fn go_on<S: DrvSource>(
     alloc: Global,
     source: &mut S,
     dir: &StoreDir,
-    found: &mut Found,
+    found: &mut WalkState,
     visits: &mut Vec<Visit>,
     mut visit: Visit,
 ) -> Result<(), GraphFault>
@@ -113,11 +113,11 @@ fn step<S: DrvSource>(
 {
     let input = &visit.inputs[visit.numbers.len()];
     match meet(alloc, source, dir, marks, input)? {
-        Met::Done(number) => {
+        Meeting::Done(number) => {
             visit.numbers.push(number)?;
             Ok(None)
         }
-        Met::New(child) => Ok(Some(child)),
+        Meeting::New(child) => Ok(Some(child)),
     }
 }
 
@@ -129,7 +129,7 @@ fn meet<S: DrvSource>(
     dir: &StoreDir,
     marks: &mut IndexMap<StorePath, Option<usize>>,
     path: &StorePath,
-) -> Result<Met, GraphFault>
+) -> Result<Meeting, GraphFault>
     ensures keeps { GivesSame (S.gives source.old) (S.gives source.new) }
     ensures counts { S.failures source.old ≤ S.failures source.new }
     ensures device { IfErr result (IsCountedFault (S.gives source.old) (S.failures source.old)
@@ -137,11 +137,11 @@ fn meet<S: DrvSource>(
     ensures meeting { IsMeeting dir.now (S.gives source.old) marks.old marks.new path.now result }
 {
     match marks.get(path).copied() {
-        Some(Some(number)) => Ok(Met::Done(number)),
+        Some(Some(number)) => Ok(Meeting::Done(number)),
         Some(None) => Err(GraphFault::At(path.copy(alloc)?, NodeFault::Cycle)),
         None => {
             let visit = open(alloc, source, dir, marks, path)?;
-            Ok(Met::New(visit))
+            Ok(Meeting::New(visit))
         }
     }
 }

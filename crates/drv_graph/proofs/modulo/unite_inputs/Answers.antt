@@ -10,7 +10,7 @@ use Rattle.nix_drv.specs.declared.derivation.Input.{Input}
 use Rattle.drv_graph.specs.Uniting.{IsNameSorted}
 use Rattle.drv_graph.proofs.Gathering.{sorted_map}
 use Rattle.drv_graph.proofs.Uniting.{gathered_moved, united_from}
-use Rattle.drv_graph.proofs.modulo.united.Goals as goal
+use Rattle.drv_graph.proofs.modulo.unite_inputs.Goals as goal
 
 pub gather-requires : goal.gather-requires
 gather-requires c =

@@ -1,7 +1,7 @@
 use Rattle.std.proofs.Common.{◌≡◌, map, take, length, vec_capacity, vec_len}
 use Rattle.nix_drv.specs.Parts.{input_of}
 use Rattle.drv_graph.specs.Modulo.{replaced}
-use Rattle.drv_graph.proofs.modulo.replaced.Given as goal
+use Rattle.drv_graph.proofs.modulo.inputs_by_hash.Given as goal
 
 abbrev pub invariant-loop-place : goal.invariant-loop-place
 invariant-loop-place l = record {

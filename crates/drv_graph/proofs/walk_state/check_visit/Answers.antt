@@ -2,7 +2,7 @@ use Rattle.std.proofs.Common.{subst, rules}
 use Rattle.std.specs.List.{AllZip}
 use Rattle.drv_graph.specs.Walks.{IsUsed}
 use Rattle.drv_graph.proofs.UsedNodes.{check_right, check_wrong, kept_within, used_paths}
-use Rattle.drv_graph.proofs.found.check_visit.Goals as goal
+use Rattle.drv_graph.proofs.walk_state.check_visit.Goals as goal
 
 pub used_inputs-requires : goal.used_inputs-requires
 used_inputs-requires c = search (rules, kept_within)

@@ -8,7 +8,7 @@ use Rattle.drv_graph.proofs.InStore.{outputs_in_store}
 use Rattle.drv_graph.proofs.Leaving.{checking_right, leaving_clash, leaving_kept, outputs_are, parts_outputs, parts_sources}
 use Rattle.drv_graph.proofs.OwnOutputs.{own_outputs}
 use Rattle.drv_graph.proofs.Ends.{err_is}
-use Rattle.drv_graph.proofs.found.leave.Goals as goal
+use Rattle.drv_graph.proofs.walk_state.leave.Goals as goal
 
 pub check_visit-requires-clause-kept : goal.check_visit-requires-clause-kept
 check_visit-requires-clause-kept c =

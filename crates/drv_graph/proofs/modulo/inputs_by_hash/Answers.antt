@@ -5,7 +5,7 @@ use Rattle.nix_drv.specs.Derivation.{Input}
 use Rattle.nix_drv.specs.Parts.{input_of}
 use Rattle.drv_graph.proofs.Loops.{seen_at, took_all, took_more}
 use Rattle.drv_graph.proofs.Masking.{input_parts, replaced_at, replaced_length}
-use Rattle.drv_graph.proofs.modulo.replaced.Goals as goal
+use Rattle.drv_graph.proofs.modulo.inputs_by_hash.Goals as goal
 
 pub loop-place-preserved : goal.loop-place-preserved
 loop-place-preserved c =

@@ -1,4 +1,4 @@
-//! What a walk over derivations found so far, and how it leaves one of them.
+//! The state of a walk over derivations, and how it leaves one of them.
 ghost use Rattle.std.specs.Prelude.{◌≡◌, ◌++◌, ◌∷◌, [], ◌<◌, All, Contains, IfErr, IfOk, OnOk, None, Some, length, vec_capacity};
 ghost use Rattle.std.specs.List.{AllZip};
 ghost use Rattle.indexmap.specs.IndexMap.{keys};
@@ -23,9 +23,9 @@ use std::alloc::Global;
 // The length of `.drv`, in which the name of a derivation's file ends.
 const SUFFIX_LEN: usize = 4;
 
-// What a walk found so far.
+// The state of a walk: what it found so far.
 #[derive(Debug, Drop)]
-pub(crate) struct Found {
+pub(crate) struct WalkState {
     // The derivations that were left, inputs before users.
     pub(crate) nodes: Vec<PlanNode>,
     // Each path that was met: the number of its derivation, or none while that is open.
@@ -51,7 +51,7 @@ pub(crate) struct Visit {
 pub(crate) fn leave(
     alloc: Global,
     dir: &StoreDir,
-    found: &mut Found,
+    found: &mut WalkState,
     visit: Visit,
 ) -> Result<(), GraphFault>
     requires found { IsWalkSoFar dir.now found.old }
@@ -143,7 +143,7 @@ fn drv_name(path: &StorePath) -> &[u8]
 // Keeps a derivation under the next number.
 fn keep(
     alloc: Global,
-    found: &mut Found,
+    found: &mut WalkState,
     visit: Visit,
     kind: Kind,
     hash: [u8; 32],
