@@ -26,13 +26,13 @@ unfoldable pub word_of : (first : Bytes) → ℕ
 word_of first = from_le_bytes w32 (drop 4 first)
 
 -- a word times a constant, modulo 2^64: each bit of the word counts in the high bits
-abbrev pub mixed : ℕ → ℕ
-mixed word = word * 11400714819323198485 % 2 ^ 64
+abbrev pub mix_bits : ℕ → ℕ
+mix_bits word = word * 11400714819323198485 % 2 ^ 64
 
 -- the slot of a part that begins with these characters in a sieve of `slots` slots, by the twenty
 -- high bits of the mixed word
 abbrev pub slot_of : (slots : ℕ) → (first : Bytes) → ℕ
-slot_of slots first = bit_and (mixed (word_of first) / 2 ^ 44) (slots - 1)
+slot_of slots first = bit_and (mix_bits (word_of first) / 2 ^ 44) (slots - 1)
 
 -- the tag of a part that begins with these characters: the character before its word
 abbrev pub tag_of : (first : Bytes) → ℕ

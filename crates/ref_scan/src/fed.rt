@@ -6,12 +6,12 @@ use std::marker::Model;
 
 // The lists of bytes that a cut ended, and the list that goes on.
 #[derive(Drop)]
-pub(crate) struct Fed {
+pub(crate) struct FedBytes {
     ghost ended: { List (List ℕ) },
     ghost present: { List ℕ },
 }
 
-impl Model for Fed {
+impl Model for FedBytes {
     ghost also_owns = { λ _. ftrue };
 }
 
@@ -21,28 +21,28 @@ pub(crate) struct Piece<'a> {
     pub(crate) bytes: &'a [u8],
 }
 
-impl Fed {
+impl FedBytes {
     // Nothing.
-    pub(crate) fn new() -> Fed
+    pub(crate) fn new() -> FedBytes
         ensures { (result.ended ≡ []) × (result.present ≡ []) }
     {
-        Fed {}
+        FedBytes {}
     }
 
     // The present list goes on with the piece.
     #[inline(always)]
-    pub(crate) fn and(&self, _piece: &Piece<'_>) -> Fed
+    pub(crate) fn and(&self, _piece: &Piece<'_>) -> FedBytes
         ensures { (result.ended ≡ self.now.ended)
             × (result.present ≡ self.now.present ++ _piece.now.bytes.now) }
     {
-        Fed {}
+        FedBytes {}
     }
 
     // The present list ends.
     #[inline(always)]
-    pub(crate) fn cut(&self) -> Fed
+    pub(crate) fn cut(&self) -> FedBytes
         ensures { (result.ended ≡ self.now.ended ++ self.now.present ∷ []) × (result.present ≡ []) }
     {
-        Fed {}
+        FedBytes {}
     }
 }

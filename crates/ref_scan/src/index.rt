@@ -2,7 +2,7 @@
 ghost use Rattle.std.specs.Prelude.{◌≡◌, ◌≢◌, ◌↔◌, ◌⊎◌, ◌<◌, [], ℕ, All, IfOk, IsTrue, false, length, map, take, vec_capacity};
 ghost use Rattle.nix_names.specs.Keys.{key_of};
 ghost use Rattle.nix_names.specs.StorePaths.{IsStorePath, hash_part_of, is_hash_part};
-ghost use Rattle.ref_scan.specs.Places.{ArePartsOf, IsPlaceOfPart, IsSieve, IsSlotCount, LetsThrough, NumbersRise, key_of_part, mixed, slot_of, tag_of, word_of};
+ghost use Rattle.ref_scan.specs.Places.{ArePartsOf, IsPlaceOfPart, IsSieve, IsSlotCount, LetsThrough, NumbersRise, key_of_part, mix_bits, slot_of, tag_of, word_of};
 
 use nix_names::StorePath;
 use std::alloc::{AllocError, Global};
@@ -286,8 +286,8 @@ fn word_of(first: &[u8; 8]) -> u32
 
 // A word, mixed so that each of its bits counts in the high ones.
 #[inline(always)]
-fn mixed(word: u32) -> u64
-    ensures { result ≡ mixed word }
+fn mix_bits(word: u32) -> u64
+    ensures { result ≡ mix_bits word }
 {
     u64::from(word).wrapping_mul(0x9e37_79b9_7f4a_7c15)
 }
@@ -299,7 +299,7 @@ fn slot_of(slots: usize, first: &[u8; 8]) -> usize
     ensures value { result ≡ slot_of slots first.now }
     ensures within { result < slots }
 {
-    (mixed(word_of(first)) >> 44) as usize & (slots - 1)
+    (mix_bits(word_of(first)) >> 44) as usize & (slots - 1)
 }
 
 // What tells parts of one slot apart, mostly.

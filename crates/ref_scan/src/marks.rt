@@ -5,7 +5,7 @@ ghost use Rattle.nix_names.specs.StorePaths.{hash_part_of, is_hash_part};
 ghost use Rattle.ref_scan.specs.Scan.{IsFoundIn, OccursIn};
 
 use crate::fault::ScanFault;
-use crate::fed::{Fed, Piece};
+use crate::fed::{FedBytes, Piece};
 use crate::index::{Index, part_of};
 use crate::seam::{KEPT, seam, tail_behind};
 use crate::search::search;
@@ -20,7 +20,7 @@ pub(crate) struct Marks {
     index: Index,
     met: Vec<bool>,
     tail: ArrayVec<u8, KEPT>,
-    fed: Fed,
+    fed: FedBytes,
 }
 
 impl Model for Marks {
@@ -59,7 +59,7 @@ impl Marks {
             index,
             met,
             tail: ArrayVec::new(),
-            fed: Fed::new(),
+            fed: FedBytes::new(),
         })
     }
 

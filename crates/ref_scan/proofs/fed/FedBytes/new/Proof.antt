@@ -24,11 +24,11 @@ use denote.Triple.Spec.{Meets, triple_of}
 use denote.Triple.Table.{entered}
 use denote.Triple.Walked.{says, Stays, walk_of, ends_at, walk_Meets}
 use Rattle.ref_scan.proofs.Walks.{none, none_made}
-use Rattle.ref_scan.specs.contracts.fed.Fed as Fed
-use Rattle.ref_scan.specs.contracts.fed.Fed.new as F
-use Rattle.ref_scan.specs.contracts.fed.Fed.new.Key.{name as #self}
-use Rattle.ref_scan.proofs.fed.Fed.new.Statement as stated
-use Rattle.ref_scan.proofs.fed.Fed.new.Code as code
+use Rattle.ref_scan.specs.contracts.fed.FedBytes as FedBytes
+use Rattle.ref_scan.specs.contracts.fed.FedBytes.new as F
+use Rattle.ref_scan.specs.contracts.fed.FedBytes.new.Key.{name as #self}
+use Rattle.ref_scan.proofs.fed.FedBytes.new.Statement as stated
+use Rattle.ref_scan.proofs.fed.FedBytes.new.Code as code
 
 abbrev function : Fn
 function = code.function
@@ -58,7 +58,7 @@ module _ {M : Type 1} {𝓤 : Ura M} (𝓛 : Logic 𝓤) (at_mem : Memory → SP
     walks =
         let a = z.0.3 in
         let vss = z.0.4 in
-        let fed : (Fed.the_row).Denot = record { ended = []; present = [] } in
+        let fed : (FedBytes.the_row).Denot = record { ended = []; present = [] } in
         qed 𝓛 ((raw toks ⊛ ‵ (owns (types_at ended.signature.params z.0.0) a vss))
         ∷ raw ((held z.0.0 a).requires z.1) ∷ []) ∵
         keep ! (0 ∷ []) $ split ! $ move ! (1 ∷ []) $ drop ! $

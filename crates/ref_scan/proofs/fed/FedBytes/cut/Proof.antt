@@ -26,11 +26,11 @@ use denote.Triple.Spec.{Meets, triple_of}
 use denote.Triple.Table.{entered}
 use denote.Triple.Walked.{says, Stays, stay_dropped, walk_of, ends_at, walk_Meets, Goes-dropped}
 use Rattle.ref_scan.proofs.Walks.{none, none_made}
-use Rattle.ref_scan.specs.contracts.fed.Fed as Fed
-use Rattle.ref_scan.specs.contracts.fed.Fed.cut as F
-use Rattle.ref_scan.specs.contracts.fed.Fed.cut.Key.{name as #self}
-use Rattle.ref_scan.proofs.fed.Fed.cut.Statement as stated
-use Rattle.ref_scan.proofs.fed.Fed.cut.Code as code
+use Rattle.ref_scan.specs.contracts.fed.FedBytes as FedBytes
+use Rattle.ref_scan.specs.contracts.fed.FedBytes.cut as F
+use Rattle.ref_scan.specs.contracts.fed.FedBytes.cut.Key.{name as #self}
+use Rattle.ref_scan.proofs.fed.FedBytes.cut.Statement as stated
+use Rattle.ref_scan.proofs.fed.FedBytes.cut.Code as code
 
 abbrev function : Fn
 function = code.function
@@ -61,7 +61,7 @@ module _ {M : Type 1} {𝓤 : Ura M} (𝓛 : Logic 𝓤) (at_mem : Memory → SP
         let a = z.0.3 in
         let vss = z.0.4 in
         let u : Val = vptr a.0.ref_ptr.0 a.0.ref_ptr.1 in
-        let fed : (Fed.the_row).Denot = record {
+        let fed : (FedBytes.the_row).Denot = record {
           ended = a.0.now.ended ++ a.0.now.present ∷ [];
           present = [];
         } in
@@ -82,7 +82,7 @@ module _ {M : Type 1} {𝓤 : Ura M} (𝓛 : Logic 𝓤) (at_mem : Memory → SP
       (closing 𝓛 ended held)
   meets 𝓣 =
       walk_Meets 𝓛 ended stayed (
-        Goes-dropped 𝓛 1 (RefOf (0 ∷ []) tt (plain (λ _. Fed.the_row)) (λ _. tt)) yes
+        Goes-dropped 𝓛 1 (RefOf (0 ∷ []) tt (plain (λ _. FedBytes.the_row)) (λ _. tt)) yes
             (λ κs x f. refl),
         tt,
       ) held
