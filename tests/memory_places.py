@@ -6,7 +6,7 @@ PLACES = {
         "what the call means: who builds may end a lease so, to whom memory was refused; no code"
         " here calls it"
     ),
-    ("valid_view/src/line.rt", "append", "AllocFailed { value : ( ) } . into ( )"): (
+    ("valid_view/src/writer_end.rt", "append", "AllocFailed { value : ( ) } . into ( )"): (
         "left_right gives the operation back exactly where its queue could not grow"
     ),
     (
@@ -14,7 +14,7 @@ PLACES = {
         "absorb_first",
         "Err ( AllocFailed { value : fault } . into ( ) )",
     ): "never reached, since the entry may follow the shown ones; Absorb cannot say so",
-    ("valid_view/src/line.rt", "reader", "match self . writer . factory ( ) . reader ( ) {"): (
+    ("valid_view/src/writer_end.rt", "reader", "match self . writer . factory ( ) . reader ( ) {"): (
         "answers AllocError where each place is in use, which is told as NoView"
     ),
     (
@@ -97,9 +97,9 @@ SIZES = {
     ("run_states/src/users.rt", "open", "pairs_in ( plan , twins )"): (
         "derivations with who waits for them"
     ),
-    ("valid_table/src/found.rt", "new", "count / 64 + 1"): "a bit for each row",
+    ("valid_table/src/row_set.rt", "new", "count / 64 + 1"): "a bit for each row",
     ("valid_table/src/journal.rt", "reserve", "paths"): "what the caller asks for",
     ("valid_table/src/table.rt", "reserve", "paths"): "what the caller asks for",
-    ("valid_view/src/front.rt", "len", "self . count"): "the entries of a list that is there",
-    ("valid_view/src/opening.rt", "made_readers", "count"): "the number of readers, at most 64",
+    ("valid_view/src/prefix.rt", "len", "self . count"): "the entries of a list that is there",
+    ("valid_view/src/opening.rt", "make_readers", "count"): "the number of readers, at most 64",
 }

@@ -19,7 +19,7 @@ use Rattle.valid_table.specs.Texts.{IsTextIn, Line, First, Output, line_text, li
 use Rattle.valid_table.specs.declared.entry.Entry.{Entry}
 use Rattle.valid_table.specs.declared.version.Version.{Version}
 use Rattle.valid_table.specs.declared.version.Version.TheVariants.{One}
-use Rattle.valid_table.proofs.Leading.{GoesOn, ahead_of, go_on, leads_end, leads_front, leads_joined, leads_some, leads_weaker, lines_of, one_more, text_and, text_push}
+use Rattle.valid_table.proofs.Leading.{GoesOn, ahead_of, go_on, leads_end, leads_prefix, leads_joined, leads_some, leads_weaker, lines_of, one_more, text_and, text_push}
 use Rattle.valid_table.proofs.LineLists.{Ends, MayEnd, end_ahead, lines_end, lines_of_text, text_of_lines}
 use Rattle.valid_table.proofs.LineTexts.{IsLineOf, body_lacks, line_and, texts_are_lines}
 use Rattle.valid_table.proofs.Separators.{Lacks, dir_lacks, newline, same_cut}
@@ -120,7 +120,7 @@ led_stands version dir bytes rest is_dir led =
     (λ to both. both.0)
     _ _ end.1)) in
     record {
-      front = lines_text version led.lines;
+      prefix = lines_text version led.lines;
       parts = led.parts;
       counted = leads_are_lines _ _ (λ to. Ahead to rest) _ is_dir led.leads;
       entries = text.0;
@@ -135,20 +135,21 @@ led_stands version dir bytes rest is_dir led =
 
 -- the first lines of a text, so many, are the first of its lines
 cut_lines : (version : Version) (dir : List ℕ) → Lacks 10 dir
-    → (n : ℕ) (come : List Line) (front after : List ℕ)
-    → All (IsLineOf version dir) come → AreLines n front → lines_text version come ≡ front ++ after
+    → (n : ℕ) (come : List Line) (prefix after : List ℕ)
+    → All (IsLineOf version dir) come → AreLines n prefix
+    → lines_text version come ≡ prefix ++ after
     → (a : List Line) × (b : List Line) × (come ≡ a ++ b) × (length a ≡ n)
-    × (front ≡ lines_text version a)
+    × (prefix ≡ lines_text version a)
     × (after ≡ lines_text version b)
-cut_lines version dir clear zero come front after each none parts = search rules
-cut_lines version dir clear (suc n) [] front after each (first, more, plain, is, lines) parts =
+cut_lines version dir clear zero come prefix after each none parts = search rules
+cut_lines version dir clear (suc n) [] prefix after each (first, more, plain, is, lines) parts =
     absurd (omega (
       arith,
       ap length (parts ∙ ap (λ (bytes : List ℕ). bytes ++ after) is),
       length-append (first ++ 10 ∷ more) after,
       length-append first (10 ∷ more),
     ))
-cut_lines version dir clear (suc n) (line ∷ come) front after each (first, more, plain, is, lines)
+cut_lines version dir clear (suc n) (line ∷ come) prefix after each (first, more, plain, is, lines)
     parts =
     let split = same_cut _ _ _ _ _
     (body_lacks _ _ _ clear (All-head (IsLineOf version dir) _ _ each)) plain
@@ -191,7 +192,7 @@ stands_led dir bytes rest n is_dir stands =
     (λ to ends. ahead_as _ _ _
     (subst (Ahead to) after_is (ahead_of _ _ MayEnd _ _ [] end_ahead ends))
     stands.next) _ _
-    (leads_front _ _ MayEnd _ _ _
+    (leads_prefix _ _ MayEnd _ _ _
     (subst (Ends version dir Start) cut.2 text.2)) in (
       version,
       record {
@@ -326,11 +327,11 @@ pub texts_have_no_bad_line : TextsHaveNoBadLine
 texts_have_no_bad_line dir bytes entries n is_dir (inl (version, is)) bad =
     none_bad _ _ _ _ n is_dir is bad
 texts_have_no_bad_line dir bytes entries n is_dir (inr none) bad =
-    nothing_left bad.stands.front bad.rest bad.some (sym none.1 ∙ bad.stands.parts)
+    nothing_left bad.stands.prefix bad.rest bad.some (sym none.1 ∙ bad.stands.parts)
   where
-    nothing_left : (front rest : List ℕ) → rest ≢ [] → [] ≡ front ++ rest → ⊥
+    nothing_left : (prefix rest : List ℕ) → rest ≢ [] → [] ≡ prefix ++ rest → ⊥
     nothing_left [] rest some e = some (sym e)
-    nothing_left (b ∷ front) rest some e = cc e
+    nothing_left (b ∷ prefix) rest some e = cc e
 
 -- the first of lines that stand do so
 first_stand : (version : Version) (dir bytes rest : List ℕ) (m : ℕ) → IsStoreDir dir
@@ -348,7 +349,7 @@ first_stand version dir bytes rest m is_dir led few =
           (λ to leads. ahead_of _ _ (λ at. Ahead at rest) _ b _ (λ at ahead. ahead)
           leads) _
           a
-          (leads_front _ dir (λ at. Ahead at rest) Start a b
+          (leads_prefix _ dir (λ at. Ahead at rest) Start a b
           (subst (LeadsTo version dir (λ at. Ahead at rest) Start) whole led.leads));
       parts = led.parts ∙ ap (λ (ls : List Line). lines_text version ls ++ rest) whole
           ∙ sym (text_and version a b rest);

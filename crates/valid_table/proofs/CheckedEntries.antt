@@ -7,7 +7,7 @@ use Rattle.std.proofs.lemmas.List.Elements.{All-append, All-cons, All-head, All-
 use Rattle.std.proofs.lemmas.Option.{MatchOption-at_some}
 use Rattle.nix_names.specs.declared.digest.Digest.{Digest}
 use Rattle.valid_table.specs.Checking.{IsEntryCheck, IsLineCheck, IsRight, RegistersKnown, header}
-use Rattle.valid_table.specs.Entering.{AreUnknown, IsNewFront, IsNotKnown}
+use Rattle.valid_table.specs.Entering.{AreUnknown, IsNewPrefix, IsNotKnown}
 use Rattle.valid_table.specs.Entries.{paths_registered, registered_by}
 use Rattle.valid_table.specs.Texts.{Line, Added, Output, Reference, entry_lines}
 use Rattle.valid_table.specs.Valid.{references_of}
@@ -63,17 +63,17 @@ start_known known (Add r) path digest there = there
 start_known known (Done deriver outputs) path digest there = there
 
 -- of paths whose first ones are new, those before one of these are, and it is
-new_front : (known xs ys : List (List ℕ)) (x : List ℕ) (new : ℕ)
+new_prefix : (known xs ys : List (List ℕ)) (x : List ℕ) (new : ℕ)
     → AreUnknown known (take new (xs ++ x ∷ ys)) → length xs < new
     → AreUnknown known xs × IsNotKnown known x
-new_front known xs ys x new all lt =
+new_prefix known xs ys x new all lt =
     let New = IsNotKnown known in
     let k = length xs + 1 in
-    let front : take k (take new (xs ++ x ∷ ys)) ≡ xs ++ x ∷ [] =
+    let prefix : take k (take new (xs ++ x ∷ ys)) ≡ xs ++ x ∷ [] =
     take-take k new (xs ++ x ∷ ys) (omega arith)
     ∙ ap (take k) (sym (append_assoc xs (x ∷ []) ys))
     ∙ take_at (xs ++ x ∷ []) ys k (length-append xs (x ∷ [])) in
-    let both = subst (All New) front (All-take New k _ all) in
+    let both = subst (All New) prefix (All-take New k _ all) in
     (All-left New _ _ both, All-head New x [] (All-right New xs (x ∷ []) both))
 
 module _ (known all : List (List ℕ)) where
@@ -121,16 +121,16 @@ module _ (known all : List (List ℕ)) where
   -- what the lines of what an entry registers answer, its own do
   entry_checked :
       (entry : Entry) (new first : ℕ) (result : Result ℕ TableFault) →
-      IsNewFront known (paths_registered (registered_by entry)) new →
+      IsNewPrefix known (paths_registered (registered_by entry)) new →
       IsLineCheck all (registered_by entry) new (first + length (header entry)) result →
       IsEntryCheck known all (entry_lines entry) first result
-  entry_checked entry new first (Ok behind) front (long, closed, number) =
+  entry_checked entry new first (Ok behind) prefix (long, closed, number) =
       let rs = registered_by entry in
       let lines = entry_lines_are _ in (
-        subst (All Right) (sym lines) (up_to _ _ (all_new _ _ _ front long) closed),
+        subst (All Right) (sym lines) (up_to _ _ (all_new _ _ _ prefix long) closed),
         omega (arith, up_to_count entry rs, ap length lines),
       )
-  entry_checked entry new first (Err (Twice n)) front (lt, closed, number) =
+  entry_checked entry new first (Err (Twice n)) prefix (lt, closed, number) =
       let rs = registered_by entry in
       let paths = paths_registered rs in
       let (r, is) = element_at _ _ lt in
@@ -140,7 +140,7 @@ module _ (known all : List (List ℕ)) where
       get_mapped (λ (x : Registration). x.path) rs new r is
       in
       let new_before : AreUnknown known (paths_registered before) =
-      subst (AreUnknown known) (take-map (λ (x : Registration). x.path) new rs) front.new in (
+      subst (AreUnknown known) (take-map (λ (x : Registration). x.path) new rs) prefix.new in (
         starts entry r.path r.info.digest,
         length (header entry) + line_count before,
         record {
@@ -151,18 +151,18 @@ module _ (known all : List (List ℕ)) where
           right = up_to _ _ new_before closed;
         },
         start_known _ _ _ _
-            (MatchOption-at_some (Unit {0}) (Contains known) r.path at front.next),
+            (MatchOption-at_some (Unit {0}) (Contains known) r.path at prefix.next),
         omega arith,
       )
-  entry_checked entry new first (Err (NotClosed n)) front
+  entry_checked entry new first (Err (NotClosed n)) prefix
       (before, r, after, place, parts, lt, closed, (path, unknown, at), number) =
       let up = header entry ++ lines_of entry before in
       let earlier = starts entry r.path r.info.digest ∷ map Reference unknown.before in
       let later = map Reference unknown.after in
       let rest = lines_of entry after in
       let paths = ap paths_registered parts ∙ paths_of-append before (r ∷ after) in
-      let fresh = new_front known (paths_registered before) (paths_registered after) r.path new
-      (subst (λ l. AreUnknown known (take new l)) paths front.new)
+      let fresh = new_prefix known (paths_registered before) (paths_registered after) r.path new
+      (subst (λ l. AreUnknown known (take new l)) paths prefix.new)
       (omega (arith, path_count before)) in
       let split : entry_lines entry ≡ (up ++ earlier) ++ Reference path ∷ (later ++ rest) =
       split_lines entry before r after parts
@@ -186,8 +186,8 @@ module _ (known all : List (List ℕ)) where
         unknown.is,
         omega (arith, up_to_count entry before, length-map unknown.before Reference),
       )
-  entry_checked entry new first (Err NoMemory) front check = tt
-  entry_checked entry new first (Err other) front check = check
+  entry_checked entry new first (Err NoMemory) prefix check = tt
+  entry_checked entry new first (Err other) prefix check = check
 
 -- what the lines of an entry's registrations answer, the entry's own do, after known registrations
 pub own_checked :
@@ -195,10 +195,10 @@ pub own_checked :
     (result : Result ℕ TableFault) →
     rs ≡ registered_by entry →
     at ≡ first + length (header entry) →
-    IsNewFront (paths_registered known) (paths_registered rs) new →
+    IsNewPrefix (paths_registered known) (paths_registered rs) new →
     IsLineCheck (paths_registered (known ++ rs)) rs new at result →
     IsEntryCheck (paths_registered known) (paths_registered (known ++ registered_by entry))
     (entry_lines entry)
     first result
-own_checked known entry rs new first at result own number front check =
+own_checked known entry rs new first at result own number prefix check =
     search (rules, entry_checked)

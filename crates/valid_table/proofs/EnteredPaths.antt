@@ -5,7 +5,7 @@ use Rattle.std.proofs.lemmas.List.{get_or_at, length-append, length-take-le, tak
 use Rattle.std.proofs.lemmas.List.Elements.{All-append, All-more}
 use Rattle.std.proofs.lemmas.Option.{MatchOption-at_some, slice_get-get_or, slice_get_past}
 use Rattle.nix_names.proofs.FirstElements.{first_at, first_within}
-use Rattle.valid_table.specs.Entering.{AreUnknown, IsFirstUnknownAt, IsNewFront, IsNotKnown}
+use Rattle.valid_table.specs.Entering.{AreUnknown, IsFirstUnknownAt, IsNewPrefix, IsNotKnown}
 use Rattle.valid_table.specs.Entries.{paths_registered}
 use Rattle.valid_table.specs.Valid.{references_of}
 use Rattle.valid_table.specs.declared.entry.Registration.{Registration}
@@ -20,10 +20,10 @@ pub path_at : (rs : List Registration) (i : ℕ) (r : Registration) (d : List �
 path_at rs i r d lt is = search (rules, path_read)
 
 -- all paths were new
-pub front_all : (known : List (List ℕ)) (rs : List Registration) (n : ℕ) → length rs ≤ n
+pub prefix_all : (known : List (List ℕ)) (rs : List Registration) (n : ℕ) → length rs ≤ n
     → AreUnknown known (take n (paths_registered rs))
-    → IsNewFront known (paths_registered rs) (length rs)
-front_all known rs n all new =
+    → IsNewPrefix known (paths_registered rs) (length rs)
+prefix_all known rs n all new =
     let paths = paths_registered rs in
     let long = path_count rs in
     let same : take n paths ≡ take (length rs) paths = take_all n paths (omega arith)
@@ -134,22 +134,22 @@ closed_all known rs n long all = subst (λ l. All (Contains known) (references_o
 -- the path of the registration after the new ones is the first that is known
 pub known_behind :
     (known : List (List ℕ)) (rs : List Registration) (count : ℕ) →
-    IsNewFront known (paths_registered rs) count →
+    IsNewPrefix known (paths_registered rs) count →
     count < length rs →
     (r : Registration) × (slice_get rs count ≡ Some r)
     × IsFirst (IsNotKnown known) (Contains known) (paths_registered rs) r.path
-known_behind known rs count front lt =
+known_behind known rs count prefix lt =
     let (r, read) = element_at rs count lt in
     let some = get_mapped (λ (x : Registration). x.path) rs _ r read in (
       r,
       read,
-      first_at (IsNotKnown known) (Contains known) _ _ _ some front.new
-          (MatchOption-at_some (Unit {0}) (Contains known) r.path some front.next),
+      first_at (IsNotKnown known) (Contains known) _ _ _ some prefix.new
+          (MatchOption-at_some (Unit {0}) (Contains known) r.path some prefix.next),
     )
 
 -- where none is after the new ones, all are new
 pub all_new : (known : List (List ℕ)) (rs : List Registration) (count : ℕ)
-    → IsNewFront known (paths_registered rs) count → length rs ≤ count
+    → IsNewPrefix known (paths_registered rs) count → length rs ≤ count
     → AreUnknown known (paths_registered rs)
-all_new known rs count front long = subst (AreUnknown known)
-    (take_all count (paths_registered rs) (omega (arith, path_count rs))) front.new
+all_new known rs count prefix long = subst (AreUnknown known)
+    (take_all count (paths_registered rs) (omega (arith, path_count rs))) prefix.new

@@ -15,7 +15,7 @@ use Rattle.nix_names.proofs.Lists.{parts_at, taken_more}
 use Rattle.nix_names.proofs.RisingLists.{distinct_from_rising}
 use Rattle.valid_table.specs.Checking.{IsLineCheck}
 use Rattle.valid_table.specs.Closing.{HaveSame}
-use Rattle.valid_table.specs.Entering.{AreUnknown, IsNewFront, IsPut, IsNotKnown}
+use Rattle.valid_table.specs.Entering.{AreUnknown, IsNewPrefix, IsPut, IsNotKnown}
 use Rattle.valid_table.specs.Entries.{paths_registered}
 use Rattle.valid_table.specs.PathInfos.{PathInfo}
 use Rattle.valid_table.specs.Tables.{registrations_of}
@@ -50,12 +50,12 @@ row_put rows r new false is added =
 
 -- ---- the first of some registrations, after known ones
 
-abbrev front : List Registration → List Registration → ℕ → List Registration
-front known rs i = known ++ take i rs
+abbrev prefix : List Registration → List Registration → ℕ → List Registration
+prefix known rs i = known ++ take i rs
 
-front_paths : (known rs : List Registration) (i : ℕ) → paths_registered (front known rs i)
+prefix_paths : (known rs : List Registration) (i : ℕ) → paths_registered (prefix known rs i)
     ≡ paths_registered known ++ take i (paths_registered rs)
-front_paths known rs i = paths_of-append _ _
+prefix_paths known rs i = paths_of-append _ _
     ∙ ap (λ l. paths_registered known ++ l) (sym (take-map (λ (r : Registration). r.path) i rs))
 
 -- the next path is not among the first
@@ -72,63 +72,63 @@ next_apart rs i r rising lt is has =
 -- so it is valid by both where it is by known ones
 pub known_next : (known rs : List Registration) (i : ℕ) (r : Registration)
     → IsRising (paths_registered rs) → i < length rs → r ≡ get_or rs i r
-    → IsValid (front known rs i) r.path
+    → IsValid (prefix known rs i) r.path
     → IsValid known r.path
 known_next known rs i r rising lt is valid =
     elim (Contains-append_cases _ _ _
-    (subst (λ ps. Contains ps r.path) (front_paths _ _ i) valid)) [
+    (subst (λ ps. Contains ps r.path) (prefix_paths _ _ i) valid)) [
       | inl there ↦ there
       | inr among ↦ absurd (next_apart _ i r rising lt is among)
     ]
 
 unknown_next : (known rs : List Registration) (i : ℕ) (r : Registration)
-    → IsNotValid (front known rs i) r.path → IsNotKnown (paths_registered known) r.path
+    → IsNotValid (prefix known rs i) r.path → IsNotKnown (paths_registered known) r.path
 unknown_next known rs i r not valid =
-    not (subst (λ ps. Contains ps r.path) (sym (front_paths _ _ i))
+    not (subst (λ ps. Contains ps r.path) (sym (prefix_paths _ _ i))
     (Contains-append_left _ _ _ valid))
 
 -- one more was put after them
 pub put_more : (known rs now new : List Registration) (i : ℕ) (r : Registration)
-    → now ≡ front known rs i → AreUnknown (paths_registered known) (take i (paths_registered rs))
+    → now ≡ prefix known rs i → AreUnknown (paths_registered known) (take i (paths_registered rs))
     → i < length rs
     → r ≡ get_or rs i r → IsPut now new r false
-    → (new ≡ front known rs (i + 1)) × AreUnknown (paths_registered known)
+    → (new ≡ prefix known rs (i + 1)) × AreUnknown (paths_registered known)
     (take (i + 1) (paths_registered rs))
-put_more known rs now new i r is_front unknown lt is put = (
+put_more known rs now new i r is_prefix unknown lt is put = (
   put.1
-      ∙ ap (λ l. l ++ r ∷ []) is_front
+      ∙ ap (λ l. l ++ r ∷ []) is_prefix
       ∙ append_assoc known (take i rs) (r ∷ [])
       ∙ ap (λ l. known ++ l) (sym (taken_more _ i r lt is)),
   new_more _ _ i r unknown lt is
-      (unknown_next _ _ i r (subst (λ l. IsNotValid l r.path) is_front put.0)),
+      (unknown_next _ _ i r (subst (λ l. IsNotValid l r.path) is_prefix put.0)),
 )
 
 -- the next one had its path there
 pub put_twice : (known rs now new : List Registration) (i : ℕ) (r : Registration)
-    → IsRising (paths_registered rs) → now ≡ front known rs i
+    → IsRising (paths_registered rs) → now ≡ prefix known rs i
     → AreUnknown (paths_registered known) (take i (paths_registered rs)) → i < length rs
     → r ≡ get_or rs i r
     → IsPut now new r true
-    → IsNewFront (paths_registered known) (paths_registered rs) i × (paths_registered new
+    → IsNewPrefix (paths_registered known) (paths_registered rs) i × (paths_registered new
     ≡ paths_registered known ++ take i (paths_registered rs))
-put_twice known rs now new i r rising is_front unknown lt is put = (
+put_twice known rs now new i r rising is_prefix unknown lt is put = (
   record {
     within = omega (arith, lt, path_count rs);
     new = unknown;
     next = subst (λ o. IfSome o (Contains (paths_registered known)))
         (sym (slice_get-get_or (paths_registered rs) i r.path (omega (arith, lt, path_count rs))
         ∙ ap Some (path_at _ i r _ lt is)))
-        (known_next _ _ i r rising lt is (subst (λ l. IsValid l r.path) is_front put.0));
+        (known_next _ _ i r rising lt is (subst (λ l. IsValid l r.path) is_prefix put.0));
   },
-  put.1 ∙ ap paths_registered is_front ∙ front_paths _ _ i,
+  put.1 ∙ ap paths_registered is_prefix ∙ prefix_paths _ _ i,
 )
 
 -- all were put after them
-pub put_all : (known rs new : List Registration) (n : ℕ) → length rs ≤ n → new ≡ front known rs n
+pub put_all : (known rs new : List Registration) (n : ℕ) → length rs ≤ n → new ≡ prefix known rs n
     → new ≡ known ++ rs
 put_all known rs new n long is = search (rules, take_all)
 
-pub put_paths : (known rs new : List Registration) (n : ℕ) → length rs ≤ n → new ≡ front known rs n
+pub put_paths : (known rs new : List Registration) (n : ℕ) → length rs ≤ n → new ≡ prefix known rs n
     → paths_registered new ≡ paths_registered known ++ take (length rs) (paths_registered rs)
 put_paths known rs new n long is = search (rules, put_all, paths_of-append, take_all, path_count)
 
@@ -144,7 +144,7 @@ pub same_known : (known paths : List (List ℕ)) (i : ℕ)
     → HaveSame ((known ++ take i paths) ++ paths) (known ++ paths)
 same_known known paths i = λ path. (
   λ has. elim (Contains-append_cases _ _ _ has) [
-    | inl front ↦ elim (Contains-append_cases _ _ _ front) [
+    | inl prefix ↦ elim (Contains-append_cases _ _ _ prefix) [
       | inl there ↦ Contains-append_left known paths path there
       | inr taken ↦ Contains-append_right known paths path (Contains-take _ i _ taken)
     ]

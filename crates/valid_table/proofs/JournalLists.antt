@@ -8,7 +8,7 @@ use Rattle.valid_table.specs.Entries.{paths_registered, registered, registered_b
 use Rattle.valid_table.specs.Valid.{AreReferencesValid, IsClosed, IsClosedBehind, IsOnce, IsValid, references_of}
 use Rattle.valid_table.specs.declared.entry.Entry.{Entry}
 use Rattle.valid_table.specs.declared.entry.Registration.{Registration}
-use Rattle.valid_table.proofs.PathLists.{once_front}
+use Rattle.valid_table.proofs.PathLists.{once_prefix}
 use Rattle.nix_names.proofs.Lists.{parts_at}
 
 -- the paths of two lists of registrations, one after the other
@@ -76,10 +76,10 @@ pub once_so_far :
     entry ≡ get_or entries i entry →
     IsOnce (registered (take i entries) ++ registered_by entry)
 once_so_far entries i entry once lt is =
-    let front = registered (take i entries) ++ registered_by entry in
+    let prefix = registered (take i entries) ++ registered_by entry in
     let parts = ap paths_registered (registered_at _ i _ lt is)
     ∙ paths_of-append _ _ in
-    once_front _ _
+    once_prefix _ _
     (rw parts at once)
 
 -- the references of registrations are those of the first ones, of the next one and of the rest

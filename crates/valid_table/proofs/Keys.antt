@@ -151,24 +151,24 @@ pub key_read : (folder text found : List ℕ) (key : ℕ)
     → found ≡ drop (length folder) text → 8 ≤ length found
     → All (λ b. b < 256) (eight found) → key ≡ from_be_bytes w64 found
     → IsKey folder text key
-key_read folder text [] key front is long small number = absurd (omega (arith, long))
-key_read folder text (a ∷ []) key front is long small number = absurd (omega (arith, long))
-key_read folder text (a ∷ b ∷ []) key front is long small number = absurd (omega (arith, long))
-key_read folder text (a ∷ b ∷ c ∷ []) key front is long small number = absurd (omega (arith, long))
-key_read folder text (a ∷ b ∷ c ∷ d ∷ []) key front is long small number =
+key_read folder text [] key prefix is long small number = absurd (omega (arith, long))
+key_read folder text (a ∷ []) key prefix is long small number = absurd (omega (arith, long))
+key_read folder text (a ∷ b ∷ []) key prefix is long small number = absurd (omega (arith, long))
+key_read folder text (a ∷ b ∷ c ∷ []) key prefix is long small number = absurd (omega (arith, long))
+key_read folder text (a ∷ b ∷ c ∷ d ∷ []) key prefix is long small number =
     absurd (omega (arith, long))
-key_read folder text (a ∷ b ∷ c ∷ d ∷ e ∷ []) key front is long small number =
+key_read folder text (a ∷ b ∷ c ∷ d ∷ e ∷ []) key prefix is long small number =
     absurd (omega (arith, long))
-key_read folder text (a ∷ b ∷ c ∷ d ∷ e ∷ f ∷ []) key front is long small number =
+key_read folder text (a ∷ b ∷ c ∷ d ∷ e ∷ f ∷ []) key prefix is long small number =
     absurd (omega (arith, long))
-key_read folder text (a ∷ b ∷ c ∷ d ∷ e ∷ f ∷ g ∷ []) key front is long small number =
+key_read folder text (a ∷ b ∷ c ∷ d ∷ e ∷ f ∷ g ∷ []) key prefix is long small number =
     absurd (omega (arith, long))
-key_read folder text (a ∷ b ∷ c ∷ d ∷ e ∷ f ∷ g ∷ h ∷ rest) key front is long small number =
+key_read folder text (a ∷ b ∷ c ∷ d ∷ e ∷ f ∷ g ∷ h ∷ rest) key prefix is long small number =
     record {
       bytes = a ∷ b ∷ c ∷ d ∷ e ∷ f ∷ g ∷ h ∷ [];
       rest = rest;
       parts = sym (take-append-drop (length folder) text)
-          ∙ ap (λ l. l ++ drop (length folder) text) (equal_from_eq _ _ front)
+          ∙ ap (λ l. l ++ drop (length folder) text) (equal_from_eq _ _ prefix)
           ∙ ap (λ l. folder ++ l) (sym is)
           ∙ sym (append_assoc folder (a ∷ b ∷ c ∷ d ∷ e ∷ f ∷ g ∷ h ∷ []) rest);
       eight = refl;

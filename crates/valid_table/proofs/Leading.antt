@@ -12,13 +12,13 @@ use Rattle.valid_table.proofs.LineTexts.{IsLineOf, same_lines}
 -- ---- to where lines lead
 
 -- the first of some lines lead to where the others lead on
-pub leads_front : (version : Version) (dir : List ℕ) (Is : Place → Type 0) (from : Place)
+pub leads_prefix : (version : Version) (dir : List ℕ) (Is : Place → Type 0) (from : Place)
     (a b : List Line)
     → LeadsTo version dir Is from (a ++ b) → LeadsTo version dir
     (λ to. LeadsTo version dir Is to b) from a
-leads_front version dir Is from [] b leads = leads
-leads_front version dir Is from (line ∷ a) b leads =
-    (leads.0, leads_front version dir Is (behind from line) a b leads.1)
+leads_prefix version dir Is from [] b leads = leads
+leads_prefix version dir Is from (line ∷ a) b leads =
+    (leads.0, leads_prefix version dir Is (behind from line) a b leads.1)
 
 -- and back
 pub leads_joined : (version : Version) (dir : List ℕ) (Is : Place → Type 0) (from : Place)
@@ -152,7 +152,7 @@ goes_behind version dir Is Also from a b line c x y weaker one two is rest =
       parts = rest ∙ append_assoc (line_text version line) (lines_text version c) y;
       may = leads.0;
       ahead = ahead_of _ _ Also _ c y weaker leads.1;
-    }) _ a (leads_front _ _ Also _ a _
+    }) _ a (leads_prefix _ _ Also _ a _
     (subst (LeadsTo version dir Also from) is two)))
 
 -- Some lines lead into bytes, in which a line goes on from there.

@@ -3,8 +3,8 @@ use Rattle.std.proofs.Common.{◌≡◌, ℕ, List, [], ◌∷◌, ◌++◌, len
 use Rattle.std.proofs.lemmas.List.{append-nil, append_assoc}
 use Rattle.valid_table.specs.LineTexts.{lines_text}
 use Rattle.valid_table.specs.Readers.{StopsWhere}
-use Rattle.valid_table.specs.declared.reading.Stop.{Stop}
-use Rattle.valid_table.specs.declared.reading.Stop.TheVariants.{NoMemory, Left}
+use Rattle.valid_table.specs.declared.reading.LineFault.{LineFault}
+use Rattle.valid_table.specs.declared.reading.LineFault.TheVariants.{NoMemory, Left}
 use Rattle.valid_table.specs.Steps.{Place, Ahead, GoesOnWith, MayBeLine, Stops, behind}
 use Rattle.valid_table.specs.Texts.{Line, line_text}
 use Rattle.valid_table.specs.declared.version.Version.{Version}
@@ -55,7 +55,7 @@ pub stops_in : (version : Version) (dir : List ℕ) (from : Place) (lines : List
 stops_in version dir from lines bytes rest left parts h = search (rules, append-nil)
 
 -- what follows from where a reader stopped
-pub stops_where : (P Q : ℕ → Type 0) → ((left : ℕ) → P left → Q left) → (stop : Stop)
+pub stops_where : (P Q : ℕ → Type 0) → ((left : ℕ) → P left → Q left) → (stop : LineFault)
     → StopsWhere P stop → StopsWhere Q stop
 stops_where P Q weaker NoMemory h = tt
 stops_where P Q weaker (Left left) h = weaker left h

@@ -20,8 +20,8 @@ use Rattle.valid_table.proofs.TextsRead.{no_fault, not_other_version}
 
 -- a line that stands in an entry stands in the journal
 in_lines : (entries before : List Entry) (entry : Entry) (line : Line) (n : ℕ)
-    → StandsAt entries before entry line n → (front : List Line) × (rest : List Line)
-    × (lines entries ≡ front ++ line ∷ rest) × (n ≡ suc (length front))
+    → StandsAt entries before entry line n → (prefix : List Line) × (rest : List Line)
+    × (lines entries ≡ prefix ++ line ∷ rest) × (n ≡ suc (length prefix))
 in_lines entries before entry line n s =
     let behind = flat_map entry_lines s.after in
     let parts : lines entries ≡ (lines before ++ s.first) ++ line ∷ (s.last ++ behind) =

@@ -43,8 +43,8 @@ lines_told version dir from a b one two e =
 
 -- ---- lines tell entries
 
--- What lines tell: their entries and, at their front, the references and the outputs of what begins
--- before them.
+-- What lines tell: their entries and, at their beginning, the references and the outputs of what
+-- begins before them.
 record Told : Type 0 where
   pub references : List (List ℕ)
   pub outputs : List Registration

@@ -30,10 +30,10 @@ once_apart before after path once (k, lt, is) =
     let same = nat_list_eq_equiv.refl path in
     false≢true (sym apart ∙ rw (at_k, at_n) same)
 
--- the front of a list without repetition has none
-pub once_front : (before after : List (List ℕ)) → IsDistinct (pointwise nat_eq) (before ++ after)
+-- the prefix of a list without repetition has none
+pub once_prefix : (before after : List (List ℕ)) → IsDistinct (pointwise nat_eq) (before ++ after)
     → IsDistinct (pointwise nat_eq) before
-once_front before after once =
+once_prefix before after once =
     IsDistinct-from_apart (pointwise nat_eq) _
     (λ i j d lt below.
     let at_i = get_or_append_left before after d i (omega arith) in

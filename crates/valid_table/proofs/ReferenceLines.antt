@@ -99,14 +99,14 @@ pub registration_found : (version : Version) (dir : List ℕ) (letter : ℕ) (be
     → HasRegistration version dir letter before bytes (record { path = path; info = info }) rest
 registration_found version dir letter before bytes fields path digest behind info rest begins line
     above has same =
-    let front = fields_text version path info.digest in
+    let prefix = fields_text version path info.digest in
     let lines = lines_text version (map Reference info.references) in
-    let is : fields ≡ (front ++ lines) ++ rest = line.parts
+    let is : fields ≡ (prefix ++ lines) ++ rest = line.parts
     ∙ ap (λ d. fields_text version path d ++ behind) (sym same)
-    ∙ ap (λ (t : List ℕ). front ++ t)
+    ∙ ap (λ (t : List ℕ). prefix ++ t)
     (has.so_far.parts
     ∙ ap (λ (t : List ℕ). t ++ rest) (sym (references_are _ _)))
-    ∙ sym (append_assoc front lines rest) in
+    ∙ sym (append_assoc prefix lines rest) in
     record {
       parts = begins ∙ ap (λ (f : List ℕ). letter ∷ 32 ∷ f) is;
       of_dir = record {

@@ -90,11 +90,11 @@ pub row_added :
     new ≡ insert_entry (pointwise nat_eq) rows.entries r.path r.info →
     registrations_of new ≡ before ++ take (i + 1) rs
 row_added rows before rs i r new once is_so lt is added =
-    let front = before ++ take i rs in
+    let prefix = before ++ take i rs in
     let later = drop (i + 1) rs in
-    let whole : before ++ rs ≡ front ++ r ∷ later = ap (λ l. before ++ l) (parts_at _ i r lt is)
+    let whole : before ++ rs ≡ prefix ++ r ∷ later = ap (λ l. before ++ l) (parts_at _ i r lt is)
     ∙ sym (append_assoc before (take i rs) (r ∷ later)) in
-    row_pushed rows r new (rw is_so (next_new front later r (subst IsOnce whole once))) added
+    row_pushed rows r new (rw is_so (next_new prefix later r (subst IsOnce whole once))) added
     ∙ ap (λ l. l ++ r ∷ []) is_so
     ∙ append_assoc before (take i rs) (r ∷ [])
     ∙ ap (λ l. before ++ l) (sym (taken_more _ i r lt is))

@@ -16,7 +16,7 @@ use Rattle.valid_table.specs.declared.entry.Registration.{Registration}
 use Rattle.valid_table.proofs.CheckedEntries.{entry_lines_are, up_to}
 use Rattle.valid_table.proofs.CheckedJournal.{AreRight, IsRightBehind, none_wrong, wrong_line}
 use Rattle.valid_table.proofs.JournalLists.{paths_of-append}
-use Rattle.valid_table.proofs.PathLists.{once_apart, once_front}
+use Rattle.valid_table.proofs.PathLists.{once_apart, once_prefix}
 use Rattle.valid_table.proofs.Versions.{not_other, text_begins}
 use Rattle.nix_names.proofs.Lists.{parts_at}
 
@@ -54,10 +54,10 @@ journal_right earlier (entry ∷ entries) closed once =
     let now = earlier ++ rs in
     let later = registered entries in
     let all : IsOnce (now ++ later) = subst IsOnce (sym (append_assoc earlier rs later)) once in
-    let front = once_front _ _
+    let prefix = once_prefix _ _
     (subst (IsDistinct (pointwise nat_eq)) (paths_of-append _ _) all) in
     let new = later_new _ _
-    (subst (IsDistinct (pointwise nat_eq)) (paths_of-append _ _) front) in (
+    (subst (IsDistinct (pointwise nat_eq)) (paths_of-append _ _) prefix) in (
       subst (All (IsRightBehind earlier entry)) (sym (entry_lines_are _))
           (up_to _ _ _ _ new closed.0),
       journal_right now entries closed.1 all,

@@ -21,14 +21,14 @@ BeginsOutput bytes = (rest : Bytes) × (bytes ≡ codes "O " ++ rest)
 -- journal begins with these lines. That text ends there, or it goes on with an output, as the bytes
 -- do. So a deriver's line is good only where an output's line follows it.
 pub record Stands (dir : Dir) (count : ℕ) (bytes rest : Bytes) : Type 0 where
-  pub front : Bytes
-  pub parts : bytes ≡ front ++ rest
-  pub counted : AreLines count front
+  pub prefix : Bytes
+  pub parts : bytes ≡ prefix ++ rest
+  pub counted : AreLines count prefix
   pub entries : List Entry
   pub whole : Bytes
   pub is_text : IsJournalText dir entries whole
   pub after : Bytes
-  pub begins : whole ≡ front ++ after
+  pub begins : whole ≡ prefix ++ after
   pub next : (after ≡ []) ⊎ (BeginsOutput after × BeginsOutput rest)
 
 -- Line n is the first bad one: the lines before it are good, some bytes follow them, and the lines

@@ -15,7 +15,7 @@ abbrev pub AreUnknown : (known paths : List Path) → Type 0
 AreUnknown known paths = All (IsNotKnown known) paths
 
 -- The first `count` paths are new, and the next one, if any, is known.
-pub record IsNewFront (known paths : List Path) (count : ℕ) : Type 0 where
+pub record IsNewPrefix (known paths : List Path) (count : ℕ) : Type 0 where
   pub within : count ≤ length paths
   pub new : AreUnknown known (take count paths)
   pub next : IfSome (slice_get paths count) (Contains known)

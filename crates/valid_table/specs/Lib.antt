@@ -21,7 +21,7 @@ pub mod Checking
 pub mod Closing
 pub mod Entering
 pub mod FirstRows
-pub mod Kept
+pub mod RecordContents
 pub mod Keys
 pub mod LineTexts
 pub mod Linking

@@ -5,7 +5,7 @@ use Rattle.std.specs.List.{IsDistinct, list_any}
 
 -- What a contract sees of rows that were found: the rows, each once, in the order in which they
 -- were found, and the room, below which each row can be marked.
-pub record FoundRows : Type 0 where
+pub record RowSetValue : Type 0 where
   pub rows : List ℕ
   pub room : ℕ
 

@@ -13,8 +13,8 @@ use Rattle.valid_table.specs.Texts.{IsDigestOf, IsEntryIn, IsOf, entry_lines, li
 use Rattle.valid_table.specs.declared.entry.Entry.{Entry}
 use Rattle.valid_table.specs.declared.entry.Entry.TheVariants.{Add, Done}
 use Rattle.valid_table.specs.declared.entry.Registration.{Registration}
-use Rattle.valid_table.specs.declared.reading.Stop.{Stop}
-use Rattle.valid_table.specs.declared.reading.Stop.TheVariants.{NoMemory, Left}
+use Rattle.valid_table.specs.declared.reading.LineFault.{LineFault}
+use Rattle.valid_table.specs.declared.reading.LineFault.TheVariants.{NoMemory, Left}
 use Rattle.valid_table.specs.declared.version.Version.{Version}
 
 -- the bytes begin with no line that has this letter
@@ -22,7 +22,7 @@ abbrev pub IsNoLine : (letter : ℕ) → Bytes → Type 0
 IsNoLine letter bytes = (rest : Bytes) → bytes ≢ letter ∷ 32 ∷ rest
 
 -- a reader stopped: with a number of bytes left for which `Where` holds, or for want of memory
-abbrev pub StopsWhere : (ℕ → Type 0) → Stop → Type 0
+abbrev pub StopsWhere : (ℕ → Type 0) → LineFault → Type 0
 StopsWhere Where NoMemory = Unit {0}
 StopsWhere Where (Left left) = Where left
 

@@ -10,10 +10,10 @@ ghost use Rattle.valid_table.specs.Valid.{IsOnce, IsValid};
 
 use crate::entry::Record;
 use crate::fault::TableFault;
-use crate::found::Found;
 use crate::links::Links;
-use crate::order::Order;
+use crate::order::RowOrder;
 use crate::rising::sorted_paths;
+use crate::row_set::RowSet;
 use crate::rows::row_of;
 use indexmap::IndexMap;
 use nix_names::StorePath;
@@ -24,7 +24,7 @@ pub(crate) fn close(
     alloc: Global,
     rows: &IndexMap<StorePath, Record>,
     links: &Links,
-    order: &Order,
+    order: &RowOrder,
     roots: &[StorePath],
 ) -> Result<Vec<StorePath>, TableFault>
     requires once { IsOnce (registrations_of rows.now.entries) }
@@ -44,7 +44,7 @@ fn root_rows(
     alloc: Global,
     rows: &IndexMap<StorePath, Record>,
     roots: &[StorePath],
-) -> Result<Found, TableFault>
+) -> Result<RowSet, TableFault>
     ensures valid { OnOk result (All (IsValid (registrations_of rows.now.entries)) roots.now) }
     ensures added { IfOk result
         (λ found. AddsRows (registrations_of rows.now.entries) [] roots.now found.rows) }
@@ -52,7 +52,7 @@ fn root_rows(
     ensures err { IfErr result
         (λ e. IsClosing (registrations_of rows.now.entries) roots.now (Err e)) }
 {
-    let mut found = Found::new(alloc, rows.len())?;
+    let mut found = RowSet::new(alloc, rows.len())?;
     for root in roots {
         let Some(row) = row_of(rows, root) else {
             return Err(TableFault::NotValid(root.copy(alloc)?));
@@ -66,7 +66,7 @@ fn root_rows(
 fn follow_all(
     rows: &IndexMap<StorePath, Record>,
     links: &Links,
-    found: &mut Found,
+    found: &mut RowSet,
 ) -> Result<(), AllocFailed<usize>>
     requires once { IsOnce (registrations_of rows.now.entries) }
     requires linked { AreLinked (registrations_of rows.now.entries) links.now.ends.items
@@ -91,7 +91,7 @@ fn follow(
     rows: &IndexMap<StorePath, Record>,
     links: &Links,
     row: usize,
-    found: &mut Found,
+    found: &mut RowSet,
 ) -> Result<(), AllocFailed<usize>>
     requires linked { AreLinked (registrations_of rows.now.entries) links.now.ends.items
         links.now.numbers.items }
@@ -112,7 +112,7 @@ fn follow(
 fn add_numbers(
     rows: &IndexMap<StorePath, Record>,
     numbers: &[u32],
-    found: &mut Found,
+    found: &mut RowSet,
 ) -> Result<(), AllocFailed<usize>>
     requires below { All (λ row. row < length (registrations_of rows.now.entries)) numbers.now }
     requires rows { AreRows (registrations_of rows.now.entries) found.old.rows }
@@ -132,7 +132,7 @@ fn add_numbers(
 fn add_rows(
     rows: &IndexMap<StorePath, Record>,
     paths: &[StorePath],
-    found: &mut Found,
+    found: &mut RowSet,
 ) -> Result<(), AllocFailed<usize>>
     requires rows { AreRows (registrations_of rows.now.entries) found.old.rows }
     requires room { length rows.now.entries ≤ found.old.room }

@@ -3,7 +3,7 @@ ghost use Rattle.std.specs.Prelude.{◌++◌, ◌↔◌, All, IsTrue, MatchOptio
 ghost use Rattle.nix_names.specs.Rising.{IsRising};
 ghost use Rattle.valid_table.specs.Adding.{AreClosed, AreNew};
 ghost use Rattle.valid_table.specs.Blames.{IsBlamed, IsUnclosedAt};
-ghost use Rattle.valid_table.specs.Entering.{IsFirstUnknownAt, IsNewFront};
+ghost use Rattle.valid_table.specs.Entering.{IsFirstUnknownAt, IsNewPrefix};
 ghost use Rattle.valid_table.specs.Entries.{paths_registered};
 ghost use Rattle.valid_table.specs.Tables.{registrations_of};
 ghost use Rattle.valid_table.specs.Valid.{IsValid};
@@ -26,7 +26,7 @@ pub(crate) fn blame(
         × AreClosed (registrations_of rows.now.entries) registrations.now)
         (IsBlamed (registrations_of rows.now.entries) registrations.now) }
 {
-    let registration = new_front(rows, registrations);
+    let registration = new_prefix_len(rows, registrations);
     if registration < registrations.len() {
         return Some(Blame {
             registration,
@@ -37,8 +37,8 @@ pub(crate) fn blame(
 }
 
 // The number of registrations before the first whose path has a row.
-fn new_front(rows: &IndexMap<StorePath, Record>, registrations: &[Registration]) -> usize
-    ensures { IsNewFront (paths_registered (registrations_of rows.now.entries))
+fn new_prefix_len(rows: &IndexMap<StorePath, Record>, registrations: &[Registration]) -> usize
+    ensures { IsNewPrefix (paths_registered (registrations_of rows.now.entries))
         (paths_registered registrations.now)
         result }
 {

@@ -2,10 +2,10 @@
 ghost use Rattle.std.specs.Prelude.{◌≡◌, ◌≢◌, ◌<◌, ◌↔◌, [], List, IfOk, IfErr, IsOk, IsTrue, MatchOption, None, Some, length, slice_get, vec_capacity};
 ghost use Rattle.nix_names.specs.Rising.{IsRising};
 ghost use Rattle.valid_table.specs.Entries.{IsSortedOf, paths_registered, registered_by};
-ghost use Rattle.valid_table.specs.Kept.{digest_known, references_known};
+ghost use Rattle.valid_table.specs.RecordContents.{digest_known, references_known};
 ghost use Rattle.valid_table.specs.Valid.{IsOnce};
 
-use crate::kept::Kept;
+use crate::stored_digest::StoredDigest;
 use nix_names::{Digest, StorePath};
 use std::alloc::{AllocError, Global};
 use std::marker::Model;
@@ -17,15 +17,15 @@ use std::sync::{Arc, ArcSlice};
 /// takes no memory.
 #[derive(Debug, Drop)]
 pub struct Record {
-    known: Known,
+    known: RecordContent,
 }
 
 // What is known of a path. Copies of a record share it.
 #[derive(Debug, Drop)]
-enum Known {
+enum RecordContent {
     Nothing,
     References(ArcSlice<StorePath>),
-    Digest(Arc<Kept>),
+    Digest(Arc<StoredDigest>),
     Both(Arc<Both>),
 }
 
@@ -33,12 +33,12 @@ enum Known {
 #[derive(Debug, Drop)]
 struct Both {
     references: ArcSlice<StorePath>,
-    digest: Kept,
+    digest: StoredDigest,
 }
 
 impl Model for Record {
     ghost use Rattle.nix_names.specs.Rising.{IsRising};
-    ghost use Rattle.valid_table.specs.Kept.{digest_known, references_known};
+    ghost use Rattle.valid_table.specs.RecordContents.{digest_known, references_known};
     ghost use Rattle.valid_table.specs.PathInfos.{PathInfo};
 
     ghost Value = { PathInfo };
@@ -61,8 +61,8 @@ impl Record {
         ensures none { references.items ≡ [] → digest ≡ None → IsOk result }
     {
         let known = match digest {
-            None => Known::without_digest(references)?,
-            Some(digest) => Known::with_digest(references, digest)?,
+            None => RecordContent::without_digest(references)?,
+            Some(digest) => RecordContent::with_digest(references, digest)?,
         };
         Ok(Record { known })
     }
@@ -73,9 +73,9 @@ impl Record {
         ensures rising { IsRising result.now }
     {
         match &self.known {
-            Known::Nothing | Known::Digest(_) => &[],
-            Known::References(shared) => shared.as_slice(),
-            Known::Both(both) => both.references.as_slice(),
+            RecordContent::Nothing | RecordContent::Digest(_) => &[],
+            RecordContent::References(shared) => shared.as_slice(),
+            RecordContent::Both(both) => both.references.as_slice(),
         }
     }
 
@@ -84,9 +84,9 @@ impl Record {
         ensures { result ≡ self.now.digest }
     {
         match &self.known {
-            Known::Nothing | Known::References(_) => None,
-            Known::Digest(shared) => Some(shared.digest()),
-            Known::Both(both) => Some(both.digest.digest()),
+            RecordContent::Nothing | RecordContent::References(_) => None,
+            RecordContent::Digest(shared) => Some(shared.digest()),
+            RecordContent::Both(both) => Some(both.digest.digest()),
         }
     }
 
@@ -96,41 +96,41 @@ impl Record {
         ensures ok { IfOk result (λ r. r ≡ self.now) }
     {
         let known = match &self.known {
-            Known::Nothing => Known::Nothing,
-            Known::References(shared) => Known::References(shared.clone()?),
-            Known::Digest(shared) => Known::Digest(shared.clone()?),
-            Known::Both(both) => Known::Both(both.clone()?),
+            RecordContent::Nothing => RecordContent::Nothing,
+            RecordContent::References(shared) => RecordContent::References(shared.clone()?),
+            RecordContent::Digest(shared) => RecordContent::Digest(shared.clone()?),
+            RecordContent::Both(both) => RecordContent::Both(both.clone()?),
         };
         Ok(Record { known })
     }
 }
 
-impl Known {
+impl RecordContent {
     // What is known of a path that has no digest.
-    fn without_digest(references: Vec<StorePath>) -> Result<Known, AllocError>
+    fn without_digest(references: Vec<StorePath>) -> Result<RecordContent, AllocError>
         ensures references { IfOk result (λ k. references_known k ≡ references.items) }
         ensures digest { IfOk result (λ k. digest_known k ≡ None) }
         ensures none { references.items ≡ [] → IsOk result }
     {
         if references.is_empty() {
-            return Ok(Known::Nothing);
+            return Ok(RecordContent::Nothing);
         }
         let shared = ArcSlice::from_vec(references)?;
-        Ok(Known::References(shared))
+        Ok(RecordContent::References(shared))
     }
 
     // What is known of a path that has a digest.
-    fn with_digest(references: Vec<StorePath>, digest: Digest) -> Result<Known, AllocError>
+    fn with_digest(references: Vec<StorePath>, digest: Digest) -> Result<RecordContent, AllocError>
         ensures references { IfOk result (λ k. references_known k ≡ references.items) }
         ensures digest { IfOk result (λ k. digest_known k ≡ Some digest) }
     {
         let alloc = *references.allocator();
-        let digest = Kept::new(alloc, digest)?;
+        let digest = StoredDigest::new(alloc, digest)?;
         if references.is_empty() {
-            Ok(Known::Digest(Arc::new(alloc, digest)?))
+            Ok(RecordContent::Digest(Arc::new(alloc, digest)?))
         } else {
             let references = ArcSlice::from_vec(references)?;
-            Ok(Known::Both(Arc::new(alloc, Both { references, digest })?))
+            Ok(RecordContent::Both(Arc::new(alloc, Both { references, digest })?))
         }
     }
 }

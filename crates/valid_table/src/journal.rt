@@ -154,7 +154,7 @@ impl Journal {
     // own registers, whichever comes first; line 1 is the version's. `NoMemory` may come in the
     // place of either. Costs one look-up by hash for each registered path, and two for each
     // reference.
-    pub(crate) fn checked(alloc: Global, entries: Vec<Entry>) -> Result<Journal, TableFault>
+    pub(crate) fn of_entries(alloc: Global, entries: Vec<Entry>) -> Result<Journal, TableFault>
         requires derived { All HasDrvPath entries.items }
         requires few { length (lines entries.items) ≤ 134217729 }
         ensures { IsEntriesChecking entries.items (answered result) }

@@ -3,7 +3,7 @@
 //! | Module | What is in it |
 //! |---|---|
 //! | `entry`, `entry_eq` | entries of a journal, and when they are equal |
-//! | `kept` | how a record keeps a digest |
+//! | `stored_digest` | how a record keeps a digest |
 //! | `reference` | one reference of a record |
 //! | `journal` | journals: their entries, one more |
 //! | `version` | the versions of a journal's text, and the first line of each |
@@ -12,7 +12,7 @@
 //! | `checking` | how entries whose text was read are checked |
 //! | `rows`, `table` | the rows of valid paths, and the table of these rows |
 //! | `links` | the references of rows, by the numbers of their rows |
-//! | `found` | rows that were found, each once |
+//! | `row_set` | a set of rows, each once, in the order in which they were found |
 //! | `order` | the order of rows by the keys of their paths |
 //! | `closing`, `rising` | how a closure is found, and put in order |
 //! | `merging` | rising lists of paths, put together |
@@ -27,9 +27,7 @@ mod entering;
 mod entry;
 mod entry_eq;
 mod fault;
-mod found;
 mod journal;
-mod kept;
 pub mod laws;
 mod lines;
 mod links;
@@ -41,7 +39,9 @@ mod outlet;
 mod reading;
 mod reference;
 mod rising;
+mod row_set;
 mod rows;
+mod stored_digest;
 mod table;
 mod version;
 mod writing;

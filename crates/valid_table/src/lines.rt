@@ -14,11 +14,11 @@ use memchr::{memchr, memchr_iter};
 use nix_names::{Algorithm, Digest, NameFault, StoreDir, StorePath, is_drv_name, parse_path};
 use std::alloc::{AllocError, Global};
 
-/// The bytes with which the first line of each version begins.
+// The bytes with which the first line of each version begins.
 const JOURNAL: &[u8] = b"realiser-journal ";
 
-/// The bytes before the first one that equals `byte`, and those after it.
-pub(crate) fn cut(byte: u8, bytes: &[u8]) -> Option<(&[u8], &[u8])>
+// The bytes before the first one that equals `byte`, and those after it.
+pub(crate) fn split_at_byte(byte: u8, bytes: &[u8]) -> Option<(&[u8], &[u8])>
     ensures { MatchOption result (All (λ b. b ≢ byte) bytes.now)
         (λ x. All (λ b. b ≢ byte) x.0.now × (bytes.now ≡ x.0.now ++ byte ∷ x.1.now)) }
 {
@@ -26,7 +26,7 @@ pub(crate) fn cut(byte: u8, bytes: &[u8]) -> Option<(&[u8], &[u8])>
     Some((&bytes[..at], &bytes[at + 1..]))
 }
 
-/// The bytes after a letter and a space, where the bytes begin with them.
+// The bytes after a letter and a space, where the bytes begin with them.
 pub(crate) fn behind_letter(letter: u8, bytes: &[u8]) -> Option<&[u8]>
     ensures { MatchOption result (IsNoLine letter bytes.now)
         (λ rest. bytes.now ≡ letter ∷ 32 ∷ rest.now) }
@@ -37,7 +37,7 @@ pub(crate) fn behind_letter(letter: u8, bytes: &[u8]) -> Option<&[u8]>
     }
 }
 
-/// The path that is spelled by these bytes, if they are one of the store folder.
+// The path that is spelled by these bytes, if they are one of the store folder.
 pub(crate) fn path_of(
     alloc: Global,
     dir: &StoreDir,
@@ -59,8 +59,8 @@ pub(crate) fn path_of(
     }
 }
 
-/// The digest of a line, where the bytes are its text in a version: none for a dash, or the digest
-/// whose text they are.
+// The digest of a line, where the bytes are its text in a version: none for a dash, or the digest
+// whose text they are.
 pub(crate) fn digest_of(version: Version, text: &[u8]) -> Option<Option<Digest>>
     ensures { MatchOption result
         ((digest : Option ADigest) → IsDigestOf version digest
@@ -76,8 +76,8 @@ pub(crate) fn digest_of(version: Version, text: &[u8]) -> Option<Option<Digest>>
     }
 }
 
-/// The digest whose text in a version the bytes are: the 64 lower-case hexadecimal digits of
-/// SHA-256 in version 1, and an algorithm's name, a colon and its digits in version 2.
+// The digest whose text in a version the bytes are: the 64 lower-case hexadecimal digits of
+// SHA-256 in version 1, and an algorithm's name, a colon and its digits in version 2.
 #[tactic(auto, using(crate::proofs::DigestTexts::in_one))]
 fn some_digest_of(version: Version, text: &[u8]) -> Option<Digest>
     ensures { MatchOption result
@@ -92,7 +92,7 @@ fn some_digest_of(version: Version, text: &[u8]) -> Option<Digest>
     }
 }
 
-/// The path and the newline at the head of the bytes, and what is after them.
+// The path and the newline at the head of the bytes, and what is after them.
 pub(crate) fn path_line<'a>(
     alloc: Global,
     dir: &StoreDir,
@@ -103,7 +103,7 @@ pub(crate) fn path_line<'a>(
         ((path rest : List ℕ) → IsPathLine dir.now bytes.now path rest → ⊥)
         (λ x. IsPathLine dir.now bytes.now x.0 x.1.now)) }
 {
-    let Some((line, rest)) = cut(b'\n', bytes) else {
+    let Some((line, rest)) = split_at_byte(b'\n', bytes) else {
         return Ok(None);
     };
     match path_of(alloc, dir, line)? {
@@ -112,7 +112,7 @@ pub(crate) fn path_line<'a>(
     }
 }
 
-/// The same for the path of a derivation's file, where an output's line follows.
+// The same for the path of a derivation's file, where an output's line follows.
 pub(crate) fn deriver_line<'a>(
     alloc: Global,
     dir: &StoreDir,
@@ -135,8 +135,8 @@ pub(crate) fn deriver_line<'a>(
     }
 }
 
-/// The path, the space, the digest in a version and the newline at the head of the bytes, and what
-/// is after them.
+// The path, the space, the digest in a version and the newline at the head of the bytes, and what
+// is after them.
 pub(crate) fn fields_line<'a>(
     alloc: Global,
     dir: &StoreDir,
@@ -149,13 +149,13 @@ pub(crate) fn fields_line<'a>(
         → IsFieldsLine version dir.now bytes.now path digest rest → ⊥)
         (λ x. IsFieldsLine version dir.now bytes.now x.0 x.1 x.2.now)) }
 {
-    let Some((text, fields)) = cut(b' ', bytes) else {
+    let Some((text, fields)) = split_at_byte(b' ', bytes) else {
         return Ok(None);
     };
     let Some(path) = path_of(alloc, dir, text)? else {
         return Ok(None);
     };
-    let Some((digest, rest)) = cut(b'\n', fields) else {
+    let Some((digest, rest)) = split_at_byte(b'\n', fields) else {
         return Ok(None);
     };
     match digest_of(version, digest) {
@@ -164,8 +164,8 @@ pub(crate) fn fields_line<'a>(
     }
 }
 
-/// The number of the line that begins where `left` bytes are left: one more than there are newlines
-/// before it.
+// The number of the line that begins where `left` bytes are left: one more than there are newlines
+// before it.
 pub(crate) fn line_number(bytes: &[u8], left: usize) -> usize
     requires { left ≤ length bytes.now }
     ensures { result ≡ 1 + length (places (is_byte 10) (take (length bytes.now - left) bytes.now)) }
@@ -173,20 +173,20 @@ pub(crate) fn line_number(bytes: &[u8], left: usize) -> usize
     1 + memchr_iter(b'\n', &bytes[..bytes.len() - left]).count()
 }
 
-/// Whether the bytes begin with the first line of a journal of another version.
+// Whether the bytes begin with the first line of a journal of another version.
 pub(crate) fn is_other_version(bytes: &[u8]) -> bool
     ensures { IsTrue result ↔ IsOtherVersion bytes.now }
 {
     let Some(version) = bytes.strip_prefix(JOURNAL) else {
         return false;
     };
-    let Some((number, _)) = cut(b'\n', version) else {
+    let Some((number, _)) = split_at_byte(b'\n', version) else {
         return false;
     };
     is_other_number(number)
 }
 
-/// Whether the bytes are decimal digits, and neither `1` nor `2` alone.
+// Whether the bytes are decimal digits, and neither `1` nor `2` alone.
 fn is_other_number(bytes: &[u8]) -> bool
     ensures { IsTrue result
         ↔ ((bytes.now ≢ []) × All (λ b. IsTrue (is_ascii_digit b)) bytes.now

@@ -18,16 +18,16 @@ const SHARE: usize = 16;
 // The first rows of a table, each paired with the key of its path in the folder of the first path.
 // These pairs are sorted, unless memory was refused for that. All later rows are called late.
 #[derive(Debug, Drop)]
-pub(crate) struct Order {
+pub(crate) struct RowOrder {
     pub(crate) keyed: Vec<(u64, usize)>,
 }
 
-impl Order {
+impl RowOrder {
     // The order in which all rows are late.
-    pub(crate) fn new(alloc: Global) -> Order
+    pub(crate) fn new(alloc: Global) -> RowOrder
         ensures { result.keyed.items ≡ [] }
     {
-        Order {
+        RowOrder {
             keyed: Vec::new(alloc),
         }
     }

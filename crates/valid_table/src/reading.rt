@@ -47,39 +47,39 @@ impl Journal {
             return Err(TableFault::WrongVersion);
         }
         match entries_of(alloc, dir, bytes) {
-            Ok(entries) => Journal::checked(alloc, entries),
-            Err(Stop::Left(left)) => Err(TableFault::BadLine(line_number(bytes, left))),
-            Err(Stop::NoMemory) => Err(TableFault::NoMemory),
+            Ok(entries) => Journal::of_entries(alloc, entries),
+            Err(LineFault::Left(left)) => Err(TableFault::BadLine(line_number(bytes, left))),
+            Err(LineFault::NoMemory) => Err(TableFault::NoMemory),
         }
     }
 }
 
-// Why a reader stopped.
+// Why no entries were read.
 #[derive(Debug, Drop)]
-pub(crate) enum Stop {
+pub(crate) enum LineFault {
     // Memory was refused.
     NoMemory,
     // A line is bad. This is the number of bytes from the beginning of that line on.
     Left(usize),
 }
 
-impl From<AllocError> for Stop {
-    ghost use Rattle.valid_table.specs.declared.reading.Stop.TheVariants.{NoMemory};
+impl From<AllocError> for LineFault {
+    ghost use Rattle.valid_table.specs.declared.reading.LineFault.TheVariants.{NoMemory};
 
     ghost from_gives = { λ _ stop. stop ≡ NoMemory };
 
     fn from(_: AllocError) -> Self {
-        Stop::NoMemory
+        LineFault::NoMemory
     }
 }
 
-impl<T: Drop> From<AllocFailed<T>> for Stop {
-    ghost use Rattle.valid_table.specs.declared.reading.Stop.TheVariants.{NoMemory};
+impl<T: Drop> From<AllocFailed<T>> for LineFault {
+    ghost use Rattle.valid_table.specs.declared.reading.LineFault.TheVariants.{NoMemory};
 
     ghost from_gives = { λ _ stop. stop ≡ NoMemory };
 
     fn from(_: AllocFailed<T>) -> Self {
-        Stop::NoMemory
+        LineFault::NoMemory
     }
 }
 
@@ -98,7 +98,7 @@ fn references_of<'a>(
     alloc: Global,
     dir: &StoreDir,
     bytes: &'a [u8],
-) -> Result<(Vec<StorePath>, &'a [u8]), Stop>
+) -> Result<(Vec<StorePath>, &'a [u8]), LineFault>
     ensures ok { IfOk result (λ x. ReadsReferences dir.now bytes.now x.0.items x.1.now) }
     ensures left { IfErr result (StopsWhere (StopsInReferences dir.now bytes.now)) }
 {
@@ -106,10 +106,10 @@ fn references_of<'a>(
     let mut rest = bytes;
     'references: while let Some(fields) = behind_letter(b'R', rest) {
         let Some((path, behind)) = path_line(alloc, dir, fields)? else {
-            return Err(Stop::Left(rest.len()));
+            return Err(LineFault::Left(rest.len()));
         };
         if !is_above(references.last(), &path) {
-            return Err(Stop::Left(rest.len()));
+            return Err(LineFault::Left(rest.len()));
         }
         references.push(path)?;
         rest = behind;
@@ -124,7 +124,7 @@ fn record_of<'a>(
     dir: &StoreDir,
     digest: Option<Digest>,
     bytes: &'a [u8],
-) -> Result<(Record, &'a [u8]), Stop>
+) -> Result<(Record, &'a [u8]), LineFault>
     ensures references { IfOk result
         (λ x. ReadsReferences dir.now bytes.now x.0.references x.1.now) }
     ensures digest { IfOk result (λ x. x.0.digest ≡ digest) }
@@ -170,7 +170,7 @@ fn registration_of<'a>(
     letter: u8,
     before: Option<&StorePath>,
     bytes: &'a [u8],
-) -> Result<Option<(Registration, &'a [u8])>, Stop>
+) -> Result<Option<(Registration, &'a [u8])>, LineFault>
     ensures ok { IfOk result
         (λ found. MatchOption found (IsNoLine letter bytes.now)
         (λ x. HasRegistration version dir.now letter (option_copied before.entry) bytes.now x.0
@@ -183,7 +183,7 @@ fn registration_of<'a>(
         return Ok(None);
     };
     let Some((path, digest, rest)) = fields_above(alloc, dir, version, before, fields)? else {
-        return Err(Stop::Left(bytes.len()));
+        return Err(LineFault::Left(bytes.len()));
     };
     let (info, rest) = record_of(alloc, dir, digest, rest)?;
     Ok(Some((Registration { path, info }, rest)))
@@ -205,7 +205,7 @@ fn outputs_of<'a>(
     dir: &StoreDir,
     version: Version,
     bytes: &'a [u8],
-) -> Result<(Vec<Registration>, &'a [u8]), Stop>
+) -> Result<(Vec<Registration>, &'a [u8]), LineFault>
     requires { BeginsOutput bytes.now }
     ensures ok { IfOk result (λ x. HasOutputs version dir.now bytes.now x.0.items x.1.now) }
     ensures left { IfErr result (StopsWhere (Stops version dir.now Opened bytes.now)) }
@@ -230,7 +230,7 @@ fn done_of<'a>(
     dir: &StoreDir,
     version: Version,
     bytes: &'a [u8],
-) -> Result<Option<(Entry, &'a [u8])>, Stop>
+) -> Result<Option<(Entry, &'a [u8])>, LineFault>
     ensures ok { IfOk result
         (λ found. MatchOption found (IsNoLine 68 bytes.now)
         (λ x. HasEntry version dir.now bytes.now x.0 x.1.now)) }
@@ -243,7 +243,7 @@ fn done_of<'a>(
         return Ok(None);
     };
     let Some((deriver, rest)) = deriver_line(alloc, dir, fields)? else {
-        return Err(Stop::Left(bytes.len()));
+        return Err(LineFault::Left(bytes.len()));
     };
     let (outputs, rest) = outputs_of(alloc, dir, version, rest)?;
     Ok(Some((Entry::Done(deriver, Outputs::new(outputs)), rest)))
@@ -255,7 +255,7 @@ fn entry_of<'a>(
     dir: &StoreDir,
     version: Version,
     bytes: &'a [u8],
-) -> Result<(Entry, &'a [u8]), Stop>
+) -> Result<(Entry, &'a [u8]), LineFault>
     requires { bytes.now ≢ [] }
     ensures ok { IfOk result (λ x. HasEntry version dir.now bytes.now x.0 x.1.now) }
     ensures left { IfErr result
@@ -268,16 +268,20 @@ fn entry_of<'a>(
     }
     match done_of(alloc, dir, version, bytes)? {
         Some(done) => Ok(done),
-        None => Err(Stop::Left(bytes.len())),
+        None => Err(LineFault::Left(bytes.len())),
     }
 }
 
 // The entries whose text the bytes are.
-pub(crate) fn entries_of(alloc: Global, dir: &StoreDir, bytes: &[u8]) -> Result<Vec<Entry>, Stop>
+pub(crate) fn entries_of(
+    alloc: Global,
+    dir: &StoreDir,
+    bytes: &[u8],
+) -> Result<Vec<Entry>, LineFault>
     ensures is_dir { IsStoreDir dir.now }
     ensures ok { IfOk result (λ entries. IsJournalText dir.now entries.items bytes.now) }
     ensures left { IfErr result (StopsWhere (StopsInText dir.now bytes.now)) }
-    ensures memory { IsErrOf result Stop.NoMemory
+    ensures memory { IsErrOf result LineFault.NoMemory
         → (version : AVersion) × BeginsVersion version bytes.now }
     ensures room { IfOk result (λ entries. bytes.now ≡ [] → vec_capacity entries ≡ 0) }
 {
@@ -288,7 +292,7 @@ pub(crate) fn entries_of(alloc: Global, dir: &StoreDir, bytes: &[u8]) -> Result<
         return Ok(entries);
     }
     let Some((version, mut rest)) = version_of(bytes) else {
-        return Err(Stop::Left(bytes.len()));
+        return Err(LineFault::Left(bytes.len()));
     };
     'entries: while !rest.is_empty() {
         let (entry, behind) = entry_of(alloc, dir, version, rest)?;

@@ -13,8 +13,8 @@ ghost use Rattle.valid_table.specs.Valid.{IsOnce};
 
 use crate::entry::Record;
 use crate::fault::TableFault;
-use crate::found::Found;
-use crate::order::{Order, folder_of, key_of};
+use crate::order::{RowOrder, folder_of, key_of};
+use crate::row_set::RowSet;
 use indexmap::IndexMap;
 use nix_names::StorePath;
 use std::alloc::{AllocFailed, Global};
@@ -26,8 +26,8 @@ const SWEEP: usize = 16;
 pub(crate) fn sorted_paths(
     alloc: Global,
     rows: &IndexMap<StorePath, Record>,
-    order: &Order,
-    found: &Found,
+    order: &RowOrder,
+    found: &RowSet,
 ) -> Result<Vec<StorePath>, TableFault>
     requires once { IsOnce (registrations_of rows.now.entries) }
     requires first { AreFirst (length rows.now.entries) (rows_behind order.now.keyed.items) }
@@ -41,7 +41,7 @@ pub(crate) fn sorted_paths(
 {
     let mut keyed = keyed_rows(alloc, rows, order, found)?;
     keyed.sort()?;
-    let mut paths = copied_paths(alloc, rows, &keyed)?;
+    let mut paths = copy_paths(alloc, rows, &keyed)?;
     if !keys_rise(&keyed) {
         put_in_order(&mut paths);
     }
@@ -52,8 +52,8 @@ pub(crate) fn sorted_paths(
 fn keyed_rows(
     alloc: Global,
     rows: &IndexMap<StorePath, Record>,
-    order: &Order,
-    found: &Found,
+    order: &RowOrder,
+    found: &RowSet,
 ) -> Result<Vec<(u64, usize)>, TableFault>
     requires first { AreFirst (length rows.now.entries) (rows_behind order.now.keyed.items) }
     requires keys { AreKeyed (registrations_of rows.now.entries) order.now.keyed.items }
@@ -68,14 +68,14 @@ fn keyed_rows(
     ensures err { IfErr result (λ e. e ≡ TableFault.NoMemory) }
 {
     let mut keyed = Vec::with_capacity(alloc, found.rows().len())?;
-    let ordered = swept(order, found);
+    let ordered = rows_to_sweep(order, found);
     push_found(ordered, found, &mut keyed)?;
     push_late(rows, ordered.len(), found, &mut keyed)?;
     Ok(keyed)
 }
 
 // The ordered rows that a closure passes over: all of them, or none where few rows were found.
-fn swept<'a>(order: &'a Order, found: &Found) -> &'a [(u64, usize)]
+fn rows_to_sweep<'a>(order: &'a RowOrder, found: &RowSet) -> &'a [(u64, usize)]
     ensures either { (result.now ≡ []) ⊎ (result.now ≡ order.now.keyed.items) }
     ensures few { length found.now.rows < length order.now.keyed.items / 16 → result.now ≡ [] }
     ensures many { length order.now.keyed.items / 16 ≤ length found.now.rows
@@ -91,7 +91,7 @@ fn swept<'a>(order: &'a Order, found: &Found) -> &'a [(u64, usize)]
 // Adds those of the ordered rows that were found.
 fn push_found(
     ordered: &[(u64, usize)],
-    found: &Found,
+    found: &RowSet,
     keyed: &mut Vec<(u64, usize)>,
 ) -> Result<(), AllocFailed<(u64, usize)>>
     ensures { OnOk result
@@ -110,7 +110,7 @@ fn push_found(
 fn push_late(
     rows: &IndexMap<StorePath, Record>,
     first: usize,
-    found: &Found,
+    found: &RowSet,
     keyed: &mut Vec<(u64, usize)>,
 ) -> Result<(), AllocFailed<(u64, usize)>>
     requires rows { AreRows (registrations_of rows.now.entries) found.now.rows }
@@ -132,7 +132,7 @@ fn push_late(
 }
 
 // The paths of the rows, in their order.
-fn copied_paths(
+fn copy_paths(
     alloc: Global,
     rows: &IndexMap<StorePath, Record>,
     keyed: &[(u64, usize)],

@@ -3,7 +3,7 @@ ghost use Rattle.std.specs.Prelude.{◌≡◌, ◌≤◌, ◌<◌, ◌+◌, ◌+
 ghost use Rattle.indexmap.specs.IndexMap.{spare};
 ghost use Rattle.valid_table.specs.Closing.{IsRowOf};
 ghost use Rattle.nix_names.specs.Rising.{IsRising};
-ghost use Rattle.valid_table.specs.Entering.{IsNewFront, IsPut};
+ghost use Rattle.valid_table.specs.Entering.{IsNewPrefix, IsPut};
 ghost use Rattle.valid_table.specs.Entries.{paths_registered, registered_by};
 ghost use Rattle.valid_table.specs.Tables.{registrations_of};
 ghost use Rattle.valid_table.specs.Valid.{IsNotValid, IsOnce, IsValid};
@@ -58,8 +58,8 @@ pub(crate) fn add_new(
 ) -> Result<usize, TableFault>
     requires once { IsOnce (registrations_of rows.old.entries) }
     requires rising { IsRising (paths_registered registrations.now) }
-    ensures front { IfOk result
-        (λ count. IsNewFront (paths_registered (registrations_of rows.old.entries))
+    ensures prefix { IfOk result
+        (λ count. IsNewPrefix (paths_registered (registrations_of rows.old.entries))
         (paths_registered registrations.now) count) }
     ensures paths { IfOk result
         (λ count. paths_registered (registrations_of rows.new.entries)

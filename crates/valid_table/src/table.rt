@@ -14,7 +14,7 @@ use crate::fault::TableFault;
 use crate::journal::Journal;
 use crate::links::Links;
 use crate::obstacle::{Blame, Obstacle, fault_of, obstacle_of};
-use crate::order::Order;
+use crate::order::RowOrder;
 use crate::rows::{add_rows, has_row, push_entry};
 use indexmap::IndexMap;
 use nix_names::StorePath;
@@ -30,7 +30,7 @@ pub struct Table {
     // The references of the first rows, by number.
     links: Links,
     // The order of the first rows.
-    order: Order,
+    order: RowOrder,
 }
 
 impl Model for Table {
@@ -62,7 +62,7 @@ impl Table {
         Table {
             rows: IndexMap::new(alloc),
             links: Links::new(alloc),
-            order: Order::new(alloc),
+            order: RowOrder::new(alloc),
         }
     }
 
@@ -209,7 +209,7 @@ impl Table {
         let alloc = *rows.allocator();
         let mut links = Links::new(alloc);
         links.link(alloc, &rows);
-        let order = Order::new(alloc);
+        let order = RowOrder::new(alloc);
         Table { rows, links, order }
     }
 }

@@ -7,17 +7,17 @@ ghost use Rattle.valid_table.specs.Texts.{version_line};
 /// The most bytes that a journal's text may have, in any version.
 pub const MAX_JOURNAL: usize = 134_217_728;
 
-/// A version of a journal's text.
+// A version of a journal's text.
 #[derive(Clone, Copy, Debug, PartialEq, Eq)]
 pub(crate) enum Version {
-    /// Version 1, in which a digest is its digits, and SHA-256 is the only algorithm.
+    // Version 1, in which a digest is its digits, and SHA-256 is the only algorithm.
     One,
-    /// Version 2, in which a digest is its algorithm's name, a colon and its digits.
+    // Version 2, in which a digest is its algorithm's name, a colon and its digits.
     Two,
 }
 
 impl Version {
-    /// The first line of a text, with its newline.
+    // The first line of a text, with its newline.
     pub(crate) fn line(self) -> &'static [u8]
         ensures { result.now ≡ version_line self }
     {
@@ -27,7 +27,7 @@ impl Version {
         }
     }
 
-    /// The greatest number of bytes that a text may have.
+    // The greatest number of bytes that a text may have.
     pub(crate) fn max_len(self) -> usize
         ensures { result ≡ max_len self }
     {
@@ -37,7 +37,7 @@ impl Version {
         }
     }
 
-    /// The bytes after the version's line, where they begin with it.
+    // The bytes after the version's line, where they begin with it.
     fn behind_line(self, bytes: &[u8]) -> Option<&[u8]>
         ensures { MatchOption result ((rest : List ℕ) → bytes.now ≢ version_line self ++ rest)
             (λ rest. bytes.now ≡ version_line self ++ rest.now) }
@@ -46,7 +46,7 @@ impl Version {
     }
 }
 
-/// The version with whose line the bytes begin, and the bytes after that line.
+// The version with whose line the bytes begin, and the bytes after that line.
 pub(crate) fn version_of(bytes: &[u8]) -> Option<(Version, &[u8])>
     ensures { MatchOption result (BeginsNoVersion bytes.now)
         (λ x. bytes.now ≡ version_line x.0 ++ x.1.now) }
@@ -60,8 +60,8 @@ pub(crate) fn version_of(bytes: &[u8]) -> Option<(Version, &[u8])>
     None
 }
 
-/// Whether the bytes are more than a text may have of the version with whose line they begin, or of
-/// any version.
+// Whether the bytes are more than a text may have of the version with whose line they begin, or of
+// any version.
 #[tactic(auto, using(crate::proofs::Versions::too_long_in, crate::proofs::Versions::too_long_without))]
 pub(crate) fn is_too_long(bytes: &[u8]) -> bool
     ensures { IsTrue result ↔ IsTooLong bytes.now }

@@ -20,4 +20,4 @@ returns-clause-unique c =
     where_right _ _ _ _ _ c.check_lines.ensures
     (λ long. subst IsOnce (sym (c.in_ok-new.ensures.whole long))
     (once_more _ _ c.requires.once c.registrations-registrations.ensures.rising
-    (all_new _ _ _ c.in_ok-new.ensures.front long)))
+    (all_new _ _ _ c.in_ok-new.ensures.prefix long)))

@@ -11,15 +11,15 @@ returns-in_default-2 c = λ path digest rest is.
     c.in_ok-path.ensures.is_dir c.in-Some.ensures.0 c.in-Some.ensures.1 path
     digest rest is (MatchOption-at_none _ _ c.in_default-2.is c.in_ok-path.ensures.path)
 
-pub returns-in_default-cut : goal.returns-in_default-cut
-returns-in_default-cut c = λ path digest rest is.
+pub returns-in_default-split_at_byte : goal.returns-in_default-split_at_byte
+returns-in_default-split_at_byte c = λ path digest rest is.
     no_newline _ _ _ _ _
     c.in_ok-path.ensures.is_dir c.in-Some.ensures.0 c.in-Some.ensures.1 path
-    digest rest is c.in_default-cut.ensures
+    digest rest is c.in_default-split_at_byte.ensures
 
 pub returns-in-None : goal.returns-in-None
 returns-in-None c = λ path digest rest is.
     other_digest _ _ _ _ _
     c.in_ok-path.ensures.is_dir c.in-Some.ensures.0 c.in-Some.ensures.1 path
-    digest rest is c.in-Some-cut.digest.now c.in-Some-cut.rest.now
-    c.in-Some-cut.ensures.0 c.in-Some-cut.ensures.1 c.in-None.ensures
+    digest rest is c.in-Some-split_at_byte.digest.now c.in-Some-split_at_byte.rest.now
+    c.in-Some-split_at_byte.ensures.0 c.in-Some-split_at_byte.ensures.1 c.in-None.ensures

@@ -13,16 +13,16 @@ push_late-requires-clause-keys c =
     (λ (k : ℕ × ℕ). (k.0 ≡ 0) ⊎ (IsKey (folder_of registrations) (path_at registrations k.1) k.0))
     (λ (k : ℕ × ℕ). list_any (nat_eq k.1) c.args.found.now.rows)
     _ _ _
-    _ c.swept-ordered.ensures.either c.in_ok-keyed.ensures.items
+    _ c.rows_to_sweep-ordered.ensures.either c.in_ok-keyed.ensures.items
     c.in_ok-push_found.ensures c.requires.keys
 
 pub returns-clause-rows : goal.returns-clause-rows
 returns-clause-rows c =
     let found = c.args.found.now.rows in
-    let ordered = c.swept-ordered.result.now in
+    let ordered = c.rows_to_sweep-ordered.result.now in
     chosen_rows _ _ _
     _
-    (swept_first _ _ _ c.swept-ordered.ensures.either c.requires.first)
+    (swept_first _ _ _ c.rows_to_sweep-ordered.ensures.either c.requires.first)
     c.requires.rows
     (regrouped_is found ordered _ _
     _ c.in_ok-keyed.ensures.items
@@ -33,9 +33,9 @@ returns-clause-rows c =
 pub returns-clause-same : goal.returns-clause-same
 returns-clause-same c =
     let found = c.args.found.now.rows in
-    let ordered = c.swept-ordered.result.now in
+    let ordered = c.rows_to_sweep-ordered.result.now in
     chosen_same _ _ _ _
-    (swept_first _ _ _ c.swept-ordered.ensures.either c.requires.first)
+    (swept_first _ _ _ c.rows_to_sweep-ordered.ensures.either c.requires.first)
     (regrouped_is found ordered _ _
     _ c.in_ok-keyed.ensures.items
     (behind_added (λ row. list_any (nat_eq row) found) _ _

@@ -8,8 +8,8 @@ use Rattle.valid_table.proofs.Sorting.{keyed_below, paths_moved, sorted_rising, 
 use Rattle.valid_table.proofs.rising.sorted_paths.Goals.{then-not-keys_rise, else-not-keys_rise}
 use Rattle.valid_table.proofs.rising.sorted_paths.Goals as goal
 
-pub copied_paths-requires : goal.copied_paths-requires
-copied_paths-requires c =
+pub copy_paths-requires : goal.copy_paths-requires
+copy_paths-requires c =
     rw c.deref.ensures.value
     (keyed_below _ _ _
     _

@@ -1,7 +1,7 @@
 use Rattle.std.proofs.Common.{arith, false, true, rules}
 use Rattle.valid_table.specs.Entering.{IsPut}
 use Rattle.valid_table.specs.Tables.{registrations_of}
-use Rattle.valid_table.proofs.EnteredPaths.{front_all}
+use Rattle.valid_table.proofs.EnteredPaths.{prefix_all}
 use Rattle.valid_table.proofs.EnteredRows.{put_all, put_more, put_paths, put_twice}
 use Rattle.valid_table.proofs.rows.add_new.Goals as goal
 
@@ -27,14 +27,14 @@ returns-then-branch c =
     c.loop-count.invariant.rows c.loop-count.invariant.new c.loop-count-test.true
     c.index-registrations-count.is put in
     record {
-      front = twice.0;
+      prefix = twice.0;
       paths = twice.1;
       whole = λ long. absurd (omega (arith, long, c.loop-count-test.true));
       err = tt;
     }
 
-pub returns-clause-front : goal.returns-clause-front
-returns-clause-front c = search (rules, front_all)
+pub returns-clause-prefix : goal.returns-clause-prefix
+returns-clause-prefix c = search (rules, prefix_all)
 
 pub returns-clause-paths : goal.returns-clause-paths
 returns-clause-paths c = search (rules, put_paths)

@@ -4,8 +4,8 @@ use Rattle.valid_table.specs.Readers.{StopsInText, StopsWhere}
 use Rattle.valid_table.proofs.ReadAnswers.{bad_line_number, few_lines, read_as}
 use Rattle.valid_table.proofs.journal.Journal.read.Goals as goal
 
-pub checked-requires-clause-few : goal.checked-requires-clause-few
-checked-requires-clause-few c =
+pub of_entries-requires-clause-few : goal.of_entries-requires-clause-few
+of_entries-requires-clause-few c =
     few_lines _ _ _
     (λ long. false≢true (sym c.if-is_too_long.false ∙ c.is_too_long.ensures.1 long))
     c.in-Ok.ensures.ok
@@ -15,7 +15,7 @@ returns-in-Ok c =
     read_as _ _ _ _
     (λ long. false≢true (sym c.if-is_too_long.false ∙ c.is_too_long.ensures.1 long))
     (λ other. false≢true (sym c.if-is_other_version.false ∙ c.is_other_version.ensures.1 other))
-    c.in-Ok.ensures.ok c.checked.ensures
+    c.in-Ok.ensures.ok c.of_entries.ensures
 
 pub returns-in-Err-Left : goal.returns-in-Err-Left
 returns-in-Err-Left c = (

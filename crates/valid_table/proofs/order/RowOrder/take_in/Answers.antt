@@ -2,7 +2,7 @@ use Rattle.std.proofs.Common.{◌∙◌, ◌∷◌, [], ap, arith, length, not}
 use Rattle.std.proofs.lemmas.List.{length-append}
 use Rattle.valid_table.proofs.FirstRows.{keyed_more}
 use Rattle.valid_table.proofs.Keys.{one_more_keyed, path_looked_up}
-use Rattle.valid_table.proofs.order.Order.take_in.Goals as goal
+use Rattle.valid_table.proofs.order.RowOrder.take_in.Goals as goal
 
 pub loop-row-preserved : goal.loop-row-preserved
 loop-row-preserved c =

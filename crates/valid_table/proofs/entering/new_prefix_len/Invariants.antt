@@ -3,7 +3,7 @@ use Rattle.std.proofs.Common.{take}
 use Rattle.valid_table.specs.Entering.{AreUnknown}
 use Rattle.valid_table.specs.Entries.{paths_registered}
 use Rattle.valid_table.specs.Tables.{registrations_of}
-use Rattle.valid_table.proofs.entering.new_front.Given as goal
+use Rattle.valid_table.proofs.entering.new_prefix_len.Given as goal
 
 abbrev pub invariant-loop-count : goal.invariant-loop-count
 invariant-loop-count l = AreUnknown (paths_registered (registrations_of l.rows.entries))

@@ -1,5 +1,5 @@
 use Rattle.valid_table.proofs.Marks.{none_marked}
-use Rattle.valid_table.proofs.found.Found.new.Goals as goal
+use Rattle.valid_table.proofs.row_set.RowSet.new.Goals as goal
 
 pub invariant_of-result : goal.invariant_of-result
 invariant_of-result c =

@@ -1,7 +1,7 @@
 use Rattle.std.proofs.Common.{◌∙◌, sym, rules}
 use Rattle.std.proofs.lemmas.Bool.{false≢true}
-use Rattle.valid_table.proofs.EnteredPaths.{front_all, new_more}
-use Rattle.valid_table.proofs.entering.new_front.Goals as goal
+use Rattle.valid_table.proofs.EnteredPaths.{prefix_all, new_more}
+use Rattle.valid_table.proofs.entering.new_prefix_len.Goals as goal
 
 pub loop-count-preserved : goal.loop-count-preserved
 loop-count-preserved c =
@@ -11,4 +11,4 @@ loop-count-preserved c =
     (λ there. false≢true (sym c.if-has_row.false ∙ c.has_row.ensures.1 there))
 
 pub returns : goal.returns
-returns c = search (rules, front_all)
+returns c = search (rules, prefix_all)

@@ -2,7 +2,7 @@
 use Rattle.std.proofs.Common.{◌≡◌, length, map, take, vec_capacity, ℕ}
 use Rattle.valid_table.specs.Closing.{paths_at}
 use Rattle.valid_table.specs.Tables.{registrations_of}
-use Rattle.valid_table.proofs.rising.copied_paths.Given as goal
+use Rattle.valid_table.proofs.rising.copy_paths.Given as goal
 
 abbrev pub invariant-loop-row : goal.invariant-loop-row
 invariant-loop-row l = record {

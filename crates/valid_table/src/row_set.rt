@@ -1,4 +1,4 @@
-//! Rows that were found, each once, in the order in which they were found.
+//! A set of rows, each once, in the order in which they were found.
 ghost use Rattle.std.specs.Prelude.{◌≡◌, ◌<◌, ◌≤◌, [], nat_eq, IfOk, OnOk};
 ghost use Rattle.std.specs.List.{IsDistinct, list_any};
 ghost use Rattle.indexmap.specs.IndexSet.{insert_key};
@@ -6,18 +6,18 @@ ghost use Rattle.indexmap.specs.IndexSet.{insert_key};
 use std::alloc::{AllocError, AllocFailed, Global};
 use std::marker::Model;
 
-// The rows, and a mark for each row of a table, which is set where the row is among them.
+// Its rows, and a mark for each row of a table, which is set where the row is among them.
 #[derive(Drop)]
-pub(crate) struct Found {
+pub(crate) struct RowSet {
     rows: Vec<usize>,
     marks: Vec<u64>,
 }
 
-impl Model for Found {
+impl Model for RowSet {
     ghost use Rattle.std.specs.Prelude.{◌*◌, length};
-    ghost use Rattle.valid_table.specs.Marking.{AreMarked, FoundRows};
+    ghost use Rattle.valid_table.specs.Marking.{AreMarked, RowSetValue};
 
-    ghost Value = { FoundRows };
+    ghost Value = { RowSetValue };
 
     ghost view = { λ found. record
         { rows = found.rows.items; room = 64 * length found.marks.items } };
@@ -25,14 +25,14 @@ impl Model for Found {
     ghost invariant = { λ found. AreMarked found.marks.items found.rows.items };
 }
 
-impl Found {
+impl RowSet {
     // No rows yet, with marks for a table of `count` rows.
-    pub(crate) fn new(alloc: Global, count: usize) -> Result<Found, AllocError>
+    pub(crate) fn new(alloc: Global, count: usize) -> Result<RowSet, AllocError>
         ensures none { IfOk result (λ found. found.rows ≡ []) }
         ensures room { IfOk result (λ found. count ≤ found.room) }
     {
         let marks = vec![in alloc; 0u64; count / 64 + 1]?;
-        Ok(Found {
+        Ok(RowSet {
             rows: Vec::new(alloc),
             marks,
         })

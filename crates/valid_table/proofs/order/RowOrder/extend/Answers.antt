@@ -1,7 +1,7 @@
 use Rattle.std.proofs.Common.{rules}
 use Rattle.valid_table.proofs.FirstRows.{first_moved}
 use Rattle.valid_table.proofs.Keys.{keyed_moved}
-use Rattle.valid_table.proofs.order.Order.extend.Goals as goal
+use Rattle.valid_table.proofs.order.RowOrder.extend.Goals as goal
 
 pub returns-then-late-len-clause-first : goal.returns-then-late-len-clause-first
 returns-then-late-len-clause-first c = search (rules, first_moved)

@@ -5,7 +5,7 @@ use Rattle.valid_table.specs.Entries.{paths_registered}
 use Rattle.valid_table.specs.Tables.{registrations_of}
 use Rattle.valid_table.proofs.RowNumbers.{paths_are_keys}
 use Rattle.valid_table.proofs.Sorting.{paths_more}
-use Rattle.valid_table.proofs.rising.copied_paths.Goals as goal
+use Rattle.valid_table.proofs.rising.copy_paths.Goals as goal
 
 pub loop-row-preserved : goal.loop-row-preserved
 loop-row-preserved c =

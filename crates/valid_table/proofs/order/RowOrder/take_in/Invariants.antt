@@ -3,7 +3,7 @@ use Rattle.std.proofs.Common.{◌≡◌, length}
 use Rattle.valid_table.specs.FirstRows.{AreFirst, rows_behind}
 use Rattle.valid_table.specs.Keys.{AreKeyed}
 use Rattle.valid_table.specs.Tables.{registrations_of}
-use Rattle.valid_table.proofs.order.Order.take_in.Given as goal
+use Rattle.valid_table.proofs.order.RowOrder.take_in.Given as goal
 
 abbrev pub invariant-loop-row : goal.invariant-loop-row
 invariant-loop-row l = record {
