@@ -59,7 +59,7 @@ fn build<J: Naming, O: Tells<J>, R: Clock + AllocGlobal>(
     times: &mut Times,
 ) -> Result<()> {
     if let Some(told) = lease.told() {
-        reader.learn(O::front(told));
+        reader.learn(O::prefix(told));
     }
     if let Err(fault) = catch_up(rt, book, reader, &lease, times) {
         lease.give_up();
@@ -107,7 +107,7 @@ fn catch_up<J: Naming, O: Tells<J>, R: Clock>(
 ) -> Result<()> {
     let seed = lease.job().seeds.first().context("each has a source")?;
     let start = Instant::now(rt)?;
-    reader.learn(O::front(book.tell()));
+    reader.learn(O::prefix(book.tell()));
     let _seen = reader.look(seed)?;
     times.catch_up = times.catch_up.wrapping_add(micros_since(rt, start));
     Ok(())

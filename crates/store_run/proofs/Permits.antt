@@ -12,7 +12,7 @@ use Rattle.valid_table.specs.declared.entry.Entry.{Entry}
 use Rattle.valid_table.specs.declared.entry.Registration.{Registration}
 use Rattle.valid_table.proofs.JournalLists.{closed_references_valid, registered-append, valid_more}
 use Rattle.valid_view.specs.Shown.{IsShowable}
-use Rattle.valid_view.proofs.Showable.{showable_front}
+use Rattle.valid_view.proofs.Showable.{showable_prefix}
 use Rattle.sched_core.specs.Books.{ArePermittedPaths, AreSeedsValid}
 use Rattle.run_states.specs.Legal.{MayRefer}
 use Rattle.build_outcome.specs.Verdicts.{outputs_of}
@@ -45,7 +45,7 @@ same_behind before after job path goes showable valid =
     let whole : IsShowable (before ++ goes.0) = subst IsShowable (sym goes.1) showable in
     let both = permitted_stays (registered before) (registered goes.0) job.seeds.items
     (outputs_of job) path
-    (closed_references_valid before (showable_front before goes.0 whole).closed)
+    (closed_references_valid before (showable_prefix before goes.0 whole).closed)
     (subst IsOnce (registered-append before goes.0) whole.once)
     (λ seed has. All-contains (IsValid (registered before)) _ _ valid has) in
     subst (λ (entries : List Entry). MayRefer (registered before) job.seeds.items (outputs_of job)

@@ -129,7 +129,7 @@ fn first_text<J: Naming, O: Tells<J>>(
     if book.settled() {
         return None;
     }
-    KeptText::open(alloc, opening, &O::front(book.tell())).ok()
+    KeptText::open(alloc, opening, &O::prefix(book.tell())).ok()
 }
 
 // Lets the workers work, and a keeper keep what they register in a thread of its own, until all

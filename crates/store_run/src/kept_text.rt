@@ -8,14 +8,14 @@ use sched_core::Book;
 use std::alloc::{AllocError, Global};
 use std::marker::Model;
 use valid_table::{Entry, Journal, TableFault, write_lines};
-use valid_view::{Front, Naming, Tells};
+use valid_view::{Naming, Prefix, Tells};
 
 // The text of the entries of a run, as far as a keeper has looked. It begins with the text of the
 // entries that were shown then.
 #[derive(Drop)]
 pub(crate) struct KeptText<J: Naming> {
     bytes: Vec<u8>,
-    shown: Front<J>,
+    shown: Prefix<J>,
     // How many of the bytes are the text of what was shown.
     shown_len: usize,
     // How many entries the text had that was kept last.
@@ -38,7 +38,7 @@ impl<J: Naming> Model for KeptText<J> {
 // waits, and how many entries there are.
 #[derive(Drop)]
 pub(crate) struct News<J: Naming> {
-    shown: Front<J>,
+    shown: Prefix<J>,
     fresh: Vec<u8>,
     waiting: Vec<u8>,
     count: usize,
@@ -62,7 +62,7 @@ impl<J: Naming> KeptText<J> {
     pub(crate) fn open(
         alloc: Global,
         journal: &Journal,
-        shown: &Front<J>,
+        shown: &Prefix<J>,
     ) -> Result<KeptText<J>, TableFault>
         requires { shown.now ≡ journal.now.entries }
         ensures shown { IfOk result (λ text. text.shown ≡ journal.now.entries) }
@@ -88,7 +88,7 @@ impl<J: Naming> KeptText<J> {
         if entries.len() == self.kept {
             return None;
         }
-        what_is_new(alloc, &self.shown, O::front(book.tell()), entries)
+        what_is_new(alloc, &self.shown, O::prefix(book.tell()), entries)
     }
 
     // Goes on with what a look gave. Then the text is that of all entries that there were. Where
@@ -140,8 +140,8 @@ impl<J: Naming> News<J> {
 // What some entries, which begin with what is shown now, have that was not shown before.
 fn what_is_new<J: Naming>(
     alloc: Global,
-    known: &Front<J>,
-    shown: Front<J>,
+    known: &Prefix<J>,
+    shown: Prefix<J>,
     entries: &[Entry],
 ) -> Option<News<J>>
     requires { (waiting : List Entry) × (entries.now ≡ shown ++ waiting) }

@@ -96,7 +96,7 @@ impl<O: Outlet, B: Build, S: Basis> Shared<O, B, S> {
             // Nothing leads anywhere from no seeds, whatever is valid.
             return Ok(());
         };
-        reader.learn(O::front(self.book.tell()));
+        reader.learn(O::prefix(self.book.tell()));
         look(reader, seed)
     }
 

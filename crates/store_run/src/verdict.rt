@@ -20,7 +20,7 @@ pub fn learn<J: Naming, O: Tells<J>>(reader: &mut ViewReader<J>, lease: &mut Lea
     ensures number { lease.new.number ≡ lease.old.number }
 {
     match lease.told() {
-        Some(told) => reader.learn(O::front(told)),
+        Some(told) => reader.learn(O::prefix(told)),
         None => unreachable!(),
     }
 }

@@ -11,7 +11,7 @@ pub prefix_trans : {A : Type 0} (xs ys zs : List A) → IsPrefix xs ys → IsPre
     → IsPrefix xs zs
 prefix_trans xs ys zs p q = search (rules, append_assoc)
 
--- of two beginnings of one list the shorter begins the longer
+-- of two prefixes of one list the shorter begins the longer
 pub prefix_shorter : {A : Type 0} (xs ys zs : List A) → IsPrefix xs zs → IsPrefix ys zs
     → length xs ≤ length ys → IsPrefix xs ys
 prefix_shorter [] ys zs p q le = (ys, refl)
@@ -20,7 +20,7 @@ prefix_shorter (x ∷ xs) (y ∷ ys) [] p q le = absurd (cc (p.1))
 prefix_shorter (x ∷ xs) (y ∷ ys) (z ∷ zs) p q le =
     search (rules, prefix_shorter xs ys zs (p.0, cc (p.1)) (q.0, cc (q.1)) (omega arith))
 
--- a beginning as long as the whole is the whole
+-- a prefix as long as the whole is the whole
 pub prefix_whole : {A : Type 0} (xs ys : List A) → IsPrefix xs ys → length ys ≤ length xs → xs ≡ ys
 prefix_whole [] [] p le = refl
 prefix_whole [] (y ∷ ys) p le = absurd (omega arith)

@@ -11,7 +11,7 @@ use Rattle.valid_table.specs.declared.entry.Entry.{Entry}
 use Rattle.valid_table.specs.declared.entry.Registration.{Registration}
 use Rattle.valid_view.specs.SharedClosures.{ClosureIsShared, ValidityLasts}
 use Rattle.valid_view.specs.Shown.{IsShowable}
-use Rattle.valid_view.proofs.Showable.{showable_front}
+use Rattle.valid_view.proofs.Showable.{showable_prefix}
 
 -- a closure of paths that were valid before was the same before
 closure_before : (first more : List Registration) (roots all : List (List ℕ))
@@ -41,7 +41,7 @@ once_parts entries more showable = search (rules, registered-append)
 -- in a list that may be shown each reference is valid
 references_valid : (entries more : List Entry) → IsShowable (entries ++ more)
     → AreReferencesValid (registered entries)
-references_valid entries more showable = search (rules, closed_references_valid, showable_front)
+references_valid entries more showable = search (rules, closed_references_valid, showable_prefix)
 
 -- the law
 pub closure_is_shared : ClosureIsShared

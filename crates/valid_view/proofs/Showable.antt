@@ -10,7 +10,7 @@ use Rattle.valid_table.specs.declared.entry.Entry.{Entry}
 use Rattle.valid_table.specs.declared.entry.Registration.{Registration}
 use Rattle.valid_table.proofs.AddedEntries.{closed_push, registered_push}
 use Rattle.valid_table.proofs.JournalLists.{paths_of-append, registered-append}
-use Rattle.valid_table.proofs.PathLists.{once_front}
+use Rattle.valid_table.proofs.PathLists.{once_prefix}
 use Rattle.valid_table.proofs.TakenIn.{once_more}
 use Rattle.valid_view.specs.Shown.{IsShowable}
 
@@ -19,18 +19,18 @@ pub showable_none : IsShowable []
 unfolding IsDistinct
 showable_none = search rules
 
--- a beginning of a closed list is closed
-closed_front : (earlier : List Registration) (entries more : List Entry)
+-- a prefix of a closed list is closed
+closed_prefix : (earlier : List Registration) (entries more : List Entry)
     → IsClosedBehind earlier (entries ++ more) → IsClosedBehind earlier entries
-closed_front earlier [] more closed = tt
-closed_front earlier (entry ∷ entries) more closed =
-    (closed.0, closed_front (earlier ++ registered_by entry) entries more closed.1)
+closed_prefix earlier [] more closed = tt
+closed_prefix earlier (entry ∷ entries) more closed =
+    (closed.0, closed_prefix (earlier ++ registered_by entry) entries more closed.1)
 
--- a beginning of a list that may be shown may be shown
-pub showable_front : (entries more : List Entry) → IsShowable (entries ++ more)
+-- a prefix of a list that may be shown may be shown
+pub showable_prefix : (entries more : List Entry) → IsShowable (entries ++ more)
     → IsShowable entries
-showable_front entries more showable =
-    search (rules, closed_front, once_front, paths_of-append, registered-append)
+showable_prefix entries more showable =
+    search (rules, closed_prefix, once_prefix, paths_of-append, registered-append)
 
 -- and so may a list with an entry more whose paths are new and whose references are valid
 pub showable_push :

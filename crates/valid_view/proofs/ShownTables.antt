@@ -20,7 +20,7 @@ pub admits : (book : Book) → Admits (Holds book) []
 admits book x views holds = (
   holds.0,
   λ seat seen at. ⊎_elim (holds.1 seat seen)
-      (λ (none : [] ≡ seen). subst (λ l. IsPrefix l x.front.entries) none (x.front.entries, refl))
+      (λ (none : [] ≡ seen). subst (λ l. IsPrefix l x.prefix.entries) none (x.prefix.entries, refl))
       (at_snoc views [] seen seat at),
 )
 
@@ -30,18 +30,18 @@ alone book x shown = admits book x [] (shown, λ seat seen at. absurd (cc at))
 
 -- a step that goes on to a longer list keeps the rule
 pub grows : (book : Book) (seat : ℕ) (had : List Entry) (x y : ShownState) → IsShownTable book y
-    → IsPrefix x.front.entries y.front.entries
+    → IsPrefix x.prefix.entries y.prefix.entries
     → TurnsAt (Holds book) seat had x y (SeesAll book)
 grows book seat had x y shown up views holds at = (
-  y.front.entries,
+  y.prefix.entries,
   (
     shown,
     λ j seen e. ⊎_elim
-        (λ (t : (j ≡ seat) × (y.front.entries ≡ seen)). subst
-        (λ (l : List Entry). IsPrefix l y.front.entries) t.1 (prefix_self y.front.entries))
-        (λ (t : (j ≢ seat) × (get_elem? views j ≡ some seen)). prefix_trans seen x.front.entries
-        y.front.entries (holds.1 j seen t.1) up)
-        (at_set views seat j y.front.entries seen e),
+        (λ (t : (j ≡ seat) × (y.prefix.entries ≡ seen)). subst
+        (λ (l : List Entry). IsPrefix l y.prefix.entries) t.1 (prefix_self y.prefix.entries))
+        (λ (t : (j ≢ seat) × (get_elem? views j ≡ some seen)). prefix_trans seen x.prefix.entries
+        y.prefix.entries (holds.1 j seen t.1) up)
+        (at_set views seat j y.prefix.entries seen e),
   ),
   (holds.0, holds.1 seat had at, refl),
 )
@@ -50,33 +50,33 @@ grows book seat had x y shown up views holds at = (
 pub looks : (book : Book) (seat : ℕ) (had : List Entry) (x : ShownState)
     → TurnsAt (Holds book) seat had x x (SeesAll book)
 looks book seat had x views holds at =
-    grows book seat had x x holds.0 (prefix_self x.front.entries) views holds at
+    grows book seat had x x holds.0 (prefix_self x.prefix.entries) views holds at
 
 -- a shown table with what was handed over is one
 pub shown_all : (book : Book) (s : ShownState) (ops : List Op) → IsShownTable book s
-    → Follows book s.front.entries ops → IsShownTable book (fold with_op s ops)
+    → Follows book s.prefix.entries ops → IsShownTable book (fold with_op s ops)
 shown_all book s [] shown follows = shown
 shown_all book s (op ∷ ops) shown follows =
-    let table : s.registrations ++ registered_by op.entry ≡ registered op.front.entries =
+    let table : s.registrations ++ registered_by op.entry ≡ registered op.prefix.entries =
     ap (λ l. l ++ registered_by op.entry) shown.table
-    ∙ (sym (registered_push s.front.entries op.entry) ∙ ap registered (sym follows.1)) in
+    ∙ (sym (registered_push s.prefix.entries op.entry) ∙ ap registered (sym follows.1)) in
     shown_all book (with_op s op) ops (record { named = follows.0; table = table })
     (subst (λ (l : List Entry). Follows book l ops) (sym follows.1) follows.2)
 
 -- and its entries are those that it had, and then those
-pub entries_all : (book : Book) (s : ShownState) (ops : List Op) → Follows book s.front.entries ops
-    → (fold with_op s ops).front.entries ≡ s.front.entries ++ entries_of ops
-entries_all book s [] follows = sym (append-nil s.front.entries)
+pub entries_all : (book : Book) (s : ShownState) (ops : List Op) → Follows book s.prefix.entries ops
+    → (fold with_op s ops).prefix.entries ≡ s.prefix.entries ++ entries_of ops
+entries_all book s [] follows = sym (append-nil s.prefix.entries)
 entries_all book s (op ∷ ops) follows =
     entries_all book (with_op s op) ops
     (subst (λ (l : List Entry). Follows book l ops) (sym follows.1) follows.2)
     ∙ (ap (λ l. l ++ entries_of ops) follows.1
-    ∙ append_assoc s.front.entries (op.entry ∷ []) (entries_of ops))
+    ∙ append_assoc s.prefix.entries (op.entry ∷ []) (entries_of ops))
 
 -- one more is handed over
 pub follows_push : (book : Book) (entries : List Entry) (ops : List Op) (op : Op)
-    → Follows book entries ops → op.front.book ≡ book
-    → op.front.entries ≡ (entries ++ entries_of ops) ++ op.entry ∷ []
+    → Follows book entries ops → op.prefix.book ≡ book
+    → op.prefix.entries ≡ (entries ++ entries_of ops) ++ op.entry ∷ []
     → Follows book entries (ops ++ op ∷ [])
 follows_push book entries [] op follows named next = search (rules, append-nil)
 follows_push book entries (first ∷ ops) op follows named next = (
@@ -89,13 +89,13 @@ follows_push book entries (first ∷ ops) op follows named next = (
 
 -- what is shown once all was handed over, and how the step there keeps the rule
 pub shows : (book : Book) (seat : ℕ) (had : List Entry) (s next : ShownState) (ops : List Op)
-    → IsShownTable book s → Follows book s.front.entries ops → next ≡ fold with_op s ops
+    → IsShownTable book s → Follows book s.prefix.entries ops → next ≡ fold with_op s ops
     → TurnsAt (Holds book) seat had s next (SeesAll book)
 shows book seat had s next ops shown follows is = search (rules, grows, shown_all, entries_all)
 
 -- what the writer's end keeps
-abbrev pub IsLined : Book → ShownState → List Op → Type 0
-IsLined book s ops = IsShownTable book s × Follows book s.front.entries ops
+abbrev pub IsWriterEnd : Book → ShownState → List Op → Type 0
+IsWriterEnd book s ops = IsShownTable book s × Follows book s.prefix.entries ops
 
 -- it is kept where an entry was to be handed over
 pub appended :
@@ -103,10 +103,10 @@ pub appended :
     (result : Result A Op) →
     s' ≡ s →
     MatchResult result (λ _. ops' ≡ ops ++ op ∷ []) (λ x. (x ≡ op) × (ops' ≡ ops)) →
-    IsLined book s ops →
-    op.front.book ≡ book →
-    op.front.entries ≡ (s.front.entries ++ entries_of ops) ++ op.entry ∷ [] →
-    IsLined book s' ops'
+    IsWriterEnd book s ops →
+    op.prefix.book ≡ book →
+    op.prefix.entries ≡ (s.prefix.entries ++ entries_of ops) ++ op.entry ∷ [] →
+    IsWriterEnd book s' ops'
 appended book s s' ops ops' op (Ok a) same is lined named next = search (rules, follows_push)
 appended book s s' ops ops' op (Err x) same is lined named next = rw (same, is.1) lined
 
@@ -120,8 +120,8 @@ Told s s' ops ops' result =
 pub shown_lined :
     {A B : Type 0} (book : Book) (s s' : ShownState) (ops ops' : List Op) (result : Result A B) →
     Told s s' ops ops' result →
-    IsLined book s ops →
-    IsLined book s' ops'
+    IsWriterEnd book s ops →
+    IsWriterEnd book s' ops'
 shown_lined book s s' ops ops' (Ok a) is lined = search (rules, shown_all)
 shown_lined book s s' ops ops' (Err b) is lined = rw (is.0, is.1) lined
 
@@ -129,8 +129,8 @@ shown_lined book s s' ops ops' (Err b) is lined = rw (is.0, is.1) lined
 pub shown_ok :
     {A B : Type 0} (book : Book) (s s' : ShownState) (ops ops' : List Op) (result : Result A B) →
     Told s s' ops ops' result →
-    IsLined book s ops →
+    IsWriterEnd book s ops →
     OnOk result
-    ((s'.front.entries ≡ s.front.entries ++ entries_of ops) × (entries_of ops' ≡ []))
+    ((s'.prefix.entries ≡ s.prefix.entries ++ entries_of ops) × (entries_of ops' ≡ []))
 shown_ok book s s' ops ops' (Ok a) is lined = search (rules, entries_all)
 shown_ok book s s' ops ops' (Err b) is lined = tt

@@ -1,6 +1,6 @@
 -- What public contracts cite, and what that rests on.
 pub mod Answers
-pub mod Beginnings
+pub mod Prefixes
 pub mod Faults
 pub mod SharedClosures
 pub mod Shown

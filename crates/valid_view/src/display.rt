@@ -1,9 +1,9 @@
 //! Lists that are shown, as what shows them tells.
 ghost use Rattle.std.specs.Prelude.{◌≡◌, []};
 
-use crate::front::Beginning;
 use crate::law::Law;
 use crate::name::Naming;
+use crate::prefix::BarePrefix;
 use crate::rule::{Published, SeenEntries};
 use crate::shown_table::{Op, ShownTable};
 use left_right::reader::Reading;
@@ -20,11 +20,11 @@ pub trait Showing {
     ghost use Rattle.logbook.specs.Pages.{Book};
     ghost use Rattle.valid_table.specs.declared.entry.Entry.{Entry};
 
-    // Whether a list of entries was shown as a beginning of the list with this name.
+    // Whether a list of entries was shown as a prefix of the list with this name.
     ghost shown: { Book → List Entry → Type 0 };
 
     /// Takes note of a list that was shown.
-    fn show(list: &Displayed)
+    fn show(list: &DisplayedList)
         ensures { shown list.now.book list.now.entries };
 }
 
@@ -33,45 +33,45 @@ impl Showing for Brand {
 
     ghost shown = { λ book entries. ⊤ };
 
-    fn show(_list: &Displayed) {}
+    fn show(_list: &DisplayedList) {}
 }
 
 /// A list that was shown. Only what shows lists makes one: a writer's end, of the list that it
 /// shows, and a reader that reads, of the list that it reads. The list without entries, with which
 /// each list begins, counts as shown.
 #[derive(Drop)]
-pub struct Displayed {
-    front: Beginning,
+pub struct DisplayedList {
+    prefix: BarePrefix,
 }
 
-impl Model for Displayed {
-    ghost use Rattle.valid_view.specs.Beginnings.{Begun};
+impl Model for DisplayedList {
+    ghost use Rattle.valid_view.specs.Prefixes.{PrefixValue};
 
-    ghost Value = { Begun };
+    ghost Value = { PrefixValue };
 
-    ghost view = { λ d. d.front };
+    ghost view = { λ d. d.prefix };
 }
 
-impl Displayed {
+impl DisplayedList {
     // The list without entries.
-    pub(crate) fn none(seen: Seen<Entry, u64, Law>) -> Displayed
+    pub(crate) fn none(seen: Seen<Entry, u64, Law>) -> DisplayedList
         requires { seen.log ≡ [] }
         ensures book { result.book ≡ seen.book }
         ensures entries { result.entries ≡ [] }
     {
-        Displayed {
-            front: Beginning::first(seen),
+        DisplayedList {
+            prefix: BarePrefix::first(seen),
         }
     }
 
     // The list that a writer shows.
     pub(crate) fn of_writer<J: Naming>(
         writer: &Writer<ShownTable, Op, SeenEntries, Published<J>>,
-    ) -> Displayed
-        ensures { result ≡ writer.now.desk.shown.value.front }
+    ) -> DisplayedList
+        ensures { result ≡ writer.now.desk.shown.value.prefix }
     {
-        Displayed {
-            front: writer.published().front.again(),
+        DisplayedList {
+            prefix: writer.published().prefix.again(),
         }
     }
 
@@ -79,29 +79,29 @@ impl Displayed {
     pub(crate) fn at_end<J: Naming, R: Wait>(
         writer: Writer<ShownTable, Op, SeenEntries, Published<J>>,
         rt: &R,
-    ) -> Displayed
-        ensures { result ≡ writer.desk.shown.value.front }
+    ) -> DisplayedList
+        ensures { result ≡ writer.desk.shown.value.prefix }
     {
-        Displayed {
-            front: writer.take(rt).front.again(),
+        DisplayedList {
+            prefix: writer.take(rt).prefix.again(),
         }
     }
 
     // The list that a reader reads.
     pub(crate) fn of_reading<J: Naming>(
         reading: &Reading<ShownTable, SeenEntries, Published<J>>,
-    ) -> Displayed
-        ensures { result ≡ reading.now.part.value.front }
+    ) -> DisplayedList
+        ensures { result ≡ reading.now.part.value.prefix }
     {
-        Displayed {
-            front: reading.get().front.again(),
+        DisplayedList {
+            prefix: reading.get().prefix.again(),
         }
     }
 
-    // The list, as a beginning of the one list.
-    pub(crate) fn front(&self) -> Beginning
+    // The list, as a prefix of the one list.
+    pub(crate) fn prefix(&self) -> BarePrefix
         ensures { result ≡ self.now }
     {
-        self.front.again()
+        self.prefix.again()
     }
 }

@@ -6,11 +6,11 @@ ghost use Rattle.valid_table.specs.Valid.{references_of};
 ghost use Rattle.valid_view.specs.Feeding.{Takes, known_of, pending_of};
 ghost use Rattle.valid_view.specs.Refusals.{IsShowRefused};
 
-use crate::front::{Front, Head, Known};
-use crate::line::{Line, Returned};
 use crate::name::Naming;
-use crate::refusal::Refusal;
+use crate::prefix::{Head, NamedPrefix, Prefix};
+use crate::refusal::FeedFault;
 use crate::shown_table::Op;
+use crate::writer_end::{ReturnedOp, WriterEnd};
 use core::mem::replace_with;
 use std::alloc::AllocError;
 use std::collections::VecDeque;
@@ -20,9 +20,9 @@ use valid_table::{Entry, OutletFault};
 
 // The writer's end, and the entries that wait before it.
 pub(crate) struct Feed<J: Naming> {
-    line: Line<J>,
-    // The beginning of the one list that ends with all that is in it.
-    front: Known<J>,
+    end: WriterEnd<J>,
+    // The prefix of the one list that ends with all that is in it.
+    prefix: NamedPrefix<J>,
     // The last entry of that list, if it was not handed over yet.
     held: Option<Op>,
     // Entries that are not in the list yet.
@@ -31,40 +31,40 @@ pub(crate) struct Feed<J: Naming> {
 }
 
 impl<J: Naming> Model for Feed<J> {
-    ghost use Rattle.valid_view.specs.Feeding.{Fed, IsFeed, entries_of, ops_of};
+    ghost use Rattle.valid_view.specs.Feeding.{FeedValue, IsFeed, entries_of, ops_of};
 
-    ghost Value = { Fed };
+    ghost Value = { FeedValue };
 
     ghost view = { λ f. record {
-      shown = f.line.shown;
-      handed = f.line.handed;
+      shown = f.end.shown;
+      handed = f.end.handed;
       held = entries_of (ops_of f.held);
       queue = f.queue.items;
     } };
 
-    ghost invariant = { λ f. IsFeed J.book f.line.shown f.line.handed (ops_of f.held)
-        f.queue.items f.front };
+    ghost invariant = { λ f. IsFeed J.book f.end.shown f.end.handed (ops_of f.held)
+        f.queue.items f.prefix };
 }
 
 impl<J: Naming> Feed<J> {
     // A feed over the writer's end, where all that is in the list is shown.
     pub(crate) fn over(
-        line: Line<J>,
-        front: Known<J>,
+        end: WriterEnd<J>,
+        prefix: NamedPrefix<J>,
         head: Head<J>,
         queue: VecDeque<Entry>,
     ) -> Feed<J>
-        requires all { line.shown ≡ front }
-        requires handed { line.handed ≡ [] }
+        requires all { end.shown ≡ prefix }
+        requires handed { end.handed ≡ [] }
         requires queue { queue.items ≡ [] }
-        ensures shown { result.shown ≡ line.shown }
+        ensures shown { result.shown ≡ end.shown }
         ensures pending { pending_of result ≡ [] }
     {
         // Its contract says that the list may be shown.
-        let _ = front.len();
+        let _ = prefix.len();
         Feed {
-            line,
-            front,
+            end,
+            prefix,
             held: None,
             queue,
             head,
@@ -72,10 +72,10 @@ impl<J: Naming> Feed<J> {
     }
 
     // The list that is shown.
-    pub(crate) fn front(&self) -> Front<J>
+    pub(crate) fn prefix(&self) -> Prefix<J>
         ensures { result ≡ self.now.shown }
     {
-        self.line.front()
+        self.end.prefix()
     }
 
     // Puts an entry after those that wait.
@@ -95,7 +95,7 @@ impl<J: Naming> Feed<J> {
     }
 
     // Shows all entries that wait. Where none does, it waits for no reader.
-    pub(crate) fn publish<R: Wait>(&mut self, rt: &R) -> Result<(), Refusal>
+    pub(crate) fn publish<R: Wait>(&mut self, rt: &R) -> Result<(), FeedFault>
         ensures ok { OnOk result
             ((self.new.shown ≡ self.old.shown ++ pending_of self.old)
             × (pending_of self.new ≡ [])) }
@@ -106,7 +106,7 @@ impl<J: Naming> Feed<J> {
         ensures why { IfErr result (IsShowRefused J.book (known_of self.new)) }
     {
         self.hand_over()?;
-        if !self.line.all_shown() {
+        if !self.end.all_shown() {
             self.show(rt)?;
         }
         Ok(())
@@ -114,21 +114,21 @@ impl<J: Naming> Feed<J> {
 
     // Ends the view, and gives the list that was shown last. No entry that waits is
     // shown.
-    pub(crate) fn close<R: Wait>(self, rt: &R) -> Front<J>
+    pub(crate) fn close<R: Wait>(self, rt: &R) -> Prefix<J>
         ensures { result ≡ self.shown }
     {
         let Feed {
-            line,
-            front: _front,
+            end,
+            prefix: _prefix,
             held: _held,
             queue: _queue,
             head: _head,
         } = self;
-        line.close(rt)
+        end.close(rt)
     }
 
-    // Shows the entries that were handed over, of which there are some. No other function but `close`
-    // waits for readers.
+    // Shows the entries that were handed over, of which there are some. No other function but
+    // `close` waits for readers.
     fn show<R: Wait>(&mut self, rt: &R) -> Result<(), AllocError>
         requires some { self.old.handed ≡ [] → ⊥ }
         ensures held { self.new.held ≡ self.old.held }
@@ -138,12 +138,12 @@ impl<J: Naming> Feed<J> {
         ensures err { OnErr result
             ((self.new.shown ≡ self.old.shown) × (self.new.handed ≡ self.old.handed)) }
     {
-        replace_with(&mut self.line, rt, Line::show)
+        replace_with(&mut self.end, rt, WriterEnd::show)
     }
 
     // Hands over all entries that wait. Those that were handed over before a fault stay handed
     // over.
-    fn hand_over(&mut self) -> Result<(), Refusal>
+    fn hand_over(&mut self) -> Result<(), FeedFault>
         ensures shown { self.new.shown ≡ self.old.shown }
         ensures pending { pending_of self.new ≡ pending_of self.old }
         ensures ok { OnOk result ((self.new.held ≡ []) × (self.new.queue ≡ [])) }
@@ -168,7 +168,7 @@ impl<J: Naming> Feed<J> {
         let Some(op) = self.held.take() else {
             return Ok(());
         };
-        if let Err(Returned { op, error }) = self.line.append(op) {
+        if let Err(ReturnedOp { op, error }) = self.end.append(op) {
             self.held = Some(op);
             return Err(error);
         }
@@ -176,7 +176,7 @@ impl<J: Naming> Feed<J> {
     }
 
     // Puts the queue's first entry into the list, if there is one, and holds it.
-    fn take_next(&mut self) -> Result<bool, Refusal>
+    fn take_next(&mut self) -> Result<bool, FeedFault>
         requires { self.old.held ≡ [] }
         ensures shown { self.new.shown ≡ self.old.shown }
         ensures handed { self.new.handed ≡ self.old.handed }
@@ -187,16 +187,16 @@ impl<J: Naming> Feed<J> {
         let Some(entry) = self.queue.pop_front() else {
             return Ok(false);
         };
-        let mut front = self.front.again();
-        if let Err(found) = front.add(&self.head, &entry) {
+        let mut prefix = self.prefix.again();
+        if let Err(found) = prefix.add(&self.head, &entry) {
             self.queue.push_front_reserved(entry);
             return Err(found.into());
         }
         self.held = Some(Op {
             entry,
-            front: front.bare(),
+            prefix: prefix.bare(),
         });
-        self.front = front;
+        self.prefix = prefix;
         Ok(true)
     }
 }

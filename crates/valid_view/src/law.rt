@@ -1,17 +1,17 @@
-//! The rule of the one list of which every shown list is a beginning: it may be shown, and it only
+//! The rule of the one list of which every shown list is a prefix: it may be shown, and it only
 //! grows.
 use logbook::{Gain, Plain, Play, Rule};
 use valid_table::Entry;
 
-// The rule of a list.
+/// The rule of a list.
 pub struct Law;
 
 impl Rule<Entry, u64> for Law {
     ghost use Rattle.std.specs.Prelude.{[]};
     ghost use base.Fml.{ftrue};
-    ghost use Rattle.valid_view.specs.Beginnings.{IsBeginningKept};
+    ghost use Rattle.valid_view.specs.Prefixes.{IsPrefixKept};
 
-    ghost holds = { λ cells entries. IsBeginningKept cells entries };
+    ghost holds = { λ cells entries. IsPrefixKept cells entries };
 
     ghost first = { [] };
 
@@ -24,7 +24,7 @@ impl Rule<Entry, u64> for Law {
     ghost moves = { λ ask before after answer. Unit {0} };
 }
 
-// Callers gain nothing by a step.
+/// Callers gain nothing by a step.
 pub struct Nothing;
 
 impl Gain<Entry, u64> for Nothing {
@@ -33,11 +33,11 @@ impl Gain<Entry, u64> for Nothing {
     ghost after = { λ names about answer. ftrue };
 }
 
-// A step that adds an entry.
+/// A step that adds an entry.
 pub struct Add;
 
 impl Play<Entry, u64> for Add {
-    ghost use Rattle.valid_view.specs.Beginnings.{Adds};
+    ghost use Rattle.valid_view.specs.Prefixes.{Adds};
 
     ghost then = { Adds };
 }

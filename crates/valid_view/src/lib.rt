@@ -5,11 +5,11 @@
 //! | `name` | the name of the one list |
 //! | `law` | the rule of the one list |
 //! | `display` | that a list was shown |
-//! | `front` | lists that were shown, and beginnings of the one list |
+//! | `prefix` | lists that were shown, and prefixes of the one list |
 //! | `shown_table`, `rule` | what is shown, and the rule for it |
-//! | `line`, `feed` | the writer's end, under the rule, and the entries that wait before it |
+//! | `writer_end`, `feed` | the writer's end, under the rule, and the entries that wait before it |
 //! | `writer`, `opening` | the writer, and how a view is opened |
-//! | `tells` | outlets whose lists are beginnings of one list |
+//! | `tells` | outlets whose lists are prefixes of one list |
 //! | `reading` | what a reader saw, and what it sees while it reads |
 //! | `reader`, `seen` | readers, and what they find |
 //! | `fault`, `refusal` | why a reader refused, and why the writer did |
@@ -19,12 +19,11 @@
 mod display;
 mod fault;
 mod feed;
-mod front;
 mod law;
 pub mod laws;
-mod line;
 mod name;
 mod opening;
+mod prefix;
 mod reader;
 mod reading;
 mod refusal;
@@ -33,12 +32,13 @@ mod seen;
 mod shown_table;
 mod tells;
 mod writer;
+mod writer_end;
 
-pub use display::{Displayed, Showing};
+pub use display::{DisplayedList, Showing};
 pub use fault::ViewFault;
-pub use front::Front;
 pub use name::{Name, Naming};
 pub use opening::open;
+pub use prefix::Prefix;
 pub use reader::ViewReader;
 pub use reading::Unreached;
 pub use refusal::{OpenFault, Unopened};

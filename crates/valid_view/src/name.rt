@@ -1,9 +1,9 @@
-//! The name of the list of which a view shows beginnings.
+//! The name of the list of which a view shows prefixes.
 ghost use Rattle.std.specs.Prelude.{◌≡◌, []};
 
-use crate::display::{Displayed, Showing};
-use crate::front::{Front, Head, Known};
+use crate::display::{DisplayedList, Showing};
 use crate::law::Law;
+use crate::prefix::{Head, NamedPrefix, Prefix};
 use logbook::{Seen, Start, Word};
 use std::marker::{Brand, Model};
 use valid_table::Entry;
@@ -32,7 +32,7 @@ pub struct Name {
 impl Model for Name {
     ghost use Rattle.std.specs.Prelude.{◌≡◌, []};
     ghost use Rattle.logbook.specs.Pages.{Book};
-    ghost use Rattle.valid_view.specs.Beginnings.{head_of};
+    ghost use Rattle.valid_view.specs.Prefixes.{head_of};
 
     ghost Value = { Book };
 
@@ -51,15 +51,15 @@ impl Name {
         }
     }
 
-    // The right to extend the list, and twice the list's beginning without entries: to extend it,
+    // The right to extend the list, and twice the list's prefix without entries: to extend it,
     // and as a list that counts as shown. All of them name the list.
-    pub(crate) fn open<J: Naming>(self) -> (Head<J>, Known<J>, Front<J>)
+    pub(crate) fn open<J: Naming>(self) -> (Head<J>, NamedPrefix<J>, Prefix<J>)
         requires { self ≡ J.book }
         ensures known { result.1 ≡ [] }
         ensures shown { result.2 ≡ [] }
     {
         let Name { head, seen } = self;
-        let none = Front::over(Displayed::none(seen.again()));
-        (Head::over(head), Known::first(seen), none)
+        let none = Prefix::over(DisplayedList::none(seen.again()));
+        (Head::over(head), NamedPrefix::first(seen), none)
     }
 }

@@ -2,17 +2,17 @@
 ghost use Rattle.std.specs.Prelude.{◌≡◌, ◌≤◌, [], All, IfOk, MatchResult, length, vec_capacity};
 ghost use Rattle.valid_table.specs.Entries.{registered};
 ghost use Rattle.valid_table.specs.Valid.{IsJournal};
-ghost use Rattle.valid_view.specs.Beginnings.{Hinders};
+ghost use Rattle.valid_view.specs.Prefixes.{Hinders};
 ghost use Rattle.valid_view.specs.Feeding.{pending_of};
 
 use crate::feed::Feed;
-use crate::front::{Beginning, Front, Head, Known};
-use crate::line::Line;
 use crate::name::{Name, Naming};
+use crate::prefix::{BarePrefix, Head, NamedPrefix, Prefix};
 use crate::reader::ViewReader;
-use crate::refusal::{OpenFault, Refusal};
+use crate::refusal::{FeedFault, OpenFault};
 use crate::shown_table::ShownTable;
 use crate::writer::ViewWriter;
+use crate::writer_end::WriterEnd;
 use std::alloc::Global;
 use std::collections::VecDeque;
 use std::sync::Wait;
@@ -39,7 +39,7 @@ pub fn open<J: Naming, R: Wait + Drop>(
         (λ view. All (λ reader. reader.told ≡ journal.now.entries) view.1.items) }
     ensures seen { IfOk result (λ view. All (λ reader. reader.seen ≡ []) view.1.items) }
 {
-    match opened(alloc, &rt, name, journal, readers) {
+    match open_feed(alloc, &rt, name, journal, readers) {
         Ok((feed, readers)) => {
             let writer = ViewWriter::over(feed, rt);
             // Its contract says that the list was shown.
@@ -51,13 +51,13 @@ pub fn open<J: Naming, R: Wait + Drop>(
 }
 
 // The feed of a view that shows a journal's entries, and the readers of the view.
-fn opened<J: Naming, R: Wait>(
+fn open_feed<J: Naming, R: Wait>(
     alloc: Global,
     rt: &R,
     name: Name,
     journal: &Journal,
     readers: usize,
-) -> Result<(Feed<J>, Vec<ViewReader<J>>), Refusal>
+) -> Result<(Feed<J>, Vec<ViewReader<J>>), FeedFault>
     requires name { name ≡ J.book }
     requires readers { (1 ≤ readers) × (readers ≤ 64) }
     ensures shown { IfOk result (λ view. view.0.shown ≡ journal.now.entries) }
@@ -68,31 +68,35 @@ fn opened<J: Naming, R: Wait>(
         (λ view. All (λ reader. reader.told ≡ journal.now.entries) view.1.items) }
     ensures seen { IfOk result (λ view. All (λ reader. reader.seen ≡ []) view.1.items) }
 {
-    let (head, mut front, none) = name.open::<J>();
-    fill(&mut front, &head, journal.entries())?;
-    let first = shown_table(alloc, journal, &front)?;
-    let second = shown_table(alloc, journal, &front)?;
-    let line = Line::open(alloc, first, second, readers)?;
-    match made_readers(alloc, &line, &none, readers) {
+    let (head, mut prefix, none) = name.open::<J>();
+    fill(&mut prefix, &head, journal.entries())?;
+    let first = shown_table(alloc, journal, &prefix)?;
+    let second = shown_table(alloc, journal, &prefix)?;
+    let end = WriterEnd::open(alloc, first, second, readers)?;
+    match make_readers(alloc, &end, &none, readers) {
         Ok(readers) => {
-            let feed = Feed::over(line, front, head, VecDeque::new(alloc));
+            let feed = Feed::over(end, prefix, head, VecDeque::new(alloc));
             Ok((feed, readers))
         }
         Err(refusal) => {
-            let _shown = line.close(rt);
+            let _shown = end.close(rt);
             Err(refusal)
         }
     }
 }
 
 // Puts a journal's entries into a list that has none.
-fn fill<J: Naming>(front: &mut Known<J>, head: &Head<J>, entries: &[Entry]) -> Result<(), Beginning>
-    requires empty { front.old ≡ [] }
+fn fill<J: Naming>(
+    prefix: &mut NamedPrefix<J>,
+    head: &Head<J>,
+    entries: &[Entry],
+) -> Result<(), BarePrefix>
+    requires empty { prefix.old ≡ [] }
     requires journal { IsJournal entries.now }
-    ensures { MatchResult result (λ _. front.new ≡ entries.now) (Hinders J.book front.new) }
+    ensures { MatchResult result (λ _. prefix.new ≡ entries.now) (Hinders J.book prefix.new) }
 {
     for entry in entries {
-        front.add(head, entry)?;
+        prefix.add(head, entry)?;
     }
     Ok(())
 }
@@ -101,47 +105,47 @@ fn fill<J: Naming>(front: &mut Known<J>, head: &Head<J>, entries: &[Entry]) -> R
 fn shown_table<J: Naming>(
     alloc: Global,
     journal: &Journal,
-    front: &Known<J>,
-) -> Result<ShownTable, Refusal>
-    requires { front.now ≡ journal.now.entries }
+    prefix: &NamedPrefix<J>,
+) -> Result<ShownTable, FeedFault>
+    requires { prefix.now ≡ journal.now.entries }
     ensures table { IfOk result
         (λ shown. shown.registrations ≡ registered journal.now.entries) }
-    ensures named { IfOk result (λ shown. shown.front.book ≡ J.book) }
-    ensures entries { IfOk result (λ shown. shown.front.entries ≡ journal.now.entries) }
+    ensures named { IfOk result (λ shown. shown.prefix.book ≡ J.book) }
+    ensures entries { IfOk result (λ shown. shown.prefix.entries ≡ journal.now.entries) }
 {
     let table = match Table::replay(alloc, journal) {
         Ok(table) => table,
-        Err(TableFault::NoMemory) => return Err(Refusal::NoMemory),
+        Err(TableFault::NoMemory) => return Err(FeedFault::NoMemory),
         Err(_) => unreachable!(),
     };
     Ok(ShownTable {
         table,
-        front: front.bare(),
+        prefix: prefix.bare(),
     })
 }
 
 // The readers of a view, which have seen the list without entries, and were told of the one that
 // is shown.
-fn made_readers<J: Naming>(
+fn make_readers<J: Naming>(
     alloc: Global,
-    line: &Line<J>,
-    none: &Front<J>,
+    end: &WriterEnd<J>,
+    none: &Prefix<J>,
     count: usize,
-) -> Result<Vec<ViewReader<J>>, Refusal>
+) -> Result<Vec<ViewReader<J>>, FeedFault>
     requires { none.now ≡ [] }
     ensures count { IfOk result (λ readers. length readers.items ≡ count) }
     ensures room { IfOk result (λ readers. vec_capacity readers ≡ count) }
     ensures told { IfOk result
-        (λ readers. All (λ reader. reader.told ≡ line.now.shown) readers.items) }
+        (λ readers. All (λ reader. reader.told ≡ end.now.shown) readers.items) }
     ensures seen { IfOk result (λ readers. All (λ reader. reader.seen ≡ []) readers.items) }
 {
     let mut readers = Vec::with_capacity(alloc, count)?;
     for _ in 0..count {
-        let idle = match line.reader(none) {
+        let idle = match end.reader(none) {
             Ok(idle) => idle,
-            Err(error) => return Err(Refusal::NoPlace(error)),
+            Err(error) => return Err(FeedFault::NoPlace(error)),
         };
-        readers.push_reserved(ViewReader::over(idle, line.front()));
+        readers.push_reserved(ViewReader::over(idle, end.prefix()));
     }
     Ok(readers)
 }

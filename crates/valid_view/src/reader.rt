@@ -6,8 +6,8 @@ ghost use Rattle.valid_view.specs.Answers.{IfGone, IsLook, IsUnreached, IsViewCl
 ghost use Rattle.valid_view.specs.Shown.{IsShowable};
 
 use crate::fault::ViewFault;
-use crate::front::Front;
 use crate::name::Naming;
+use crate::prefix::Prefix;
 use crate::reading::IdleReader;
 use crate::seen::Seen;
 use core::mem::replace_with;
@@ -22,7 +22,7 @@ use valid_table::{Table, TableFault};
 #[derive(Drop)]
 pub struct ViewReader<J: Naming> {
     idle: IdleReader<J>,
-    told: Front<J>,
+    told: Prefix<J>,
 }
 
 impl<J: Naming> Model for ViewReader<J> {
@@ -35,7 +35,7 @@ impl<J: Naming> Model for ViewReader<J> {
 
 impl<J: Naming> ViewReader<J> {
     // A reader that was told of a list.
-    pub(crate) fn over(idle: IdleReader<J>, told: Front<J>) -> ViewReader<J>
+    pub(crate) fn over(idle: IdleReader<J>, told: Prefix<J>) -> ViewReader<J>
         ensures seen { result.seen ≡ idle }
         ensures told { result.told ≡ told }
     {
@@ -43,8 +43,8 @@ impl<J: Naming> ViewReader<J> {
     }
 
     /// The list that was shown when the reader last asked. That answer holds by this list. A proof
-    /// compares it by `Front::longer` with a list that the writer told of or another reader saw.
-    pub fn seen(&self) -> &Front<J>
+    /// compares it by `Prefix::longer` with a list that the writer told of or another reader saw.
+    pub fn seen(&self) -> &Prefix<J>
         ensures is { result.now ≡ self.now.seen }
         ensures shown { J.Showing.shown J.book self.now.seen }
     {
@@ -56,7 +56,7 @@ impl<J: Naming> ViewReader<J> {
 
     /// Learns of a list that the writer of the view told of: from now on the reader sees no shorter
     /// list. Takes no memory.
-    pub fn learn(&mut self, told: Front<J>)
+    pub fn learn(&mut self, told: Prefix<J>)
         ensures seen { self.new.seen ≡ self.old.seen }
         ensures kept { IsPrefix self.old.told self.new.told }
         ensures told { IsPrefix told self.new.told }
@@ -113,7 +113,7 @@ impl<J: Naming> ViewReader<J> {
 // What a reader finds about a path.
 fn look<J: Naming>(
     idle: IdleReader<J>,
-    asked: (&Front<J>, &StorePath),
+    asked: (&Prefix<J>, &StorePath),
 ) -> (IdleReader<J>, Result<Seen, ViewFault>)
     ensures later { IsPrefix idle result.0 }
     ensures known { WhereSeen result.1
@@ -133,7 +133,7 @@ fn look<J: Naming>(
 // What a reader finds about the closure of some roots.
 fn closure<J: Naming>(
     idle: IdleReader<J>,
-    asked: (&Front<J>, Global, &[StorePath]),
+    asked: (&Prefix<J>, Global, &[StorePath]),
 ) -> (IdleReader<J>, Result<Vec<StorePath>, ViewFault>)
     ensures later { IsPrefix idle result.0 }
     ensures known { WhereSeen result.1

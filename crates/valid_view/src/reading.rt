@@ -6,9 +6,9 @@ ghost use Rattle.valid_table.specs.Entries.{registered};
 ghost use Rattle.valid_view.specs.Answers.{IsUnreached};
 ghost use Rattle.valid_view.specs.Shown.{IsShowable};
 
-use crate::display::Displayed;
-use crate::front::Front;
+use crate::display::DisplayedList;
 use crate::name::Naming;
+use crate::prefix::Prefix;
 use crate::rule::{Published, SeenEntries, Sees};
 use crate::shown_table::ShownTable;
 use left_right::reader::{Reader, Reading};
@@ -23,7 +23,7 @@ pub struct Unreached(());
 #[derive(Drop)]
 pub(crate) struct IdleReader<J: Naming> {
     reader: Reader<ShownTable, SeenEntries, Published<J>>,
-    seen: Front<J>,
+    seen: Prefix<J>,
 }
 
 impl<J: Naming> Model for IdleReader<J> {
@@ -41,7 +41,7 @@ impl<J: Naming> Model for IdleReader<J> {
 // A reader that reads. A contract sees the list that is shown to it.
 pub(crate) struct BusyReader<J: Naming> {
     reading: Reading<ShownTable, SeenEntries, Published<J>>,
-    shown: Front<J>,
+    shown: Prefix<J>,
 }
 
 impl<J: Naming> Model for BusyReader<J> {
@@ -62,7 +62,7 @@ impl<J: Naming> IdleReader<J> {
     // A reader that saw a list.
     pub(crate) fn over(
         reader: Reader<ShownTable, SeenEntries, Published<J>>,
-        seen: Front<J>,
+        seen: Prefix<J>,
     ) -> IdleReader<J>
         requires { seat_view reader.place ≡ seen }
         ensures { result ≡ seen }
@@ -71,7 +71,7 @@ impl<J: Naming> IdleReader<J> {
     }
 
     // The list that it saw.
-    pub(crate) fn seen(&self) -> &Front<J>
+    pub(crate) fn seen(&self) -> &Prefix<J>
         ensures { result.now ≡ self.now }
     {
         &self.seen
@@ -79,7 +79,7 @@ impl<J: Naming> IdleReader<J> {
 
     // Begins to read the list that is shown. The reader comes back where the writer is gone, or
     // where the list does not begin with the one that it was told of, which never happens.
-    pub(crate) fn enter(self, told: &Front<J>) -> Result<BusyReader<J>, (IdleReader<J>, Unreached)>
+    pub(crate) fn enter(self, told: &Prefix<J>) -> Result<BusyReader<J>, (IdleReader<J>, Unreached)>
         ensures later { MatchResult result (IsPrefix self) (λ back. IsPrefix self back.0) }
         ensures told { IfOk result (IsPrefix told.now) }
         ensures showable { IfOk result IsShowable }
@@ -90,7 +90,7 @@ impl<J: Naming> IdleReader<J> {
             Ok(reading) => reading,
             Err(reader) => return Err((IdleReader { reader, seen }, Unreached(()))),
         };
-        let shown = Front::<J>::over(Displayed::of_reading(&reading));
+        let shown = Prefix::<J>::over(DisplayedList::of_reading(&reading));
         let busy = BusyReader { reading, shown };
         if busy.shown.len() < told.len() {
             return Err((busy.leave(), Unreached(())));

@@ -3,8 +3,8 @@ ghost use Rattle.std.specs.Prelude.{◌≡◌};
 ghost use Rattle.valid_view.specs.Faults.{open_number_of};
 ghost use Rattle.valid_view.specs.Refusals.{opened_as, told_as};
 
-use crate::front::Beginning;
-use crate::line::NoPlace;
+use crate::prefix::BarePrefix;
+use crate::writer_end::NoPlace;
 use std::alloc::{AllocError, AllocFailed};
 use std::fmt;
 use std::fmt::{Debug, Formatter};
@@ -26,7 +26,7 @@ pub enum OpenFault {
 /// Why there is no view: what refused it. Only a refusal makes one.
 #[derive(Drop)]
 pub struct Unopened {
-    refusal: Refusal,
+    refusal: FeedFault,
 }
 
 impl Debug for Unopened {
@@ -50,22 +50,22 @@ impl OpenFault {
 // Why a view could not be opened, or could not show what waits. What a case carries shows why it is
 // answered as `NoView`.
 #[derive(Drop)]
-pub(crate) enum Refusal {
+pub(crate) enum FeedFault {
     // Memory was refused.
     NoMemory,
     // The one list is longer than what was known of it, or is full. This is the list.
-    Hindered(Beginning),
+    Hindered(BarePrefix),
     // There is no place for a reader.
     NoPlace(NoPlace),
 }
 
-impl Refusal {
+impl FeedFault {
     // The fault that is answered where a view was to be opened.
     pub(crate) fn open_fault(self) -> OpenFault
         ensures { result ≡ opened_as self }
     {
         match self {
-            Refusal::NoMemory => OpenFault::NoMemory,
+            FeedFault::NoMemory => OpenFault::NoMemory,
             refusal => OpenFault::NoView(Unopened { refusal }),
         }
     }
@@ -75,39 +75,39 @@ impl Refusal {
         ensures { result ≡ told_as self }
     {
         match self {
-            Refusal::NoMemory => OutletFault::NoMemory,
-            Refusal::Hindered(_found) => OutletFault::NoView,
-            Refusal::NoPlace(_error) => OutletFault::NoView,
+            FeedFault::NoMemory => OutletFault::NoMemory,
+            FeedFault::Hindered(_found) => OutletFault::NoView,
+            FeedFault::NoPlace(_error) => OutletFault::NoView,
         }
     }
 }
 
-impl From<AllocError> for Refusal {
-    ghost use Rattle.valid_view.specs.declared.refusal.Refusal.TheVariants.{NoMemory};
+impl From<AllocError> for FeedFault {
+    ghost use Rattle.valid_view.specs.declared.refusal.FeedFault.TheVariants.{NoMemory};
 
     ghost from_gives = { λ _ refusal. refusal ≡ NoMemory };
 
     fn from(_: AllocError) -> Self {
-        Refusal::NoMemory
+        FeedFault::NoMemory
     }
 }
 
-impl<T: Drop> From<AllocFailed<T>> for Refusal {
-    ghost use Rattle.valid_view.specs.declared.refusal.Refusal.TheVariants.{NoMemory};
+impl<T: Drop> From<AllocFailed<T>> for FeedFault {
+    ghost use Rattle.valid_view.specs.declared.refusal.FeedFault.TheVariants.{NoMemory};
 
     ghost from_gives = { λ _ refusal. refusal ≡ NoMemory };
 
     fn from(_: AllocFailed<T>) -> Self {
-        Refusal::NoMemory
+        FeedFault::NoMemory
     }
 }
 
-impl From<Beginning> for Refusal {
-    ghost use Rattle.valid_view.specs.declared.refusal.Refusal.TheVariants.{Hindered};
+impl From<BarePrefix> for FeedFault {
+    ghost use Rattle.valid_view.specs.declared.refusal.FeedFault.TheVariants.{Hindered};
 
     ghost from_gives = { λ found refusal. refusal ≡ Hindered found };
 
-    fn from(found: Beginning) -> Self {
-        Refusal::Hindered(found)
+    fn from(found: BarePrefix) -> Self {
+        FeedFault::Hindered(found)
     }
 }

@@ -5,10 +5,10 @@ use crossbeam_utils::rule::{Outcome, Protocol};
 use std::marker::PhantomData;
 use valid_table::Entry;
 
-// What a reader has seen, which in a clause is a list of entries. No value of this type is made.
+/// What a reader has seen, which in a clause is a list of entries. No value of this type is made.
 pub type SeenEntries = [Entry; 0];
 
-// The rule of the view with this name.
+/// The rule of the view with this name.
 pub struct Published<J: Naming> {
     of: PhantomData<J>,
 }
@@ -22,7 +22,7 @@ impl<J: Naming> Protocol<ShownTable, SeenEntries> for Published<J> {
     ghost first = { [] };
 }
 
-// What a step tells: the list that is shown after it is seen.
+/// What a step tells: the list that is shown after it is seen.
 pub struct Sees<J: Naming> {
     of: PhantomData<J>,
 }

@@ -1,22 +1,22 @@
 //! What a view shows: a table, with the list of entries that it is made from.
-use crate::front::Beginning;
+use crate::prefix::BarePrefix;
 use left_right::Absorb;
 use std::alloc::{AllocError, AllocFailed};
 use std::marker::Model;
 use valid_table::{Entry, Table, TableFault};
 
-// The next entry, with the beginning of the list that ends with it.
+// The next entry, with the prefix of the list that ends with it.
 #[derive(Drop)]
 pub(crate) struct Op {
     pub entry: Entry,
-    pub front: Beginning,
+    pub prefix: BarePrefix,
 }
 
-// A table, and the beginning of the list whose entries it registers.
+// A table, and the prefix of the list whose entries it registers.
 #[derive(Drop)]
 pub(crate) struct ShownTable {
     pub table: Table,
-    pub front: Beginning,
+    pub prefix: BarePrefix,
 }
 
 impl Model for ShownTable {
@@ -24,7 +24,7 @@ impl Model for ShownTable {
 
     ghost Value = { ShownState };
 
-    ghost view = { λ s. record { registrations = s.table.registrations; front = s.front } };
+    ghost view = { λ s. record { registrations = s.table.registrations; prefix = s.prefix } };
 }
 
 impl Absorb<Op> for ShownTable {
@@ -39,7 +39,7 @@ impl Absorb<Op> for ShownTable {
     fn absorb_first(&mut self, operation: &Op, _other: &ShownTable) -> Result<(), AllocError> {
         match self.table.register(&operation.entry) {
             Ok(()) => {
-                self.front = operation.front.again();
+                self.prefix = operation.prefix.again();
                 Ok(())
             }
             Err(TableFault::NoMemory) => Err(AllocError),

@@ -6,8 +6,8 @@ ghost use Rattle.valid_table.specs.Valid.{references_of};
 ghost use Rattle.valid_view.specs.Feeding.{pending_of};
 
 use crate::feed::Feed;
-use crate::front::Front;
 use crate::name::Naming;
+use crate::prefix::Prefix;
 use std::marker::Model;
 use std::sync::Wait;
 use valid_table::{Entry, Outlet, OutletFault};
@@ -54,21 +54,21 @@ impl<J: Naming, R> ViewWriter<J, R> {
     }
 
     /// The list that is shown. Never waits, and takes no memory.
-    pub fn tell(&self) -> Front<J>
+    pub fn tell(&self) -> Prefix<J>
         ensures is { result ≡ self.now.shown }
         ensures shown { J.Showing.shown J.book self.now.shown }
     {
-        let front = self.feed.front();
+        let prefix = self.feed.prefix();
         // Its contract says that the list was shown.
-        let _ = front.len();
-        front
+        let _ = prefix.len();
+        prefix
     }
 }
 
 impl<J: Naming, R: Wait + Drop> ViewWriter<J, R> {
     /// Ends the view, and gives the list that was shown last: readers are answered `NoView` from
     /// now on, and entries that wait are not shown. Waits for readers that still read.
-    pub fn close(self) -> Front<J>
+    pub fn close(self) -> Prefix<J>
         ensures is { result ≡ self.shown }
         ensures shown { J.Showing.shown J.book self.shown }
     {
@@ -81,7 +81,7 @@ impl<J: Naming, R: Wait + Drop> ViewWriter<J, R> {
 }
 
 impl<J: Naming + Send, R: Wait + Drop> Outlet for ViewWriter<J, R> {
-    type Told = Front<J>;
+    type Told = Prefix<J>;
 
     ghost shown = { λ w. w.shown };
 
@@ -107,15 +107,15 @@ impl<J: Naming + Send, R: Wait + Drop> Outlet for ViewWriter<J, R> {
     {
         let answer = self.feed.publish(&self.rt);
         // Its contract says that the list was shown.
-        let _ = self.feed.front().len();
+        let _ = self.feed.prefix().len();
         match answer {
             Ok(()) => Ok(()),
             Err(refusal) => Err(refusal.fault()),
         }
     }
 
-    fn tell(&self) -> Front<J> {
-        self.feed.front()
+    fn tell(&self) -> Prefix<J> {
+        self.feed.prefix()
     }
 
     /// Ends the view: readers are answered `NoView` from now on, and entries that wait are not

@@ -12,7 +12,7 @@ use std::sync::{Mutex, Wait};
 use std::test::*;
 use std::thread::Threads;
 use std::{slice, thread};
-use valid_view::{Front, Name, Naming, Seen, ViewFault, ViewReader};
+use valid_view::{Name, Naming, Prefix, Seen, ViewFault, ViewReader};
 
 const READERS: u64 = 64;
 
@@ -28,7 +28,7 @@ const TURNS: u64 = 1_000_000;
 struct Square<J: Naming> {
     alloc: Global,
     paths: Vec<StorePath>,
-    told: Mutex<Front<J>>,
+    told: Mutex<Prefix<J>>,
     content: AtomicU64,
 }
 
@@ -81,7 +81,7 @@ impl<'a, J: Naming> Watcher<'a, J> {
     }
 
     // Learns of the told list. Says whether the list's last path is valid then.
-    fn learns(&mut self, told: Front<J>) -> Result<bool, ViewFault> {
+    fn learns(&mut self, told: Prefix<J>) -> Result<bool, ViewFault> {
         let last = (told.len() as usize).saturating_sub(1);
         self.reader.learn(told);
         Ok(self.asks(last)? && self.last >= last)

@@ -8,7 +8,7 @@ use std::alloc::Global;
 use std::sync::Wait;
 use std::test::Fail;
 use valid_table::{Entry, Journal, Outlet, OutletFault, Record, Registration};
-use valid_view::{Front, Name, Naming, ViewReader, ViewWriter, open};
+use valid_view::{Name, Naming, Prefix, ViewReader, ViewWriter, open};
 
 // The path of the store with this text.
 pub(crate) fn path(alloc: Global, text: &[u8]) -> Result<StorePath, Fail> {
@@ -107,7 +107,7 @@ impl<J: Naming, R> Store<J, R> {
     }
 
     // The name of the list that is shown.
-    pub(crate) fn tell(&self) -> Front<J> {
+    pub(crate) fn tell(&self) -> Prefix<J> {
         self.writer.tell()
     }
 }

@@ -17,7 +17,7 @@ use std::thread::Threads;
 use std::time::Clock;
 use store_run::{Listen, Locked, work_heard};
 use valid_table::{Entry, Journal, Outlet, OutletFault};
-use valid_view::{Front, Name, Naming, Tells, ViewReader, ViewWriter, open};
+use valid_view::{Name, Naming, Prefix, Tells, ViewReader, ViewWriter, open};
 
 /// What becomes of the view of a run.
 #[derive(Clone, Copy, Debug)]
@@ -53,7 +53,7 @@ struct Full<J: Naming, R> {
 }
 
 impl<J: Naming + Send, R: Wait + Drop> Outlet for Full<J, R> {
-    type Told = Front<J>;
+    type Told = Prefix<J>;
 
     ghost shown = { λ full. full.writer.shown };
 
@@ -69,7 +69,7 @@ impl<J: Naming + Send, R: Wait + Drop> Outlet for Full<J, R> {
         self.writer.publish()
     }
 
-    fn tell(&self) -> Front<J> {
+    fn tell(&self) -> Prefix<J> {
         self.writer.tell()
     }
 
@@ -80,7 +80,7 @@ impl<J: Naming + Send, R: Wait + Drop> Outlet for Full<J, R> {
 }
 
 impl<J: Naming + Send, R: Wait + Drop> Tells<J> for Full<J, R> {
-    fn front(told: Front<J>) -> Front<J> {
+    fn prefix(told: Prefix<J>) -> Prefix<J> {
         told
     }
 }
@@ -175,14 +175,14 @@ fn workers_of<'a, R>(
 
 // An outlet whose view is gone.
 fn gone<J: Naming + Send, R: Wait + Drop>(alloc: Global, writer: ViewWriter<J, R>) -> Refusing<J, R>
-    ensures shown { result.front ≡ writer.shown }
+    ensures shown { result.prefix ≡ writer.shown }
     ensures waits { result.waits.items ≡ [] }
 {
-    let front = writer.tell();
+    let prefix = writer.tell();
     let _shown = writer.close();
     Refusing {
         writer: None,
-        front,
+        prefix,
         waits: Vec::new(alloc),
         fault: OutletFault::NoView,
     }

@@ -11,21 +11,21 @@ use std::sync::atomic::{AtomicU64, Ordering};
 use std::thread;
 use std::time::{Clock, Duration};
 use valid_table::{Entry, Outlet, OutletFault};
-use valid_view::{Front, Naming, Tells, ViewWriter};
+use valid_view::{Naming, Prefix, Tells, ViewWriter};
 
 /// An outlet that shows what its view showed at first, and answers a fault when it should show
 /// more. Its view is there until the outlet is closed; without a writer it is gone before.
 pub(super) struct Refusing<J: Naming, R> {
     pub writer: Option<ViewWriter<J, R>>,
-    pub front: Front<J>,
+    pub prefix: Prefix<J>,
     pub waits: Vec<Entry>,
     pub fault: OutletFault,
 }
 
 impl<J: Naming + Send, R: Wait + Drop> Outlet for Refusing<J, R> {
-    type Told = Front<J>;
+    type Told = Prefix<J>;
 
-    ghost shown = { λ outlet. outlet.front };
+    ghost shown = { λ outlet. outlet.prefix };
 
     ghost pending = { λ outlet. outlet.waits.items };
 
@@ -44,14 +44,14 @@ impl<J: Naming + Send, R: Wait + Drop> Outlet for Refusing<J, R> {
         }
     }
 
-    fn tell(&self) -> Front<J> {
-        self.front.again()
+    fn tell(&self) -> Prefix<J> {
+        self.prefix.again()
     }
 
     fn close(self) {
         let Refusing {
             writer,
-            front: _,
+            prefix: _,
             waits: _,
             fault: _,
         } = self;
@@ -62,7 +62,7 @@ impl<J: Naming + Send, R: Wait + Drop> Outlet for Refusing<J, R> {
 }
 
 impl<J: Naming + Send, R: Wait + Drop> Tells<J> for Refusing<J, R> {
-    fn front(told: Front<J>) -> Front<J> {
+    fn prefix(told: Prefix<J>) -> Prefix<J> {
         told
     }
 }

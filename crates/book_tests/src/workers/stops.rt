@@ -200,7 +200,7 @@ fn rest_named<J: Naming + Send + Sync, R: Threads + Wait + Clock + Abort + Sync>
     let journal = Journal::new(alloc);
     let system = system(alloc)?;
     let (writer, readers) = open::<J, &R>(alloc, rt, name, &journal, workers)?;
-    let front = writer.tell();
+    let prefix = writer.tell();
     let writer = if cause.is_gone {
         writer.close();
         None
@@ -209,7 +209,7 @@ fn rest_named<J: Naming + Send + Sync, R: Threads + Wait + Clock + Abort + Sync>
     };
     let outlet = Refusing {
         writer,
-        front,
+        prefix,
         waits: Vec::new(alloc),
         fault: cause.fault,
     };

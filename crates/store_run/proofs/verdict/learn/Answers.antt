@@ -14,5 +14,5 @@ returns-clause-seeds g c =
     (sym c.told.ensures.told ∙ c.in-Some.is) c.requires in
     seeds_stay named.0 _ c.told.new.self.job
     (subst (λ (front : List Entry). IsPrefix front c.learn.new.self.told)
-    (c.front.ensures named.0 named.1) c.learn.ensures.told)
+    (c.prefix.ensures named.0 named.1) c.learn.ensures.told)
     (subst (AreSeedsValid named.0) (sym c.told.ensures.job) named.2)

@@ -3,4 +3,4 @@ use Rattle.std.proofs.Common.{◌≡◌, take}
 use Rattle.valid_view.proofs.opening.fill.Given as goal
 
 abbrev pub invariant-loop-entry : goal.invariant-loop-entry
-invariant-loop-entry g l = l.front ≡ take l.entry-index l.entries
+invariant-loop-entry g l = l.prefix ≡ take l.entry-index l.entries

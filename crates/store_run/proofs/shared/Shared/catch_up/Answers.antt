@@ -24,7 +24,7 @@ returns-clause-ok g c =
     (where_ok c.look.result c.look.ensures.known (λ known number lease showable valid.
     let told : IsPrefix book.shown c.learn.new.self.told =
     subst (λ (front : List Entry). IsPrefix front c.learn.new.self.told)
-    (c.front.ensures book.shown c.tell.ensures.told) c.learn.ensures.told in
+    (c.prefix.ensures book.shown c.tell.ensures.told) c.learn.ensures.told in
     stays_by_view _ _ _
     _ c.args.job.now
     (subst (λ (seen : List Entry). IsPrefix seen c.look.new.reader.seen) c.learn.ensures.seen

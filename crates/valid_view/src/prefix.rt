@@ -1,10 +1,10 @@
-//! Lists that were shown, and the one list of which each of them is a beginning.
+//! Lists that were shown, and the one list of which each of them is a prefix.
 ghost use Rattle.std.specs.Prelude.{◌≡◌, ◌⊎◌, ◌++◌, ◌∷◌, [], length, MatchResult};
 ghost use mathlib.Core.List.{IsPrefix};
-ghost use Rattle.valid_view.specs.Beginnings.{Hinders, head_of};
+ghost use Rattle.valid_view.specs.Prefixes.{Hinders, head_of};
 ghost use Rattle.valid_view.specs.Shown.{IsShowable, MayFollow};
 
-use crate::display::Displayed;
+use crate::display::DisplayedList;
 use crate::law::{Add, Law, Nothing};
 use crate::name::Naming;
 use logbook::{Offer, Seen, Word};
@@ -31,14 +31,14 @@ impl<J: Naming> Head<J> {
     }
 }
 
-/// A list that was shown under this name. It is a beginning of the one list with the name. A
+/// A list that was shown under this name. It is a prefix of the one list with the name. A
 /// contract sees its entries. Takes no memory, and has the size of one number.
 #[derive(Drop)]
-pub struct Front<J: Naming> {
-    all: Known<J>,
+pub struct Prefix<J: Naming> {
+    all: NamedPrefix<J>,
 }
 
-impl<J: Naming> Model for Front<J> {
+impl<J: Naming> Model for Prefix<J> {
     ghost use Rattle.std.specs.Prelude.{List};
     ghost use Rattle.valid_table.specs.declared.entry.Entry.{Entry};
 
@@ -49,15 +49,15 @@ impl<J: Naming> Model for Front<J> {
     ghost invariant = { λ f. J.Showing.shown J.book f.all };
 }
 
-impl<J: Naming> Front<J> {
+impl<J: Naming> Prefix<J> {
     // A list that was shown.
-    pub(crate) fn over(list: Displayed) -> Front<J>
+    pub(crate) fn over(list: DisplayedList) -> Prefix<J>
         requires { list.book ≡ J.book }
         ensures { result ≡ list.entries }
     {
         J::show(&list);
-        Front {
-            all: Known::over(list.front()),
+        Prefix {
+            all: NamedPrefix::over(list.prefix()),
         }
     }
 
@@ -71,35 +71,35 @@ impl<J: Naming> Front<J> {
     }
 
     /// The same again.
-    pub fn again(&self) -> Front<J>
+    pub fn again(&self) -> Prefix<J>
         ensures { result ≡ self.now }
     {
-        Front {
+        Prefix {
             all: self.all.again(),
         }
     }
 
     /// The longer of two lists, which begins with the other. A proof learns from it that one of two
     /// lists that were shown under one name begins with the other.
-    pub fn longer(&self, other: &Front<J>) -> Front<J>
+    pub fn longer(&self, other: &Prefix<J>) -> Prefix<J>
         ensures this { IsPrefix self.now result }
         ensures that { IsPrefix other.now result }
         ensures one { (result ≡ self.now) ⊎ (result ≡ other.now) }
     {
-        Front {
+        Prefix {
             all: self.all.longer(&other.all),
         }
     }
 }
 
-// A beginning of the list with this name, shown or not. A contract sees its entries.
+// A prefix of the list with this name, shown or not. A contract sees its entries.
 #[derive(Drop)]
-pub(crate) struct Known<J: Naming> {
-    all: Beginning,
+pub(crate) struct NamedPrefix<J: Naming> {
+    all: BarePrefix,
     of: PhantomData<J>,
 }
 
-impl<J: Naming> Model for Known<J> {
+impl<J: Naming> Model for NamedPrefix<J> {
     ghost use Rattle.std.specs.Prelude.{◌≡◌, List};
     ghost use Rattle.valid_table.specs.declared.entry.Entry.{Entry};
 
@@ -110,29 +110,29 @@ impl<J: Naming> Model for Known<J> {
     ghost invariant = { λ f. f.all.book ≡ J.book };
 }
 
-impl<J: Naming> Known<J> {
-    // The beginning without entries.
-    pub(crate) fn first(seen: Seen<Entry, u64, Law>) -> Known<J>
+impl<J: Naming> NamedPrefix<J> {
+    // The prefix without entries.
+    pub(crate) fn first(seen: Seen<Entry, u64, Law>) -> NamedPrefix<J>
         requires book { seen.book ≡ J.book }
         requires empty { seen.log ≡ [] }
         ensures { result ≡ [] }
     {
-        Known::over(Beginning::first(seen))
+        NamedPrefix::over(BarePrefix::first(seen))
     }
 
-    // The beginning of the list with this name.
-    pub(crate) fn over(all: Beginning) -> Known<J>
+    // The prefix of the list with this name.
+    pub(crate) fn over(all: BarePrefix) -> NamedPrefix<J>
         requires { all.book ≡ J.book }
         ensures { result ≡ all.entries }
     {
-        Known {
+        NamedPrefix {
             all,
             of: PhantomData,
         }
     }
 
-    // The same beginning, whose type does not name the list.
-    pub(crate) fn bare(&self) -> Beginning
+    // The same prefix, whose type does not name the list.
+    pub(crate) fn bare(&self) -> BarePrefix
         ensures book { result.book ≡ J.book }
         ensures entries { result.entries ≡ self.now }
     {
@@ -148,24 +148,24 @@ impl<J: Naming> Known<J> {
     }
 
     // The same again.
-    pub(crate) fn again(&self) -> Known<J>
+    pub(crate) fn again(&self) -> NamedPrefix<J>
         ensures { result ≡ self.now }
     {
-        Known::over(self.all.again())
+        NamedPrefix::over(self.all.again())
     }
 
-    // The longer of two beginnings, which begins with the other.
-    pub(crate) fn longer(&self, other: &Known<J>) -> Known<J>
+    // The longer of two prefixes, which begins with the other.
+    pub(crate) fn longer(&self, other: &NamedPrefix<J>) -> NamedPrefix<J>
         ensures this { IsPrefix self.now result }
         ensures that { IsPrefix other.now result }
         ensures one { (result ≡ self.now) ⊎ (result ≡ other.now) }
     {
-        Known::over(self.all.longer(&other.all))
+        NamedPrefix::over(self.all.longer(&other.all))
     }
 
     // Adds an entry to the list. Where that went on already, or is full, nothing changes, and it
     // comes back as it was found.
-    pub(crate) fn add(&mut self, head: &Head<J>, entry: &Entry) -> Result<(), Beginning>
+    pub(crate) fn add(&mut self, head: &Head<J>, entry: &Entry) -> Result<(), BarePrefix>
         requires { MayFollow self.old entry.now }
         ensures { MatchResult result (λ _. self.new ≡ self.old ++ entry.now ∷ [])
             (λ found. (self.new ≡ self.old) × Hinders J.book self.old found) }
@@ -174,40 +174,40 @@ impl<J: Naming> Known<J> {
     }
 }
 
-// A beginning of a list, whose type does not name the list.
+// A prefix of a list, whose type does not name the list.
 #[derive(Drop)]
-pub(crate) struct Beginning {
+pub(crate) struct BarePrefix {
     count: u64,
     seen: Seen<Entry, u64, Law>,
 }
 
-impl Model for Beginning {
+impl Model for BarePrefix {
     ghost use Rattle.std.specs.Prelude.{◌≡◌, length};
-    ghost use Rattle.valid_view.specs.Beginnings.{Begun};
+    ghost use Rattle.valid_view.specs.Prefixes.{PrefixValue};
     ghost use Rattle.valid_view.specs.Shown.{IsShowable};
 
-    ghost Value = { Begun };
+    ghost Value = { PrefixValue };
 
     ghost view = { λ b. record { book = b.seen.book; entries = b.seen.log } };
 
     ghost invariant = { λ b. (b.count ≡ length b.seen.log) × IsShowable b.seen.log };
 }
 
-impl Beginning {
-    // The beginning without entries.
-    pub(crate) fn first(seen: Seen<Entry, u64, Law>) -> Beginning
+impl BarePrefix {
+    // The prefix without entries.
+    pub(crate) fn first(seen: Seen<Entry, u64, Law>) -> BarePrefix
         requires { seen.log ≡ [] }
         ensures book { result.book ≡ seen.book }
         ensures entries { result.entries ≡ [] }
     {
-        Beginning { count: 0, seen }
+        BarePrefix { count: 0, seen }
     }
 
     // The same again.
-    pub(crate) fn again(&self) -> Beginning
+    pub(crate) fn again(&self) -> BarePrefix
         ensures { result ≡ self.now }
     {
-        Beginning {
+        BarePrefix {
             count: self.count,
             seen: self.seen.again(),
         }
@@ -223,7 +223,7 @@ impl Beginning {
 
     // Adds an entry to the list. Where that went on already, or is full, nothing changes, and it
     // comes back as it was found.
-    fn add(&mut self, word: &Word<Entry, u64, Law>, entry: &Entry) -> Result<(), Beginning>
+    fn add(&mut self, word: &Word<Entry, u64, Law>, entry: &Entry) -> Result<(), BarePrefix>
         requires word { word.now ≡ head_of self.old.book }
         requires showable { MayFollow self.old.entries entry.now }
         ensures book { self.new.book ≡ self.old.book }
@@ -243,14 +243,14 @@ impl Beginning {
             count, next, &mut seen, &mut offer, &mut pen,
         );
         if found != count {
-            return Err(Beginning { count: found, seen });
+            return Err(BarePrefix { count: found, seen });
         }
-        *self = Beginning { count: next, seen };
+        *self = BarePrefix { count: next, seen };
         Ok(())
     }
 
-    // The longer of two beginnings of one list, which begins with the other.
-    pub(crate) fn longer(&self, other: &Beginning) -> Beginning
+    // The longer of two prefixes of one list, which begins with the other.
+    pub(crate) fn longer(&self, other: &BarePrefix) -> BarePrefix
         requires { other.now.book ≡ self.now.book }
         ensures book { result.book ≡ self.now.book }
         ensures this { IsPrefix self.now.entries result.entries }

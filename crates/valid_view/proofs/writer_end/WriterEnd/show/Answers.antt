@@ -1,6 +1,6 @@
 use Rattle.std.proofs.Common.{drop}
 use Rattle.valid_view.proofs.ShownTables.{shown_lined, shown_ok, shows}
-use Rattle.valid_view.proofs.line.Line.show.Goals as goal
+use Rattle.valid_view.proofs.writer_end.WriterEnd.show.Goals as goal
 
 pub publish_as-writer-requires : goal.publish_as-writer-requires
 publish_as-writer-requires g c next is =

@@ -1,5 +1,5 @@
 use Rattle.valid_view.proofs.ShownTables.{admits}
-use Rattle.valid_view.proofs.line.Line.reader.Goals as goal
+use Rattle.valid_view.proofs.writer_end.WriterEnd.reader.Goals as goal
 
 pub reader-requires : goal.reader-requires
 reader-requires g c = admits g.J.Naming.book

@@ -1,18 +1,18 @@
--- The one list of entries of which every shown list is a beginning, and what a step on it tells.
+-- The one list of entries of which every shown list is a prefix, and what a step on it tells.
 use Rattle.std.specs.Prelude.{ℕ, ◌≡◌, ◌<◌, ◌+◌, ◌^◌, ◌⊎◌, ◌==◌, true, List, [], ◌∷◌, ◌++◌, length, MatchBool}
 use mathlib.Core.List.{IsPrefix}
 use Rattle.logbook.specs.Pages.{Book, Cell, Named, Step, View}
 use Rattle.valid_table.specs.declared.entry.Entry.{Entry}
 use Rattle.valid_view.specs.Shown.{IsShowable}
 
--- A beginning of the one list, and which list that is.
-pub record Begun : Type 0 where
+-- A prefix of the one list, and which list that is.
+pub record PrefixValue : Type 0 where
   pub book : Book
   pub entries : List Entry
 
 -- The first word is the list's length, and the list may be shown. A book has two words, of which
 -- this one leaves the second at 0.
-pub record IsBeginningKept (cells : List Cell) (entries : List Entry) : Type 0 where
+pub record IsPrefixKept (cells : List Cell) (entries : List Entry) : Type 0 where
   pub words : cells ≡ (length entries, true) ∷ (0, true) ∷ []
   pub showable : IsShowable entries
 
@@ -29,6 +29,6 @@ Adds step before found after =
 
 -- Why nothing can be added to the known entries of the list with this name: the list that was found
 -- is longer than these, or has as many entries as can be counted.
-abbrev pub Hinders : Book → List Entry → (found : Begun) → Type 0
+abbrev pub Hinders : Book → List Entry → (found : PrefixValue) → Type 0
 Hinders book known found = (found.book ≡ book) × IsPrefix known found.entries
     × ((length known < length found.entries) ⊎ (length found.entries + 1 ≡ 2 ^ 64))

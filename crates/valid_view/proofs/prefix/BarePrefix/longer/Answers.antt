@@ -1,6 +1,6 @@
 use Rattle.std.proofs.Common.{ap, arith}
 use Rattle.valid_view.proofs.Prefixes.{prefix_shorter}
-use Rattle.valid_view.proofs.front.Beginning.longer.Goals as goal
+use Rattle.valid_view.proofs.prefix.BarePrefix.longer.Goals as goal
 
 pub returns-then-self-other-clause-this : goal.returns-then-self-other-clause-this
 returns-then-self-other-clause-this c =

@@ -2,9 +2,9 @@
 -- seen the one without entries.
 use Rattle.std.proofs.Common.{◌≡◌, [], All, length, vec_capacity}
 use Rattle.valid_view.specs.Answers.{Knowing}
-use Rattle.valid_view.proofs.opening.made_readers.Given as goal
+use Rattle.valid_view.proofs.opening.make_readers.Given as goal
 
 abbrev pub invariant-loop : goal.invariant-loop
 invariant-loop g l = (length l.readers.items ≡ l.counter) × (vec_capacity l.readers ≡ l.count)
-    × All (λ (reader : Knowing). reader.told ≡ l.line.shown) l.readers.items
+    × All (λ (reader : Knowing). reader.told ≡ l.end.shown) l.readers.items
     × All (λ (reader : Knowing). reader.seen ≡ []) l.readers.items

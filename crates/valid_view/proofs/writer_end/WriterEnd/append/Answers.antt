@@ -1,6 +1,6 @@
 use Rattle.std.proofs.Common.{ap, drop}
 use Rattle.valid_view.proofs.ShownTables.{appended}
-use Rattle.valid_view.proofs.line.Line.append.Goals as goal
+use Rattle.valid_view.proofs.writer_end.WriterEnd.append.Goals as goal
 
 pub invariant_of-self : goal.invariant_of-self
 invariant_of-self g c =

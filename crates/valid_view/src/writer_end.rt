@@ -2,9 +2,9 @@
 ghost use Rattle.std.specs.Prelude.{◌≡◌, ◌<◌, ◌≤◌, ◌++◌, ◌↔◌, [], ◌∷◌, MatchResult, IfOk, IsTrue, OnErr, OnOk};
 ghost use Rattle.valid_view.specs.ShownTables.{IsShownTable};
 
-use crate::display::Displayed;
-use crate::front::Front;
+use crate::display::DisplayedList;
 use crate::name::Naming;
+use crate::prefix::Prefix;
 use crate::reading::IdleReader;
 use crate::rule::{Published, SeenEntries, Sees};
 use crate::shown_table::{Op, ShownTable};
@@ -16,7 +16,7 @@ use valid_table::Entry;
 
 // An operation that came back, since memory was refused.
 #[derive(Drop)]
-pub(crate) struct Returned {
+pub(crate) struct ReturnedOp {
     pub op: Op,
     pub error: AllocError,
 }
@@ -27,47 +27,47 @@ pub(crate) struct NoPlace(AllocError);
 
 // The writer. A contract sees the entries that are shown, and those that were handed over and not
 // shown yet.
-pub(crate) struct Line<J: Naming> {
+pub(crate) struct WriterEnd<J: Naming> {
     writer: Writer<ShownTable, Op, SeenEntries, Published<J>>,
 }
 
-impl<J: Naming> Model for Line<J> {
+impl<J: Naming> Model for WriterEnd<J> {
     ghost use Rattle.std.specs.Prelude.{drop};
-    ghost use Rattle.valid_view.specs.Feeding.{Follows, Lined, entries_of};
+    ghost use Rattle.valid_view.specs.Feeding.{Follows, WriterEndValue, entries_of};
     ghost use Rattle.valid_view.specs.ShownTables.{IsShownTable};
 
-    ghost Value = { Lined };
+    ghost Value = { WriterEndValue };
 
     ghost view = { λ l. record {
-      shown = l.writer.desk.shown.value.front.entries;
+      shown = l.writer.desk.shown.value.prefix.entries;
       handed = entries_of (drop l.writer.behind l.writer.log.items);
     } };
 
     ghost invariant = { λ l. IsShownTable J.book l.writer.desk.shown.value
-        × Follows J.book l.writer.desk.shown.value.front.entries
+        × Follows J.book l.writer.desk.shown.value.prefix.entries
         (drop l.writer.behind l.writer.log.items) };
 }
 
-impl<J: Naming> Line<J> {
+impl<J: Naming> WriterEnd<J> {
     // The writer of two equal tables, for `readers` readers. `AllocError` where memory is refused.
     pub(crate) fn open(
         alloc: Global,
         first: ShownTable,
         second: ShownTable,
         readers: usize,
-    ) -> Result<Line<J>, AllocError>
+    ) -> Result<WriterEnd<J>, AllocError>
         requires readers { (0 < readers) × (readers ≤ 64) }
         requires alike { first ≡ second }
         requires table { IsShownTable J.book first }
-        ensures shown { IfOk result (λ line. line.shown ≡ first.front.entries) }
-        ensures handed { IfOk result (λ line. line.handed ≡ []) }
+        ensures shown { IfOk result (λ end. end.shown ≡ first.prefix.entries) }
+        ensures handed { IfOk result (λ end. end.handed ≡ []) }
     {
         let writer = Writer::new(alloc, first, second, readers)?;
-        Ok(Line { writer })
+        Ok(WriterEnd { writer })
     }
 
     // A new reader, which has seen the list without entries. `NoPlace` where each place is in use.
-    pub(crate) fn reader(&self, none: &Front<J>) -> Result<IdleReader<J>, NoPlace>
+    pub(crate) fn reader(&self, none: &Prefix<J>) -> Result<IdleReader<J>, NoPlace>
         requires { none.now ≡ [] }
         ensures { IfOk result (λ idle. idle ≡ []) }
     {
@@ -78,10 +78,10 @@ impl<J: Naming> Line<J> {
     }
 
     // The list that is shown.
-    pub(crate) fn front(&self) -> Front<J>
+    pub(crate) fn prefix(&self) -> Prefix<J>
         ensures { result ≡ self.now.shown }
     {
-        Front::over(Displayed::of_writer(&self.writer))
+        Prefix::over(DisplayedList::of_writer(&self.writer))
     }
 
     // Whether all entries that were handed over are shown.
@@ -92,9 +92,9 @@ impl<J: Naming> Line<J> {
     }
 
     // Hands over the next entry. It comes back where memory is refused.
-    pub(crate) fn append(&mut self, op: Op) -> Result<(), Returned>
-        requires named { op.front.book ≡ J.book }
-        requires next { op.front.entries
+    pub(crate) fn append(&mut self, op: Op) -> Result<(), ReturnedOp>
+        requires named { op.prefix.book ≡ J.book }
+        requires next { op.prefix.entries
             ≡ (self.old.shown ++ self.old.handed) ++ op.entry ∷ [] }
         ensures shown { self.new.shown ≡ self.old.shown }
         ensures handed { MatchResult result
@@ -104,7 +104,7 @@ impl<J: Naming> Line<J> {
         match self.writer.append(op) {
             Ok(()) => Ok(()),
             // The writer gives an operation back where its queue could not grow, and never else.
-            Err(op) => Err(Returned {
+            Err(op) => Err(ReturnedOp {
                 op,
                 error: AllocFailed { value: () }.into(),
             }),
@@ -113,22 +113,22 @@ impl<J: Naming> Line<J> {
 
     // Shows all entries that were handed over. May wait for readers. `AllocError` where memory is
     // refused; then nothing changes.
-    pub(crate) fn show<R: Wait>(self, rt: &R) -> (Line<J>, Result<(), AllocError>)
+    pub(crate) fn show<R: Wait>(self, rt: &R) -> (WriterEnd<J>, Result<(), AllocError>)
         ensures ok { OnOk result.1
             ((result.0.shown ≡ self.shown ++ self.handed) × (result.0.handed ≡ [])) }
         ensures err { OnErr result.1
             ((result.0.shown ≡ self.shown) × (result.0.handed ≡ self.handed)) }
     {
-        let Line { writer } = self;
+        let WriterEnd { writer } = self;
         let (writer, shown) = writer.publish_as::<Sees<J>, R>(rt);
-        (Line { writer }, shown)
+        (WriterEnd { writer }, shown)
     }
 
     // Ends the view, and gives the list that was shown last. May wait for readers.
-    pub(crate) fn close<R: Wait>(self, rt: &R) -> Front<J>
+    pub(crate) fn close<R: Wait>(self, rt: &R) -> Prefix<J>
         ensures { result ≡ self.shown }
     {
-        let Line { writer } = self;
-        Front::over(Displayed::at_end(writer, rt))
+        let WriterEnd { writer } = self;
+        Prefix::over(DisplayedList::at_end(writer, rt))
     }
 }
