@@ -5,9 +5,9 @@ use Rattle.std.proofs.Math.ListN.{set}
 use Rattle.std.specs.Global.{Vec}
 use Rattle.build_outcome.specs.declared.walk.Mark.{Mark}
 use Rattle.build_outcome.specs.declared.walk.Mark.TheVariants.{New, Open, Closed}
-use Rattle.build_outcome.specs.declared.walk.Node.{Node}
-use Rattle.build_outcome.specs.declared.walk.Step.{Step}
-use Rattle.build_outcome.specs.declared.walk.Step.TheVariants.{Enter, Leave, Pass, Return}
+use Rattle.build_outcome.specs.declared.walk.WalkNode.{WalkNode}
+use Rattle.build_outcome.specs.declared.walk.WalkStep.{WalkStep}
+use Rattle.build_outcome.specs.declared.walk.WalkStep.TheVariants.{Enter, Leave, Pass, Return}
 
 -- a link leads from one number to another
 abbrev pub IsLinked : List (Vec ℕ) → (from to : ℕ) → Type 0
@@ -42,35 +42,35 @@ AreInner links = (from to : ℕ) → IsLinked links from to → to < length link
 
 -- what a walk has passed is grounded: each number that it closed, and each link that it passed, but
 -- to the number itself
-pub record IsAfter (links : List (Vec ℕ)) (nodes : List Node) : Type 0 where
+pub record IsAfter (links : List (Vec ℕ)) (nodes : List WalkNode) : Type 0 where
   pub count : length nodes ≡ length links
-  pub left : (from : ℕ) (node : Node) (own : Vec ℕ) → slice_get nodes from ≡ Some node
+  pub left : (from : ℕ) (node : WalkNode) (own : Vec ℕ) → slice_get nodes from ≡ Some node
       → slice_get links from ≡ Some own → node.left ≤ length own.items
-  pub passed : (from : ℕ) (node : Node) (own : Vec ℕ) (k to : ℕ) → slice_get nodes from ≡ Some node
-      → slice_get links from ≡ Some own
+  pub passed : (from : ℕ) (node : WalkNode) (own : Vec ℕ) (k to : ℕ)
+      → slice_get nodes from ≡ Some node → slice_get links from ≡ Some own
       → node.left ≤ k → slice_get own.items k ≡ Some to → from ≢ to → IsGrounded links to
-  pub closed : (from : ℕ) (node : Node) → slice_get nodes from ≡ Some node → node.mark ≡ Closed
+  pub closed : (from : ℕ) (node : WalkNode) → slice_get nodes from ≡ Some node → node.mark ≡ Closed
       → IsGrounded links from
 
 -- Where a walk stands: its trail has all open numbers, each linked to the next.
-pub record IsWalk (links : List (Vec ℕ)) (nodes : List Node) (trail : List ℕ) : Type 0 where
+pub record IsWalk (links : List (Vec ℕ)) (nodes : List WalkNode) (trail : List ℕ) : Type 0 where
   pub after : IsAfter links nodes
-  pub opened : (from : ℕ) (node : Node) → slice_get nodes from ≡ Some node → node.mark ≡ Open
+  pub opened : (from : ℕ) (node : WalkNode) → slice_get nodes from ≡ Some node → node.mark ≡ Open
       → Contains trail from
   pub within : (k n : ℕ) → slice_get trail k ≡ Some n → n < length nodes
   pub chain : (k from to : ℕ) → slice_get trail k ≡ Some from → slice_get trail (suc k) ≡ Some to
       → IsLinked links from to
 
 -- a number was met
-abbrev pub IsMet : List Node → ℕ → Type 0
-IsMet nodes n = (node : Node) → slice_get nodes n ≡ Some node → node.mark ≢ New
+abbrev pub IsMet : List WalkNode → ℕ → Type 0
+IsMet nodes n = (node : WalkNode) → slice_get nodes n ≡ Some node → node.mark ≢ New
 
 -- a number that was met stays so
-abbrev pub KeepsMet : (before after : List Node) → Type 0
+abbrev pub KeepsMet : (before after : List WalkNode) → Type 0
 KeepsMet before after = (n : ℕ) → IsMet before n → IsMet after n
 
 -- what is known of a number with these links before a walk
-abbrev pub fresh : Vec ℕ → Node
+abbrev pub fresh : Vec ℕ → WalkNode
 fresh own = record { mark = New; left = length own.items }
 
 -- what is left to do at a number, by its mark alone
@@ -80,12 +80,12 @@ mark_weight Open = 0
 mark_weight Closed = 0
 
 -- what is left to do at a number, by its mark and its links that are left
-abbrev pub weight : Node → ℕ
+abbrev pub weight : WalkNode → ℕ
 weight node = mark_weight node.mark + node.left
 
 -- The last link of a number that is left to be passed leads to this number, of which this is known.
-pub record IsNextLink (links : List (Vec ℕ)) (nodes : List Node) (top : ℕ) (node : Node) (to : ℕ)
-    (other : Node) : Type 0 where
+pub record IsNextLink (links : List (Vec ℕ)) (nodes : List WalkNode) (top : ℕ) (node : WalkNode)
+    (to : ℕ) (other : WalkNode) : Type 0 where
   pub own : Vec ℕ
   pub k : ℕ
   pub at : slice_get nodes top ≡ Some node
@@ -96,25 +96,27 @@ pub record IsNextLink (links : List (Vec ℕ)) (nodes : List Node) (top : ℕ) (
 
 -- one step at a number: it is left where no link is left, and else its last link that is left is
 -- passed, entered, or leads back to the trail
-abbrev pub IsWalkStep : List (Vec ℕ) → (before after : List Node) → (top : ℕ) → Step → Type 0
+abbrev pub IsWalkStep : List (Vec ℕ) → (before after : List WalkNode) → (top : ℕ) → WalkStep
+    → Type 0
 IsWalkStep links before after top Leave =
-    (node : Node) × (slice_get before top ≡ Some node) × (node.left ≡ 0)
+    (node : WalkNode) × (slice_get before top ≡ Some node) × (node.left ≡ 0)
     × (after ≡ set before top (record { mark = Closed; left = 0 }))
 IsWalkStep links before after top Pass =
-    (node : Node) × (to : ℕ) × (other : Node) × IsNextLink links before top node to other
+    (node : WalkNode) × (to : ℕ) × (other : WalkNode) × IsNextLink links before top node to other
     × ((top ≢ to) → other.mark ≡ Closed)
     × (k : ℕ) × (suc k ≡ node.left)
     × (after ≡ set before top (record { mark = node.mark; left = k }))
 IsWalkStep links before after top (Enter to) =
-    (node : Node) × (other : Node) × IsNextLink links before top node to other × (other.mark ≡ New)
+    (node : WalkNode) × (other : WalkNode) × IsNextLink links before top node to other
+    × (other.mark ≡ New)
     × (after ≡ set before to (record { mark = Open; left = other.left }))
 IsWalkStep links before after top Return =
-    (node : Node) × (to : ℕ) × (other : Node) × IsNextLink links before top node to other
+    (node : WalkNode) × (to : ℕ) × (other : WalkNode) × IsNextLink links before top node to other
     × (other.mark ≡ Open) × (top ≢ to)
 
 -- what a walk from a number tells: a round, or it ends, with the number met beside all that were
 -- met before
-abbrev pub MayTell : List (Vec ℕ) → (before after : List Node) → (start : ℕ) → Bool → Type 0
+abbrev pub MayTell : List (Vec ℕ) → (before after : List WalkNode) → (start : ℕ) → Bool → Type 0
 MayTell links before after start true = HaveRound links
 MayTell links before after start false = IsWalk links after [] × KeepsMet before after
     × IsMet after start

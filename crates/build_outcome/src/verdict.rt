@@ -171,11 +171,11 @@ fn record_of(
     ensures err { IfErr result (λ why. why ≡ OutOfMemory) }
 {
     let references = scan(alloc, tree, permitted)?;
-    Ok(Record::new(references, taken_digest(kind, tree))?)
+    Ok(Record::new(references, output_digest(kind, tree))?)
 }
 
 // The digest of an output's tree, which is taken: a fixed output has the declared one.
-fn taken_digest(kind: &Kind, tree: &Tree) -> Option<Digest>
+fn output_digest(kind: &Kind, tree: &Tree) -> Option<Digest>
     requires { (why : Reason) → IsTreeFault kind.now tree.now why → ⊥ }
     ensures { result ≡ digest_of (algorithm_for kind.now) tree.now }
 {

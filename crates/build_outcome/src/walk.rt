@@ -14,13 +14,13 @@ enum Mark {
 
 // What a walk knows of a number: how many of its links, from the first on, are left to be passed.
 #[derive(Clone, Copy)]
-struct Node {
+struct WalkNode {
     mark: Mark,
     left: usize,
 }
 
 // What comes next on a walk: a number is entered or left, a link is passed, or it leads back.
-enum Step {
+enum WalkStep {
     Enter(usize),
     Leave,
     Pass,
@@ -42,17 +42,17 @@ pub(crate) fn has_round(alloc: Global, links: &[Vec<usize>]) -> Result<bool, All
 }
 
 // What is known of each number before a walk.
-fn new_nodes(alloc: Global, links: &[Vec<usize>]) -> Result<Vec<Node>, AllocError>
+fn new_nodes(alloc: Global, links: &[Vec<usize>]) -> Result<Vec<WalkNode>, AllocError>
     ensures { IfOk result (λ nodes. nodes.items ≡ map fresh links.now) }
 {
     links.iter().map(|own| fresh(own)).collect(alloc)
 }
 
 // What is known of a number with these links before a walk.
-fn fresh(own: &Vec<usize>) -> Node
+fn fresh(own: &Vec<usize>) -> WalkNode
     ensures { result ≡ fresh own.now }
 {
-    Node {
+    WalkNode {
         mark: Mark::New,
         left: own.len(),
     }
@@ -62,7 +62,7 @@ fn fresh(own: &Vec<usize>) -> Node
 fn walk_from(
     alloc: Global,
     links: &[Vec<usize>],
-    nodes: &mut [Node],
+    nodes: &mut [WalkNode],
     start: usize,
 ) -> Result<bool, AllocError>
     requires inner { AreInner links.now }
@@ -77,19 +77,19 @@ fn walk_from(
     let mut trail = vec![in alloc; start]?;
     while let Some(&top) = trail.last() {
         match advance(links, nodes, top) {
-            Step::Enter(to) => trail.push(to)?,
-            Step::Leave => {
+            WalkStep::Enter(to) => trail.push(to)?,
+            WalkStep::Leave => {
                 trail.pop();
             }
-            Step::Pass => {}
-            Step::Return => return Ok(true),
+            WalkStep::Pass => {}
+            WalkStep::Return => return Ok(true),
         }
     }
     Ok(false)
 }
 
 // One step of a walk at the last number of its trail.
-fn advance(links: &[Vec<usize>], nodes: &mut [Node], top: usize) -> Step
+fn advance(links: &[Vec<usize>], nodes: &mut [WalkNode], top: usize) -> WalkStep
     requires inner { AreInner links.now }
     requires after { IsAfter links.now nodes.old }
     requires within { top < length links.now }
@@ -98,19 +98,19 @@ fn advance(links: &[Vec<usize>], nodes: &mut [Node], top: usize) -> Step
     let left = nodes[top].left;
     if left == 0 {
         nodes[top].mark = Mark::Closed;
-        return Step::Leave;
+        return WalkStep::Leave;
     }
     let to = links[top][left - 1];
     if to != top {
         match nodes[to].mark {
             Mark::New => {
                 nodes[to].mark = Mark::Open;
-                return Step::Enter(to);
+                return WalkStep::Enter(to);
             }
-            Mark::Open => return Step::Return,
+            Mark::Open => return WalkStep::Return,
             Mark::Closed => {}
         }
     }
     nodes[top].left = left - 1;
-    Step::Pass
+    WalkStep::Pass
 }

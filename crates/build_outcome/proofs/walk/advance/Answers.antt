@@ -1,12 +1,12 @@
 use Rattle.std.proofs.Common.{◌-◌, get_or, refl, sym, arith}
 use Rattle.build_outcome.specs.declared.walk.Mark.TheVariants.{New}
-use Rattle.build_outcome.specs.declared.walk.Node.{Node}
+use Rattle.build_outcome.specs.declared.walk.WalkNode.{WalkNode}
 use Rattle.build_outcome.proofs.Walks.{next_of, next_within}
 use Rattle.build_outcome.proofs.walk.advance.Goals as goal
 use Rattle.build_outcome.proofs.walk.advance.Goals.{then-to-top+in-Closed, else-to-top}
 
 -- what is read past the end of what is known
-abbrev unknown : Node
+abbrev unknown : WalkNode
 unknown = record { mark = New; left = 0 }
 
 pub offset_bounds-nodes-to : goal.offset_bounds-nodes-to
