@@ -27,7 +27,7 @@ pub fn report_of(alloc: Global, course: &Course) -> Result<Vec<u8>, BookFault>
     ensures ok { IfOk result (λ text. IsReportOf course.now text.items) }
     ensures err { IfErr result (λ fault. fault ≡ NoMemory) }
 {
-    let wanted = course.wanted(alloc)?;
+    let wanted = course.wanted_marks(alloc)?;
     let listed = marked_by_path(alloc, course.plan(), &wanted)?;
     let mut text = Vec::new(alloc);
     write_lines(course, &listed, &mut text)?;

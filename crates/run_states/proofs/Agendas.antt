@@ -1,4 +1,4 @@
--- What is to be done as tallies change.
+-- What is to be done as memos change.
 use Rattle.std.proofs.Common.{◌≡◌, ◌≢◌, ◌∙◌, ◌⊎◌, inl, inr, ⊎_elim, ℕ, zero, suc, ◌+◌, ◌-◌, ◌<◌, ◌≤◌, ◌&&◌, not, Bool, true, false, List, [], ◌∷◌, ◌++◌, length, drop, take, get_or, Some, refl, sym, ap, subst, arith, if◌then◌else◌, rules}
 use Rattle.std.specs.Prelude.{All, Contains, slice_get}
 use Rattle.std.proofs.Math.ListN.{set}
@@ -6,58 +6,58 @@ use Rattle.std.proofs.lemmas.Bool.{false≢true}
 use Rattle.std.proofs.lemmas.List.{append-nil, get_or-map, length-append, length-set, length-take-le, length_push, take_all, take_more}
 use Rattle.std.proofs.lemmas.List.Elements.{All-append, All-drop, All-nil, All-push, All-weaker, Contains-append_left, Contains-push}
 use Rattle.std.proofs.lemmas.Option.{get_or_from_slice_get, slice_get-get_or, slice_get_within}
-use Rattle.run_states.specs.Agendas.{Agenda, IsAgenda, IsWantedAt, alone_if, ends, frees, is_blocked, is_ready, is_unsettled, noted, settles, tally_count}
+use Rattle.run_states.specs.Agendas.{Agenda, IsAgenda, IsWantedAt, alone_if, ends, frees, is_blocked, is_ready, is_unsettled, noted, settles, memo_count}
 use Rattle.run_states.specs.Coursing.{kept}
 use Rattle.run_states.specs.States.{is_open}
-use Rattle.run_states.specs.Tallies.{Turns, states_in, turns_begun, turns_done, turns_failed, turns_freed, turns_named, turns_refused, turns_reused, turns_stays}
+use Rattle.run_states.specs.Memos.{Turns, states_in, turns_begun, turns_done, turns_failed, turns_freed, turns_named, turns_refused, turns_reused, turns_stays}
 use Rattle.run_states.specs.declared.state.State.{State}
 use Rattle.run_states.specs.declared.state.State.TheVariants.{Done, Failed, Building, Reused, Refused, Ready, Blocked}
-use Rattle.run_states.specs.declared.tally.Tally.{Tally}
+use Rattle.run_states.specs.declared.memo.Memo.{Memo}
 use Rattle.build_outcome.proofs.Places.{set_cases, set_other, set_same}
 
 abbrev pub one : Bool → ℕ
 one is = if is then 1 else 0
 
--- counts, as a tally changes or comes at the end
-pub count_set : (test : Tally → Bool) (tallies : List Tally) (d : ℕ) (before after : Tally)
-    → slice_get tallies d ≡ Some before
-    → tally_count test (set tallies d after) + one (test before)
-    ≡ tally_count test tallies + one (test after)
+-- counts, as a memo changes or comes at the end
+pub count_set : (test : Memo → Bool) (memos : List Memo) (d : ℕ) (before after : Memo)
+    → slice_get memos d ≡ Some before
+    → memo_count test (set memos d after) + one (test before)
+    ≡ memo_count test memos + one (test after)
 count_set test [] d before after at = absurd cc
-count_set test (tally ∷ tallies) zero before after at = search (rules, one)
-count_set test (tally ∷ tallies) (suc d) before after at =
-    omega (arith, count_set test tallies d before after at)
+count_set test (memo ∷ memos) zero before after at = search (rules, one)
+count_set test (memo ∷ memos) (suc d) before after at =
+    omega (arith, count_set test memos d before after at)
 
-pub count_push : (test : Tally → Bool) (tallies : List Tally) (tally : Tally)
-    → tally_count test (tallies ++ tally ∷ []) ≡ tally_count test tallies + one (test tally)
-count_push test [] tally = omega arith
-count_push test (t ∷ tallies) tally = omega (arith, count_push test tallies tally)
+pub count_push : (test : Memo → Bool) (memos : List Memo) (memo : Memo)
+    → memo_count test (memos ++ memo ∷ []) ≡ memo_count test memos + one (test memo)
+count_push test [] memo = omega arith
+count_push test (t ∷ memos) memo = omega (arith, count_push test memos memo)
 
 one_most : (is : Bool) → one is ≤ 1
 one_most true = omega arith
 one_most false = omega arith
 
-pub count_most : (test : Tally → Bool) (tallies : List Tally) → tally_count test tallies
-    ≤ length tallies
+pub count_most : (test : Memo → Bool) (memos : List Memo) → memo_count test memos
+    ≤ length memos
 count_most test [] = omega arith
-count_most test (tally ∷ tallies) =
-    omega (arith, one_most (test tally), count_most test tallies)
+count_most test (memo ∷ memos) =
+    omega (arith, one_most (test memo), count_most test memos)
 
 -- none passes where the count is 0, and the other way round
-pub count_none : (test : Tally → Bool) (tallies : List Tally) (d : ℕ) (tally : Tally)
-    → tally_count test tallies ≡ 0 → slice_get tallies d ≡ Some tally → test tally ≡ true → ⊥
-count_none test [] d tally none at is = cc
-count_none test (t ∷ tallies) zero tally none at is = search (rules, one, is)
-count_none test (t ∷ tallies) (suc d) tally none at is =
-    count_none test tallies d tally (omega arith) at is
+pub count_none : (test : Memo → Bool) (memos : List Memo) (d : ℕ) (memo : Memo)
+    → memo_count test memos ≡ 0 → slice_get memos d ≡ Some memo → test memo ≡ true → ⊥
+count_none test [] d memo none at is = cc
+count_none test (t ∷ memos) zero memo none at is = search (rules, one, is)
+count_none test (t ∷ memos) (suc d) memo none at is =
+    count_none test memos d memo (omega arith) at is
 
-pub none_counted : (test : Tally → Bool) (tallies : List Tally)
-    → ((d : ℕ) (tally : Tally) → slice_get tallies d ≡ Some tally → test tally ≡ true → ⊥)
-    → tally_count test tallies ≡ 0
+pub none_counted : (test : Memo → Bool) (memos : List Memo)
+    → ((d : ℕ) (memo : Memo) → slice_get memos d ≡ Some memo → test memo ≡ true → ⊥)
+    → memo_count test memos ≡ 0
 none_counted test [] none = refl
-none_counted test (t ∷ tallies) none =
-    let rest : tally_count test tallies ≡ 0 =
-    none_counted test tallies (λ d tally. none (suc d) tally) in
+none_counted test (t ∷ memos) none =
+    let rest : memo_count test memos ≡ 0 =
+    none_counted test memos (λ d memo. none (suc d) memo) in
     let here : one (test t) ≡ 0 = failing (test t) (λ is. none 0 t refl is) in
     omega arith
   where
@@ -145,10 +145,10 @@ all_alone : (P : ℕ → Type 0) (is : Bool) (d : ℕ) → (is ≡ true → P d)
 all_alone P true d here = All-push P [] d (All-nil P) (here refl)
 all_alone P false d here = All-nil P
 
-wanted_set : (tallies : List Tally) (d e : ℕ) (before after : Tally)
-    → slice_get tallies d ≡ Some before → after.wanted ≡ before.wanted → IsWantedAt tallies e
-    → IsWantedAt (set tallies d after) e
-wanted_set tallies d e before after at same (tally, there, is) =
+wanted_set : (memos : List Memo) (d e : ℕ) (before after : Memo)
+    → slice_get memos d ≡ Some before → after.wanted ≡ before.wanted → IsWantedAt memos e
+    → IsWantedAt (set memos d after) e
+wanted_set memos d e before after at same (memo, there, is) =
     by (either e d)
   where
     either : (a b : ℕ) → (a ≡ b) ⊎ (a ≢ b)
@@ -157,49 +157,49 @@ wanted_set tallies d e before after at same (tally, there, is) =
     either (suc a) zero = inr (λ same. omega arith)
     either (suc a) (suc b) = search (rules, either a b)
 
-    by : (e ≡ d) ⊎ (e ≢ d) → IsWantedAt (set tallies d after) e
+    by : (e ≡ d) ⊎ (e ≢ d) → IsWantedAt (set memos d after) e
     by (inl here) = search (rules, set, here, set_same, is)
     by (inr apart) = search (rules, set_other, apart, is)
 
--- what is to be done once a tally changed
-pub noted_agenda : (tallies : List Tally) (agenda : Agenda) (d : ℕ) (before after : Tally)
-    → slice_get tallies d ≡ Some before → Turns before.state after.state
-    → after.wanted ≡ before.wanted → IsAgenda tallies agenda
-    → IsAgenda (set tallies d after) (noted agenda d before after)
-noted_agenda tallies agenda d before after at turns same is = record {
+-- what is to be done once a memo changed
+pub noted_agenda : (memos : List Memo) (agenda : Agenda) (d : ℕ) (before after : Memo)
+    → slice_get memos d ≡ Some before → Turns before.state after.state
+    → after.wanted ≡ before.wanted → IsAgenda memos agenda
+    → IsAgenda (set memos d after) (noted agenda d before after)
+noted_agenda memos agenda d before after at turns same is = record {
   ready = ready_now;
-  ring = All-append (IsWantedAt (set tallies d after)) _
+  ring = All-append (IsWantedAt (set memos d after)) _
       _
-      (All-weaker (IsWantedAt tallies) (IsWantedAt (set tallies d after))
+      (All-weaker (IsWantedAt memos) (IsWantedAt (set memos d after))
       (λ e. wanted_set _ d e _ _ at same) _ is.ring)
-      (all_alone (IsWantedAt (set tallies d after)) _ d
+      (all_alone (IsWantedAt (set memos d after)) _ d
       (λ freed. (after, set_same _ d _ _ at, first_of_three freed)));
   room = omega (
     arith,
     is.room,
     length-append agenda.ring (alone_if (frees before after) d),
     length_alone (frees before after) d,
-    count_set (λ tally. is_blocked tally.state) tallies d before after at,
+    count_set (λ memo. is_blocked memo.state) memos d before after at,
     room_one after.wanted (is_blocked before.state) (is_blocked after.state)
         _ (turn_blocked _ _ turns)
         (ready_not_blocked _),
   );
-  work = All-append (λ e. e < length (set tallies d after)) _
+  work = All-append (λ e. e < length (set memos d after)) _
       (alone_if (ends before after) d)
-      (All-weaker (λ e. e < length tallies) (λ e. e < length (set tallies d after))
-      (λ e low. omega (arith, low, length-set tallies d after)) agenda.work is.work)
-      (all_alone (λ e. e < length (set tallies d after)) (ends before after) d
+      (All-weaker (λ e. e < length memos) (λ e. e < length (set memos d after))
+      (λ e low. omega (arith, low, length-set memos d after)) agenda.work is.work)
+      (all_alone (λ e. e < length (set memos d after)) (ends before after) d
       (λ ended. omega (
         arith,
-        length-set tallies d after,
-        slice_get_within tallies d before at,
+        length-set memos d after,
+        slice_get_within memos d before at,
       )));
   space = omega (
     arith,
     is.space,
     length-append agenda.work (alone_if (ends before after) d),
     length_alone (ends before after) d,
-    count_set (λ tally. is_open tally.state) tallies d before after at,
+    count_set (λ memo. is_open memo.state) memos d before after at,
     ends_one (is_open before.state) (is_open after.state)
         (turn_open before.state after.state turns),
   );
@@ -214,11 +214,11 @@ noted_agenda tallies agenda d before after at turns same is = record {
         by true freed = refl
         by false freed = absurd (false≢true freed)
 
-    ready_now : (e : ℕ) (tally : Tally) → slice_get (set tallies d after) e ≡ Some tally
-        → tally.wanted ≡ true → tally.state ≡ Ready
+    ready_now : (e : ℕ) (memo : Memo) → slice_get (set memos d after) e ≡ Some memo
+        → memo.wanted ≡ true → memo.state ≡ Ready
         → Contains (agenda.ring ++ alone_if (frees before after) d) e
-    ready_now e tally there wanted now = ⊎_elim here elsewhere
-        (set_cases tallies d e after tally there)
+    ready_now e memo there wanted now = ⊎_elim here elsewhere
+        (set_cases memos d e after memo there)
       where
         pushed : after.wanted ≡ true → is_blocked before.state ≡ true → is_ready after.state ≡ true
             → Contains (agenda.ring ++ alone_if (frees before after) d) d
@@ -227,32 +227,32 @@ noted_agenda tallies agenda d before after at turns same is = record {
             subst (λ is. Contains (agenda.ring ++ alone_if is d) d) (sym freed)
             (Contains-push agenda.ring d)
 
-        here : (e ≡ d) × (tally ≡ after)
+        here : (e ≡ d) × (memo ≡ after)
             → Contains (agenda.ring ++ alone_if (frees before after) d) e
         here both = search (rules, Contains-append_left, pushed, turn_ready)
 
-        elsewhere : (e ≢ d) × (slice_get tallies e ≡ Some tally)
+        elsewhere : (e ≢ d) × (slice_get memos e ≡ Some memo)
             → Contains (agenda.ring ++ alone_if (frees before after) d) e
         elsewhere both = search (rules, Contains-append_left)
 
-    unsettled_falls : tally_count is_unsettled (set tallies d after) + one (settles before after)
-        ≡ tally_count is_unsettled tallies
+    unsettled_falls : memo_count is_unsettled (set memos d after) + one (settles before after)
+        ≡ memo_count is_unsettled memos
     unsettled_falls =
         let old : one (is_unsettled before) ≡ one (after.wanted && is_open before.state) =
         ap (λ w. one (w && is_open before.state)) (sym same) in
         omega (
           arith,
-          count_set is_unsettled tallies d before after at,
+          count_set is_unsettled memos d before after at,
           settles_one after.wanted (is_open before.state) (is_open after.state)
               (turn_open before.state after.state turns),
         )
 
 -- there is room to note it
-pub settles_most : (tallies : List Tally) (agenda : Agenda) (d : ℕ) (before after : Tally)
-    → slice_get tallies d ≡ Some before → Turns before.state after.state
-    → after.wanted ≡ before.wanted → IsAgenda tallies agenda
+pub settles_most : (memos : List Memo) (agenda : Agenda) (d : ℕ) (before after : Memo)
+    → slice_get memos d ≡ Some before → Turns before.state after.state
+    → after.wanted ≡ before.wanted → IsAgenda memos agenda
     → one (settles before after) ≤ agenda.unsettled
-settles_most tallies agenda d before after at turns same is =
+settles_most memos agenda d before after at turns same is =
     let old : one (is_unsettled before) ≡ one (after.wanted && is_open before.state) =
     ap (λ w. one (w && is_open before.state)) (sym same) in
     omega (
@@ -264,17 +264,17 @@ settles_most tallies agenda d before after at turns same is =
     )
 
 -- what is to be told, now or once it is known, doesn't grow
-pub noted_measure : (tallies : List Tally) (agenda : Agenda) (d : ℕ) (before after : Tally)
-    → slice_get tallies d ≡ Some before → Turns before.state after.state
+pub noted_measure : (memos : List Memo) (agenda : Agenda) (d : ℕ) (before after : Memo)
+    → slice_get memos d ≡ Some before → Turns before.state after.state
     → length (noted agenda d before after).work
-    + tally_count (λ tally. is_open tally.state) (set tallies d after)
-    ≡ length agenda.work + tally_count (λ tally. is_open tally.state) tallies
-noted_measure tallies agenda d before after at turns =
+    + memo_count (λ memo. is_open memo.state) (set memos d after)
+    ≡ length agenda.work + memo_count (λ memo. is_open memo.state) memos
+noted_measure memos agenda d before after at turns =
     omega (
       arith,
       length-append agenda.work (alone_if (ends before after) d),
       length_alone (ends before after) d,
-      count_set (λ tally. is_open tally.state) tallies d before after at,
+      count_set (λ memo. is_open memo.state) memos d before after at,
       ends_one (is_open before.state) (is_open after.state)
           (turn_open before.state after.state turns),
     )
@@ -291,65 +291,65 @@ length_rest [] = omega arith
 length_rest (x ∷ xs) = omega arith
 
 -- the first goes from the ring where it can't be begun
-pub ring_falls : (tallies : List Tally) (agenda : Agenda) (d : ℕ) (tally : Tally)
-    → slice_get agenda.ring 0 ≡ Some d → slice_get tallies d ≡ Some tally
-    → is_ready tally.state ≡ false → IsAgenda tallies agenda
-    → IsAgenda tallies (record agenda { ring = drop 1 agenda.ring })
-ring_falls tallies agenda d tally first at waits is = record {
+pub ring_falls : (memos : List Memo) (agenda : Agenda) (d : ℕ) (memo : Memo)
+    → slice_get agenda.ring 0 ≡ Some d → slice_get memos d ≡ Some memo
+    → is_ready memo.state ≡ false → IsAgenda memos agenda
+    → IsAgenda memos (record agenda { ring = drop 1 agenda.ring })
+ring_falls memos agenda d memo first at waits is = record {
   ready = λ e other there wanted now. in_rest _ d e first
       (λ same.
-      let both : other ≡ tally = cc in
-      let told : is_ready tally.state ≡ true = ap (λ (t : Tally). is_ready t.state) (sym both)
+      let both : other ≡ memo = cc in
+      let told : is_ready memo.state ≡ true = ap (λ (t : Memo). is_ready t.state) (sym both)
       ∙ ap is_ready now in
       false≢true (sym waits ∙ told))
       (is.ready e other there wanted now);
-  ring = All-drop (IsWantedAt tallies) 1 agenda.ring is.ring;
+  ring = All-drop (IsWantedAt memos) 1 agenda.ring is.ring;
   room = omega (arith, is.room, length_rest agenda.ring);
   work = is.work;
   space = is.space;
   unsettled = is.unsettled;
 }
 
-pub ring_falls_at : (tallies : List Tally) (agenda : Agenda) (d : ℕ) (default : Tally)
-    → slice_get agenda.ring 0 ≡ Some d → is_ready (get_or tallies d default).state ≡ false
-    → IsAgenda tallies agenda → IsAgenda tallies (record agenda { ring = drop 1 agenda.ring })
-ring_falls_at tallies agenda d default first waits is =
+pub ring_falls_at : (memos : List Memo) (agenda : Agenda) (d : ℕ) (default : Memo)
+    → slice_get agenda.ring 0 ≡ Some d → is_ready (get_or memos d default).state ≡ false
+    → IsAgenda memos agenda → IsAgenda memos (record agenda { ring = drop 1 agenda.ring })
+ring_falls_at memos agenda d default first waits is =
     ring_falls _ _ d _ first
     (slice_get-get_or _ d _ low) waits is
   where
-    low : d < length tallies
+    low : d < length memos
     low = search (rules, get_or_from_slice_get, slice_get_within)
 
--- The first d tallies were looked at, and what can be begun of them is in the ring.
-pub record IsOpening (tallies : List Tally) (d : ℕ) (ring : List ℕ) (unsettled : ℕ) : Type 0 where
-  pub is : IsAgenda (take d tallies) (record {
+-- The first d memos were looked at, and what can be begun of them is in the ring.
+pub record IsOpening (memos : List Memo) (d : ℕ) (ring : List ℕ) (unsettled : ℕ) : Type 0 where
+  pub is : IsAgenda (take d memos) (record {
     ring = ring;
     room = d;
     work = [];
     space = d;
     unsettled = unsettled;
   })
-  pub ready : All (λ e. kept (states_in tallies) e ≡ Ready) ring
+  pub ready : All (λ e. kept (states_in memos) e ≡ Ready) ring
 
-push_cases : (xs : List Tally) (x y : Tally) (e : ℕ) → slice_get (xs ++ x ∷ []) e ≡ Some y
+push_cases : (xs : List Memo) (x y : Memo) (e : ℕ) → slice_get (xs ++ x ∷ []) e ≡ Some y
     → ((e ≡ length xs) × (y ≡ x)) ⊎ (slice_get xs e ≡ Some y)
 push_cases [] x y zero at = inl (refl, cc)
 push_cases [] x y (suc e) at = absurd cc
 push_cases (z ∷ xs) x y zero at = inr at
 push_cases (z ∷ xs) x y (suc e) at = search (rules, push_cases xs x y e at)
 
-push_old : (xs : List Tally) (x y : Tally) (e : ℕ) → slice_get xs e ≡ Some y
+push_old : (xs : List Memo) (x y : Memo) (e : ℕ) → slice_get xs e ≡ Some y
     → slice_get (xs ++ x ∷ []) e ≡ Some y
 push_old [] x y e at = absurd cc
 push_old (z ∷ xs) x y zero at = at
 push_old (z ∷ xs) x y (suc e) at = push_old xs x y e at
 
-push_new : (xs : List Tally) (x : Tally) → slice_get (xs ++ x ∷ []) (length xs) ≡ Some x
+push_new : (xs : List Memo) (x : Memo) → slice_get (xs ++ x ∷ []) (length xs) ≡ Some x
 push_new [] x = refl
 push_new (z ∷ xs) x = push_new xs x
 
--- one more tally
-agenda_more : (xs : List Tally) (ring : List ℕ) (unsettled : ℕ) (x : Tally)
+-- one more memo
+agenda_more : (xs : List Memo) (ring : List ℕ) (unsettled : ℕ) (x : Memo)
     → IsAgenda xs (record {
       ring = ring;
       room = length xs;
@@ -365,17 +365,17 @@ agenda_more : (xs : List Tally) (ring : List ℕ) (unsettled : ℕ) (x : Tally)
       unsettled = unsettled + one (is_unsettled x);
     })
 agenda_more xs ring unsettled x is = record {
-  ready = λ e tally at wanted now. ⊎_elim
+  ready = λ e memo at wanted now. ⊎_elim
       (λ both.
-      let w : x.wanted ≡ true = ap (λ (t : Tally). t.wanted) (sym both.1) ∙ wanted in
+      let w : x.wanted ≡ true = ap (λ (t : Memo). t.wanted) (sym both.1) ∙ wanted in
       let r : is_ready x.state ≡ true =
-      ap (λ (t : Tally). is_ready t.state) (sym both.1) ∙ ap is_ready now in
+      ap (λ (t : Memo). is_ready t.state) (sym both.1) ∙ ap is_ready now in
       let both_are : (x.wanted && is_ready x.state) ≡ true = cc in
       subst (λ b. Contains (ring ++ alone_if b (length xs)) e) (sym both_are)
       (subst (λ n. Contains (ring ++ length xs ∷ []) n) (sym both.0)
       (Contains-push _ _)))
       (λ was. Contains-append_left _ _ e
-      (is.ready e tally was wanted now))
+      (is.ready e memo was wanted now))
       (push_cases _ x _ e at);
   ring = All-append (IsWantedAt (xs ++ x ∷ [])) _
       _
@@ -388,14 +388,14 @@ agenda_more xs ring unsettled x is = record {
     is.room,
     length-append ring (alone_if (x.wanted && is_ready x.state) (length xs)),
     length_alone (x.wanted && is_ready x.state) (length xs),
-    count_push (λ tally. is_blocked tally.state) xs x,
+    count_push (λ memo. is_blocked memo.state) xs x,
     ready_or_blocked x.wanted x.state,
   );
   work = All-nil (λ e. e < length (xs ++ x ∷ []));
   space = omega (
     arith,
     is.space,
-    count_push (λ tally. is_open tally.state) xs x,
+    count_push (λ memo. is_open memo.state) xs x,
     one_most (is_open x.state),
   );
   unsettled = omega (arith, is.unsettled, count_push is_unsettled xs x);
@@ -413,15 +413,15 @@ agenda_more xs ring unsettled x is = record {
     ready_or_blocked : (w : Bool) (s : State) → one (w && is_ready s) + one (is_blocked s) ≤ 1
     ready_or_blocked w s = apart w (is_ready s) (is_blocked s) (ready_not_blocked s)
 
-opening_more : (tallies : List Tally) (d : ℕ) (ring : List ℕ) (unsettled : ℕ) (x : Tally)
-    (default : Tally) → d < length tallies → get_or tallies d default ≡ x
-    → IsOpening tallies d ring unsettled
-    → IsOpening tallies (d + 1) (ring ++ alone_if (x.wanted && is_ready x.state) d)
+opening_more : (memos : List Memo) (d : ℕ) (ring : List ℕ) (unsettled : ℕ) (x : Memo)
+    (default : Memo) → d < length memos → get_or memos d default ≡ x
+    → IsOpening memos d ring unsettled
+    → IsOpening memos (d + 1) (ring ++ alone_if (x.wanted && is_ready x.state) d)
     (unsettled + one (is_unsettled x))
-opening_more tallies d ring unsettled x default low read before =
-    let first = take d tallies in
-    let long : length first ≡ d = length-take-le d tallies (omega (arith, low)) in
-    let next : take (d + 1) tallies ≡ first ++ x ∷ [] = take_more _ d _ low
+opening_more memos d ring unsettled x default low read before =
+    let first = take d memos in
+    let long : length first ≡ d = length-take-le d memos (omega (arith, low)) in
+    let next : take (d + 1) memos ≡ first ++ x ∷ [] = take_more _ d _ low
     ∙ ap (λ t. first ++ t ∷ []) read in
     let was : IsAgenda first (record {
       ring = ring;
@@ -451,11 +451,11 @@ opening_more tallies d ring unsettled x default low read before =
         space = n + 1;
         unsettled = unsettled + one (is_unsettled x);
       })) long more);
-      ready = All-append (λ e. kept (states_in tallies) e ≡ Ready) _
+      ready = All-append (λ e. kept (states_in memos) e ≡ Ready) _
           _ before.ready
-          (all_alone (λ e. kept (states_in tallies) e ≡ Ready) _ d
-          (λ both. get_or-map (λ (t : Tally). t.state) _ d _ _ low
-          ∙ ap (λ (t : Tally). t.state) read
+          (all_alone (λ e. kept (states_in memos) e ≡ Ready) _ d
+          (λ both. get_or-map (λ (t : Memo). t.state) _ d _ _ low
+          ∙ ap (λ (t : Memo). t.state) read
           ∙ ready_is _ (second_of_two x.wanted (is_ready x.state) both)));
     }
   where
@@ -463,43 +463,43 @@ opening_more tallies d ring unsettled x default low read before =
     second_of_two true r both = both
     second_of_two false r both = absurd (false≢true both)
 
--- one more tally was looked at: it can be begun; it still has something before it; neither
-pub opening_ready : (tallies : List Tally) (d : ℕ) (ring : List ℕ) (unsettled : ℕ)
-    (default : Tally) (now : List ℕ) (count : ℕ) → d < length tallies
-    → (get_or tallies d default).wanted ≡ true
-    → is_open (get_or tallies d default).state ≡ true
-    → is_ready (get_or tallies d default).state ≡ true
-    → now ≡ ring ++ d ∷ [] → count ≡ unsettled + 1 → IsOpening tallies d ring unsettled
-    → IsOpening tallies (d + 1) now count
-opening_ready tallies d ring unsettled default now count low w o r ring_is count_is before =
-    let x = get_or tallies d default in
+-- one more memo was looked at: it can be begun; it still has something before it; neither
+pub opening_ready : (memos : List Memo) (d : ℕ) (ring : List ℕ) (unsettled : ℕ)
+    (default : Memo) (now : List ℕ) (count : ℕ) → d < length memos
+    → (get_or memos d default).wanted ≡ true
+    → is_open (get_or memos d default).state ≡ true
+    → is_ready (get_or memos d default).state ≡ true
+    → now ≡ ring ++ d ∷ [] → count ≡ unsettled + 1 → IsOpening memos d ring unsettled
+    → IsOpening memos (d + 1) now count
+opening_ready memos d ring unsettled default now count low w o r ring_is count_is before =
+    let x = get_or memos d default in
     let begun : (x.wanted && is_ready x.state) ≡ true = cc in
     let unsettled_is : is_unsettled x ≡ true = cc in
     let ring_was : now ≡ ring ++ alone_if (x.wanted && is_ready x.state) d = ring_is
     ∙ ap (λ b. ring ++ alone_if b d) (sym begun) in
     let count_was : count ≡ unsettled + one (is_unsettled x) = count_is
     ∙ ap (λ b. unsettled + one b) (sym unsettled_is) in
-    subst (λ l. IsOpening tallies (d + 1) l count) (sym ring_was)
-    (subst (λ n. IsOpening tallies (d + 1) (ring ++ alone_if (x.wanted && is_ready x.state) d) n)
+    subst (λ l. IsOpening memos (d + 1) l count) (sym ring_was)
+    (subst (λ n. IsOpening memos (d + 1) (ring ++ alone_if (x.wanted && is_ready x.state) d) n)
     (sym count_was) (opening_more _ d _ _ x _ low refl before))
 
-pub opening_open : (tallies : List Tally) (d : ℕ) (ring : List ℕ) (unsettled : ℕ)
-    (default : Tally) (now : List ℕ) (count : ℕ) → d < length tallies
-    → (get_or tallies d default).wanted ≡ true
-    → is_open (get_or tallies d default).state ≡ true
-    → is_ready (get_or tallies d default).state ≡ false
-    → now ≡ ring → count ≡ unsettled + 1 → IsOpening tallies d ring unsettled
-    → IsOpening tallies (d + 1) now count
-opening_open tallies d ring unsettled default now count low w o r ring_is count_is before =
-    let x = get_or tallies d default in
+pub opening_open : (memos : List Memo) (d : ℕ) (ring : List ℕ) (unsettled : ℕ)
+    (default : Memo) (now : List ℕ) (count : ℕ) → d < length memos
+    → (get_or memos d default).wanted ≡ true
+    → is_open (get_or memos d default).state ≡ true
+    → is_ready (get_or memos d default).state ≡ false
+    → now ≡ ring → count ≡ unsettled + 1 → IsOpening memos d ring unsettled
+    → IsOpening memos (d + 1) now count
+opening_open memos d ring unsettled default now count low w o r ring_is count_is before =
+    let x = get_or memos d default in
     let begun : (x.wanted && is_ready x.state) ≡ false = cc in
     let unsettled_is : is_unsettled x ≡ true = cc in
     let ring_was : now ≡ ring ++ alone_if (x.wanted && is_ready x.state) d = ring_is
     ∙ sym (append-nil ring) ∙ ap (λ b. ring ++ alone_if b d) (sym begun) in
     let count_was : count ≡ unsettled + one (is_unsettled x) = count_is
     ∙ ap (λ b. unsettled + one b) (sym unsettled_is) in
-    subst (λ l. IsOpening tallies (d + 1) l count) (sym ring_was)
-    (subst (λ n. IsOpening tallies (d + 1) (ring ++ alone_if (x.wanted && is_ready x.state) d) n)
+    subst (λ l. IsOpening memos (d + 1) l count) (sym ring_was)
+    (subst (λ n. IsOpening memos (d + 1) (ring ++ alone_if (x.wanted && is_ready x.state) d) n)
     (sym count_was) (opening_more _ d _ _ x _ low refl before))
 
 ready_open : (s : State) → is_open s ≡ false → is_ready s ≡ false
@@ -511,14 +511,14 @@ ready_open Reused is = refl
 ready_open (Failed reason) is = refl
 ready_open (Refused cause) is = refl
 
-pub opening_passed : (tallies : List Tally) (d : ℕ) (ring : List ℕ) (unsettled : ℕ)
-    (default : Tally) (now : List ℕ) (count : ℕ) → d < length tallies
-    → ((get_or tallies d default).wanted ≡ false)
-    ⊎ (is_open (get_or tallies d default).state ≡ false)
-    → now ≡ ring → count ≡ unsettled → IsOpening tallies d ring unsettled
-    → IsOpening tallies (d + 1) now count
-opening_passed tallies d ring unsettled default now count low either ring_is count_is before =
-    let x = get_or tallies d default in
+pub opening_passed : (memos : List Memo) (d : ℕ) (ring : List ℕ) (unsettled : ℕ)
+    (default : Memo) (now : List ℕ) (count : ℕ) → d < length memos
+    → ((get_or memos d default).wanted ≡ false)
+    ⊎ (is_open (get_or memos d default).state ≡ false)
+    → now ≡ ring → count ≡ unsettled → IsOpening memos d ring unsettled
+    → IsOpening memos (d + 1) now count
+opening_passed memos d ring unsettled default now count low either ring_is count_is before =
+    let x = get_or memos d default in
     let begun : (x.wanted && is_ready x.state) ≡ false = ⊎_elim
     (λ w. ap (λ b. b && is_ready x.state) w)
     (λ o. ap (λ b. x.wanted && b) (ready_open _ o) ∙ and_false x.wanted) either in
@@ -529,8 +529,8 @@ opening_passed tallies d ring unsettled default now count low either ring_is cou
     ∙ sym (append-nil ring) ∙ ap (λ b. ring ++ alone_if b d) (sym begun) in
     let none : one (is_unsettled x) ≡ 0 = ap one unsettled_is in
     let count_was : count ≡ unsettled + one (is_unsettled x) = omega arith in
-    subst (λ l. IsOpening tallies (d + 1) l count) (sym ring_was)
-    (subst (λ n. IsOpening tallies (d + 1) (ring ++ alone_if (x.wanted && is_ready x.state) d) n)
+    subst (λ l. IsOpening memos (d + 1) l count) (sym ring_was)
+    (subst (λ n. IsOpening memos (d + 1) (ring ++ alone_if (x.wanted && is_ready x.state) d) n)
     (sym count_was) (opening_more _ d _ _ x _ low refl before))
   where
     and_false : (w : Bool) → (w && false) ≡ false
@@ -538,34 +538,34 @@ opening_passed tallies d ring unsettled default now count low either ring_is cou
     and_false false = refl
 
 -- all were looked at
-pub opening_done : (tallies : List Tally) (d : ℕ) (ring : List ℕ) (unsettled room space : ℕ)
-    (work : List ℕ) → length tallies ≤ d → d ≤ length tallies → room ≡ length tallies
-    → space ≡ length tallies → work ≡ [] → IsOpening tallies d ring unsettled
-    → IsAgenda tallies (record {
+pub opening_done : (memos : List Memo) (d : ℕ) (ring : List ℕ) (unsettled room space : ℕ)
+    (work : List ℕ) → length memos ≤ d → d ≤ length memos → room ≡ length memos
+    → space ≡ length memos → work ≡ [] → IsOpening memos d ring unsettled
+    → IsAgenda memos (record {
       ring = ring;
       room = room;
       work = work;
       space = space;
       unsettled = unsettled;
     })
-opening_done tallies d ring unsettled room space work past low room_is space_is none before =
+opening_done memos d ring unsettled room space work past low room_is space_is none before =
     search (rules, take_all, low)
 
-pub opening_fresh : (tallies : List Tally) (d : ℕ) (ring : List ℕ) (unsettled : ℕ)
-    → IsOpening tallies d ring unsettled → (e : ℕ) → slice_get ring 0 ≡ Some e
-    → kept (states_in tallies) e ≡ Ready
-opening_fresh tallies d ring unsettled before e at =
+pub opening_fresh : (memos : List Memo) (d : ℕ) (ring : List ℕ) (unsettled : ℕ)
+    → IsOpening memos d ring unsettled → (e : ℕ) → slice_get ring 0 ≡ Some e
+    → kept (states_in memos) e ≡ Ready
+opening_fresh memos d ring unsettled before e at =
     search (rules, get_or_from_slice_get, slice_get_within)
 
 -- what is put into a ring with room
 pub all_kept : (xs : List ℕ) (room : ℕ) → length xs ≤ room → drop (length xs - room) xs ≡ xs
 all_kept xs room low = search (rules, low)
 
-pub room_for : (tallies : List Tally) (d : ℕ) (ring : List ℕ) (unsettled room : ℕ)
-    → d < length tallies → room ≡ length tallies → IsOpening tallies d ring unsettled
+pub room_for : (memos : List Memo) (d : ℕ) (ring : List ℕ) (unsettled room : ℕ)
+    → d < length memos → room ≡ length memos → IsOpening memos d ring unsettled
     → length (ring ++ d ∷ []) ≤ room
-room_for tallies d ring unsettled room low wide before = search (rules, length_push)
+room_for memos d ring unsettled room low wide before = search (rules, length_push)
 
-pub few_unsettled : (tallies : List Tally) (d : ℕ) (ring : List ℕ) (unsettled : ℕ)
-    → d < length tallies → IsOpening tallies d ring unsettled → unsettled ≤ d
-few_unsettled tallies d ring unsettled low before = search (rules, count_most, length-take-le, low)
+pub few_unsettled : (memos : List Memo) (d : ℕ) (ring : List ℕ) (unsettled : ℕ)
+    → d < length memos → IsOpening memos d ring unsettled → unsettled ≤ d
+few_unsettled memos d ring unsettled low before = search (rules, count_most, length-take-le, low)

@@ -1,11 +1,11 @@
--- How many tallies pass a test, by their places.
+-- How many memos pass a test, by their places.
 use Rattle.std.proofs.Common.{◌≡◌, ℕ, zero, suc, ◌+◌, ◌<◌, Bool, true, false, List, [], ◌∷◌, length, Some, refl, subst, arith, rules}
 use Rattle.std.specs.Prelude.{All, Contains, slice_get}
 use Rattle.std.specs.List.Sorted.{IsStrictlyIncreasing}
 use Rattle.nix_names.proofs.Lists.{All-from_contains, Contains-cons_cases, Contains-first, Contains-later, Contains-nothing}
-use Rattle.run_states.specs.Agendas.{tally_count}
+use Rattle.run_states.specs.Agendas.{memo_count}
 use Rattle.run_states.specs.Counts.{HasCount}
-use Rattle.run_states.specs.declared.tally.Tally.{Tally}
+use Rattle.run_states.specs.declared.memo.Memo.{Memo}
 use Rattle.run_states.proofs.Agendas.{one}
 
 -- a number before others, if it is to stand there
@@ -13,58 +13,58 @@ abbrev before_if : Bool → ℕ → List ℕ → List ℕ
 before_if true d others = d ∷ others
 before_if false d others = others
 
--- the places of tallies that pass, where the first stands at this one
-abbrev places : (Tally → Bool) → (from : ℕ) → List Tally → List ℕ
+-- the places of memos that pass, where the first stands at this one
+abbrev places : (Memo → Bool) → (from : ℕ) → List Memo → List ℕ
 places test from [] = []
-places test from (tally ∷ tallies) = before_if (test tally) from (places test (suc from) tallies)
+places test from (memo ∷ memos) = before_if (test memo) from (places test (suc from) memos)
 
-places_count : (test : Tally → Bool) (from : ℕ) (tallies : List Tally)
-    → tally_count test tallies ≡ length (places test from tallies)
+places_count : (test : Memo → Bool) (from : ℕ) (memos : List Memo)
+    → memo_count test memos ≡ length (places test from memos)
 places_count test from [] = refl
-places_count test from (tally ∷ tallies) =
-    by (test tally) (places test (suc from) tallies) (places_count test (suc from) tallies)
+places_count test from (memo ∷ memos) =
+    by (test memo) (places test (suc from) memos) (places_count test (suc from) memos)
   where
-    by : (is : Bool) (others : List ℕ) → tally_count test tallies ≡ length others
-        → one is + tally_count test tallies ≡ length (before_if is from others)
+    by : (is : Bool) (others : List ℕ) → memo_count test memos ≡ length others
+        → one is + memo_count test memos ≡ length (before_if is from others)
     by true others counted = omega (arith, counted)
     by false others counted = omega (arith, counted)
 
--- a tally that passes stands at this place after a number
-abbrev IsPlace : (Tally → Bool) → (from : ℕ) → List Tally → (d : ℕ) → Type 0
-IsPlace test from tallies d = (i : ℕ) × (tally : Tally) × (slice_get tallies i ≡ Some tally)
-    × (test tally ≡ true) × (d ≡ from + i)
+-- a memo that passes stands at this place after a number
+abbrev IsPlace : (Memo → Bool) → (from : ℕ) → List Memo → (d : ℕ) → Type 0
+IsPlace test from memos d = (i : ℕ) × (memo : Memo) × (slice_get memos i ≡ Some memo)
+    × (test memo ≡ true) × (d ≡ from + i)
 
--- a place that is listed is that of a tally that passes
-places_hold : (test : Tally → Bool) (from : ℕ) (tallies : List Tally) (d : ℕ)
-    → Contains (places test from tallies) d → IsPlace test from tallies d
+-- a place that is listed is that of a memo that passes
+places_hold : (test : Memo → Bool) (from : ℕ) (memos : List Memo) (d : ℕ)
+    → Contains (places test from memos) d → IsPlace test from memos d
 places_hold test from [] d has = absurd (Contains-nothing d has)
-places_hold test from (tally ∷ tallies) d has =
-    by (test tally) refl (λ rest. later (places_hold test (suc from) tallies d rest)) has
+places_hold test from (memo ∷ memos) d has =
+    by (test memo) refl (λ rest. later (places_hold test (suc from) memos d rest)) has
   where
-    later : IsPlace test (suc from) tallies d → IsPlace test from (tally ∷ tallies) d
+    later : IsPlace test (suc from) memos d → IsPlace test from (memo ∷ memos) d
     later held = (suc held.0, held.1, held.2, held.3, omega (arith, held.4))
 
-    by : (is : Bool) → test tally ≡ is
-        → (Contains (places test (suc from) tallies) d → IsPlace test from (tally ∷ tallies) d)
-        → Contains (before_if is from (places test (suc from) tallies)) d
-        → IsPlace test from (tally ∷ tallies) d
+    by : (is : Bool) → test memo ≡ is
+        → (Contains (places test (suc from) memos) d → IsPlace test from (memo ∷ memos) d)
+        → Contains (before_if is from (places test (suc from) memos)) d
+        → IsPlace test from (memo ∷ memos) d
     by true passes rest has = search (rules, Contains-cons_cases, places)
     by false passes rest has = rest has
 
 -- and the place of each that passes is listed
-places_have : (test : Tally → Bool) (from : ℕ) (tallies : List Tally) (i : ℕ) (tally : Tally)
-    → slice_get tallies i ≡ Some tally → test tally ≡ true
-    → Contains (places test from tallies) (from + i)
-places_have test from [] i tally at passes = absurd cc
-places_have test from (t ∷ tallies) zero tally at passes =
+places_have : (test : Memo → Bool) (from : ℕ) (memos : List Memo) (i : ℕ) (memo : Memo)
+    → slice_get memos i ≡ Some memo → test memo ≡ true
+    → Contains (places test from memos) (from + i)
+places_have test from [] i memo at passes = absurd cc
+places_have test from (t ∷ memos) zero memo at passes =
     search (rules, before_if, places, Contains-first)
-places_have test from (t ∷ tallies) (suc i) tally at passes =
+places_have test from (t ∷ memos) (suc i) memo at passes =
     let next : suc from + i ≡ from + suc i = omega arith in
-    by (test t) (subst (Contains (places test (suc from) tallies)) next
+    by (test t) (subst (Contains (places test (suc from) memos)) next
     (places_have test _ _ i _ at passes))
   where
-    by : (is : Bool) → Contains (places test (suc from) tallies) (from + suc i)
-        → Contains (before_if is from (places test (suc from) tallies)) (from + suc i)
+    by : (is : Bool) → Contains (places test (suc from) memos) (from + suc i)
+        → Contains (before_if is from (places test (suc from) memos)) (from + suc i)
     by true has = search (rules, Contains-later, places)
     by false has = has
 
@@ -73,29 +73,29 @@ rising_more : (x : ℕ) (xs : List ℕ) → All (λ d. x < d) xs → IsStrictlyI
 rising_more x xs above rising zero low = above 0 0 (omega (arith, low))
 rising_more x xs above rising (suc k) low = search rules
 
-places_rise : (test : Tally → Bool) (from : ℕ) (tallies : List Tally)
-    → IsStrictlyIncreasing (places test from tallies)
+places_rise : (test : Memo → Bool) (from : ℕ) (memos : List Memo)
+    → IsStrictlyIncreasing (places test from memos)
 places_rise test from [] = search rules
-places_rise test from (tally ∷ tallies) = by (test tally) (places_rise test (suc from) tallies)
+places_rise test from (memo ∷ memos) = by (test memo) (places_rise test (suc from) memos)
   where
-    above : All (λ d. from < d) (places test (suc from) tallies)
-    above = All-from_contains (λ d. from < d) (places test (suc from) tallies)
-        (λ d has. let held = places_hold test (suc from) tallies d has in omega (arith, held.4))
+    above : All (λ d. from < d) (places test (suc from) memos)
+    above = All-from_contains (λ d. from < d) (places test (suc from) memos)
+        (λ d has. let held = places_hold test (suc from) memos d has in omega (arith, held.4))
 
-    by : (is : Bool) → IsStrictlyIncreasing (places test (suc from) tallies)
-        → IsStrictlyIncreasing (before_if is from (places test (suc from) tallies))
-    by true rise = rising_more from (places test (suc from) tallies) above rise
+    by : (is : Bool) → IsStrictlyIncreasing (places test (suc from) memos)
+        → IsStrictlyIncreasing (before_if is from (places test (suc from) memos))
+    by true rise = rising_more from (places test (suc from) memos) above rise
     by false rise = rise
 
--- a count of tallies is the count of a property, if exactly the places of the tallies have it
-pub tallies_counted : (test : Tally → Bool) (tallies : List Tally) (is_such : ℕ → Type 0)
-    → ((d : ℕ) (tally : Tally) → slice_get tallies d ≡ Some tally → test tally ≡ true → is_such d)
+-- a count of memos is the count of a property, if exactly the places of the memos have it
+pub memos_counted : (test : Memo → Bool) (memos : List Memo) (is_such : ℕ → Type 0)
+    → ((d : ℕ) (memo : Memo) → slice_get memos d ≡ Some memo → test memo ≡ true → is_such d)
     → ((d : ℕ) → is_such d
-    → (tally : Tally) × (slice_get tallies d ≡ Some tally) × (test tally ≡ true))
-    → HasCount is_such (tally_count test tallies)
-tallies_counted test tallies is_such such its = record {
-  numbers = places test 0 tallies;
-  rising = places_rise test 0 tallies;
+    → (memo : Memo) × (slice_get memos d ≡ Some memo) × (test memo ≡ true))
+    → HasCount is_such (memo_count test memos)
+memos_counted test memos is_such such its = record {
+  numbers = places test 0 memos;
+  rising = places_rise test 0 memos;
   exact = λ d. (
     λ has.
         let held = places_hold test 0 _ d has in
@@ -104,10 +104,10 @@ tallies_counted test tallies is_such such its = record {
     λ is.
         let own = its d is in
         let same : 0 + d ≡ d = omega arith in
-        subst (Contains (places test 0 tallies)) same
+        subst (Contains (places test 0 memos)) same
         (places_have test 0 _ d _ own.1 own.2),
   );
-  count_is = places_count test 0 tallies;
+  count_is = places_count test 0 memos;
 }
 
 -- a property that holds of the same numbers has the same count

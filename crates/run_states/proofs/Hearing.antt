@@ -1,4 +1,4 @@
--- Tallies are right but for the edges along which users are still to be told: what keeps it so.
+-- Memos are right but for the edges along which users are still to be told: what keeps it so.
 use Rattle.std.proofs.Common.{◌≡◌, ◌∙◌, ◌⊎◌, inl, inr, ⊎_elim, ℕ, zero, suc, ◌+◌, ◌<◌, ◌==◌, ◌&&◌, Bool, true, false, List, [], ◌∷◌, ◌++◌, drop, length, take, Some, get_or, set, if◌then◌else◌, refl, sym, ap, subst, eqb, eqb-true, eq-eqb, ne_eqb, le_of_lt, le_refl, lt_of_lt_of_le, ◌≤◌, arith, rules}
 use Rattle.std.specs.Prelude.{Contains, slice_get, slice_set}
 use Rattle.std.specs.List.{slice_index_or}
@@ -12,11 +12,11 @@ use Rattle.run_states.specs.Nearest.{News, Open, Good, Bad, by_twin_news, near_t
 use Rattle.run_states.specs.States.{Idle, IsInOrder, Rows, by_hindrance, by_phase, by_validity}
 use Rattle.run_states.proofs.KnownNews.{by_news_in}
 use Rattle.run_states.proofs.StateLaws.{near_are_one}
-use Rattle.run_states.specs.Tallies.{CanHear, HaveHeard, Hears, IsTally, Knows, Turns, turns_begun, turns_done, turns_failed, turns_freed, turns_named, turns_refused, turns_reused, turns_stays, are_news, by_heard, by_news, news_in, of_inputs, of_twins, states_in, to_tell}
+use Rattle.run_states.specs.Memos.{CanHear, HaveHeard, Hears, IsMemo, Knows, Turns, turns_begun, turns_done, turns_failed, turns_freed, turns_named, turns_refused, turns_reused, turns_stays, are_news, by_heard, by_news, news_in, of_inputs, of_twins, states_in, to_tell}
 use Rattle.run_states.specs.Users.{AreUsers, times, users_of}
 use Rattle.run_states.specs.declared.state.State.{State}
 use Rattle.run_states.specs.declared.state.State.TheVariants.{Blocked, Building, Done, Failed, Ready, Refused, Reused}
-use Rattle.run_states.specs.declared.tally.Tally.{Tally}
+use Rattle.run_states.specs.declared.memo.Memo.{Memo}
 use Rattle.run_states.specs.declared.users.Edge.{Edge}
 
 -- ---- how often an edge is in a list
@@ -49,7 +49,7 @@ times-other_place user place edge left apart = by (eqb edge.user user) (eqb edge
     by true b failed = rw failed (omega arith)
     by false b failed = omega arith
 
--- ---- lists of tallies
+-- ---- lists of memos
 
 get_set_cases : {X : Type 0} (xs : List X) (i j : ℕ) (x y : X) → slice_get (set xs i x) j ≡ Some y
     → ((j ≡ i) × (x ≡ y)) ⊎ ((j ≡ i → ⊥) × (slice_get xs j ≡ Some y))
@@ -93,47 +93,47 @@ knows_more : (known now : News) (left more : ℕ) → more ≡ 0 → Knows known
     → Knows known now (left + more)
 knows_more known now left more none knows = search rules
 
--- a tally that is right for some states is right for others where so much is left to tell
-hears_others : (inputs : Awaited) (before after : ℕ → State) (left more : ℕ → ℕ) (tally : Tally)
+-- a memo that is right for some states is right for others where so much is left to tell
+hears_others : (inputs : Awaited) (before after : ℕ → State) (left more : ℕ → ℕ) (memo : Memo)
     → ((place input : ℕ) (known : News) → slice_get (all_of inputs) place ≡ Some input
     → Knows known (news_of (before input)) (left place)
     → Knows known (news_of (after input)) (more place))
-    → Hears inputs before left tally → Hears inputs after more tally
-hears_others inputs before after left more tally step hears = record {
+    → Hears inputs before left memo → Hears inputs after more memo
+hears_others inputs before after left more memo step hears = record {
   heard = hears.heard;
   is = hears.is;
   knows = λ place input at. step place input (slice_index_or hears.heard place Open) at
       (hears.knows place input at);
 }
 
--- ---- one tally that changes
+-- ---- one memo that changes
 
-module _ (inputs : ℕ → Awaited) (count : ℕ) (users : List (List Edge)) (tallies : List Tally)
-    (d : ℕ) (tally new : Tally) (left : List Edge)
-    (long : length tallies ≡ count) (are : AreUsers (λ e. all_of (inputs e)) count users)
-    (at : slice_get tallies d ≡ Some tally) (turns : Turns tally.state new.state) where
-  abbrev state_of : Tally → State
-  state_of tally = tally.state
+module _ (inputs : ℕ → Awaited) (count : ℕ) (users : List (List Edge)) (memos : List Memo)
+    (d : ℕ) (memo new : Memo) (left : List Edge)
+    (long : length memos ≡ count) (are : AreUsers (λ e. all_of (inputs e)) count users)
+    (at : slice_get memos d ≡ Some memo) (turns : Turns memo.state new.state) where
+  abbrev state_of : Memo → State
+  state_of memo = memo.state
 
   abbrev before : ℕ → State
-  before = kept (states_in tallies)
+  before = kept (states_in memos)
 
   abbrev after : ℕ → State
-  after = kept (states_in (set tallies d new))
+  after = kept (states_in (set memos d new))
 
   abbrev news : Bool
-  news = are_news (news_of tally.state) (news_of new.state)
+  news = are_news (news_of memo.state) (news_of new.state)
 
   abbrev more : List Edge
-  more = left ++ to_tell tally.state new.state (users_of users d)
+  more = left ++ to_tell memo.state new.state (users_of users d)
 
-  in_plan : (u : ℕ) (t : Tally) → slice_get tallies u ≡ Some t → u < count
+  in_plan : (u : ℕ) (t : Memo) → slice_get memos u ≡ Some t → u < count
   in_plan u t is = search (rules, slice_get_within)
 
-  state_at : slice_get (states_in tallies) d ≡ Some tally.state
+  state_at : slice_get (states_in memos) d ≡ Some memo.state
   state_at = get_mapped state_of _ d _ at
 
-  before_is : before d ≡ tally.state
+  before_is : before d ≡ memo.state
   before_is = search (rules, get_or_from_slice_get, state_at)
 
   after_is : after d ≡ new.state
@@ -179,12 +179,12 @@ module _ (inputs : ℕ → Awaited) (count : ℕ) (users : List (List Edge)) (ta
       nothing true = refl
       nothing false = refl
 
-  -- each user's tally is right, where the others' and the one's that changed are
+  -- each user's memo is right, where the others' and the one's that changed are
   pub heard_step : (earlier : List Edge)
       → ((u place : ℕ) → (u ≡ d → ⊥) → times u place earlier ≡ times u place left)
-      → HaveHeard inputs tallies earlier
+      → HaveHeard inputs memos earlier
       → Hears (inputs d) before (λ place. times d place left) new
-      → HaveHeard inputs (set tallies d new) more
+      → HaveHeard inputs (set memos d new) more
   heard_step earlier same have own = record {
     each = λ u t is.
         ⊎_elim
@@ -207,23 +207,23 @@ module _ (inputs : ℕ → Awaited) (count : ℕ) (users : List (List Edge)) (ta
 
 -- the state of a derivation becomes Building, Done or Failed
 pub heard_turned : (inputs : ℕ → Awaited) (count : ℕ) (users : List (List Edge))
-    (tallies : List Tally) (d : ℕ) (tally : Tally) (after : State) (left : List Edge)
-    → length tallies ≡ count → AreUsers (λ e. all_of (inputs e)) count users
-    → slice_get tallies d ≡ Some tally
-    → Turns tally.state after → (phase_in after ≡ Idle → ⊥)
-    → HaveHeard inputs tallies left
-    → HaveHeard inputs (slice_set tallies d (record tally { state = after }))
-    (left ++ to_tell tally.state after (users_of users d))
-heard_turned inputs count users tallies d tally after left long are at turns begun have =
-    heard_step _ count users tallies d tally (record tally { state = after }) left long are at
+    (memos : List Memo) (d : ℕ) (memo : Memo) (after : State) (left : List Edge)
+    → length memos ≡ count → AreUsers (λ e. all_of (inputs e)) count users
+    → slice_get memos d ≡ Some memo
+    → Turns memo.state after → (phase_in after ≡ Idle → ⊥)
+    → HaveHeard inputs memos left
+    → HaveHeard inputs (slice_set memos d (record memo { state = after }))
+    (left ++ to_tell memo.state after (users_of users d))
+heard_turned inputs count users memos d memo after left long are at turns begun have =
+    heard_step _ count users memos d memo (record memo { state = after }) left long are at
     turns left (λ u place apart. refl) have
-    (let hears = have.each d tally at in
+    (let hears = have.each d memo at in
     record {
       heard = hears.heard;
       is = record {
         one = hears.is.one;
         count = hears.is.count;
-        state = by_event after begun (by_heard tally.standing (inputs d) hears.heard);
+        state = by_event after begun (by_heard memo.standing (inputs d) hears.heard);
         inputs = hears.is.inputs;
         waits = hears.is.waits;
         first = hears.is.first;
@@ -245,15 +245,15 @@ heard_turned inputs count users tallies d tally after left long are at turns beg
 
 -- ---- a user that is told along the first edge that is left
 
-module _ (inputs : ℕ → Awaited) (tallies : List Tally) (edge : Edge) (w : ℕ) (tally : Tally)
-    (left : List Edge) (at : slice_get tallies edge.user ≡ Some tally)
+module _ (inputs : ℕ → Awaited) (memos : List Memo) (edge : Edge) (w : ℕ) (memo : Memo)
+    (left : List Edge) (at : slice_get memos edge.user ≡ Some memo)
     (it : slice_get (all_of (inputs edge.user)) edge.place ≡ Some w)
-    (have : HaveHeard inputs tallies (edge ∷ left)) where
+    (have : HaveHeard inputs memos (edge ∷ left)) where
   abbrev state : ℕ → State
-  state = kept (states_in tallies)
+  state = kept (states_in memos)
 
-  abbrev hears : Hears (inputs edge.user) state (λ place. times edge.user place (edge ∷ left)) tally
-  hears = have.each edge.user tally at
+  abbrev hears : Hears (inputs edge.user) state (λ place. times edge.user place (edge ∷ left)) memo
+  hears = have.each edge.user memo at
 
   abbrev told_news : List News
   told_news = set hears.heard edge.place (news_of (state w))
@@ -268,7 +268,7 @@ module _ (inputs : ℕ → Awaited) (tallies : List Tally) (edge : Edge) (w : �
       (λ unheard. (unheard.0, omega (arith, unheard.2, times-first edge left)))
       (hears.knows edge.place w it)
 
-  hearing : CanHear (inputs edge.user) hears.heard tally edge.place w
+  hearing : CanHear (inputs edge.user) hears.heard memo edge.place w
   hearing = record {
     is = hears.is;
     unknown = slice_get-get_or _ _ _ low ∙ ap Some unheard.0;
@@ -276,7 +276,7 @@ module _ (inputs : ℕ → Awaited) (tallies : List Tally) (edge : Edge) (w : �
   }
 
   -- what `told` requires
-  pub can_hear : (heard : List News) × CanHear (inputs edge.user) heard tally edge.place w
+  pub can_hear : (heard : List News) × CanHear (inputs edge.user) heard memo edge.place w
   can_hear = (hears.heard, hearing)
 
   knows_told : (place input : ℕ) → slice_get (all_of (inputs edge.user)) place ≡ Some input
@@ -301,58 +301,58 @@ module _ (inputs : ℕ → Awaited) (tallies : List Tally) (edge : Edge) (w : �
       (times-other_place _ _ _ _ apart) (hears.knows place input is)))
       (cases_Bool (place == edge.place))
 
-  pub hears_told : (new : Tally)
-      → ((heard : List News) → CanHear (inputs edge.user) heard tally edge.place w
-      → IsTally (inputs edge.user) (slice_set heard edge.place (news_of (state w))) new)
+  pub hears_told : (new : Memo)
+      → ((heard : List News) → CanHear (inputs edge.user) heard memo edge.place w
+      → IsMemo (inputs edge.user) (slice_set heard edge.place (news_of (state w))) new)
       → Hears (inputs edge.user) state (λ place. times edge.user place left) new
   hears_told new told = search (rules, told_news, hearing, knows_told)
 
 pub heard_told : (inputs : ℕ → Awaited) (count : ℕ) (users : List (List Edge))
-    (tallies : List Tally) (edge : Edge) (w : ℕ) (tally new : Tally) (left : List Edge)
-    → length tallies ≡ count → AreUsers (λ e. all_of (inputs e)) count users
-    → slice_get tallies edge.user ≡ Some tally
+    (memos : List Memo) (edge : Edge) (w : ℕ) (memo new : Memo) (left : List Edge)
+    → length memos ≡ count → AreUsers (λ e. all_of (inputs e)) count users
+    → slice_get memos edge.user ≡ Some memo
     → slice_get (all_of (inputs edge.user)) edge.place ≡ Some w
-    → HaveHeard inputs tallies (edge ∷ left)
-    → ((heard : List News) → CanHear (inputs edge.user) heard tally edge.place w
-    → IsTally (inputs edge.user)
-    (slice_set heard edge.place (news_of (kept (states_in tallies) w))) new)
-    → Turns tally.state new.state
-    → HaveHeard inputs (slice_set tallies edge.user new)
-    (left ++ to_tell tally.state new.state (users_of users edge.user))
-heard_told inputs count users tallies edge w tally new left long are at it have told turns =
-    heard_step _ count users tallies edge.user tally new left long are at turns (edge ∷ left)
+    → HaveHeard inputs memos (edge ∷ left)
+    → ((heard : List News) → CanHear (inputs edge.user) heard memo edge.place w
+    → IsMemo (inputs edge.user)
+    (slice_set heard edge.place (news_of (kept (states_in memos) w))) new)
+    → Turns memo.state new.state
+    → HaveHeard inputs (slice_set memos edge.user new)
+    (left ++ to_tell memo.state new.state (users_of users edge.user))
+heard_told inputs count users memos edge w memo new left long are at it have told turns =
+    heard_step _ count users memos edge.user memo new left long are at turns (edge ∷ left)
     (λ u place apart. times-other_user u _ _ _ apart) have
-    (hears_told _ tallies edge w tally left at it have new told)
+    (hears_told _ memos edge w memo left at it have new told)
 
--- ---- one more tally, in plan order
+-- ---- one more memo, in plan order
 
-pub heard_more : (inputs : ℕ → Awaited) (tallies : List Tally) (tally : Tally)
-    → ((d i : ℕ) → Contains (all_of (inputs d)) i → i < d) → HaveHeard inputs tallies []
-    → Hears (inputs (length tallies)) (kept (states_in tallies)) (λ place. 0) tally
-    → HaveHeard inputs (tallies ++ tally ∷ []) []
-heard_more inputs tallies tally first have hears = record {
+pub heard_more : (inputs : ℕ → Awaited) (memos : List Memo) (memo : Memo)
+    → ((d i : ℕ) → Contains (all_of (inputs d)) i → i < d) → HaveHeard inputs memos []
+    → Hears (inputs (length memos)) (kept (states_in memos)) (λ place. 0) memo
+    → HaveHeard inputs (memos ++ memo ∷ []) []
+heard_more inputs memos memo first have hears = record {
   each = λ d t is.
       ⊎_elim
-      (λ earlier. grown d t (le_of_lt (slice_get_within tallies d t earlier))
+      (λ earlier. grown d t (le_of_lt (slice_get_within memos d t earlier))
       (have.each d t earlier))
       (λ last.
       subst (λ n. Hears (inputs n) after (λ place. 0) t) (sym last.0)
-      (subst (λ w. Hears (inputs (length tallies)) after (λ place. 0) w) last.1
-      (grown (length tallies) tally (le_refl (length tallies)) hears)))
+      (subst (λ w. Hears (inputs (length memos)) after (λ place. 0) w) last.1
+      (grown (length memos) memo (le_refl (length memos)) hears)))
       (get_push_cases _ _ d t is);
 }
   where
     after : ℕ → State
-    after = kept (states_in (tallies ++ tally ∷ []))
+    after = kept (states_in (memos ++ memo ∷ []))
 
-    stays : (i : ℕ) → i < length tallies → after i ≡ kept (states_in tallies) i
+    stays : (i : ℕ) → i < length memos → after i ≡ kept (states_in memos) i
     stays i low =
-        ap (λ ss. get_or ss i Blocked) (map-append (λ (t : Tally). t.state) tallies (tally ∷ []))
-        ∙ get_or_append_left (states_in tallies) (tally.state ∷ []) Blocked i
-        (omega (arith, low, length-map tallies (λ (t : Tally). t.state)))
+        ap (λ ss. get_or ss i Blocked) (map-append (λ (t : Memo). t.state) memos (memo ∷ []))
+        ∙ get_or_append_left (states_in memos) (memo.state ∷ []) Blocked i
+        (omega (arith, low, length-map memos (λ (t : Memo). t.state)))
 
-    grown : (d : ℕ) (t : Tally) → d ≤ length tallies
-        → Hears (inputs d) (kept (states_in tallies)) (λ place. 0) t
+    grown : (d : ℕ) (t : Memo) → d ≤ length memos
+        → Hears (inputs d) (kept (states_in memos)) (λ place. 0) t
         → Hears (inputs d) after (λ place. 0) t
     grown d t low =
         search (rules, hears_others, after, stays, lt_of_lt_of_le, Contains-from_get, low)
@@ -379,28 +379,28 @@ news_of_parts : (state : ℕ → State) (xs ys : List ℕ)
 news_of_parts state [] ys = (refl, refl)
 news_of_parts state (x ∷ xs) ys = search (rules, state, news_of_parts state xs ys)
 
-pub heard_states : (rows : Rows) (tallies : List Tally) → IsInOrder rows
-    → ((d : ℕ) (tally : Tally) → slice_get tallies d ≡ Some tally
-    → (tally.standing ≡ rows.standing d) × (phase_in tally.state ≡ rows.phase d))
-    → HaveHeard (λ d. record { inputs = rows.inputs d; twins = rows.twins d }) tallies []
-    → AreStatesOf rows (length tallies) (states_in tallies)
+pub heard_states : (rows : Rows) (memos : List Memo) → IsInOrder rows
+    → ((d : ℕ) (memo : Memo) → slice_get memos d ≡ Some memo
+    → (memo.standing ≡ rows.standing d) × (phase_in memo.state ≡ rows.phase d))
+    → HaveHeard (λ d. record { inputs = rows.inputs d; twins = rows.twins d }) memos []
+    → AreStatesOf rows (length memos) (states_in memos)
 unfolding near_table
-heard_states rows tallies first stand have = near_are_one _ state _ first
-    (λ d low. let (tally, at) = element_at _ d low in
-    by_table d tally at (have.each d tally at))
+heard_states rows memos first stand have = near_are_one _ state _ first
+    (λ d low. let (memo, at) = element_at _ d low in
+    by_table d memo at (have.each d memo at))
   where
     state : ℕ → State
-    state = kept (states_in tallies)
+    state = kept (states_in memos)
 
     awaited : ℕ → Awaited
     awaited d = record { inputs = rows.inputs d; twins = rows.twins d }
 
-    by_table : (d : ℕ) (tally : Tally) → slice_get tallies d ≡ Some tally
-        → Hears (awaited d) state (λ place. 0) tally → state d ≡ near_table rows state d
-    by_table d tally at hears =
-        let is : state d ≡ tally.state =
+    by_table : (d : ℕ) (memo : Memo) → slice_get memos d ≡ Some memo
+        → Hears (awaited d) state (λ place. 0) memo → state d ≡ near_table rows state d
+    by_table d memo at hears =
+        let is : state d ≡ memo.state =
         get_or_from_slice_get _ d _ _
-        (get_mapped (λ (t : Tally). t.state) tallies d tally at) in
+        (get_mapped (λ (t : Memo). t.state) memos d memo at) in
         let known : (place one : ℕ) → slice_get (all_of (awaited d)) place ≡ Some one
         → slice_index_or hears.heard place Open ≡ news_of (state one) =
         λ place one it. ⊎_elim (λ heard. heard.0) (λ unheard. absurd (omega (arith, unheard.2)))
@@ -411,15 +411,15 @@ heard_states rows tallies first stand have = near_are_one _ state _ first
         ap (take (length (rows.inputs d))) whole ∙ parts.0 in
         let tws : of_twins (awaited d) hears.heard ≡ news_in state (rows.twins d) =
         ap (drop (length (rows.inputs d))) whole ∙ parts.1 in
-        let (standing, phase) = stand d tally at in
+        let (standing, phase) = stand d memo at in
         is ∙ hears.is.state
-        ∙ ap (λ l. by_phase (phase_in tally.state) (by_validity tally.standing (by_twin_news
-        (of_twins (awaited d) hears.heard) (by_hindrance tally.standing
+        ∙ ap (λ l. by_phase (phase_in memo.state) (by_validity memo.standing (by_twin_news
+        (of_twins (awaited d) hears.heard) (by_hindrance memo.standing
         (by_news (rows.inputs d) l))))) ins
-        ∙ ap (λ l. by_phase (phase_in tally.state) (by_validity tally.standing (by_twin_news l
-        (by_hindrance tally.standing
+        ∙ ap (λ l. by_phase (phase_in memo.state) (by_validity memo.standing (by_twin_news l
+        (by_hindrance memo.standing
         (by_news (rows.inputs d) (news_in state (rows.inputs d))))))) tws
-        ∙ ap (λ s. by_phase (phase_in tally.state) (by_validity tally.standing (by_twin_news
-        (news_in state (rows.twins d)) (by_hindrance tally.standing s))))
+        ∙ ap (λ s. by_phase (phase_in memo.state) (by_validity memo.standing (by_twin_news
+        (news_in state (rows.twins d)) (by_hindrance memo.standing s))))
         (by_news_in state (rows.inputs d))
         ∙ rw (standing, phase) refl

@@ -18,7 +18,7 @@ pub mod Registering
 pub mod Seeds
 pub mod StateLaws
 pub mod Tabled
-pub mod Tallied
+pub mod MemoCourses
 pub mod Telling
 pub mod Tests
 pub mod ToldStates

@@ -4,7 +4,7 @@ use Rattle.std.proofs.Common.{◌≡◌, ℕ, Bool, true, false, List, [], ◌�
 use Rattle.run_states.specs.Coursing.{phase_in}
 use Rattle.run_states.specs.Nearest.{News, Open, Good, Bad}
 use Rattle.run_states.specs.States.{by_first, by_hindrance, by_phase}
-use Rattle.run_states.specs.Tallies.{Turns, turns_freed, turns_refused, turns_stays, by_all, news_by}
+use Rattle.run_states.specs.Memos.{Turns, turns_freed, turns_refused, turns_stays, by_all, news_by}
 use Rattle.run_states.specs.declared.state.Refusal.{Refusal}
 use Rattle.run_states.specs.declared.state.Refusal.TheVariants.{InputNotRealised}
 use Rattle.run_states.specs.declared.state.State.{State}

@@ -12,12 +12,12 @@ use Rattle.run_states.specs.Courses.{Awaited, all_of}
 use Rattle.run_states.specs.Coursing.{kept, phase_in}
 use Rattle.run_states.specs.Nearest.{News, Open, news_of}
 use Rattle.run_states.specs.States.{Idle, is_good, is_open}
-use Rattle.run_states.specs.Tallies.{CanHear, HaveHeard, IsSameElse, IsTally, Turns, are_news, news_by, states_in, to_tell}
-use Rattle.run_states.specs.ToldEdges.{open_edges, sizes}
+use Rattle.run_states.specs.Memos.{CanHear, HaveHeard, IsSameElse, IsMemo, Turns, are_news, news_by, states_in, to_tell}
+use Rattle.run_states.specs.FollowedEdges.{open_edges, sizes}
 use Rattle.run_states.specs.Users.{AreUsers, once_at, times, users_of, users_of_all}
 use Rattle.run_states.specs.declared.state.State.{State}
 use Rattle.run_states.specs.declared.state.State.TheVariants.{Done, Failed, Building, Reused, Refused, Ready, Blocked}
-use Rattle.run_states.specs.declared.tally.Tally.{Tally}
+use Rattle.run_states.specs.declared.memo.Memo.{Memo}
 use Rattle.run_states.specs.declared.users.Edge.{Edge}
 use Rattle.run_states.proofs.Agendas.{noted_agenda, noted_measure, one, settles_most, turn_open}
 use Rattle.run_states.proofs.Hearing.{can_hear, heard_told, heard_turned}
@@ -63,15 +63,15 @@ users_alone : (users : List (List Edge)) (is : Bool) (u : ℕ)
 users_alone users true u = append-nil (users_of users u)
 users_alone users false u = refl
 
--- the edges that lead from those with something before them, as a tally changes
-edges_set : (size : ℕ → ℕ) (tallies : List Tally) (d : ℕ) (before after : Tally)
-    → slice_get tallies d ≡ Some before
-    → open_edges size (set tallies d after) + (if is_open before.state then size d else 0)
-    ≡ open_edges size tallies + (if is_open after.state then size d else 0)
+-- the edges that lead from those with something before them, as a memo changes
+edges_set : (size : ℕ → ℕ) (memos : List Memo) (d : ℕ) (before after : Memo)
+    → slice_get memos d ≡ Some before
+    → open_edges size (set memos d after) + (if is_open before.state then size d else 0)
+    ≡ open_edges size memos + (if is_open after.state then size d else 0)
 edges_set size [] d before after at = absurd cc
-edges_set size (tally ∷ tallies) zero before after at = search (rules, before)
-edges_set size (tally ∷ tallies) (suc d) before after at =
-    omega (arith, edges_set (λ e. size (suc e)) tallies d before after at)
+edges_set size (memo ∷ memos) zero before after at = search (rules, before)
+edges_set size (memo ∷ memos) (suc d) before after at =
+    omega (arith, edges_set (λ e. size (suc e)) memos d before after at)
 
 edges_one : (o p : Bool) (n : ℕ) → (p ≡ true → o ≡ true)
     → (if o && not p then n else 0) + (if p then n else 0) ≡ (if o then n else 0)
@@ -86,15 +86,15 @@ length_of_alone users true u = ap length (append-nil (users_of users u))
 length_of_alone users false u = refl
 
 -- those that lead from what is on the work come in their place
-pub noted_edges : (users : List (List Edge)) (tallies : List Tally) (agenda : Agenda) (u : ℕ)
-    (before after : Tally) → slice_get tallies u ≡ Some before → Turns before.state after.state
-    → open_edges (sizes users) (set tallies u after)
+pub noted_edges : (users : List (List Edge)) (memos : List Memo) (agenda : Agenda) (u : ℕ)
+    (before after : Memo) → slice_get memos u ≡ Some before → Turns before.state after.state
+    → open_edges (sizes users) (set memos u after)
     + length (users_of_all users (noted agenda u before after).work)
-    ≡ open_edges (sizes users) tallies + length (users_of_all users agenda.work)
-noted_edges users tallies agenda u before after at turns =
+    ≡ open_edges (sizes users) memos + length (users_of_all users agenda.work)
+noted_edges users memos agenda u before after at turns =
     omega (
       arith,
-      edges_set (sizes users) tallies u before after at,
+      edges_set (sizes users) memos u before after at,
       ap length (users_of_more users agenda.work (alone_if (ends before after) u)),
       length-append (users_of_all users agenda.work)
           (users_of_all users (alone_if (ends before after) u)),
@@ -140,8 +140,8 @@ news_end Reused t = refl
 news_end (Failed reason) t = refl
 news_end (Refused cause) t = refl
 
--- what is left to tell once a tally was noted
-left_noted : (users : List (List Edge)) (agenda : Agenda) (u : ℕ) (before after : Tally)
+-- what is left to tell once a memo was noted
+left_noted : (users : List (List Edge)) (agenda : Agenda) (u : ℕ) (before after : Memo)
     (left : List Edge)
     → (left ++ users_of_all users agenda.work) ++ to_tell before.state after.state
     (users_of users u) ≡ left ++ users_of_all users (noted agenda u before after).work
@@ -150,68 +150,68 @@ left_noted users agenda u before after left =
 
 -- ---- what telling leaves as it was
 
-pub same_then : (a b c : List Tally) → AreSameElse a b → AreSameElse b c → AreSameElse a c
+pub same_then : (a b c : List Memo) → AreSameElse a b → AreSameElse b c → AreSameElse a c
 same_then a b c first second = search rules
 
--- a part of tallies that a new tally has as the old one
-part_stays : {X : Type 0} (part : Tally → X) (tallies : List Tally) (u : ℕ) (before after : Tally)
-    → slice_get tallies u ≡ Some before → part after ≡ part before
-    → map part (set tallies u after) ≡ map part tallies
+-- a part of memos that a new memo has as the old one
+part_stays : {X : Type 0} (part : Memo → X) (memos : List Memo) (u : ℕ) (before after : Memo)
+    → slice_get memos u ≡ Some before → part after ≡ part before
+    → map part (set memos u after) ≡ map part memos
 part_stays part [] u before after at same = refl
-part_stays part (t ∷ tallies) zero before after at same = search (rules, before)
-part_stays part (t ∷ tallies) (suc u) before after at same =
-    ap (λ l. part t ∷ l) (part_stays part tallies u _ _ at same)
+part_stays part (t ∷ memos) zero before after at same = search (rules, before)
+part_stays part (t ∷ memos) (suc u) before after at same =
+    ap (λ l. part t ∷ l) (part_stays part memos u _ _ at same)
 
-phases_are : (tallies : List Tally)
-    → phases_in tallies ≡ map (λ (t : Tally). phase_in t.state) tallies
+phases_are : (memos : List Memo)
+    → phases_in memos ≡ map (λ (t : Memo). phase_in t.state) memos
 phases_are [] = refl
-phases_are (t ∷ tallies) = ap (λ l. phase_in t.state ∷ l) (phases_are tallies)
+phases_are (t ∷ memos) = ap (λ l. phase_in t.state ∷ l) (phases_are memos)
 
-pub same_set : (tallies : List Tally) (u : ℕ) (before after : Tally)
-    → slice_get tallies u ≡ Some before → IsSameElse before after
-    → AreSameElse tallies (set tallies u after)
-same_set tallies u before after at same =
+pub same_set : (memos : List Memo) (u : ℕ) (before after : Memo)
+    → slice_get memos u ≡ Some before → IsSameElse before after
+    → AreSameElse memos (set memos u after)
+same_set memos u before after at same =
     search (rules, part_stays, before, after, at, phases_are, set)
 
 -- ---- one user is told
 
-module _ (inputs : ℕ → Awaited) (users : List (List Edge)) (tallies : List Tally)
-    (agenda : Agenda) (w i : ℕ) (no_edge : Edge) (no_tally : Tally) (row : List Edge)
-    (low : w < length tallies) (row_is : row ≡ users_of users w) (here : i < length row)
-    (is : IsSpreading inputs users tallies agenda (drop i (users_of users w))) where
+module _ (inputs : ℕ → Awaited) (users : List (List Edge)) (memos : List Memo)
+    (agenda : Agenda) (w i : ℕ) (no_edge : Edge) (no_memo : Memo) (row : List Edge)
+    (low : w < length memos) (row_is : row ≡ users_of users w) (here : i < length row)
+    (is : IsSpreading inputs users memos agenda (drop i (users_of users w))) where
   abbrev edge : Edge
   edge = get_or row i no_edge
 
-  abbrev before : Tally
-  before = get_or tallies edge.user no_tally
+  abbrev before : Memo
+  before = get_or memos edge.user no_memo
 
-  its : (edge.user < length tallies) × (slice_get (all_of (inputs edge.user)) edge.place ≡ Some w)
+  its : (edge.user < length memos) × (slice_get (all_of (inputs edge.user)) edge.place ≡ Some w)
   its = edge_is (λ e. all_of (inputs e)) _ _ w i _ is.edges low
       (subst (λ l. slice_get l i ≡ Some edge) row_is (slice_get-get_or _ i _ here))
 
-  pub user_within : edge.user < length tallies
+  pub user_within : edge.user < length memos
   user_within = its.0
 
-  at : slice_get tallies edge.user ≡ Some before
+  at : slice_get memos edge.user ≡ Some before
   at = slice_get-get_or _ _ _ user_within
 
   abbrev rest : List Edge
   rest = drop (i + 1) (users_of users w) ++ users_of_all users agenda.work
 
-  heard : HaveHeard inputs tallies (edge ∷ rest)
+  heard : HaveHeard inputs memos (edge ∷ rest)
   heard = search (rules, drop_more, edge)
 
   -- what `told` requires
   pub can_tell : (ins : Awaited) × (heard : List News) × CanHear ins heard before edge.place w
   can_tell =
-      let can = can_hear inputs tallies edge w _ _ at its.1 heard in
+      let can = can_hear inputs memos edge w _ _ at its.1 heard in
       (inputs edge.user, can.0, can.1)
 
   user_apart : w ≢ edge.user
   user_apart same =
       let less = is.first edge.user w (Contains-from_get _ _ w its.1) in omega (arith, less, same)
 
-  has_news : news_of (kept (states_in tallies) w) ≡ Open → ⊥
+  has_news : news_of (kept (states_in memos) w) ≡ Open → ⊥
   has_news none = ⊎_elim
       (λ heard_it. absurd (omega (
         arith,
@@ -221,10 +221,10 @@ module _ (inputs : ℕ → Awaited) (users : List (List Edge)) (tallies : List T
       (λ unheard. unheard.1 none)
       ((heard.each edge.user before at).knows edge.place w its.1)
 
-  module _ (after : Tally) (turns : Turns before.state after.state)
+  module _ (after : Memo) (turns : Turns before.state after.state)
       (same : IsSameElse before after) where
     -- the agenda, noted
-    pub told_agenda : IsAgenda (set tallies edge.user after)
+    pub told_agenda : IsAgenda (set memos edge.user after)
         (noted agenda edge.user before after)
     told_agenda = noted_agenda _ _ _ _ _ at turns same.wanted is.listed
 
@@ -237,38 +237,38 @@ module _ (inputs : ℕ → Awaited) (users : List (List Edge)) (tallies : List T
     pub told_settles : one (settles before after) ≤ agenda.unsettled
     told_settles = search (rules, settles_most, before, after, at)
 
-    pub told_good : kept (states_in (set tallies edge.user after)) w
-        ≡ kept (states_in tallies) w
+    pub told_good : kept (states_in (set memos edge.user after)) w
+        ≡ kept (states_in memos) w
     told_good = search (rules, map-set, after, get_or-set_other, user_apart)
 
-    pub told_same : AreSameElse tallies (set tallies edge.user after)
+    pub told_same : AreSameElse memos (set memos edge.user after)
     told_same = same_set _ _ _ _ at same
 
-    pub told_measure : to_end (set tallies edge.user after)
-        (noted agenda edge.user before after) ≡ to_end tallies agenda
-    told_measure = noted_measure tallies agenda edge.user before after at turns
+    pub told_measure : to_end (set memos edge.user after)
+        (noted agenda edge.user before after) ≡ to_end memos agenda
+    told_measure = noted_measure memos agenda edge.user before after at turns
 
-    pub told_edges : open_edges (sizes users) (set tallies edge.user after)
+    pub told_edges : open_edges (sizes users) (set memos edge.user after)
         + length (users_of_all users (noted agenda edge.user before after).work)
-        ≡ open_edges (sizes users) tallies + length (users_of_all users agenda.work)
+        ≡ open_edges (sizes users) memos + length (users_of_all users agenda.work)
     told_edges = noted_edges _ _ agenda _ _ _ at turns
 
-    pub told_user : (good : Bool) → good ≡ is_good (kept (states_in tallies) w)
+    pub told_user : (good : Bool) → good ≡ is_good (kept (states_in memos) w)
         → ((ins : Awaited) (heard : List News) → CanHear ins heard before edge.place w
-        → IsTally ins (slice_set heard edge.place (news_by good)) after)
-        → IsSpreading inputs users (set tallies edge.user after)
+        → IsMemo ins (slice_set heard edge.place (news_by good)) after)
+        → IsSpreading inputs users (set memos edge.user after)
         (noted agenda edge.user before after) (drop (i + 1) (users_of users w))
     told_user good good_is told = record {
       first = is.first;
       edges = subst (λ n. AreUsers (λ e. all_of (inputs e)) n users)
-          (sym (length-set tallies edge.user after)) is.edges;
-      heard = subst (HaveHeard inputs (set tallies edge.user after))
+          (sym (length-set memos edge.user after)) is.edges;
+      heard = subst (HaveHeard inputs (set memos edge.user after))
           (left_noted users agenda edge.user before after _)
-          (heard_told inputs _ users tallies edge w before after rest refl is.edges
+          (heard_told inputs _ users memos edge w before after rest refl is.edges
           at its.1 heard
           (λ known can. subst
-          (λ news. IsTally (inputs edge.user) (slice_set known edge.place news) after)
-          (ap news_by good_is ∙ known_news (kept (states_in tallies) w) has_news)
+          (λ news. IsMemo (inputs edge.user) (slice_set known edge.place news) after)
+          (ap news_by good_is ∙ known_news (kept (states_in memos) w) has_news)
           (told (inputs edge.user) known can)) turns);
       listed = told_agenda;
     }
@@ -279,21 +279,21 @@ first_work : (xs : List ℕ) (w : ℕ) → slice_get xs 0 ≡ Some w → xs ≡ 
 first_work [] w at = absurd cc
 first_work (x ∷ xs) w at = search rules
 
-pub work_taken : (inputs : ℕ → Awaited) (users : List (List Edge)) (tallies : List Tally)
+pub work_taken : (inputs : ℕ → Awaited) (users : List (List Edge)) (memos : List Memo)
     (agenda : Agenda) (w : ℕ) → slice_get agenda.work 0 ≡ Some w
-    → IsSpreading inputs users tallies agenda []
-    → IsSpreading inputs users tallies (record agenda { work = drop 1 agenda.work })
+    → IsSpreading inputs users memos agenda []
+    → IsSpreading inputs users memos (record agenda { work = drop 1 agenda.work })
     (users_of users w)
-work_taken inputs users tallies agenda w at is = record {
+work_taken inputs users memos agenda w at is = record {
   first = is.first;
   edges = is.edges;
-  heard = subst (λ l. HaveHeard inputs tallies (users_of_all users l)) (first_work _ w at)
+  heard = subst (λ l. HaveHeard inputs memos (users_of_all users l)) (first_work _ w at)
       is.heard;
   listed = record {
     ready = is.listed.ready;
     ring = is.listed.ring;
     room = is.listed.room;
-    work = All-drop (λ d. d < length tallies) 1 _ is.listed.work;
+    work = All-drop (λ d. d < length memos) 1 _ is.listed.work;
     space = omega (arith, is.listed.space, ap length (first_work _ w at));
     unsettled = is.listed.unsettled;
   };
@@ -307,27 +307,27 @@ work_edges users agenda w at = search (rules, first_work, at, length-append)
 
 -- ---- an event
 
--- what is known of a derivation's state by the tallies
-pub state_read : (tallies : List Tally) (d : ℕ) (none : Tally) → d < length tallies
-    → kept (states_in tallies) d ≡ (get_or tallies d none).state
-state_read tallies d none low = search (rules, get_or-map)
+-- what is known of a derivation's state by the memos
+pub state_read : (memos : List Memo) (d : ℕ) (none : Memo) → d < length memos
+    → kept (states_in memos) d ≡ (get_or memos d none).state
+state_read memos d none low = search (rules, get_or-map)
 
-module _ (tallies : List Tally) (agenda : Agenda) (d : ℕ) (none : Tally) (state : State)
-    (low : d < length tallies) (turns : Turns (kept (states_in tallies) d) state) where
-  abbrev old : Tally
-  old = get_or tallies d none
+module _ (memos : List Memo) (agenda : Agenda) (d : ℕ) (none : Memo) (state : State)
+    (low : d < length memos) (turns : Turns (kept (states_in memos) d) state) where
+  abbrev old : Memo
+  old = get_or memos d none
 
-  abbrev now : Tally
+  abbrev now : Memo
   now = record old { state = state }
 
-  old_at : slice_get tallies d ≡ Some old
+  old_at : slice_get memos d ≡ Some old
   old_at = slice_get-get_or _ d _ low
 
   turned : Turns old.state state
   turned = search (rules, state_read)
 
-  module _ (listed : IsAgenda tallies agenda) where
-    pub turned_agenda : IsAgenda (set tallies d now) (noted agenda d old now)
+  module _ (listed : IsAgenda memos agenda) where
+    pub turned_agenda : IsAgenda (set memos d now) (noted agenda d old now)
     turned_agenda = noted_agenda _ _ d _ _ old_at turned refl listed
 
     pub turned_room : length (noted agenda d old now).ring ≤ agenda.room
@@ -339,39 +339,39 @@ module _ (tallies : List Tally) (agenda : Agenda) (d : ℕ) (none : Tally) (stat
     pub turned_settles : one (settles old now) ≤ agenda.unsettled
     turned_settles = settles_most _ _ d old now old_at turned refl listed
 
-  pub turned_standings : standings_in (set tallies d now) ≡ standings_in tallies
+  pub turned_standings : standings_in (set memos d now) ≡ standings_in memos
   turned_standings = search (rules, part_stays, old, now, old_at)
 
-  pub turned_wanted : wanted_in (set tallies d now) ≡ wanted_in tallies
+  pub turned_wanted : wanted_in (set memos d now) ≡ wanted_in memos
   turned_wanted = search (rules, part_stays, old, now, old_at)
 
-  pub turned_twins : twins_in (set tallies d now) ≡ twins_in tallies
+  pub turned_twins : twins_in (set memos d now) ≡ twins_in memos
   turned_twins = search (rules, part_stays, old, now, old_at)
 
-  pub turned_phases : phases_in (set tallies d now) ≡ set (phases_in tallies) d (phase_in state)
+  pub turned_phases : phases_in (set memos d now) ≡ set (phases_in memos) d (phase_in state)
   turned_phases = search (rules, map-set, now)
 
-  pub turned_edges : (users : List (List Edge)) → open_edges (sizes users) (set tallies d now)
+  pub turned_edges : (users : List (List Edge)) → open_edges (sizes users) (set memos d now)
       + length (users_of_all users (noted agenda d old now).work)
-      ≡ open_edges (sizes users) tallies + length (users_of_all users agenda.work)
+      ≡ open_edges (sizes users) memos + length (users_of_all users agenda.work)
   turned_edges users = noted_edges _ _ agenda d old now old_at turned
 
   pub turned_spreading : (inputs : ℕ → Awaited) (users : List (List Edge))
-      → (phase_in state ≡ Idle → ⊥) → IsSpreading inputs users tallies agenda []
-      → IsSpreading inputs users (set tallies d now) (noted agenda d old now) []
+      → (phase_in state ≡ Idle → ⊥) → IsSpreading inputs users memos agenda []
+      → IsSpreading inputs users (set memos d now) (noted agenda d old now) []
   turned_spreading inputs users begun is = record {
     first = is.first;
-    edges = subst (λ n. AreUsers (λ e. all_of (inputs e)) n users) (sym (length-set tallies d now))
+    edges = subst (λ n. AreUsers (λ e. all_of (inputs e)) n users) (sym (length-set memos d now))
         is.edges;
-    heard = subst (HaveHeard inputs (set tallies d now)) (left_noted users agenda d old now [])
-        (heard_turned inputs (length tallies) users tallies d old state
+    heard = subst (HaveHeard inputs (set memos d now)) (left_noted users agenda d old now [])
+        (heard_turned inputs (length memos) users memos d old state
         (users_of_all users agenda.work) refl is.edges old_at turned begun is.heard);
     listed = turned_agenda is.listed;
   }
 
 -- all users were told, and what has begun was taken off the ring's front
-pub steady_after : (inputs : ℕ → Awaited) (users : List (List Edge)) (tallies : List Tally)
-    (agenda later : Agenda) → IsSpreading inputs users tallies agenda [] → agenda.work ≡ []
-    → IsAgenda tallies later → IsFresh tallies later → later.work ≡ agenda.work
-    → IsSteady inputs users tallies later
-steady_after inputs users tallies agenda later is none listed fresh same = search (rules, heard)
+pub steady_after : (inputs : ℕ → Awaited) (users : List (List Edge)) (memos : List Memo)
+    (agenda later : Agenda) → IsSpreading inputs users memos agenda [] → agenda.work ≡ []
+    → IsAgenda memos later → IsFresh memos later → later.work ≡ agenda.work
+    → IsSteady inputs users memos later
+steady_after inputs users memos agenda later is none listed fresh same = search (rules, heard)

@@ -12,11 +12,11 @@ use Rattle.run_states.specs.Courses.{Awaited, all_of, listed}
 use Rattle.run_states.specs.Coursing.{kept, phase_in}
 use Rattle.run_states.specs.Nearest.{News, Open, Good, Bad, news_of}
 use Rattle.run_states.specs.States.{Idle, by_first, by_hindrance, by_phase, by_validity, is_good, is_open}
-use Rattle.run_states.specs.Tallies.{CanHear, Hears, IsTally, by_all, by_news, is_bad_news, is_held, news_by, news_in, of_inputs, of_twins, states_in, waiting}
+use Rattle.run_states.specs.Memos.{CanHear, Hears, IsMemo, by_all, by_news, is_bad_news, is_held, news_by, news_in, of_inputs, of_twins, states_in, waiting}
 use Rattle.run_states.specs.declared.state.State.{State}
 use Rattle.run_states.specs.declared.state.State.TheVariants.{Blocked, Building, Done, Failed, Ready, Refused, Reused}
 use Rattle.run_states.specs.declared.standing.Standing.{Standing}
-use Rattle.run_states.specs.declared.tally.Tally.{Tally}
+use Rattle.run_states.specs.declared.memo.Memo.{Memo}
 use Rattle.run_states.proofs.CountedNews.{AreCounted, all_counted}
 use Rattle.run_states.proofs.KnownNews.{by_news_counted}
 use Rattle.run_states.proofs.OneStates.{not_released, released_now}
@@ -118,18 +118,18 @@ module _ (heard : List News) (place : ℕ) (at : slice_get heard place ≡ Some 
       ap is_bad_news (get_or-set_other heard place (position_or_len is_bad_news heard) Bad Open
       apart) ∙ bad)
 
--- ---- a tally by what it counts
+-- ---- a memo by what it counts
 
 -- the state that it has by its counts
-abbrev pub IsCounted : (awaited : Awaited) → List News → Tally → Type 0
-IsCounted awaited heard tally = tally.state
-    ≡ by_phase (phase_in tally.state) (by_all tally.standing (of_twins awaited heard)
-    (by_first (slice_get awaited.inputs tally.first) (tally.waits == 0)))
+abbrev pub IsCounted : (awaited : Awaited) → List News → Memo → Type 0
+IsCounted awaited heard memo = memo.state
+    ≡ by_phase (phase_in memo.state) (by_all memo.standing (of_twins awaited heard)
+    (by_first (slice_get awaited.inputs memo.first) (memo.waits == 0)))
 
-by_counts : (inputs : List ℕ) (heard : List News) (tally : Tally) → length heard ≡ length inputs
-    → tally.waits ≡ waiting heard → tally.first ≡ position_or_len is_bad_news heard
-    → by_news inputs heard ≡ by_first (slice_get inputs tally.first) (tally.waits == 0)
-by_counts inputs heard tally same waits first = search (rules, by_news_counted, same)
+by_counts : (inputs : List ℕ) (heard : List News) (memo : Memo) → length heard ≡ length inputs
+    → memo.waits ≡ waiting heard → memo.first ≡ position_or_len is_bad_news heard
+    → by_news inputs heard ≡ by_first (slice_get inputs memo.first) (memo.waits == 0)
+by_counts inputs heard memo same waits first = search (rules, by_news_counted, same)
 
 -- of so much is known, of the inputs at least
 inputs_known : (awaited : Awaited) (heard : List News) → length heard ≡ length (all_of awaited)
@@ -140,14 +140,14 @@ count_of_inputs : (awaited : Awaited) (heard : List News) → length heard ≡ l
     → length (of_inputs awaited heard) ≡ length awaited.inputs
 count_of_inputs awaited heard count = search (rules, length_taken, inputs_known, count)
 
-pub tally_from_counts : (awaited : Awaited) (heard : List News) (tally : Tally)
+pub memo_from_counts : (awaited : Awaited) (heard : List News) (memo : Memo)
     → length awaited.twins ≤ 1 → length heard ≡ length (all_of awaited)
-    → tally.inputs ≡ length awaited.inputs → tally.waits ≡ waiting (of_inputs awaited heard)
-    → tally.first ≡ position_or_len is_bad_news (of_inputs awaited heard)
-    → tally.failed ≡ slice_get awaited.inputs tally.first
-    → tally.held ≡ is_held (of_twins awaited heard) → IsCounted awaited heard tally
-    → IsTally awaited heard tally
-tally_from_counts awaited heard tally one count inputs waits first failed held is =
+    → memo.inputs ≡ length awaited.inputs → memo.waits ≡ waiting (of_inputs awaited heard)
+    → memo.first ≡ position_or_len is_bad_news (of_inputs awaited heard)
+    → memo.failed ≡ slice_get awaited.inputs memo.first
+    → memo.held ≡ is_held (of_twins awaited heard) → IsCounted awaited heard memo
+    → IsMemo awaited heard memo
+memo_from_counts awaited heard memo one count inputs waits first failed held is =
     search (rules, count, by_counts, count_of_inputs)
 
 -- the element that a slice lends
@@ -156,12 +156,12 @@ pub read_at : (xs : List ℕ) (i : ℕ) (r : Option (Bor ℕ)) → IsItemAt xs i
 read_at xs i None lent = sym (slice_get_past xs i lent.3)
 read_at xs i (Some x) lent = search (rules, slice_get_read)
 
--- ---- a tally that is told of an input
+-- ---- a memo that is told of an input
 
 -- a place that isn't the twin's is an input's
-pub is_input : (tally : Tally) (awaited : Awaited) (heard : List News) (place one : ℕ)
-    → CanHear awaited heard tally place one → (place ≡ tally.inputs → ⊥) → place < tally.inputs
-is_input tally awaited heard place one can apart =
+pub is_input : (memo : Memo) (awaited : Awaited) (heard : List News) (place one : ℕ)
+    → CanHear awaited heard memo place one → (place ≡ memo.inputs → ⊥) → place < memo.inputs
+is_input memo awaited heard place one can apart =
     let within : place < length (all_of awaited) =
     slice_get_within (all_of awaited) place one can.is_awaited in
     ⊎_elim (λ same. absurd (apart same))
@@ -174,7 +174,7 @@ is_input tally awaited heard place one can apart =
       can.is.inputs,
       length-append awaited.inputs awaited.twins,
     ))) other)
-    (either place tally.inputs)
+    (either place memo.inputs)
   where
     either : (a b : ℕ) → (a ≡ b) ⊎ ((a < b) ⊎ (b < a))
     either zero zero = inl refl
@@ -182,8 +182,8 @@ is_input tally awaited heard place one can apart =
     either (suc a) zero = inr (inr (omega arith))
     either (suc a) (suc b) = search (rules, either a b)
 
-module _ (tally : Tally) (awaited : Awaited) (heard : List News) (place input : ℕ)
-    (can : CanHear awaited heard tally place input) (low : place < tally.inputs) where
+module _ (memo : Memo) (awaited : Awaited) (heard : List News) (place input : ℕ)
+    (can : CanHear awaited heard memo place input) (low : place < memo.inputs) where
   abbrev ins : List News
   ins = of_inputs awaited heard
 
@@ -206,78 +206,78 @@ module _ (tally : Tally) (awaited : Awaited) (heard : List News) (place input : 
   tws_now news = search (rules, drop_set, inside)
 
   number : (news : News)
-      → waiting (of_inputs awaited (set heard place news)) + 1 ≡ tally.waits + waiting (news ∷ [])
+      → waiting (of_inputs awaited (set heard place news)) + 1 ≡ memo.waits + waiting (news ∷ [])
   number news = search (rules, ins_now, waiting-set, ins, unknown)
 
   count : (news : News) → length (set heard place news) ≡ length (all_of awaited)
   count news = length-set heard place news ∙ can.is.count
 
-  held_now : (news : News) → tally.held ≡ is_held (of_twins awaited (set heard place news))
+  held_now : (news : News) → memo.held ≡ is_held (of_twins awaited (set heard place news))
   held_now news = search (rules, tws_now)
 
   -- an input isn't built yet
-  pub told_waits : 1 ≤ tally.waits
+  pub told_waits : 1 ≤ memo.waits
   told_waits =
       let none : waiting (Good ∷ []) ≡ 0 = refl in
       omega (arith, number Good, none)
 
-  pub told_held : tally.held ≡ is_held tws
+  pub told_held : memo.held ≡ is_held tws
   told_held = can.is.held
 
-  pub told_before : tally.state ≡ by_phase (phase_in tally.state)
-      (by_all tally.standing tws (by_first (slice_get awaited.inputs tally.first) false))
+  pub told_before : memo.state ≡ by_phase (phase_in memo.state)
+      (by_all memo.standing tws (by_first (slice_get awaited.inputs memo.first) false))
   told_before = can.is.state
-      ∙ ap (λ s. by_phase (phase_in tally.state) (by_all tally.standing tws s))
-      (by_counts awaited.inputs ins tally (count_of_inputs awaited heard can.is.count) can.is.waits
+      ∙ ap (λ s. by_phase (phase_in memo.state) (by_all memo.standing tws s))
+      (by_counts awaited.inputs ins memo (count_of_inputs awaited heard can.is.count) can.is.waits
       can.is.first
-      ∙ ap (by_first (slice_get awaited.inputs tally.first))
-      (ne_eqb tally.waits 0 (λ none. omega (arith, none, told_waits))))
+      ∙ ap (by_first (slice_get awaited.inputs memo.first))
+      (ne_eqb memo.waits 0 (λ none. omega (arith, none, told_waits))))
 
   pub told_good : (good : Bool) → good ≡ true → (state : State)
-      → state ≡ by_phase (phase_in state) (by_all tally.standing tws
-      (by_first (slice_get awaited.inputs tally.first) ((tally.waits - 1) == 0)))
-      → IsTally awaited (slice_set heard place (news_by good))
-      (record tally { state = state; waits = tally.waits - 1 })
+      → state ≡ by_phase (phase_in state) (by_all memo.standing tws
+      (by_first (slice_get awaited.inputs memo.first) ((memo.waits - 1) == 0)))
+      → IsMemo awaited (slice_set heard place (news_by good))
+      (record memo { state = state; waits = memo.waits - 1 })
   told_good good built state is =
       let none : waiting (Good ∷ []) ≡ 0 = refl in
-      rw built (tally_from_counts awaited (set heard place Good)
-      (record tally { state = state; waits = tally.waits - 1 }) can.is.one (count Good)
+      rw built (memo_from_counts awaited (set heard place Good)
+      (record memo { state = state; waits = memo.waits - 1 }) can.is.one (count Good)
       can.is.inputs
       (omega (arith, number Good, none))
       (can.is.first ∙ sym (ap (position_or_len is_bad_news) (ins_now Good)
       ∙ first-good ins place unknown)) can.is.failed (held_now Good)
-      (is ∙ ap (λ t. by_phase (phase_in state) (by_all tally.standing t
-      (by_first (slice_get awaited.inputs tally.first) ((tally.waits - 1) == 0))))
+      (is ∙ ap (λ t. by_phase (phase_in state) (by_all memo.standing t
+      (by_first (slice_get awaited.inputs memo.first) ((memo.waits - 1) == 0))))
       (sym (tws_now Good))))
 
-  pub told_bad : (good : Bool) → good ≡ false → place < tally.first → (state : State)
+  pub told_bad : (good : Bool) → good ≡ false → place < memo.first → (state : State)
       → state ≡ by_phase (phase_in state)
-      (by_all tally.standing tws (by_first (Some input) false))
-      → IsTally awaited (slice_set heard place (news_by good))
-      (record tally { state = state; first = place; failed = Some input })
+      (by_all memo.standing tws (by_first (Some input) false))
+      → IsMemo awaited (slice_set heard place (news_by good))
+      (record memo { state = state; first = place; failed = Some input })
   told_bad good failed sooner state is =
       let one : waiting (Bad ∷ []) ≡ 1 = refl in
-      rw failed (tally_from_counts awaited (set heard place Bad)
-      (record tally { state = state; first = place; failed = Some input }) can.is.one (count Bad)
+      rw failed (memo_from_counts awaited (set heard place Bad)
+      (record memo { state = state; first = place; failed = Some input }) can.is.one (count Bad)
       can.is.inputs
       (omega (arith, number Bad, one))
       (sym (ap (position_or_len is_bad_news) (ins_now Bad)
       ∙ first-bad ins place unknown (omega (arith, sooner, can.is.first))))
       (sym input_is) (held_now Bad)
       (is ∙ ap (λ t. by_phase (phase_in state)
-      (by_all tally.standing t (by_first (Some input) false))) (sym (tws_now Bad))
+      (by_all memo.standing t (by_first (Some input) false))) (sym (tws_now Bad))
       ∙ ap (λ s. by_phase (phase_in state)
-      (by_all tally.standing (of_twins awaited (set heard place Bad)) s))
-      (sym (ap (λ o. by_first o (tally.waits == 0)) input_is
-      ∙ ap (by_first (Some input)) (ne_eqb tally.waits 0
+      (by_all memo.standing (of_twins awaited (set heard place Bad)) s))
+      (sym (ap (λ o. by_first o (memo.waits == 0)) input_is
+      ∙ ap (by_first (Some input)) (ne_eqb memo.waits 0
       (λ none. omega (arith, none, told_waits)))))))
 
-  pub told_later : (good : Bool) → good ≡ false → tally.first ≤ place
-      → IsTally awaited (slice_set heard place (news_by good)) tally
+  pub told_later : (good : Bool) → good ≡ false → memo.first ≤ place
+      → IsMemo awaited (slice_set heard place (news_by good)) memo
   told_later good failed past =
       search (
         rules,
-        tally_from_counts,
+        memo_from_counts,
         set,
         count,
         number,
@@ -292,10 +292,10 @@ module _ (tally : Tally) (awaited : Awaited) (heard : List News) (place input : 
         tws_now,
       )
 
--- ---- a tally that is told of its twin
+-- ---- a memo that is told of its twin
 
-module _ (tally : Tally) (awaited : Awaited) (heard : List News) (twin : ℕ)
-    (can : CanHear awaited heard tally tally.inputs twin) where
+module _ (memo : Memo) (awaited : Awaited) (heard : List News) (twin : ℕ)
+    (can : CanHear awaited heard memo memo.inputs twin) where
   abbrev n : ℕ
   n = length awaited.inputs
 
@@ -308,36 +308,36 @@ module _ (tally : Tally) (awaited : Awaited) (heard : List News) (twin : ℕ)
   twin_within : n < length heard
   twin_within = slice_get_within heard n Open unknown_twin
 
-  told_now : (news : News) → set heard tally.inputs news ≡ set heard n news
+  told_now : (news : News) → set heard memo.inputs news ≡ set heard n news
   told_now news = search (rules, set)
 
   abbrev by_own : State
-  by_own = by_first (slice_get awaited.inputs tally.first) (tally.waits == 0)
+  by_own = by_first (slice_get awaited.inputs memo.first) (memo.waits == 0)
 
-  pub released_before : tally.state
-      ≡ by_phase (phase_in tally.state) (by_all tally.standing (Open ∷ behind) by_own)
+  pub released_before : memo.state
+      ≡ by_phase (phase_in memo.state) (by_all memo.standing (Open ∷ behind) by_own)
   released_before = can.is.state
-      ∙ ap (λ t. by_phase (phase_in tally.state) (by_all tally.standing t
+      ∙ ap (λ t. by_phase (phase_in memo.state) (by_all memo.standing t
       (by_news awaited.inputs (of_inputs awaited heard)))) (drop_more heard n Open twin_within
       ∙ ap (λ x. x ∷ behind) (get_or_from_slice_get heard n Open Open unknown_twin))
-      ∙ ap (λ s. by_phase (phase_in tally.state) (by_all tally.standing (Open ∷ behind) s))
-      (by_counts awaited.inputs (of_inputs awaited heard) tally
+      ∙ ap (λ s. by_phase (phase_in memo.state) (by_all memo.standing (Open ∷ behind) s))
+      (by_counts awaited.inputs (of_inputs awaited heard) memo
       (count_of_inputs awaited heard can.is.count) can.is.waits can.is.first)
 
   pub released_is : (good : Bool) (state : State)
-      → state ≡ by_phase (phase_in state) (by_all tally.standing (news_by good ∷ behind) by_own)
-      → IsTally awaited (slice_set heard tally.inputs (news_by good))
-      (record tally { state = state; held = false })
+      → state ≡ by_phase (phase_in state) (by_all memo.standing (news_by good ∷ behind) by_own)
+      → IsMemo awaited (slice_set heard memo.inputs (news_by good))
+      (record memo { state = state; held = false })
   released_is good state is =
-      subst (λ l. IsTally awaited l (record tally { state = state; held = false }))
+      subst (λ l. IsMemo awaited l (record memo { state = state; held = false }))
       (sym (told_now (news_by good)))
-      (tally_from_counts awaited (set heard n (news_by good))
-      (record tally { state = state; held = false }) can.is.one
+      (memo_from_counts awaited (set heard n (news_by good))
+      (record memo { state = state; held = false }) can.is.one
       (length-set heard n (news_by good) ∙ can.is.count) can.is.inputs
       (can.is.waits ∙ sym (ap waiting same))
       (can.is.first ∙ sym (ap (position_or_len is_bad_news) same)) can.is.failed
       (sym (ap is_held front ∙ ended good))
-      (is ∙ ap (λ t. by_phase (phase_in state) (by_all tally.standing t by_own)) (sym front)))
+      (is ∙ ap (λ t. by_phase (phase_in state) (by_all memo.standing t by_own)) (sym front)))
     where
       same : of_inputs awaited (set heard n (news_by good)) ≡ of_inputs awaited heard
       same = take-set heard n (news_by good)
@@ -349,41 +349,41 @@ module _ (tally : Tally) (awaited : Awaited) (heard : List News) (twin : ℕ)
       ended true = refl
       ended false = refl
 
-  blocked_before : tally.state ≡ Blocked
-      → Blocked ≡ by_all tally.standing (Open ∷ behind) by_own
+  blocked_before : memo.state ≡ Blocked
+      → Blocked ≡ by_all memo.standing (Open ∷ behind) by_own
   blocked_before blocked = search (rules, behind, by_own, released_before)
 
-  pub released_good : (good : Bool) → good ≡ true → tally.state ≡ Blocked
-      → IsTally awaited (slice_set heard tally.inputs (news_by good))
-      (record tally { state = Reused; held = false })
+  pub released_good : (good : Bool) → good ≡ true → memo.state ≡ Blocked
+      → IsMemo awaited (slice_set heard memo.inputs (news_by good))
+      (record memo { state = Reused; held = false })
   released_good good built blocked = released_is good Reused
-      (sym (ap (λ b. if b then Reused else by_hindrance tally.standing by_own) built)
-      ∙ released_now tally.standing behind by_own good (blocked_before blocked))
+      (sym (ap (λ b. if b then Reused else by_hindrance memo.standing by_own) built)
+      ∙ released_now memo.standing behind by_own good (blocked_before blocked))
 
-  pub released_bad : (good : Bool) (state : State) → good ≡ false → tally.state ≡ Blocked
-      → state ≡ by_hindrance tally.standing (by_first tally.failed (tally.waits == 0))
-      → IsTally awaited (slice_set heard tally.inputs (news_by good))
-      (record tally { state = state; held = false })
+  pub released_bad : (good : Bool) (state : State) → good ≡ false → memo.state ≡ Blocked
+      → state ≡ by_hindrance memo.standing (by_first memo.failed (memo.waits == 0))
+      → IsMemo awaited (slice_set heard memo.inputs (news_by good))
+      (record memo { state = state; held = false })
   released_bad good state failed blocked own = released_is good state
-      (same ∙ sym (ap (λ p. by_phase p (by_all tally.standing (news_by good ∷ behind) by_own))
+      (same ∙ sym (ap (λ p. by_phase p (by_all memo.standing (news_by good ∷ behind) by_own))
       (ap phase_in same ∙ rests)))
     where
-      own_here : state ≡ by_hindrance tally.standing by_own
+      own_here : state ≡ by_hindrance memo.standing by_own
       own_here = search (rules, own)
 
-      same : state ≡ by_all tally.standing (news_by good ∷ behind) by_own
+      same : state ≡ by_all memo.standing (news_by good ∷ behind) by_own
       same = search (rules, own_here, by_own, released_now, behind, blocked_before)
 
-      rests : phase_in (by_all tally.standing (news_by good ∷ behind) by_own) ≡ Idle
+      rests : phase_in (by_all memo.standing (news_by good ∷ behind) by_own) ≡ Idle
       rests = search (rules, same, own_here, own_is_idle)
 
-  pub released_else : (good : Bool) → (tally.state ≡ Blocked → ⊥)
-      → IsTally awaited (slice_set heard tally.inputs (news_by good))
-      (record tally { held = false })
+  pub released_else : (good : Bool) → (memo.state ≡ Blocked → ⊥)
+      → IsMemo awaited (slice_set heard memo.inputs (news_by good))
+      (record memo { held = false })
   released_else good apart =
       search (rules, released_is, not_released, behind, by_own, released_before)
 
--- ---- a tally that was counted
+-- ---- a memo that was counted
 
 module _ (standing : Standing) (wanted : Bool) (twin : Option ℕ) (inputs : List ℕ)
     (state_of : ℕ → State) (place waits first : ℕ) (state : State) (held : Bool)
@@ -430,8 +430,8 @@ module _ (standing : Standing) (wanted : Bool) (twin : Option ℕ) (inputs : Lis
   by_twin None held says = rw says refl
   by_twin (Some t) held says = rw says refl
 
-  -- the tally of one that waits for these, of all but the twin of which the news are known
-  pub counted_tally : IsTally awaited_here (known ++ unheard) (record {
+  -- the memo of one that waits for these, of all but the twin of which the news are known
+  pub counted_memo : IsMemo awaited_here (known ++ unheard) (record {
     standing = standing;
     wanted = wanted;
     twin = twin;
@@ -442,8 +442,8 @@ module _ (standing : Standing) (wanted : Bool) (twin : Option ℕ) (inputs : Lis
     failed = slice_get inputs first;
     held = held;
   })
-  counted_tally =
-      tally_from_counts awaited_here (known ++ unheard) (record {
+  counted_memo =
+      memo_from_counts awaited_here (known ++ unheard) (record {
         standing = standing;
         wanted = wanted;
         twin = twin;
@@ -465,10 +465,10 @@ module _ (standing : Standing) (wanted : Bool) (twin : Option ℕ) (inputs : Lis
       (sym idle))
 
 -- where all is known, each place has the news of what stands there
-pub hears_all : (awaited : Awaited) (state_of : ℕ → State) (heard : List News) (tally : Tally)
-    → IsTally awaited heard tally → heard ≡ news_in state_of (all_of awaited)
-    → Hears awaited state_of (λ place. 0) tally
-hears_all awaited state_of heard tally is all = record {
+pub hears_all : (awaited : Awaited) (state_of : ℕ → State) (heard : List News) (memo : Memo)
+    → IsMemo awaited heard memo → heard ≡ news_in state_of (all_of awaited)
+    → Hears awaited state_of (λ place. 0) memo
+hears_all awaited state_of heard memo is all = record {
   heard = heard;
   is = is;
   knows = λ place one at. inl (
@@ -480,7 +480,7 @@ hears_all awaited state_of heard tally is all = record {
   );
 }
 
--- ---- a tally that was counted, and is told of its twin
+-- ---- a memo that was counted, and is told of its twin
 
 get_last : {X : Type 0} (xs : List X) (y : X) (n : ℕ) → n ≡ length xs
     → slice_get (xs ++ y ∷ []) n ≡ Some y
@@ -520,51 +520,51 @@ news_open (Building lease) is = refl
 news_open Ready is = refl
 news_open Blocked is = refl
 
-module _ (inputs : List ℕ) (t : ℕ) (state_of : ℕ → State) (tally : Tally)
-    (is : IsTally (record { inputs = inputs; twins = t ∷ [] })
-    (news_in state_of inputs ++ Open ∷ []) tally) where
+module _ (inputs : List ℕ) (t : ℕ) (state_of : ℕ → State) (memo : Memo)
+    (is : IsMemo (record { inputs = inputs; twins = t ∷ [] })
+    (news_in state_of inputs ++ Open ∷ []) memo) where
   abbrev with_twin : Awaited
   with_twin = record { inputs = inputs; twins = t ∷ [] }
 
   abbrev opened : List News
   opened = news_in state_of inputs ++ Open ∷ []
 
-  at_end : tally.inputs ≡ length (news_in state_of inputs)
+  at_end : memo.inputs ≡ length (news_in state_of inputs)
   at_end = search (rules, length-map)
 
-  pub can_release : CanHear with_twin opened tally tally.inputs t
+  pub can_release : CanHear with_twin opened memo memo.inputs t
   can_release = search (rules, unknown, get_last, at_end)
 
   pub hears_open : is_open (state_of t) ≡ true
-      → Hears with_twin state_of (λ place. 0) tally
-  hears_open still = hears_all with_twin state_of opened tally is
+      → Hears with_twin state_of (λ place. 0) memo
+  hears_open still = hears_all with_twin state_of opened memo is
       (ap (λ n. news_in state_of inputs ++ n ∷ []) (news_open (state_of t) still)
       ∙ news_push state_of inputs t)
 
-  pub hears_released : (good : Bool) (result : Tally) → good ≡ is_good (state_of t)
+  pub hears_released : (good : Bool) (result : Memo) → good ≡ is_good (state_of t)
       → is_open (state_of t) ≡ false
       → ((awaited : Awaited) (heard : List News) (twin : ℕ)
-      → CanHear awaited heard tally tally.inputs twin
-      → IsTally awaited (slice_set heard tally.inputs (news_by good)) result)
+      → CanHear awaited heard memo memo.inputs twin
+      → IsMemo awaited (slice_set heard memo.inputs (news_by good)) result)
       → Hears with_twin state_of (λ place. 0) result
   hears_released good result says closed told =
-      hears_all with_twin state_of (set opened tally.inputs (news_by good)) result
+      hears_all with_twin state_of (set opened memo.inputs (news_by good)) result
       (told with_twin opened t can_release)
-      (set_last (news_in state_of inputs) Open (news_by good) tally.inputs at_end
+      (set_last (news_in state_of inputs) Open (news_by good) memo.inputs at_end
       ∙ ap (λ n. news_in state_of inputs ++ n ∷ [])
       (ap news_by says ∙ news_closed (state_of t) closed)
       ∙ news_push state_of inputs t)
 
 -- one that waits for its inputs alone
-pub hears_inputs : (inputs : List ℕ) (state_of : ℕ → State) (tally : Tally)
-    → IsTally (record { inputs = inputs; twins = [] }) (news_in state_of inputs ++ []) tally
-    → Hears (record { inputs = inputs; twins = [] }) state_of (λ place. 0) tally
-hears_inputs inputs state_of tally is = search (rules, hears_all, append-nil)
+pub hears_inputs : (inputs : List ℕ) (state_of : ℕ → State) (memo : Memo)
+    → IsMemo (record { inputs = inputs; twins = [] }) (news_in state_of inputs ++ []) memo
+    → Hears (record { inputs = inputs; twins = [] }) state_of (λ place. 0) memo
+hears_inputs inputs state_of memo is = search (rules, hears_all, append-nil)
 
--- the state that a tally holds, as it is kept
-pub tally_state : (tallies : List Tally) (t : ℕ) (none : Tally) → t < length tallies
-    → (get_or tallies t none).state ≡ kept (states_in tallies) t
-tally_state tallies t none low = search (rules, get_or-map, low)
+-- the state that a memo holds, as it is kept
+pub memo_state : (memos : List Memo) (t : ℕ) (none : Memo) → t < length memos
+    → (get_or memos t none).state ≡ kept (states_in memos) t
+memo_state memos t none low = search (rules, get_or-map, low)
 
 -- what is listed of a number that is there
 pub listed_low : (twin : Option ℕ) (t bound : ℕ) → twin ≡ Some t

@@ -6,12 +6,12 @@ use Rattle.drv_graph.specs.Plans.{Graph}
 use Rattle.run_states.specs.Courses.{Awaited, Course, all_of, awaited_at}
 use Rattle.run_states.specs.Coursing.{course_of, kept, phase_in}
 use Rattle.run_states.specs.States.{Idle, Phase, is_open}
-use Rattle.run_states.specs.Tallies.{HaveHeard, states_in}
+use Rattle.run_states.specs.Memos.{HaveHeard, states_in}
 use Rattle.run_states.specs.Users.{AreUsers, users_of_all}
 use Rattle.run_states.specs.declared.state.State.{State}
 use Rattle.run_states.specs.declared.state.State.TheVariants.{Ready, Blocked}
 use Rattle.run_states.specs.declared.standing.Standing.{Standing}
-use Rattle.run_states.specs.declared.tally.Tally.{Tally}
+use Rattle.run_states.specs.declared.memo.Memo.{Memo}
 use Rattle.run_states.specs.declared.users.Edge.{Edge}
 
 -- What is still to be done, by the numbers of derivations. `ring` has the wanted ones that are
@@ -36,126 +36,126 @@ is_blocked Blocked = true
 is_blocked state = false
 
 -- whether a derivation is wanted, and Blocked, Ready or Building
-abbrev pub is_unsettled : Tally → Bool
-is_unsettled tally = tally.wanted && is_open tally.state
+abbrev pub is_unsettled : Memo → Bool
+is_unsettled memo = memo.wanted && is_open memo.state
 
--- how many of some tallies pass a test
-abbrev pub tally_count : (Tally → Bool) → List Tally → ℕ
-tally_count test [] = 0
-tally_count test (tally ∷ tallies) = (if test tally then 1 else 0) + tally_count test tallies
+-- how many of some memos pass a test
+abbrev pub memo_count : (Memo → Bool) → List Memo → ℕ
+memo_count test [] = 0
+memo_count test (memo ∷ memos) = (if test memo then 1 else 0) + memo_count test memos
 
 -- the derivation with this number is wanted
-abbrev pub IsWantedAt : List Tally → ℕ → Type 0
-IsWantedAt tallies d = (tally : Tally) × (slice_get tallies d ≡ Some tally)
-    × (tally.wanted ≡ true)
+abbrev pub IsWantedAt : List Memo → ℕ → Type 0
+IsWantedAt memos d = (memo : Memo) × (slice_get memos d ≡ Some memo)
+    × (memo.wanted ≡ true)
 
--- The agenda is right for these tallies. The ring has each wanted derivation that is Ready, and has
+-- The agenda is right for these memos. The ring has each wanted derivation that is Ready, and has
 -- wanted ones alone. It has room for each Blocked derivation, which may still come there. The work
 -- has space for each derivation that is Blocked, Ready or Building, which may still come there.
-pub record IsAgenda (tallies : List Tally) (agenda : Agenda) : Type 0 where
-  pub ready : (d : ℕ) (tally : Tally) → slice_get tallies d ≡ Some tally → tally.wanted ≡ true
-      → tally.state ≡ Ready → Contains agenda.ring d
-  pub ring : All (IsWantedAt tallies) agenda.ring
-  pub room : length agenda.ring + tally_count (λ tally. is_blocked tally.state) tallies
+pub record IsAgenda (memos : List Memo) (agenda : Agenda) : Type 0 where
+  pub ready : (d : ℕ) (memo : Memo) → slice_get memos d ≡ Some memo → memo.wanted ≡ true
+      → memo.state ≡ Ready → Contains agenda.ring d
+  pub ring : All (IsWantedAt memos) agenda.ring
+  pub room : length agenda.ring + memo_count (λ memo. is_blocked memo.state) memos
       ≤ agenda.room
-  pub work : All (λ d. d < length tallies) agenda.work
-  pub space : length agenda.work + tally_count (λ tally. is_open tally.state) tallies
+  pub work : All (λ d. d < length memos) agenda.work
+  pub space : length agenda.work + memo_count (λ memo. is_open memo.state) memos
       ≤ agenda.space
-  pub unsettled : agenda.unsettled ≡ tally_count is_unsettled tallies
+  pub unsettled : agenda.unsettled ≡ memo_count is_unsettled memos
 
 -- the first in the ring, if there is one, is Ready
-abbrev pub IsFresh : List Tally → Agenda → Type 0
-IsFresh tallies agenda = (d : ℕ) → slice_get agenda.ring 0 ≡ Some d
-    → kept (states_in tallies) d ≡ Ready
+abbrev pub IsFresh : List Memo → Agenda → Type 0
+IsFresh memos agenda = (d : ℕ) → slice_get agenda.ring 0 ≡ Some d
+    → kept (states_in memos) d ≡ Ready
 
 -- the list of one number, or the empty list
 abbrev pub alone_if : Bool → ℕ → List ℕ
 alone_if is d = if is then d ∷ [] else []
 
--- whether by this change of its tally a wanted Blocked derivation becomes Ready
-abbrev pub frees : (before after : Tally) → Bool
+-- whether by this change of its memo a wanted Blocked derivation becomes Ready
+abbrev pub frees : (before after : Memo) → Bool
 frees before after = after.wanted && is_blocked before.state && is_ready after.state
 
--- whether by this change of its tally a derivation ends: it is not Blocked, Ready or Building any
+-- whether by this change of its memo a derivation ends: it is not Blocked, Ready or Building any
 -- more
-abbrev pub ends : (before after : Tally) → Bool
+abbrev pub ends : (before after : Memo) → Bool
 ends before after = is_open before.state && not (is_open after.state)
 
--- whether by this change of its tally a wanted derivation ends
-abbrev pub settles : (before after : Tally) → Bool
+-- whether by this change of its memo a wanted derivation ends
+abbrev pub settles : (before after : Memo) → Bool
 settles before after = after.wanted && ends before after
 
--- the agenda after the tally of derivation `d` changed
-abbrev pub noted : Agenda → (d : ℕ) → (before after : Tally) → Agenda
+-- the agenda after the memo of derivation `d` changed
+abbrev pub noted : Agenda → (d : ℕ) → (before after : Memo) → Agenda
 noted agenda d before after = record agenda {
   ring = agenda.ring ++ alone_if (frees before after) d;
   work = agenda.work ++ alone_if (ends before after) d;
   unsettled = agenda.unsettled - (if settles before after then 1 else 0);
 }
 
--- Each tally is right but for the ends that are still to be told: along the edges `left`, and then
+-- Each memo is right but for the ends that are still to be told: along the edges `left`, and then
 -- along the edges from those of the work to their users.
-pub record IsSpreading (awaited : ℕ → Awaited) (users : List (List Edge)) (tallies : List Tally)
+pub record IsSpreading (awaited : ℕ → Awaited) (users : List (List Edge)) (memos : List Memo)
     (agenda : Agenda) (left : List Edge) : Type 0 where
   pub first : (d i : ℕ) → Contains (all_of (awaited d)) i → i < d
-  pub edges : AreUsers (λ d. all_of (awaited d)) (length tallies) users
-  pub heard : HaveHeard awaited tallies (left ++ users_of_all users agenda.work)
-  pub listed : IsAgenda tallies agenda
+  pub edges : AreUsers (λ d. all_of (awaited d)) (length memos) users
+  pub heard : HaveHeard awaited memos (left ++ users_of_all users agenda.work)
+  pub listed : IsAgenda memos agenda
 
 -- how many derivations' ends are still to be told: those of the work, and those of all that are
 -- Blocked, Ready or Building
-abbrev pub to_end : List Tally → Agenda → ℕ
-to_end tallies agenda = length agenda.work + tally_count (λ tally. is_open tally.state) tallies
+abbrev pub to_end : List Memo → Agenda → ℕ
+to_end memos agenda = length agenda.work + memo_count (λ memo. is_open memo.state) memos
 
 -- No end is left to be told, and the first in the ring, if there is one, is Ready.
-pub record IsSteady (awaited : ℕ → Awaited) (users : List (List Edge)) (tallies : List Tally)
+pub record IsSteady (awaited : ℕ → Awaited) (users : List (List Edge)) (memos : List Memo)
     (agenda : Agenda) : Type 0 where
-  pub told : IsSpreading awaited users tallies agenda []
+  pub told : IsSpreading awaited users memos agenda []
   pub none : agenda.work ≡ []
-  pub fresh : IsFresh tallies agenda
+  pub fresh : IsFresh memos agenda
 
--- the standings that tallies hold
-abbrev pub standings_in : List Tally → List Standing
-standings_in tallies = map (λ (tally : Tally). tally.standing) tallies
+-- the standings that memos hold
+abbrev pub standings_in : List Memo → List Standing
+standings_in memos = map (λ (memo : Memo). memo.standing) memos
 
--- of each derivation, whether it is wanted, as tallies hold it
-abbrev pub wanted_in : List Tally → List Bool
-wanted_in tallies = map (λ (tally : Tally). tally.wanted) tallies
+-- of each derivation, whether it is wanted, as memos hold it
+abbrev pub wanted_in : List Memo → List Bool
+wanted_in memos = map (λ (memo : Memo). memo.wanted) memos
 
--- the nearest earlier twins that tallies hold
-abbrev pub twins_in : List Tally → List (Option ℕ)
-twins_in tallies = map (λ (tally : Tally). tally.twin) tallies
+-- the nearest earlier twins that memos hold
+abbrev pub twins_in : List Memo → List (Option ℕ)
+twins_in memos = map (λ (memo : Memo). memo.twin) memos
 
--- the phases of the states that tallies hold
-abbrev pub phases_in : List Tally → List Phase
-phases_in tallies = map phase_in (states_in tallies)
+-- the phases of the states that memos hold
+abbrev pub phases_in : List Memo → List Phase
+phases_in memos = map phase_in (states_in memos)
 
--- Tallies keep their standings, what is wanted, their twins, and the phases of their states.
-pub record AreSameElse (before after : List Tally) : Type 0 where
+-- Memos keep their standings, what is wanted, their twins, and the phases of their states.
+pub record AreSameElse (before after : List Memo) : Type 0 where
   pub standings : standings_in after ≡ standings_in before
   pub wanted : wanted_in after ≡ wanted_in before
   pub twins : twins_in after ≡ twins_in before
   pub phases : phases_in after ≡ phases_in before
 
--- the course of a plan whose derivations have these tallies
-abbrev pub course_by : Graph → List Tally → Course
-course_by graph tallies =
-    course_of graph (standings_in tallies) (wanted_in tallies) (twins_in tallies)
-    (states_in tallies)
+-- the course of a plan whose derivations have these memos
+abbrev pub course_by : Graph → List Memo → Course
+course_by graph memos =
+    course_of graph (standings_in memos) (wanted_in memos) (twins_in memos)
+    (states_in memos)
 
--- These are the tallies of a plan on which nothing has begun.
+-- These are the memos of a plan on which nothing has begun.
 pub record AreOpening (graph : Graph) (standings : List Standing) (wanted : List Bool)
-    (twins : List (Option ℕ)) (tallies : List Tally) : Type 0 where
-  pub count : length tallies ≡ length graph.nodes
-  pub stand : standings_in tallies ≡ standings
-  pub are_wanted : wanted_in tallies ≡ wanted
-  pub are_twins : twins_in tallies ≡ twins
-  pub idle : (d : ℕ) → slice_index_or (phases_in tallies) d Idle ≡ Idle
+    (twins : List (Option ℕ)) (memos : List Memo) : Type 0 where
+  pub count : length memos ≡ length graph.nodes
+  pub stand : standings_in memos ≡ standings
+  pub are_wanted : wanted_in memos ≡ wanted
+  pub are_twins : twins_in memos ≡ twins
+  pub idle : (d : ℕ) → slice_index_or (phases_in memos) d Idle ≡ Idle
   pub first : (d i : ℕ) → Contains (all_of (awaited_at graph twins d)) i → i < d
-  pub heard : HaveHeard (awaited_at graph twins) tallies []
+  pub heard : HaveHeard (awaited_at graph twins) memos []
 
--- These are the tallies of a plan, with the edges to users and the agenda; all ends are told.
-pub record IsCourse (graph : Graph) (tallies : List Tally) (users : List (List Edge))
+-- These are the memos of a plan, with the edges to users and the agenda; all ends are told.
+pub record IsCourse (graph : Graph) (memos : List Memo) (users : List (List Edge))
     (agenda : Agenda) : Type 0 where
-  pub count : length tallies ≡ length graph.nodes
-  pub steady : IsSteady (awaited_at graph (twins_in tallies)) users tallies agenda
+  pub count : length memos ≡ length graph.nodes
+  pub steady : IsSteady (awaited_at graph (twins_in memos)) users memos agenda

@@ -11,7 +11,7 @@ pub mod PlanLaws
 pub mod Runs
 pub mod States
 pub mod Steps
-pub mod Tallies
-pub mod ToldEdges
+pub mod Memos
+pub mod FollowedEdges
 pub mod UserSpans
 pub mod Users

@@ -31,10 +31,10 @@ edges_ahead_in run history = edges_ahead (awaited_by run history) (state_in run 
 
 -- The number of edges along which an end was told: those from derivations that were open when the
 -- journal opened and are not open now.
-abbrev pub told_in : Run → History → ℕ
-told_in run history = edges_ahead_in run (opened history.opening) - edges_ahead_in run history
+abbrev pub followed_in : Run → History → ℕ
+followed_in run history = edges_ahead_in run (opened history.opening) - edges_ahead_in run history
 
 -- One step for the state of each event, and two for each edge along which an end was told: the edge
 -- was followed, and the state at its end was worked out.
 abbrev pub steps_in : Run → History → ℕ
-steps_in run history = length history.events + 2 * told_in run history
+steps_in run history = length history.events + 2 * followed_in run history

@@ -3,9 +3,9 @@
 ghost use Rattle.std.specs.Prelude.{◌≡◌, ◌≤◌, ◌==◌, [], IfErr, IfOk, Option, if◌then◌else◌, length, slice_get, drop};
 ghost use Rattle.run_states.specs.Agendas.{IsAgenda, IsFresh, is_blocked, is_ready, noted, settles};
 
+use crate::memo::Memo;
 use crate::state::State;
 use crate::states::is_open;
-use crate::tally::Tally;
 use circular_buffer::HeapCircularBuffer;
 use std::alloc::{AllocError, Global};
 use std::marker::Model;
@@ -13,8 +13,8 @@ use std::marker::Model;
 // What is still to be done of a plan. In each list is room for all that may come.
 #[derive(Debug, Drop)]
 pub(crate) struct Agenda {
-    // Wanted derivations: all that are Ready, and some that have begun since. `freshen` takes those
-    // off the front.
+    // Wanted derivations: all that are Ready, and some that have begun since. `drop_begun` takes
+    // those off its start.
     ring: HeapCircularBuffer<usize>,
     // Ended derivations whose users are still to be told.
     work: HeapCircularBuffer<usize>,
@@ -37,21 +37,21 @@ impl Model for Agenda {
 }
 
 impl Agenda {
-    // The agenda of derivations with these tallies. Takes memory for all that may come.
-    pub(crate) fn open(alloc: Global, tallies: &[Tally]) -> Result<Agenda, AllocError>
-        ensures is { IfOk result (λ agenda. IsAgenda tallies.now agenda) }
-        ensures fresh { IfOk result (λ agenda. IsFresh tallies.now agenda) }
+    // The agenda of derivations with these memos. Takes memory for all that may come.
+    pub(crate) fn open(alloc: Global, memos: &[Memo]) -> Result<Agenda, AllocError>
+        ensures is { IfOk result (λ agenda. IsAgenda memos.now agenda) }
+        ensures fresh { IfOk result (λ agenda. IsFresh memos.now agenda) }
         ensures none { IfOk result (λ agenda. agenda.work ≡ []) }
-        ensures room { IfOk result (λ agenda. agenda.room ≡ length tallies.now) }
-        ensures space { IfOk result (λ agenda. agenda.space ≡ length tallies.now) }
+        ensures room { IfOk result (λ agenda. agenda.room ≡ length memos.now) }
+        ensures space { IfOk result (λ agenda. agenda.space ≡ length memos.now) }
     {
-        let mut ring = HeapCircularBuffer::with_capacity(alloc, tallies.len())?;
-        let work = HeapCircularBuffer::with_capacity(alloc, tallies.len())?;
+        let mut ring = HeapCircularBuffer::with_capacity(alloc, memos.len())?;
+        let work = HeapCircularBuffer::with_capacity(alloc, memos.len())?;
         let mut unsettled = 0;
-        for (d, tally) in tallies.iter().enumerate() {
-            if tally.wanted && is_open(tally.state) {
+        for (d, memo) in memos.iter().enumerate() {
+            if memo.wanted && is_open(memo.state) {
                 unsettled += 1;
-                if is_ready(tally.state) {
+                if is_ready(memo.state) {
                     ring.push_back(d);
                 }
             }
@@ -84,8 +84,8 @@ impl Agenda {
         self.unsettled
     }
 
-    // Notes that the tally of derivation `d` changed from `before` to `after`. Takes no memory.
-    pub(crate) fn note(&mut self, d: usize, before: Tally, after: Tally)
+    // Notes that the memo of derivation `d` changed from `before` to `after`. Takes no memory.
+    pub(crate) fn note(&mut self, d: usize, before: Memo, after: Memo)
         requires room { length (noted self.old d before after).ring ≤ self.old.room }
         requires space { length (noted self.old d before after).work ≤ self.old.space }
         requires unsettled { (if settles before after then 1 else 0) ≤ self.old.unsettled }
@@ -110,15 +110,15 @@ impl Agenda {
         self.work.pop_front()
     }
 
-    // Takes derivations that have begun off the front of the ring.
-    pub(crate) fn freshen(&mut self, tallies: &[Tally])
-        requires { IsAgenda tallies.now self.old }
-        ensures is { IsAgenda tallies.now self.new }
-        ensures fresh { IsFresh tallies.now self.new }
+    // Takes derivations that have begun off the start of the ring.
+    pub(crate) fn drop_begun(&mut self, memos: &[Memo])
+        requires { IsAgenda memos.now self.old }
+        ensures is { IsAgenda memos.now self.new }
+        ensures fresh { IsFresh memos.now self.new }
         ensures work { self.new.work ≡ self.old.work }
     {
         while let Some(&d) = self.ring.front() {
-            if is_ready(tallies[d].state) {
+            if is_ready(memos[d].state) {
                 return;
             }
             self.ring.pop_front();

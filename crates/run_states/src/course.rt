@@ -6,47 +6,47 @@ ghost use Rattle.run_states.specs.Counts.{HasCount};
 ghost use Rattle.run_states.specs.Courses.{HasBegun, IsNext, IsSettled, IsUnsettledIn, course_state, listed};
 ghost use Rattle.run_states.specs.Coursing.{phase_in};
 ghost use Rattle.run_states.specs.States.{Begun, Broken, Ended, Idle};
-ghost use Rattle.run_states.specs.Tallies.{Turns};
-ghost use Rattle.run_states.specs.ToldEdges.{course_told};
+ghost use Rattle.run_states.specs.Memos.{Turns};
+ghost use Rattle.run_states.specs.FollowedEdges.{course_followed};
 ghost use Rattle.run_states.specs.declared.fault.BookFault.TheVariants.{NoMemory};
 
 use crate::agenda::Agenda;
 use crate::fault::BookFault;
-use crate::spreading::turn;
+use crate::memo::{Memo, memo_of};
+use crate::spreading::change_state;
 use crate::standing::Standing;
 use crate::state::State;
 use crate::states::inputs_of;
-use crate::tally::{Tally, tally_of};
 use crate::users::Users;
 use build_outcome::Reason;
 use drv_graph::Plan;
 use std::alloc::{AllocError, Global};
 use std::marker::Model;
 
-/// A plan, and the state of each of its derivations: of each a tally and the edges to those that
-/// wait for it; and what is still to be done. An event costs a step for each edge along which an end
-/// is told, and along each edge an end is told at most once.
+/// A plan, and the state of each of its derivations: of each a memo and the edges to those that
+/// wait for it; and what is still to be done. An event costs a step for each edge along which an
+/// end is told, and along each edge an end is told at most once.
 #[derive(Debug, Drop)]
 pub struct Course {
     plan: Plan,
-    tallies: Vec<Tally>,
+    memos: Vec<Memo>,
     users: Users,
     agenda: Agenda,
     // Along how many edges an end was told.
-    told: usize,
+    followed: usize,
 }
 
 impl Model for Course {
     ghost use Rattle.run_states.specs.Courses.{Course};
     ghost use Rattle.run_states.specs.Agendas.{IsCourse, course_by};
-    ghost use Rattle.run_states.specs.ToldEdges.{HasTold};
+    ghost use Rattle.run_states.specs.FollowedEdges.{HasFollowed};
 
     ghost Value = { Course };
 
-    ghost view = { λ c. course_by c.plan c.tallies.items };
+    ghost view = { λ c. course_by c.plan c.memos.items };
 
-    ghost invariant = { λ c. IsCourse c.plan c.tallies.items c.users c.agenda
-        × HasTold c.plan c.tallies.items c.users c.told };
+    ghost invariant = { λ c. IsCourse c.plan c.memos.items c.users c.agenda
+        × HasFollowed c.plan c.memos.items c.users c.followed };
 }
 
 impl Course {
@@ -72,14 +72,14 @@ impl Course {
         ensures err { IfErr result (λ fault. fault ≡ NoMemory) }
     {
         let users = Users::open(alloc, &plan, &twins)?;
-        let tallies = tallies_of(alloc, &plan, &standings, &wanted, &twins)?;
-        let agenda = Agenda::open(alloc, &tallies)?;
+        let memos = memos_of(alloc, &plan, &standings, &wanted, &twins)?;
+        let agenda = Agenda::open(alloc, &memos)?;
         Ok(Course {
             plan,
-            tallies,
+            memos,
             users,
             agenda,
-            told: 0,
+            followed: 0,
         })
     }
 
@@ -91,11 +91,11 @@ impl Course {
     }
 
     /// Of each derivation, whether it is wanted.
-    pub fn wanted(&self, alloc: Global) -> Result<Vec<bool>, AllocError>
+    pub fn wanted_marks(&self, alloc: Global) -> Result<Vec<bool>, AllocError>
         ensures marks { IfOk result (λ marks. marks.items ≡ self.now.wanted) }
         ensures count { IfOk result (λ marks. length marks.items ≡ length self.now.graph.nodes) }
     {
-        wanted_in(alloc, &self.tallies)
+        wanted_in(alloc, &self.memos)
     }
 
     /// The state of the derivation with this number.
@@ -103,7 +103,7 @@ impl Course {
         requires { d < length self.now.graph.nodes }
         ensures { result ≡ course_state self.now d }
     {
-        self.tallies[d].state
+        self.memos[d].state
     }
 
     /// A derivation that is wanted and can be begun, if there is one.
@@ -123,7 +123,7 @@ impl Course {
     }
 
     /// Notes that a derivation was built. Takes no memory.
-    pub fn done(&mut self, d: usize)
+    pub fn finish(&mut self, d: usize)
         requires { HasBegun self.old d }
         ensures { self.new ≡ record self.old { phases = slice_set self.old.phases d Ended } }
     {
@@ -154,10 +154,10 @@ impl Course {
     }
 
     /// Along how many edges an end was told.
-    pub fn told(&self) -> usize
-        ensures { result ≡ course_told self.now }
+    pub fn followed_edges(&self) -> usize
+        ensures { result ≡ course_followed self.now }
     {
-        self.told
+        self.followed
     }
 
     // Notes the state of a derivation, by its last event.
@@ -168,41 +168,41 @@ impl Course {
         ensures { self.new
             ≡ record self.old { phases = slice_set self.old.phases d (phase_in state) } }
     {
-        let told = turn(&self.users, &mut self.tallies, &mut self.agenda, d, state);
-        self.told += told;
+        let followed = change_state(&self.users, &mut self.memos, &mut self.agenda, d, state);
+        self.followed += followed;
     }
 }
 
 // Of each of some derivations, whether it is wanted.
-fn wanted_in(alloc: Global, tallies: &[Tally]) -> Result<Vec<bool>, AllocError>
-    ensures { IfOk result (λ marks. marks.items ≡ wanted_in tallies.now) }
+fn wanted_in(alloc: Global, memos: &[Memo]) -> Result<Vec<bool>, AllocError>
+    ensures { IfOk result (λ marks. marks.items ≡ wanted_in memos.now) }
 {
-    tallies.iter().map(|tally| tally.wanted).collect(alloc)
+    memos.iter().map(|memo| memo.wanted).collect(alloc)
 }
 
-// The tallies of a plan on which nothing has begun, by one pass in plan order. Costs a step for
+// The memos of a plan on which nothing has begun, by one pass in plan order. Costs a step for
 // each derivation and each pair of one and what it waits for.
-fn tallies_of(
+fn memos_of(
     alloc: Global,
     plan: &Plan,
     standings: &[Standing],
     wanted: &[bool],
     twins: &[Option<usize>],
-) -> Result<Vec<Tally>, BookFault>
+) -> Result<Vec<Memo>, BookFault>
     requires standings { length standings.now ≡ length plan.now.nodes }
     requires wanted { length wanted.now ≡ length plan.now.nodes }
     requires twins { length twins.now ≡ length plan.now.nodes }
     requires smaller { (d : ℕ) → All (λ t. t < d) (listed (slice_index_or twins.now d None)) }
     ensures ok { IfOk result
-        (λ tallies. AreOpening plan.now standings.now wanted.now twins.now tallies.items) }
-    ensures room { IfOk result (λ tallies. vec_capacity tallies ≡ length plan.now.nodes) }
+        (λ memos. AreOpening plan.now standings.now wanted.now twins.now memos.items) }
+    ensures room { IfOk result (λ memos. vec_capacity memos ≡ length plan.now.nodes) }
     ensures err { IfErr result (λ fault. fault ≡ NoMemory) }
 {
-    let mut tallies = Vec::with_capacity(alloc, plan.len())?;
+    let mut memos = Vec::with_capacity(alloc, plan.len())?;
     for d in 0..plan.len() {
         let inputs = inputs_of(plan, d);
-        let tally = tally_of(standings[d], wanted[d], twins[d], inputs, &tallies);
-        tallies.push_reserved(tally);
+        let memo = memo_of(standings[d], wanted[d], twins[d], inputs, &memos);
+        memos.push_reserved(memo);
     }
-    Ok(tallies)
+    Ok(memos)
 }

@@ -5,7 +5,7 @@
 //! | `state` | why a derivation is not begun, its state, and events |
 //! | `standing` | what is known of a derivation before anything is begun |
 //! | `course` | the state of each derivation of a plan |
-//! | `tally`, `states` | what is kept of a derivation, and what its state says to those that wait for it |
+//! | `memo`, `states` | what is kept of a derivation, and what its state says to those that wait for it |
 //! | `users` | the edges from each derivation to those that wait for it |
 //! | `agenda` | which derivations can be begun, and which ends are still to be told |
 //! | `spreading` | how an event changes a state, and those that wait are told of it |
@@ -17,12 +17,12 @@
 mod agenda;
 mod course;
 mod fault;
+mod memo;
 mod spreading;
 mod standing;
 mod standings;
 mod state;
 mod states;
-mod tally;
 mod twins;
 mod users;
 mod wanted;

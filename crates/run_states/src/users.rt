@@ -3,7 +3,7 @@ ghost use Rattle.std.specs.Prelude.{◌≡◌, ◌<◌, ◌+◌, ◌++◌, ◌^�
 ghost use Rattle.std.specs.List.{slice_index_or, sum};
 ghost use Rattle.run_states.specs.Courses.{all_of, awaited_at, listed};
 ghost use Rattle.run_states.specs.Steps.{total};
-ghost use Rattle.run_states.specs.ToldEdges.{sizes};
+ghost use Rattle.run_states.specs.FollowedEdges.{sizes};
 ghost use Rattle.run_states.specs.UserSpans.{AddsUser, HaveRoom, often, pairs, parts, uses};
 ghost use Rattle.run_states.specs.Users.{AreUsers, users_of};
 ghost use Rattle.run_states.specs.declared.users.Edge.{Edge};

@@ -17,8 +17,8 @@ use Rattle.run_states.specs.Nearest.{last_alone, nearest}
 use Rattle.run_report.specs.Reports.{IsReportIn, IsReportOf}
 use Rattle.run_states.specs.Runs.{History, Run, earlier_twins, inputs_at, rows_of, standing_at, state_in}
 use Rattle.run_states.specs.States.{Phase, Idle, Begun, Ended, Broken, by_first, by_hindrance, by_validity, is_done, is_open, phase_of}
-use Rattle.run_states.specs.Steps.{awaited_by, edges_ahead, edges_ahead_in, told_in}
-use Rattle.run_states.specs.ToldEdges.{course_ahead, course_told, rested}
+use Rattle.run_states.specs.Steps.{awaited_by, edges_ahead, edges_ahead_in, followed_in}
+use Rattle.run_states.specs.FollowedEdges.{course_ahead, course_followed, rested}
 use Rattle.run_states.specs.declared.state.State.{State}
 use Rattle.run_states.specs.declared.state.State.TheVariants.{Blocked, Building, Reused}
 use Rattle.run_states.specs.declared.standing.Standing.{Standing}
@@ -190,10 +190,10 @@ report_told system history course given room kept text report =
 
 -- ---- along how many edges users were told
 
-pub told_kept : (system : List ℕ) (history : History) (course : Course) (given room : ℕ)
+pub followed_kept : (system : List ℕ) (history : History) (course : Course) (given room : ℕ)
     → IsRunKept system history course given room
-    → course_told course ≡ told_in (run_over course system) history
-told_kept system history course given room kept =
+    → course_followed course ≡ followed_in (run_over course system) history
+followed_kept system history course given room kept =
     ap (λ n. n - course_ahead course) then'
     ∙ ap (λ n. edges_ahead_in run (opened history.opening) - n) now
   where

@@ -164,8 +164,8 @@ impl Progress {
         ensures { result ≡ steps_in self.now.run self.now.history % 2 ^ 64 }
     {
         let events = self.events.len() as u64;
-        let told = self.course.told() as u64;
-        events.wrapping_add(told.wrapping_mul(2))
+        let followed = self.course.followed_edges() as u64;
+        events.wrapping_add(followed.wrapping_mul(2))
     }
 
     // The report of the run. Costs as `report_of` does.
@@ -289,7 +289,7 @@ impl Progress {
     {
         self.journal.push_reserved(entry, copy);
         self.events.push_reserved(Event::Done(d, number));
-        self.course.done(d);
+        self.course.finish(d);
     }
 }
 

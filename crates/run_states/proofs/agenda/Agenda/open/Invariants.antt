@@ -4,8 +4,8 @@ use Rattle.run_states.proofs.agenda.Agenda.open.Given as goal
 
 abbrev pub invariant-loop-d : goal.invariant-loop-d
 invariant-loop-d l = record {
-  room : l.ring.capacity ≡ length l.tallies;
+  room : l.ring.capacity ≡ length l.memos;
   work : l.work.items ≡ [];
-  space : l.work.capacity ≡ length l.tallies;
-  is : IsOpening l.tallies l.d l.ring.items l.unsettled;
+  space : l.work.capacity ≡ length l.memos;
+  is : IsOpening l.memos l.d l.ring.items l.unsettled;
 }

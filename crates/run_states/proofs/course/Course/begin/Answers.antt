@@ -1,5 +1,5 @@
 use Rattle.std.proofs.Common.{subst, sym}
-use Rattle.run_states.specs.Tallies.{Turns, turns_begun}
+use Rattle.run_states.specs.Memos.{Turns, turns_begun}
 use Rattle.run_states.specs.declared.state.State.TheVariants.{Building}
 use Rattle.run_states.proofs.course.Course.begin.Goals as goal
 

@@ -1,6 +1,6 @@
 use Rattle.std.proofs.Common.{◌↔◌, IsTrue, subst}
 use Rattle.run_states.specs.Courses.{IsSettled}
-use Rattle.run_states.proofs.Tallied.{settled_told}
+use Rattle.run_states.proofs.MemoCourses.{settled_told}
 use Rattle.run_states.proofs.course.Course.settled.Goals as goal
 
 pub returns : goal.returns

@@ -1,5 +1,5 @@
 use Rattle.std.proofs.Common.{rules}
-use Rattle.run_states.proofs.Tallied.{unsettled_told}
+use Rattle.run_states.proofs.MemoCourses.{unsettled_told}
 use Rattle.run_states.proofs.course.Course.unsettled.Goals as goal
 
 pub returns : goal.returns

@@ -4,7 +4,7 @@ use Rattle.std.proofs.lemmas.List.Elements.{All-append}
 use Rattle.std.specs.Global.{Vec}
 use Rattle.run_states.specs.Courses.{all_of, awaited_at, listed}
 use Rattle.run_states.specs.Steps.{total}
-use Rattle.run_states.specs.ToldEdges.{sizes}
+use Rattle.run_states.specs.FollowedEdges.{sizes}
 use Rattle.run_states.specs.UserSpans.{AddsUser, HaveRoom, often, parts, uses}
 use Rattle.run_states.specs.Users.{users_of}
 use Rattle.run_states.specs.declared.users.Edge.{Edge}

@@ -37,8 +37,8 @@ push_reserved-requires-2 c =
           (building_here _ c.self.view_is c.requires.building),
     )
 
-pub done-requires : goal.done-requires
-done-requires c =
+pub finish-requires : goal.finish-requires
+finish-requires c =
     has_begun _ _ _ _ _ c.self.invariant.0 _ _ (building_here _ c.self.view_is c.requires.building)
 
 pub invariant_of-self : goal.invariant_of-self
@@ -47,7 +47,7 @@ invariant_of-self c = (
       c.self.invariant.0 c.self.invariant.1
       (building_here _ c.self.view_is c.requires.building)
       (done_here c.self.view_is c.requires.done.1)
-      c.push_reserved.ensures.entries c.push_reserved-2.ensures.items c.done.ensures
+      c.push_reserved.ensures.entries c.push_reserved-2.ensures.items c.finish.ensures
       c.push_reserved-2.ensures.capacity,
   rw c.push_reserved.ensures.entries
       (omega (
