@@ -50,7 +50,10 @@ impl Model for Course {
 }
 
 impl Course {
-    /// A course on which nothing has begun. `NoMemory`, the only fault, where memory is refused.
+    /// A course on which nothing has begun, by what is known of each derivation of the plan, at its
+    /// number: its standing, whether it is wanted, and its nearest earlier twin. `NoMemory`, the
+    /// only fault, where memory is refused. Costs a few steps for each derivation and each pair of
+    /// one and what it waits for.
     pub fn open(
         alloc: Global,
         plan: Plan,
@@ -90,7 +93,8 @@ impl Course {
         &self.plan
     }
 
-    /// Of each derivation, whether it is wanted.
+    /// Of each derivation, at its number, whether it is wanted. An error where memory is refused,
+    /// and no other.
     pub fn wanted_marks(&self, alloc: Global) -> Result<Vec<bool>, AllocError>
         ensures marks { IfOk result (λ marks. marks.items ≡ self.now.wanted) }
         ensures count { IfOk result (λ marks. length marks.items ≡ length self.now.graph.nodes) }
