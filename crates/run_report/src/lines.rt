@@ -46,13 +46,13 @@ pub fn write_refused(
     ensures { OnOk result (out.new.items ≡ out.old.items
         ++ why_line word.now path.now (refusal_words plan.now.nodes drv.now cause)) }
 {
-    write_front(word, path, out)?;
+    write_line_start(word, path, out)?;
     write_refusal(plan, drv, cause, out)?;
     out.extend_from_slice(b"\n")
 }
 
 // Adds a word, a path and a colon.
-pub(crate) fn write_front(
+pub(crate) fn write_line_start(
     word: &[u8],
     path: &StorePath,
     out: &mut Vec<u8>,

@@ -7,21 +7,23 @@ use itoa::Buffer;
 use nix_drv::write_string;
 use std::alloc::AllocError;
 
-/// Adds a name alone.
+/// Adds a name alone. An error where memory is refused, and no other; a part may be written then.
 pub fn write_name(name: &[u8], out: &mut Vec<u8>) -> Result<(), AllocError>
     ensures { OnOk result (out.new.items ≡ out.old.items ++ name.now) }
 {
     out.extend_from_slice(name)
 }
 
-/// Adds a name, and a number in parentheses.
+/// Adds a name, and a number in decimal digits in parentheses. An error where memory is refused,
+/// and no other; a part may be written then.
 pub fn write_with_number(name: &[u8], number: usize, out: &mut Vec<u8>) -> Result<(), AllocError>
     ensures { OnOk result (out.new.items ≡ out.old.items ++ with_value name.now (decimal number)) }
 {
     write_with_value(name, Buffer::new().format(number).as_bytes(), out)
 }
 
-/// Adds a name, and a value in parentheses.
+/// Adds a name, and a value in parentheses, as it is. An error where memory is refused, and no
+/// other; a part may be written then.
 pub fn write_with_value(name: &[u8], value: &[u8], out: &mut Vec<u8>) -> Result<(), AllocError>
     ensures { OnOk result (out.new.items ≡ out.old.items ++ with_value name.now value.now) }
 {
@@ -31,7 +33,8 @@ pub fn write_with_value(name: &[u8], value: &[u8], out: &mut Vec<u8>) -> Result<
     out.extend_from_slice(b")")
 }
 
-/// Adds a name, and in parentheses a text as the derivations' language spells it.
+/// Adds a name, and in parentheses a text as the derivations' language spells it. An error where
+/// memory is refused, and no other; a part may be written then.
 pub fn write_with_string(name: &[u8], text: &[u8], out: &mut Vec<u8>) -> Result<(), AllocError>
     ensures { OnOk result (out.new.items ≡ out.old.items
         ++ with_value name.now (string_text text.now)) }

@@ -8,7 +8,7 @@ ghost use Rattle.run_report.specs.Words.{reason_words};
 ghost use Rattle.run_states.specs.declared.fault.BookFault.TheVariants.{NoMemory};
 ghost use Rattle.run_report.specs.declared.listing.Listed.{Listed};
 
-use crate::lines::{write_front, write_outputs, write_path_line, write_refused};
+use crate::lines::{write_line_start, write_outputs, write_path_line, write_refused};
 use crate::listing::{Listed, marked_by_path};
 use crate::words::write_reason;
 use build_outcome::Reason;
@@ -103,7 +103,7 @@ fn write_failed(
     ensures { OnOk result (out.new.items ≡ out.old.items
         ++ why_line (codes "failed ") path.now (reason_words drv.now reason)) }
 {
-    write_front(b"failed ", path, out)?;
+    write_line_start(b"failed ", path, out)?;
     write_reason(drv, reason, out)?;
     out.extend_from_slice(b"\n")
 }

@@ -36,7 +36,8 @@ pub(crate) fn write_reason(
     }
 }
 
-/// Adds why a derivation of a plan is not begun: the cause's name, and its value in parentheses.
+/// Adds why a derivation of a plan is not begun: the cause's name, and its value in parentheses. An
+/// error where memory is refused, and no other; a part may be written then.
 pub fn write_refusal(
     plan: &Plan,
     drv: &Derivation,
