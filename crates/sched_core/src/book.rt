@@ -13,7 +13,7 @@ ghost use Rattle.run_states.specs.declared.fault.BookFault.TheVariants.{ForeignL
 ghost use Rattle.build_outcome.specs.declared.reason.Reason.TheVariants.{OutOfMemory};
 
 use crate::lease::Lease;
-use crate::progress::{Prepared, Progress};
+use crate::progress::{PreparedEntry, Progress};
 use build_outcome::{Checked, Reason};
 use drv_graph::Plan;
 use nix_names::StorePath;
@@ -334,7 +334,7 @@ impl<O: Outlet> Book<O> {
             return Err(BookFault::ForeignLease);
         }
         let d = job.derivation;
-        let Prepared { entry, copy, shown } = self.progress.prepare(d, checked)?;
+        let PreparedEntry { entry, copy, shown } = self.progress.prepare(d, checked)?;
         self.outlet.append(shown)?;
         self.progress.finish(d, lease.number(), entry, copy);
         Ok(())

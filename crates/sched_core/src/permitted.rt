@@ -9,7 +9,7 @@ ghost use Rattle.valid_table.specs.Valid.{IsValid};
 ghost use Rattle.build_outcome.specs.Verdicts.{outputs_of};
 ghost use Rattle.run_states.specs.declared.fault.BookFault.TheVariants.{NoMemory};
 
-use crate::uniting::united;
+use crate::uniting::union_of;
 use build_outcome::Job;
 use nix_names::StorePath;
 use run_states::BookFault;
@@ -32,7 +32,7 @@ pub fn permitted_beside(
     ensures err { IfErr result (λ fault. fault ≡ NoMemory) }
 {
     let own = sorted_outputs(alloc, job)?;
-    Ok(united(reached, own)?)
+    Ok(union_of(reached, own)?)
 }
 
 // What some paths lead to that are valid by a journal.

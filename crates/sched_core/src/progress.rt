@@ -45,7 +45,7 @@ pub(crate) struct Progress {
 
 // The entry of a derivation that was built, for the journal, its table and an outlet.
 #[derive(Debug, Drop)]
-pub(crate) struct Prepared {
+pub(crate) struct PreparedEntry {
     pub(crate) entry: Entry,
     pub(crate) copy: Entry,
     pub(crate) shown: Entry,
@@ -254,7 +254,11 @@ impl Progress {
 
     // The entry of a derivation that was built with these records, for which there is room then.
     // The faults are those of `done_entry`; the run and its history stay.
-    pub(crate) fn prepare(&mut self, d: usize, checked: &Checked) -> Result<Prepared, BookFault>
+    pub(crate) fn prepare(
+        &mut self,
+        d: usize,
+        checked: &Checked,
+    ) -> Result<PreparedEntry, BookFault>
         requires { d < length self.old.run.graph.nodes }
         ensures run { self.new.run ≡ self.old.run }
         ensures history { self.new.history ≡ self.old.history }
@@ -272,7 +276,7 @@ impl Progress {
         let copy = copy_of(alloc, &entry)?;
         let shown = copy_of(alloc, &entry)?;
         make_room(&mut self.journal, &entry)?;
-        Ok(Prepared { entry, copy, shown })
+        Ok(PreparedEntry { entry, copy, shown })
     }
 
     // Registers what a derivation built, by an entry for which there is room, and its copy. Takes

@@ -9,7 +9,7 @@ use std::alloc::AllocError;
 // The union of two strictly rising lists, of which the second has few paths. The paths of the first
 // that stand above one of the second are taken off and put back; the others keep their places.
 // Costs a binary search for each path of the second.
-pub(crate) fn united(
+pub(crate) fn union_of(
     paths: Vec<StorePath>,
     others: Vec<StorePath>,
 ) -> Result<Vec<StorePath>, AllocError>

@@ -5,7 +5,7 @@ use Rattle.nix_names.specs.Rising.{IsRising}
 use Rattle.nix_names.proofs.RisingLists.{rising_front}
 use Rattle.valid_table.specs.Unions.{IsUnion}
 use Rattle.sched_core.proofs.UnitedPaths.{IsGap, IsUniting, found_told, gap_told, nothing_left, turned, uniting_all, uniting_found, uniting_placed}
-use Rattle.sched_core.proofs.uniting.united.Goals as goal
+use Rattle.sched_core.proofs.uniting.union_of.Goals as goal
 
 pub loop-path-preserved : goal.loop-path-preserved
 loop-path-preserved c =

@@ -1,6 +1,6 @@
 use Rattle.std.proofs.Common.{length, reverse}
 use Rattle.sched_core.proofs.UnitedPaths.{IsUniting}
-use Rattle.sched_core.proofs.uniting.united.Given as goal
+use Rattle.sched_core.proofs.uniting.union_of.Given as goal
 
 abbrev pub invariant-loop-path : goal.invariant-loop-path
 invariant-loop-path l = IsUniting l.fn.paths.items l.fn.others.items l.below.items l.left.items
