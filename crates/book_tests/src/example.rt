@@ -18,7 +18,7 @@ use std::sync::Wait;
 use std::test::*;
 use std::thread::Threads;
 use store_run::laws::{any_schedule, builds_may_overlap, outcomes_decide};
-use store_run::{Ended, realise};
+use store_run::{RunResult, realise};
 use valid_table::{Journal, Outlet};
 use valid_view::{Name, Naming};
 
@@ -122,7 +122,7 @@ fn programs(alloc: Global, count: usize) -> Result<Vec<Program>, AllocError> {
 
 // The report of a run that went to its end. Its book is closed, and so is the book of any other
 // run.
-fn report_at_end<J: Naming + Send, R: Wait>(ended: Ended<J, R>) -> Result<Vec<u8>, Fail> {
+fn report_at_end<J: Naming + Send, R: Wait>(ended: RunResult<J, R>) -> Result<Vec<u8>, Fail> {
     match ended {
         Ok(book) => {
             let report = report(&book);
@@ -149,7 +149,15 @@ fn report_named<J: Naming + Send + Sync, R: Threads + Wait + Sync>(
     let plan = plan(alloc)?;
     let journal = Journal::new(alloc);
     let builders = programs(alloc, workers)?;
-    let ended: Ended<J, R> = realise(rt, alloc, name, &plan, &journal, b"x86_64-linux", builders);
+    let ended: RunResult<J, R> = realise(
+        rt,
+        alloc,
+        name,
+        &plan,
+        &journal,
+        b"x86_64-linux",
+        builders,
+    );
     report_at_end(ended)
 }
 

@@ -279,7 +279,7 @@ fn run_named<J: Naming + Send + Sync, R: Threads + Wait + Sync + Print>(
 {
     let builders = vec![in alloc; Double { alloc }; row.workers]?;
     begins(rt, row.call);
-    let ended: Ended<J, R> = realise(rt, alloc, name, lent.0, lent.1, SYSTEM, builders);
+    let ended: RunResult<J, R> = realise(rt, alloc, name, lent.0, lent.1, SYSTEM, builders);
     ends(rt, row.call);
     Ok(has_ended(rt, alloc, ended, row))
 }

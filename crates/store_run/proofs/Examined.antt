@@ -9,7 +9,7 @@ use Rattle.build_outcome.specs.declared.job.Answer.{Answer}
 use Rattle.build_outcome.specs.declared.job.Job.{Job}
 use Rattle.build_outcome.specs.declared.reason.Reason.{Reason}
 use Rattle.store_run.specs.Finding.{IsFoundBy}
-use Rattle.store_run.specs.declared.found.Found.TheVariants.{Examined}
+use Rattle.store_run.specs.declared.finding.Finding.TheVariants.{Examined}
 
 examined : (seen : List Entry) (job : Job) (permitted : List (List ℕ)) (answer : Answer)
     (verdict : Result (List PathInfo) Reason) → IsShowable seen → AreSeedsValid seen job

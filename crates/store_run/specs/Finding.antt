@@ -15,8 +15,8 @@ use Rattle.build_outcome.specs.declared.job.Job.{Job}
 use Rattle.build_outcome.specs.declared.reason.Reason.{Reason}
 use Rattle.build_outcome.specs.declared.reason.Reason.TheVariants.{OutOfMemory}
 use Rattle.store_run.specs.Builders.{IsOutcomeVerdict}
-use Rattle.store_run.specs.declared.found.Found.{Found}
-use Rattle.store_run.specs.declared.found.Found.TheVariants.{Examined, Unanswered, Refused}
+use Rattle.store_run.specs.declared.finding.Finding.{Finding}
+use Rattle.store_run.specs.declared.finding.Finding.TheVariants.{Examined, Unanswered, Refused}
 
 -- a lease was told of a list by which all that its job is built from is valid
 abbrev pub IsToldOfSeeds : {Told : Type 0} → (names : Told → List Entry → Type 0) → Leased Told
@@ -46,7 +46,7 @@ IsToldAs (view.NotValid path) fault = ⊥
 
 -- What is found of an outcome by a list: of an answer, its verdict, for which memory may be
 -- refused, or why that could not be had; of any other outcome, the reason why there is no answer.
-abbrev pub IsFoundBy : (seen : List Entry) → Job → Result Answer Reason → Found → Type 0
+abbrev pub IsFoundBy : (seen : List Entry) → Job → Result Answer Reason → Finding → Type 0
 IsFoundBy seen job (Ok answer) (Examined verdict) = (verdict ≡ Err OutOfMemory)
     ⊎ IsSeenVerdict seen job answer verdict
 IsFoundBy seen job (Ok answer) (Refused fault) = IsUnseen fault
@@ -57,7 +57,7 @@ IsFoundBy seen job (Err reason) other = ⊥
 -- What may be found of a job by a list: what is found of an outcome that a builder may give, or of
 -- the reason that memory was refused to the builder.
 pub record MayBeFound (may : Job → Result Answer Reason → Type 0) (seen : List Entry) (job : Job)
-    (found : Found) : Type 0 where
+    (found : Finding) : Type 0 where
   pub outcome : Result Answer Reason
   pub given : (outcome ≡ Err OutOfMemory) ⊎ may job outcome
   pub by : IsFoundBy seen job outcome found

@@ -8,10 +8,10 @@ use Rattle.run_states.specs.declared.fault.BookFault.TheVariants.{NoMemory, NoVi
 use Rattle.build_outcome.specs.declared.job.Job.{Job}
 use Rattle.build_outcome.specs.declared.reason.Reason.{Reason}
 use Rattle.build_outcome.specs.declared.reason.Reason.TheVariants.{OutOfMemory}
-use Rattle.store_run.specs.declared.found.Found.{Found}
-use Rattle.store_run.specs.declared.found.Found.TheVariants as found
-use Rattle.store_run.specs.declared.found.LeaseEnd.{LeaseEnd}
-use Rattle.store_run.specs.declared.found.LeaseEnd.TheVariants.{Registered, Failed, Stopped}
+use Rattle.store_run.specs.declared.finding.Finding.{Finding}
+use Rattle.store_run.specs.declared.finding.Finding.TheVariants as found
+use Rattle.store_run.specs.declared.finding.LeaseEnd.{LeaseEnd}
+use Rattle.store_run.specs.declared.finding.LeaseEnd.TheVariants.{Registered, Failed, Stopped}
 use Rattle.store_run.specs.declared.turn.Step.{Step}
 use Rattle.store_run.specs.declared.turn.Step.TheVariants.{Build, Wait, End}
 use Rattle.store_run.specs.declared.turn.Wake.{Wake}
@@ -163,7 +163,7 @@ IsNotingVerdict before after job number (Err reason) end =
 -- How a lease ends, by what was found of its job and by whether the reader caught up with the book.
 -- A verdict is noted where the reader caught up. Where the view was refused, to the verdict or to
 -- the reader, the run stops for that refusal, if nothing stopped it before.
-abbrev pub IsEnding : {A : Type 0} → (before after : Share) → Job → (number : ℕ) → Found
+abbrev pub IsEnding : {A : Type 0} → (before after : Share) → Job → (number : ℕ) → Finding
     → (caught_up : Result A BookFault) → LeaseEnd → Type 0
 IsEnding before after job number (found.Examined verdict) (Ok up) end =
     IsNotingVerdict before after job number verdict end

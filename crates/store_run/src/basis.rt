@@ -13,7 +13,9 @@ pub trait Basis {
     ghost is_over: { Run → List Entry → Type 0 };
 }
 
-// Any run is over this.
+// Any run is over this. A function that is generic in its basis is proved for every `is_over`, so
+// the proof of a call at `Brand` may choose another one for that call: `realise_kept` chooses the
+// run of the book that was just opened, and its entries then, where it calls `run_kept`.
 impl Basis for Brand {
     ghost use Rattle.std.specs.Prelude.{⊤};
 

@@ -29,12 +29,12 @@ pub trait Keep {
 
 // Where each text may be put that is kept of a run over the basis.
 #[derive(Drop)]
-pub(crate) struct Place<B: Build, S: Basis, K: Keep> {
+pub(crate) struct KeepPlace<B: Build, S: Basis, K: Keep> {
     keep: K,
     of: PhantomData<(B, S)>,
 }
 
-impl<B: Build, S: Basis, K: Keep> Model for Place<B, S, K> {
+impl<B: Build, S: Basis, K: Keep> Model for KeepPlace<B, S, K> {
     ghost use Rattle.store_run.specs.Keeping.{MayKeepEach};
 
     ghost Value = { Unit {0} };
@@ -44,26 +44,26 @@ impl<B: Build, S: Basis, K: Keep> Model for Place<B, S, K> {
     ghost invariant = { λ p. MayKeepEach B.may S.is_over K.may_keep };
 }
 
-impl<B: Build, S: Basis, K: Keep> Place<B, S, K> {
+impl<B: Build, S: Basis, K: Keep> KeepPlace<B, S, K> {
     // A place where each such text may be put.
-    pub(crate) fn new(keep: K) -> Place<B, S, K>
+    pub(crate) fn new(keep: K) -> KeepPlace<B, S, K>
         requires { MayKeepEach B.may S.is_over K.may_keep }
     {
-        Place {
+        KeepPlace {
             keep,
             of: PhantomData,
         }
     }
 }
 
-// Keeps what is registered behind a lock, again and again, until all workers have ended. Begins with
-// the text of the opening entries.
+// Keeps what is registered behind a lock, again and again, until all workers have ended. Begins
+// with the text of the opening entries.
 pub(crate) fn keep_on<R, J, O, B, S, K>(
     rt: &R,
     alloc: Global,
     locked: &Locked<O, B, S>,
     mut text: KeptText<J>,
-    mut place: Place<B, S, K>,
+    mut place: KeepPlace<B, S, K>,
 )
 where
     R: Wait + Clock,
@@ -91,7 +91,7 @@ fn keep_new<R, J, O, B, S, K>(
     alloc: Global,
     locked: &Locked<O, B, S>,
     text: &mut KeptText<J>,
-    place: &mut Place<B, S, K>,
+    place: &mut KeepPlace<B, S, K>,
 ) -> Option<Duration>
 where
     R: Wait + Clock,

@@ -9,10 +9,10 @@ ghost use Rattle.store_run.specs.Realising.{IsRealised, IsRunFault};
 
 use crate::basis::Basis;
 use crate::fault::RunFault;
-use crate::keeper::{Keep, Place, keep_on};
+use crate::keeper::{Keep, KeepPlace, keep_on};
 use crate::kept_text::KeptText;
 use crate::locked::Locked;
-use crate::run::{Ended, MOST_WORKERS, ending, handed_out, opened_over, run_workers};
+use crate::run::{MOST_WORKERS, RunResult, ending, hand_out, open_over, run_workers};
 use crate::shared::Shared;
 use drv_graph::Plan;
 use sched_core::{Book, Build, Watch};
@@ -48,7 +48,7 @@ pub fn realise_kept<
     system: &[u8],
     builders: Vec<B>,
     place: K,
-) -> Ended<'a, J, R>
+) -> RunResult<'a, J, R>
     requires name { name ≡ J.book }
     requires each { (text : Bytes)
         → IsKeptText B.may (record { graph = plan.now; system = system.now }) journal.now.entries
@@ -63,14 +63,14 @@ pub fn realise_kept<
         return Err((RunFault::NoWorkers, None));
     }
     let count = builders.len();
-    let (book, readers) = match opened_over::<J, R>(rt, alloc, name, plan, journal, system, count) {
+    let (book, readers) = match open_over::<J, R>(rt, alloc, name, plan, journal, system, count) {
         Ok(opened) => opened,
         Err(fault) => return Err((fault, None)),
     };
     let shared = run_kept::<Brand, R, J, _, B, K>(
         rt, alloc, book, readers, builders, journal, place,
     );
-    handed_out(ending(shared, plan, system, journal))
+    hand_out(ending(shared, plan, system, journal))
 }
 
 // Lets the builders work over a book, which opened with a journal, and keeps what they register,
@@ -107,7 +107,7 @@ where
                 builders,
                 readers,
                 text,
-                Place::new(place),
+                KeepPlace::new(place),
             );
         }
         None => run_workers(rt, alloc, &locked, builders, readers),
@@ -141,7 +141,7 @@ fn run_beside<S, R, J, O, B, K>(
     builders: Vec<B>,
     readers: Vec<ViewReader<J>>,
     text: KeptText<J>,
-    place: Place<B, S, K>,
+    place: KeepPlace<B, S, K>,
 )
 where
     S: Basis + Send,

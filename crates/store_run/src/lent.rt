@@ -9,9 +9,14 @@ use sched_core::Book;
 use valid_table::laws::equal_entries_are_same;
 use valid_table::{Journal, Outlet};
 
-/// Whether a book is over this plan, for this system, and opened with the journal's entries. The
-/// history of each book is legal. Compares the whole plan, system and entries; takes no memory.
-pub fn is_over<O: Outlet>(book: &Book<O>, plan: &Plan, system: &[u8], journal: &Journal) -> bool
+// Whether a book is over this plan, for this system, and opened with the journal's entries. The
+// history of each book is legal. Compares the whole plan, system and entries; takes no memory.
+pub(crate) fn is_over<O: Outlet>(
+    book: &Book<O>,
+    plan: &Plan,
+    system: &[u8],
+    journal: &Journal,
+) -> bool
     ensures over { IsTrue result ↔ IsOverLent plan.now system.now journal.now.entries book.now }
     ensures legal { IsLegal book.now.run book.now.history }
 {

@@ -2,7 +2,7 @@
 //!
 //! | Module | What is in it |
 //! |---|---|
-//! | `found` | what a worker finds of a job, and how a lease ends |
+//! | `finding` | what a worker finds of a job, and how a lease ends |
 //! | `shared` | what the workers of a run share: the book, and why the run stops |
 //! | `turn` | what a worker is to do next, and whom it wakes |
 //! | `verdict` | the verdict on a job's outcome, by the list that a reader sees |
@@ -23,7 +23,7 @@
 mod basis;
 mod bell;
 mod fault;
-mod found;
+mod finding;
 mod keeper;
 mod kept_run;
 mod kept_text;
@@ -45,5 +45,5 @@ pub use keeper::Keep;
 pub use kept_run::realise_kept;
 pub use locked::Locked;
 pub use monitor::{Listen, LockCall};
-pub use run::{Ended, realise};
+pub use run::{RunResult, realise};
 pub use worker::{work, work_heard};

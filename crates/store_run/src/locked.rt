@@ -7,7 +7,7 @@ ghost use Rattle.store_run.specs.Sharing.{IfGiven};
 
 use crate::basis::Basis;
 use crate::bell::Bell;
-use crate::found::{Found, LeaseEnd};
+use crate::finding::{Finding, LeaseEnd};
 use crate::kept_text::{KeptText, News};
 use crate::monitor::{Listen, Monitor};
 use crate::shared::Shared;
@@ -77,7 +77,7 @@ impl<O: Outlet, B: Build, S: Basis> Locked<O, B, S> {
         rt: &R,
         reader: &mut ViewReader<J>,
         lease: Lease<O::Told>,
-        found: Found,
+        found: Finding,
     ) -> (LeaseEnd, Turn<O::Told>)
     where
         O: Tells<J>,

@@ -53,7 +53,7 @@ pub(crate) struct Monitor<T> {
 }
 
 // The value of a monitor, whose lock is held by a thread with this handle.
-pub(crate) struct Held<'a, T, R: Listen> {
+pub(crate) struct MonitorGuard<'a, T, R: Listen> {
     guard: MutexGuard<'a, T>,
     rt: &'a R,
 }
@@ -68,15 +68,18 @@ impl<T> Monitor<T> {
     }
 
     // Takes the lock.
-    pub(crate) fn lock<'a, R: Listen>(&'a self, rt: &'a R) -> Held<'a, T, R> {
+    pub(crate) fn lock<'a, R: Listen>(&'a self, rt: &'a R) -> MonitorGuard<'a, T, R> {
         let guard = self.value.lock(rt);
         rt.hear(LockCall::Taken);
-        Held { guard, rt }
+        MonitorGuard { guard, rt }
     }
 
     // Lets the lock go and waits, in one call, until the thread is woken or wakes by itself; then
     // takes the lock again.
-    pub(crate) fn wait<'a, R: Listen>(&self, held: Held<'a, T, R>) -> Held<'a, T, R> {
+    pub(crate) fn wait<'a, R: Listen>(
+        &self,
+        held: MonitorGuard<'a, T, R>,
+    ) -> MonitorGuard<'a, T, R> {
         held.wait(&self.changed)
     }
 
@@ -105,25 +108,25 @@ impl<T> Monitor<T> {
     }
 }
 
-impl<'a, T, R: Listen> Held<'a, T, R> {
+impl<'a, T, R: Listen> MonitorGuard<'a, T, R> {
     // The value.
     pub(crate) fn value(&mut self) -> &mut T {
         &mut self.guard
     }
 
     // Waits on a condition, with the lock let go until the wait ends.
-    fn wait(self, changed: &Condvar) -> Held<'a, T, R> {
-        let Held { guard, rt } = self;
+    fn wait(self, changed: &Condvar) -> MonitorGuard<'a, T, R> {
+        let MonitorGuard { guard, rt } = self;
         rt.hear(LockCall::Waits);
         let guard = changed.wait(rt, guard);
         rt.hear(LockCall::Woken);
-        Held { guard, rt }
+        MonitorGuard { guard, rt }
     }
 }
 
-impl<'a, T, R: Listen> Drop for Held<'a, T, R> {
+impl<'a, T, R: Listen> Drop for MonitorGuard<'a, T, R> {
     fn drop(self) {
-        let Held { guard, rt } = self;
+        let MonitorGuard { guard, rt } = self;
         rt.hear(LockCall::Freed);
         drop(guard);
     }

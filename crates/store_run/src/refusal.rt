@@ -21,14 +21,14 @@ use std::marker::Model;
 use valid_table::Outlet;
 use valid_view::{Naming, ViewFault, ViewReader};
 
-/// Evidence that a call of a reader or of a book was refused. A contract sees the fault that the
-/// call answered. Only the calls of this module make one.
+// Evidence that a call of a reader or of a book was refused. A contract sees the fault that the
+// call answered. Only the calls of this module make one.
 #[derive(Debug, Drop)]
-pub struct Refusal {
+pub(crate) struct RefusedCall {
     fault: BookFault,
 }
 
-impl Model for Refusal {
+impl Model for RefusedCall {
     ghost use Rattle.run_states.specs.declared.fault.BookFault.{BookFault};
 
     ghost Value = { BookFault };
@@ -36,22 +36,22 @@ impl Model for Refusal {
     ghost view = { λ r. r.fault };
 }
 
-impl Refusal {
-    /// The fault that was answered.
-    pub fn fault(&self) -> BookFault
+impl RefusedCall {
+    // The fault that was answered.
+    pub(crate) fn fault(&self) -> BookFault
         ensures { result ≡ self.now }
     {
         self.fault
     }
 }
 
-/// The closure of what a job is built from, by the list that the reader sees. All of it is valid by
-/// each list that the reader may see. Refused where memory is, or where the view is gone.
-pub fn closure<J: Naming>(
+// The closure of what a job is built from, by the list that the reader sees. All of it is valid by
+// each list that the reader may see. Refused where memory is, or where the view is gone.
+pub(crate) fn closure<J: Naming>(
     alloc: Global,
     reader: &mut ViewReader<J>,
     job: &Job,
-) -> Result<Vec<StorePath>, Refusal>
+) -> Result<Vec<StorePath>, RefusedCall>
     requires { AreSeedsValid reader.old.told job.now }
     ensures showable { OnOk result (IsShowable reader.new.seen) }
     ensures seeds { OnOk result (AreSeedsValid reader.new.seen job.now) }
@@ -65,8 +65,11 @@ pub fn closure<J: Naming>(
     }
 }
 
-/// Has a reader look at a path, whatever it finds. Refused where the view is gone.
-pub fn look<J: Naming>(reader: &mut ViewReader<J>, path: &StorePath) -> Result<(), Refusal>
+// Has a reader look at a path, whatever it finds. Refused where the view is gone.
+pub(crate) fn look<J: Naming>(
+    reader: &mut ViewReader<J>,
+    path: &StorePath,
+) -> Result<(), RefusedCall>
     ensures later { IsPrefix reader.old.seen reader.new.seen }
     ensures known { OnOk result
         (IsPrefix reader.old.told reader.new.seen × IsShowable reader.new.seen) }
@@ -78,24 +81,24 @@ pub fn look<J: Naming>(reader: &mut ViewReader<J>, path: &StorePath) -> Result<(
     }
 }
 
-/// What `permitted_beside` gives. Refused where memory is.
-pub fn permitted_beside(
+// What `permitted_beside` gives. Refused where memory is.
+pub(crate) fn permitted_beside(
     alloc: Global,
     reached: Vec<StorePath>,
     job: &Job,
-) -> Result<Vec<StorePath>, Refusal>
+) -> Result<Vec<StorePath>, RefusedCall>
     requires { IsRising reached.items }
     ensures ok { IfOk result (λ paths. IsUnion reached.items (outputs_of job.now) paths.items) }
     ensures err { IfErr result (λ fault. fault ≡ NoMemory) }
 {
     match sched_core::permitted_beside(alloc, reached, job) {
         Ok(paths) => Ok(paths),
-        Err(fault) => Err(Refusal { fault }),
+        Err(fault) => Err(RefusedCall { fault }),
     }
 }
 
-/// Does what `Book::next` does.
-pub fn next<O: Outlet>(book: &mut Book<O>) -> Result<Option<Lease<O::Told>>, Refusal>
+// Does what `Book::next` does.
+pub(crate) fn next<O: Outlet>(book: &mut Book<O>) -> Result<Option<Lease<O::Told>>, RefusedCall>
     ensures none { IfOk result
         (λ next. MatchOption next ((book.new ≡ book.old)
         × ((d : ℕ) → CanBegin book.old.run book.old.history d → ⊥))
@@ -112,16 +115,16 @@ pub fn next<O: Outlet>(book: &mut Book<O>) -> Result<Option<Lease<O::Told>>, Ref
 {
     match book.next() {
         Ok(next) => Ok(next),
-        Err(fault) => Err(Refusal { fault }),
+        Err(fault) => Err(RefusedCall { fault }),
     }
 }
 
-/// Does what `Book::finish` does.
-pub fn finish<O: Outlet>(
+// Does what `Book::finish` does.
+pub(crate) fn finish<O: Outlet>(
     book: &mut Book<O>,
     lease: Lease<O::Told>,
     checked: Checked,
-) -> Result<(), (Refusal, Lease<O::Told>, Checked)>
+) -> Result<(), (RefusedCall, Lease<O::Told>, Checked)>
     requires { IsBooksLease book.old.run book.old.history lease.job lease.number
         → MayAllRefer book.old.history.entries lease.job checked }
     ensures ok { OnOk result (IsFinishing book.old book.new lease.job lease.number checked) }
@@ -132,16 +135,16 @@ pub fn finish<O: Outlet>(
 {
     match book.finish(lease, checked) {
         Ok(()) => Ok(()),
-        Err((fault, lease, checked)) => Err((Refusal { fault }, lease, checked)),
+        Err((fault, lease, checked)) => Err((RefusedCall { fault }, lease, checked)),
     }
 }
 
-/// Does what `Book::fail` does, whose only fault is `ForeignLease`.
-pub fn fail<O: Outlet>(
+// Does what `Book::fail` does, whose only fault is `ForeignLease`.
+pub(crate) fn fail<O: Outlet>(
     book: &mut Book<O>,
     lease: Lease<O::Told>,
     reason: Reason,
-) -> Result<(), (Refusal, Lease<O::Told>)>
+) -> Result<(), (RefusedCall, Lease<O::Told>)>
     ensures ok { OnOk result (IsFailing book.old book.new lease.job lease.number reason) }
     ensures foreign { OnErr result
         (IsBooksLease book.old.run book.old.history lease.job lease.number → ⊥) }
@@ -152,13 +155,13 @@ pub fn fail<O: Outlet>(
         Ok(()) => Ok(()),
         Err(lease) => {
             let fault = BookFault::ForeignLease;
-            Err((Refusal { fault }, lease))
+            Err((RefusedCall { fault }, lease))
         }
     }
 }
 
 // A reader's refusal, as a book tells it.
-fn of_reader(fault: ViewFault) -> Refusal
+fn of_reader(fault: ViewFault) -> RefusedCall
     requires { (path : Path) → fault ≡ NotValid path → ⊥ }
     ensures { IsToldAs fault result }
 {
@@ -167,5 +170,5 @@ fn of_reader(fault: ViewFault) -> Refusal
         ViewFault::NoView(_) => BookFault::NoView,
         ViewFault::NotValid(_) => unreachable!(),
     };
-    Refusal { fault }
+    RefusedCall { fault }
 }

@@ -27,7 +27,7 @@ use valid_view::{Name, Naming, OpenFault, Tells, ViewReader, ViewWriter};
 pub(crate) const MOST_WORKERS: usize = 64;
 
 /// A run's book, whose outlet is a view, or why there is no settled one.
-pub type Ended<'a, J, R> = Result<
+pub type RunResult<'a, J, R> = Result<
     Book<ViewWriter<J, &'a R>>,
     (RunFault, Option<Book<ViewWriter<J, &'a R>>>),
 >;
@@ -57,7 +57,7 @@ pub fn realise<
     journal: &Journal,
     system: &[u8],
     builders: Vec<B>,
-) -> Ended<'a, J, R>
+) -> RunResult<'a, J, R>
     requires { name ≡ J.book }
     ensures ok { IfOk result
         (IsRealised B.may plan.now system.now journal.now.entries (vec_len builders)) }
@@ -68,17 +68,17 @@ pub fn realise<
         return Err((RunFault::NoWorkers, None));
     }
     let count = builders.len();
-    let (book, readers) = match opened_over::<J, R>(rt, alloc, name, plan, journal, system, count) {
+    let (book, readers) = match open_over::<J, R>(rt, alloc, name, plan, journal, system, count) {
         Ok(opened) => opened,
         Err(fault) => return Err((fault, None)),
     };
     let shared = run_book(rt, alloc, book, readers, builders);
-    handed_out(ending(shared, plan, system, journal))
+    hand_out(ending(shared, plan, system, journal))
 }
 
 // A book over the lent plan, system and entries, in which nothing began, and `count` readers of its
 // outlet, which is a view.
-pub(crate) fn opened_over<'a, J: Naming + Send, R: Wait>(
+pub(crate) fn open_over<'a, J: Naming + Send, R: Wait>(
     rt: &'a R,
     alloc: Global,
     name: Name,
@@ -95,7 +95,7 @@ pub(crate) fn opened_over<'a, J: Naming + Send, R: Wait>(
     ensures shown { IfOk result (λ pair. pair.0.shown ≡ journal.now.entries) }
     ensures err { IfErr result (λ fault. (fault ≡ NoMemory) ⊎ (fault ≡ NoView)) }
 {
-    let copies = copied(alloc, plan, journal, system)?;
+    let copies = copies_of(alloc, plan, journal, system)?;
     book_over(
         alloc,
         copies,
@@ -129,7 +129,7 @@ fn book_over<O: Outlet, J: Naming>(
 
 // Copies of the plan, the journal and the system. `NoMemory`, the only fault, where memory is
 // refused.
-fn copied(
+fn copies_of(
     alloc: Global,
     plan: &Plan,
     journal: &Journal,
@@ -198,8 +198,8 @@ where
 }
 
 // How a run ends whose workers have ended, by what they shared. The book is given in any case. A
-// fault comes with a book that isn't over the lent plan, system and entries, and with one that isn't
-// settled. A settled book is given without a fault, whatever stopped the run.
+// fault comes with a book that isn't over the lent plan, system and entries, and with one that
+// isn't settled. A settled book is given without a fault, whatever stopped the run.
 pub(crate) fn ending<O: Outlet, B: Build>(
     shared: Shared<O, B>,
     plan: &Plan,
@@ -230,9 +230,9 @@ fn fault_by(stop: Option<BookFault>) -> RunFault
     }
 }
 
-// What a run hands out, by how it ended: its book, with the fault if there is one. A book that isn't
-// over the lent plan, system and entries is closed.
-pub(crate) fn handed_out<O: Outlet>(
+// What a run hands out, by how it ended: its book, with the fault if there is one. A book that
+// isn't over the lent plan, system and entries is closed.
+pub(crate) fn hand_out<O: Outlet>(
     ended: Result<Book<O>, (RunFault, Book<O>)>,
 ) -> Result<Book<O>, (RunFault, Option<Book<O>>)>
     ensures { IsHandedOut ended result }

@@ -10,12 +10,12 @@ ghost use Rattle.store_run.specs.Builders.{IsAnswered, MayComeTo};
 ghost use Rattle.store_run.specs.Finding.{HasCaughtUp, IsToldOfSeeds, MayBeFound};
 ghost use Rattle.store_run.specs.Looking.{IsLook};
 ghost use Rattle.store_run.specs.Sharing.{IfGiven, IsEnding, IsNoting, IsNotingVerdict, IsLeaseRegistering, IsStep, IsStopping, IsWake};
-ghost use Rattle.store_run.specs.declared.found.LeaseEnd.TheVariants.{Stopped};
+ghost use Rattle.store_run.specs.declared.finding.LeaseEnd.TheVariants.{Stopped};
 
 use crate::basis::Basis;
-use crate::found::{Found, LeaseEnd};
+use crate::finding::{Finding, LeaseEnd};
 use crate::kept_text::{KeptText, News};
-use crate::refusal::{Refusal, fail, finish, look, next};
+use crate::refusal::{RefusedCall, fail, finish, look, next};
 use crate::turn::{Step, Turn, Wake};
 use sched_core::{Book, BookFault, Build, Checked, Job, Lease, Reason};
 use std::alloc::Global;
@@ -23,11 +23,11 @@ use std::marker::{Brand, Model, PhantomData};
 use valid_table::Outlet;
 use valid_view::{Naming, Tells, ViewReader};
 
-/// The book of a run and why the run stops, once a call was refused. A contract sees both. What
-/// became of each derivation is a verdict on what a builder may give, and the run is over the basis.
-pub struct Shared<O: Outlet, B: Build, S: Basis = Brand> {
+// The book of a run and why the run stops, once a call was refused. A contract sees both. What
+// became of each derivation is a verdict on what a builder may give, and the run is over the basis.
+pub(crate) struct Shared<O: Outlet, B: Build, S: Basis = Brand> {
     book: Book<O>,
-    stop: Option<Refusal>,
+    stop: Option<RefusedCall>,
     of: PhantomData<(B, S)>,
 }
 
@@ -45,8 +45,8 @@ impl<O: Outlet, B: Build, S: Basis> Model for Shared<O, B, S> {
 }
 
 impl<O: Outlet, B: Build, S: Basis> Shared<O, B, S> {
-    /// A book over a basis that builders of a type share, before anything stops the run.
-    pub fn new(book: Book<O>) -> Shared<O, B, S>
+    // A book over a basis that builders of a type share, before anything stops the run.
+    pub(crate) fn new(book: Book<O>) -> Shared<O, B, S>
         requires answered { IsAnswered B.may book.run book.history }
         requires over { S.is_over book.run book.history.opening }
         ensures book { result.book ≡ book }
@@ -59,10 +59,10 @@ impl<O: Outlet, B: Build, S: Basis> Shared<O, B, S> {
         }
     }
 
-    /// A worker's turn: its next step, whom it wakes then, and how many wanted derivations are
-    /// blocked, ready or building. It wakes all where the run ends, and one where it takes a lease
-    /// and another derivation is ready.
-    pub fn turn(&mut self) -> Turn<O::Told>
+    // A worker's turn: its next step, whom it wakes then, and how many wanted derivations are
+    // blocked, ready or building. It wakes all where the run ends, and one where it takes a lease
+    // and another derivation is ready.
+    pub(crate) fn turn(&mut self) -> Turn<O::Told>
         ensures step { IsStep self.old self.new result.step }
         ensures told { IfGiven result.step (IsToldOfSeeds O.names) }
         ensures wake { IsWake self.new result.step result.wake }
@@ -83,10 +83,14 @@ impl<O: Outlet, B: Build, S: Basis> Shared<O, B, S> {
         }
     }
 
-    /// Has a reader see the list that the outlet shows. Then the paths that were permitted to a job
-    /// of the book's by the list that the reader saw before are permitted behind the book's
-    /// entries. Refused where the view is gone. Costs one look.
-    pub fn catch_up<J: Naming>(&self, reader: &mut ViewReader<J>, job: &Job) -> Result<(), Refusal>
+    // Has a reader see the list that the outlet shows. Then the paths that were permitted to a job
+    // of the book's by the list that the reader saw before are permitted behind the book's
+    // entries. Refused where the view is gone. Costs one look.
+    pub(crate) fn catch_up<J: Naming>(
+        &self,
+        reader: &mut ViewReader<J>,
+        job: &Job,
+    ) -> Result<(), RefusedCall>
     where
         O: Tells<J>,
         ensures ok { OnOk result (HasCaughtUp reader.old.seen self.now.book job.now) }
@@ -100,28 +104,28 @@ impl<O: Outlet, B: Build, S: Basis> Shared<O, B, S> {
         look(reader, seed)
     }
 
-    /// Ends a lease by what was found of its job, and by whether the reader then caught up with the
-    /// book. Registers what was built, or notes why the build failed; where memory is refused, the
-    /// derivation failed for that reason. A lease is given up, which stops the run, where it isn't
-    /// the book's, where its derivation may not be registered with these records, and where its
-    /// verdict can't be used since the view is gone. Costs what `Book::finish` costs.
-    pub fn end(
+    // Ends a lease by what was found of its job, and by whether the reader then caught up with the
+    // book. Registers what was built, or notes why the build failed; where memory is refused, the
+    // derivation failed for that reason. A lease is given up, which stops the run, where it isn't
+    // the book's, where its derivation may not be registered with these records, and where its
+    // verdict can't be used since the view is gone. Costs what `Book::finish` costs.
+    pub(crate) fn end(
         &mut self,
         lease: Lease<O::Told>,
-        found: Found,
-        caught_up: Result<(), Refusal>,
+        found: Finding,
+        caught_up: Result<(), RefusedCall>,
     ) -> LeaseEnd
         requires { (seen : List Entry) × MayBeFound B.may seen lease.job found
             × OnOk caught_up (HasCaughtUp seen self.old.book lease.job) }
         ensures { IsEnding self.old self.new lease.job lease.number found caught_up result }
     {
         match found {
-            Found::Examined(verdict) => match caught_up {
+            Finding::Examined(verdict) => match caught_up {
                 Ok(()) => self.note(lease, verdict),
                 Err(refusal) => self.give_up(lease, refusal),
             },
-            Found::Unanswered(reason) => self.fail(lease, reason),
-            Found::Refused(refusal) => match refusal.fault() {
+            Finding::Unanswered(reason) => self.fail(lease, reason),
+            Finding::Refused(refusal) => match refusal.fault() {
                 BookFault::NoMemory => self.fail(lease, Reason::OutOfMemory),
                 _ => self.give_up(lease, refusal),
             },
@@ -151,8 +155,8 @@ impl<O: Outlet, B: Build, S: Basis> Shared<O, B, S> {
         }
     }
 
-    /// The book, and why the run stopped, if it did.
-    pub fn into_parts(self) -> (Book<O>, Option<BookFault>)
+    // The book, and why the run stopped, if it did.
+    pub(crate) fn into_parts(self) -> (Book<O>, Option<BookFault>)
         ensures book { result.0 ≡ self.book }
         ensures stop { result.1 ≡ self.stop }
         ensures answered { IsAnswered B.may result.0.run result.0.history }
@@ -225,7 +229,7 @@ impl<O: Outlet, B: Build, S: Basis> Shared<O, B, S> {
     }
 
     // Gives a lease up, and stops the run for this refusal, if nothing stopped it before.
-    fn give_up(&mut self, lease: Lease<O::Told>, refusal: Refusal) -> LeaseEnd
+    fn give_up(&mut self, lease: Lease<O::Told>, refusal: RefusedCall) -> LeaseEnd
         ensures stopping { IsStopping self.old self.new refusal }
         ensures end { result ≡ Stopped refusal }
     {

@@ -4,16 +4,16 @@ ghost use Rattle.valid_view.specs.Shown.{IsShowable};
 ghost use Rattle.sched_core.specs.Books.{ArePermittedPaths, AreSeedsValid};
 ghost use Rattle.store_run.specs.Finding.{IsFoundBy, IsToldOfSeeds, IsUnseen};
 
-use crate::found::Found;
-use crate::refusal::{Refusal, closure, permitted_beside};
+use crate::finding::Finding;
+use crate::refusal::{RefusedCall, closure, permitted_beside};
 use nix_names::StorePath;
 use sched_core::{Answer, Job, Lease, Reason, examine};
 use std::alloc::Global;
 use valid_view::{Naming, Tells, ViewReader};
 
-/// Has a reader learn what a lease was told. Then all that the lease's job is built from is valid
-/// in each list that the reader sees from now on.
-pub fn learn<J: Naming, O: Tells<J>>(reader: &mut ViewReader<J>, lease: &mut Lease<O::Told>)
+// Has a reader learn what a lease was told. Then all that the lease's job is built from is valid
+// in each list that the reader sees from now on.
+pub(crate) fn learn<J: Naming, O: Tells<J>>(reader: &mut ViewReader<J>, lease: &mut Lease<O::Told>)
     requires { IsToldOfSeeds O.names lease.old }
     ensures seeds { AreSeedsValid reader.new.told lease.new.job }
     ensures job { lease.new.job ≡ lease.old.job }
@@ -25,25 +25,26 @@ pub fn learn<J: Naming, O: Tells<J>>(reader: &mut ViewReader<J>, lease: &mut Lea
     }
 }
 
-/// What is found of a job's outcome: the builder's reason why there is no answer, or the verdict on
-/// the answer by the paths that are permitted to the job in the list that the reader sees.
-/// In place of a verdict the refusal of the reader, or of memory. Costs the closure of the job's seeds and one pass over what the builder left; takes no lock.
-pub fn verdict<J: Naming>(
+// What is found of a job's outcome: the builder's reason why there is no answer, or the verdict on
+// the answer by the paths that are permitted to the job in the list that the reader sees. In place
+// of a verdict the refusal of the reader, or of memory. Costs the closure of the job's seeds and
+// one pass over what the builder left; takes no lock.
+pub(crate) fn verdict<J: Naming>(
     alloc: Global,
     reader: &mut ViewReader<J>,
     job: &Job,
     outcome: Result<Answer, Reason>,
-) -> Found
+) -> Finding
     requires { AreSeedsValid reader.old.told job.now }
     ensures { IsFoundBy reader.new.seen job.now outcome result }
 {
     let answer = match outcome {
         Ok(answer) => answer,
-        Err(reason) => return Found::Unanswered(reason),
+        Err(reason) => return Finding::Unanswered(reason),
     };
     match permitted(alloc, reader, job) {
-        Ok(permitted) => Found::Examined(examine(alloc, job, &permitted, answer)),
-        Err(refusal) => Found::Refused(refusal),
+        Ok(permitted) => Finding::Examined(examine(alloc, job, &permitted, answer)),
+        Err(refusal) => Finding::Refused(refusal),
     }
 }
 
@@ -53,7 +54,7 @@ fn permitted<J: Naming>(
     alloc: Global,
     reader: &mut ViewReader<J>,
     job: &Job,
-) -> Result<Vec<StorePath>, Refusal>
+) -> Result<Vec<StorePath>, RefusedCall>
     requires { AreSeedsValid reader.old.told job.now }
     ensures showable { OnOk result (IsShowable reader.new.seen) }
     ensures seeds { OnOk result (AreSeedsValid reader.new.seen job.now) }

@@ -3,7 +3,7 @@ ghost use Rattle.std.specs.Prelude.{IfSome};
 ghost use Rattle.store_run.specs.Finding.{IsToldOfSeeds};
 
 use crate::basis::Basis;
-use crate::found::LeaseEnd;
+use crate::finding::LeaseEnd;
 use crate::locked::Locked;
 use crate::monitor::{Deaf, Listen};
 use crate::turn::{Step, Turn};

@@ -16,7 +16,7 @@ use std::sync::atomic::{AtomicU64, Ordering};
 use std::test::*;
 use std::thread::Threads;
 use std::time::Clock;
-use store_run::{Ended, Keep, realise_kept};
+use store_run::{Keep, RunResult, realise_kept};
 use valid_table::Journal;
 use valid_view::{Name, Naming};
 
@@ -193,7 +193,9 @@ fn run_named<J: Naming + Send + Sync, R: Threads + Wait + Clock + Sync>(
 {
     let (plan, journal) = over;
     let alloc = place.alloc;
-    let ended: Ended<J, R> = realise_kept(rt, alloc, name, plan, journal, SYSTEM, builders, place);
+    let ended: RunResult<J, R> = realise_kept(
+        rt, alloc, name, plan, journal, SYSTEM, builders, place,
+    );
     let book = settled(ended)?;
     let traces = traces_of(alloc, &book);
     book.close();

@@ -9,7 +9,7 @@ use std::marker::Brand;
 use std::sync::Wait;
 use std::test::Fail;
 use std::thread::Threads;
-use store_run::{Ended, RunFault, realise};
+use store_run::{RunFault, RunResult, realise};
 use valid_table::{Entry, Journal, Outlet, TableFault};
 use valid_view::{Name, Naming};
 
@@ -77,7 +77,7 @@ fn run_named<J: Naming + Send + Sync, R: Threads + Wait + Sync, B: Build + Watch
 ) -> Result<Traces, Fail>
     requires { name ≡ J.book }
 {
-    let ended: Ended<J, R> = realise(rt, alloc, name, plan, journal, SYSTEM, builders);
+    let ended: RunResult<J, R> = realise(rt, alloc, name, plan, journal, SYSTEM, builders);
     let book = settled(ended)?;
     let traces = traces_of(alloc, &book);
     book.close();
@@ -119,7 +119,7 @@ fn fault_named<J: Naming + Send + Sync, R: Threads + Wait + Sync, B: Build + Wat
     requires { name ≡ J.book }
 {
     let journal = Journal::new(alloc);
-    let ended: Ended<J, R> = realise(rt, alloc, name, plan, &journal, SYSTEM, builders);
+    let ended: RunResult<J, R> = realise(rt, alloc, name, plan, &journal, SYSTEM, builders);
     fault_without_book(ended)
 }
 

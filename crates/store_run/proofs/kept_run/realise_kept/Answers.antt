@@ -17,7 +17,7 @@ run_kept-shared-requires-clause-each g c κs within = λ run opening text is kep
     kept)
 
 -- there is a right number of workers
-workers : (g : Over) (c : goal.After-handed_out g) → AreWorkers (vec_len c.args.builders)
+workers : (g : Over) (c : goal.After-hand_out g) → AreWorkers (vec_len c.args.builders)
 workers g c =
     are_workers (vec_len c.args.builders) (sym c.is_empty.ensures ∙ c.if-is_empty.false)
     (subst (λ n. n ≤ 64) c.len.ensures c.if-len-gt-MOST_WORKERS.false)
@@ -26,12 +26,12 @@ pub returns-clause-ok : goal.returns-clause-ok
 returns-clause-ok g c =
     at_ok g.B.Build.may c.args.plan.now c.args.system.now c.args.journal.now.entries
     (vec_len c.args.builders) (workers g c) c.run_kept-shared.result c.ending.ensures.legal
-    c.ending.ensures.answered c.ending.result c.handed_out.result c.ending.ensures.end
-    c.handed_out.ensures
+    c.ending.ensures.answered c.ending.result c.hand_out.result c.ending.ensures.end
+    c.hand_out.ensures
 
 pub returns-clause-err : goal.returns-clause-err
 returns-clause-err g c =
     at_err g.B.Build.may c.args.plan.now c.args.system.now c.args.journal.now.entries
     (vec_len c.args.builders) (workers g c) c.run_kept-shared.result c.ending.ensures.legal
-    c.ending.ensures.answered c.ending.result c.handed_out.result c.ending.ensures.end
-    c.handed_out.ensures
+    c.ending.ensures.answered c.ending.result c.hand_out.result c.ending.ensures.end
+    c.hand_out.ensures

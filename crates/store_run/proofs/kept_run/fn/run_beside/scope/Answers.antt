@@ -3,7 +3,7 @@ use denote.Param.Send.{IsSend, IsSync, param_send, sendable}
 use Rattle.store_run.proofs.kept_run.fn.run_beside.scope.Given.{Over}
 use Rattle.store_run.proofs.kept_run.fn.run_beside.scope.Lts.{arg-0-1}
 use Rattle.std.proofs.Crossing.{crosses}
-use Rattle.store_run.proofs.keeper.Place.TheSendSync.{the_send as place_send}
+use Rattle.store_run.proofs.keeper.KeepPlace.TheSendSync.{the_send as place_send}
 use Rattle.store_run.proofs.kept_text.KeptText.TheSendSync.{the_send as text_send}
 use Rattle.store_run.proofs.locked.Locked.TheSendSync.{the_sync as locked_sync}
 use Rattle.store_run.proofs.kept_run.fn.run_beside.scope.Goals as goal
