@@ -58,13 +58,13 @@ pub(crate) fn prospect_of(
         Standing::AllValid => Prospect::Reuse,
         _ if has_built_twin => Prospect::Reuse,
         Standing::Hindered(cause) => Prospect::Refuse(cause),
-        Standing::Free => behind(inputs, earlier),
+        Standing::Free => prospect_by_inputs(inputs, earlier),
     }
 }
 
 // The prospect of a derivation that only its inputs can keep from being begun: it is refused for
 // the first of them that is refused.
-fn behind(inputs: &[usize], earlier: &[Prospect]) -> Prospect
+fn prospect_by_inputs(inputs: &[usize], earlier: &[Prospect]) -> Prospect
     requires { All (λ input. input < length earlier.now) inputs.now }
     ensures { state_of result ≡ built_if_ready (by_inputs (state_at earlier.now) inputs.now) }
 {

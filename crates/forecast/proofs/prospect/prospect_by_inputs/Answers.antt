@@ -2,7 +2,7 @@ use Rattle.std.proofs.Common.{◌≡◌, ◌∙◌, ap, arith, get_or, refl, sym
 use Rattle.run_states.specs.States.{is_bad}
 use Rattle.forecast.specs.Holding.{state_at}
 use Rattle.forecast.proofs.Passing.{bad_unless_good, built_behind, refused_behind}
-use Rattle.forecast.proofs.prospect.behind.Goals as goal
+use Rattle.forecast.proofs.prospect.prospect_by_inputs.Goals as goal
 
 pub returns-then-not-is_good : goal.returns-then-not-is_good
 returns-then-not-is_good c =
