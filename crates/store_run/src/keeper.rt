@@ -4,7 +4,7 @@ ghost use Rattle.store_run.specs.Keeping.{MayKeepEach};
 use crate::basis::Basis;
 use crate::kept_text::KeptText;
 use crate::locked::Locked;
-use crate::monitor::Deaf;
+use crate::monitor::NoListener;
 use crate::pause::pause_after;
 use sched_core::Build;
 use std::alloc::Global;
@@ -102,13 +102,13 @@ where
     K: Keep,
 {
     let start = Instant::now(rt).ok();
-    let news = locked.look(&Deaf::over(rt), alloc, text)?;
+    let news = locked.look(&NoListener::over(rt), alloc, text)?;
     let count = news.count();
     let Ok(()) = text.go_on(news) else {
         return None;
     };
     if place.keep.keep(text.bytes()) {
-        text.was_kept(count);
+        text.note_kept(count);
     }
     start?.elapsed(rt).ok()
 }

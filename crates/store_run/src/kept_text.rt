@@ -37,14 +37,14 @@ impl<J: Naming> Model for KeptText<J> {
 // What a look at a book gives: what is shown now, the lines of what is new of it, the lines of what
 // waits, and how many entries there are.
 #[derive(Drop)]
-pub(crate) struct News<J: Naming> {
+pub(crate) struct NewLines<J: Naming> {
     shown: Prefix<J>,
     fresh: Vec<u8>,
     waiting: Vec<u8>,
     count: usize,
 }
 
-impl<J: Naming> Model for News<J> {
+impl<J: Naming> Model for NewLines<J> {
     ghost use Rattle.store_run.specs.Looking.{Looked};
 
     ghost Value = { Looked };
@@ -81,7 +81,7 @@ impl<J: Naming> KeptText<J> {
     // What a book has that the text that was kept last has not; none where there is nothing, or
     // where memory is refused. Costs the lines of the entries that are new since the last look, and
     // of those that wait.
-    pub(crate) fn look<O: Tells<J>>(&self, alloc: Global, book: &Book<O>) -> Option<News<J>>
+    pub(crate) fn look<O: Tells<J>>(&self, alloc: Global, book: &Book<O>) -> Option<NewLines<J>>
         ensures { IfSome result (IsNews self.now.shown book.now.history.entries) }
     {
         let entries = book.journal().entries();
@@ -93,12 +93,12 @@ impl<J: Naming> KeptText<J> {
 
     // Goes on with what a look gave. Then the text is that of all entries that there were. Where
     // memory is refused, it begins with the text of what is shown, as before.
-    pub(crate) fn go_on(&mut self, news: News<J>) -> Result<(), AllocError>
+    pub(crate) fn go_on(&mut self, news: NewLines<J>) -> Result<(), AllocError>
         requires { (entries : List Entry) × IsNews self.old.shown entries news }
         ensures { OnOk result ((entries : List Entry) → IsNews self.old.shown entries news
             → self.new.text ≡ written_text entries) }
     {
-        let News {
+        let NewLines {
             shown,
             fresh,
             waiting,
@@ -119,7 +119,7 @@ impl<J: Naming> KeptText<J> {
     }
 
     // Takes note that a text of so many entries was kept.
-    pub(crate) fn was_kept(&mut self, count: usize)
+    pub(crate) fn note_kept(&mut self, count: usize)
         ensures shown { self.new.shown ≡ self.old.shown }
         ensures text { self.new.text ≡ self.old.text }
         ensures kept { self.new.kept ≡ count }
@@ -128,7 +128,7 @@ impl<J: Naming> KeptText<J> {
     }
 }
 
-impl<J: Naming> News<J> {
+impl<J: Naming> NewLines<J> {
     // How many entries there are.
     pub(crate) fn count(&self) -> usize
         ensures { result ≡ self.now.count }
@@ -143,7 +143,7 @@ fn what_is_new<J: Naming>(
     known: &Prefix<J>,
     shown: Prefix<J>,
     entries: &[Entry],
-) -> Option<News<J>>
+) -> Option<NewLines<J>>
     requires { (waiting : List Entry) × (entries.now ≡ shown ++ waiting) }
     ensures { IfSome result (IsNews known.now entries.now) }
 {
@@ -157,7 +157,7 @@ fn what_is_new<J: Naming>(
     let (_, fresh) = all.split_at(before);
     let fresh = write_lines(alloc, fresh).ok()?;
     let waiting = write_lines(alloc, waiting).ok()?;
-    Some(News {
+    Some(NewLines {
         shown,
         fresh,
         waiting,

@@ -8,7 +8,7 @@ ghost use Rattle.store_run.specs.Sharing.{IfGiven};
 use crate::basis::Basis;
 use crate::bell::Bell;
 use crate::finding::{Finding, LeaseEnd};
-use crate::kept_text::{KeptText, News};
+use crate::kept_text::{KeptText, NewLines};
 use crate::monitor::{Listen, Monitor};
 use crate::shared::Shared;
 use crate::turn::{Step, Turn};
@@ -100,7 +100,7 @@ impl<O: Outlet, B: Build, S: Basis> Locked<O, B, S> {
         rt: &R,
         alloc: Global,
         text: &KeptText<J>,
-    ) -> Option<News<J>>
+    ) -> Option<NewLines<J>>
     where
         O: Tells<J>,
         ensures { IfSome result (IsLook B.may S.is_over text.now.shown) }

@@ -29,20 +29,20 @@ pub trait Listen: Wait {
 
 // A handle that may wait, and does not listen.
 #[derive(Drop)]
-pub(crate) struct Deaf<'a, R> {
+pub(crate) struct NoListener<'a, R> {
     rt: &'a R,
 }
 
-impl<'a, R: Wait> Deaf<'a, R> {
+impl<'a, R: Wait> NoListener<'a, R> {
     // Over a handle that may wait.
-    pub(crate) fn over(rt: &'a R) -> Deaf<'a, R> {
-        Deaf { rt }
+    pub(crate) fn over(rt: &'a R) -> NoListener<'a, R> {
+        NoListener { rt }
     }
 }
 
-impl<'a, R: Wait> Wait for Deaf<'a, R> {}
+impl<'a, R: Wait> Wait for NoListener<'a, R> {}
 
-impl<'a, R: Wait> Listen for Deaf<'a, R> {
+impl<'a, R: Wait> Listen for NoListener<'a, R> {
     fn hear(&self, _call: LockCall) {}
 }
 

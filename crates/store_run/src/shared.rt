@@ -14,7 +14,7 @@ ghost use Rattle.store_run.specs.declared.finding.LeaseEnd.TheVariants.{Stopped}
 
 use crate::basis::Basis;
 use crate::finding::{Finding, LeaseEnd};
-use crate::kept_text::{KeptText, News};
+use crate::kept_text::{KeptText, NewLines};
 use crate::refusal::{RefusedCall, fail, finish, look, next};
 use crate::turn::{Step, Turn, Wake};
 use sched_core::{Book, BookFault, Build, Checked, Job, Lease, Reason};
@@ -133,7 +133,7 @@ impl<O: Outlet, B: Build, S: Basis> Shared<O, B, S> {
     }
 
     // What the book has that a keeper's text has not, in one look.
-    pub(crate) fn look<J: Naming>(&self, alloc: Global, text: &KeptText<J>) -> Option<News<J>>
+    pub(crate) fn look<J: Naming>(&self, alloc: Global, text: &KeptText<J>) -> Option<NewLines<J>>
     where
         O: Tells<J>,
         ensures { IfSome result (IsLook B.may S.is_over text.now.shown) }

@@ -5,7 +5,7 @@ ghost use Rattle.store_run.specs.Finding.{IsToldOfSeeds};
 use crate::basis::Basis;
 use crate::finding::LeaseEnd;
 use crate::locked::Locked;
-use crate::monitor::{Deaf, Listen};
+use crate::monitor::{Listen, NoListener};
 use crate::turn::{Step, Turn};
 use crate::verdict::{learn, verdict};
 use sched_core::{Build, Lease, Watch};
@@ -26,7 +26,7 @@ pub fn work<R: Wait, J: Naming, O: Tells<J>, B: Build + Watch, S: Basis>(
     reader: ViewReader<J>,
     builder: &B,
 ) {
-    work_heard(&Deaf::over(rt), alloc, locked, reader, builder);
+    work_heard(&NoListener::over(rt), alloc, locked, reader, builder);
 }
 
 /// Does what `work` does; the handle hears of each call of the lock.
