@@ -9,7 +9,8 @@ use std::alloc::{AllocError, Global};
 use valid_table::Record;
 
 /// Whether two different outputs lead to each other by references among the outputs, by their paths
-/// and records. Costs a look-up for each reference, and a step for each that is found.
+/// and records. An error where memory is refused, and no other. Costs a look-up for each reference,
+/// and a step for each that is found.
 pub fn is_cyclic(alloc: Global, paths: &[StorePath], records: &[Record]) -> Result<bool, AllocError>
     requires { length records.now ≡ length paths.now }
     ensures { IfOk result (λ cyclic. IsTrue cyclic ↔ IsCyclic paths.now records.now) }
