@@ -9,6 +9,7 @@ pub mod Hearing
 pub mod Histories
 pub mod KnownNews
 pub mod LastTwins
+pub mod MemoCourses
 pub mod NearestTwins
 pub mod OneStates
 pub mod OtherEvents
@@ -18,7 +19,6 @@ pub mod Registering
 pub mod Seeds
 pub mod StateLaws
 pub mod Tabled
-pub mod MemoCourses
 pub mod Telling
 pub mod Tests
 pub mod ToldStates

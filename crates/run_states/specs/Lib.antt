@@ -3,15 +3,15 @@ pub mod Agendas
 pub mod Counts
 pub mod Courses
 pub mod Coursing
+pub mod FollowedEdges
 pub mod Headline
 pub mod Legal
+pub mod Memos
 pub mod Nearest
 pub mod Numbers
 pub mod PlanLaws
 pub mod Runs
 pub mod States
 pub mod Steps
-pub mod Memos
-pub mod FollowedEdges
 pub mod UserSpans
 pub mod Users
