@@ -86,7 +86,7 @@ SIZES = {
     ("process_build/src/reading.rt", "", "MAX_PIECE"): "the bytes of a piece, 65,536",
     ("process_build/src/reading.rt", "new", "MAX_PIECE"): "the same",
     ("process_build/src/reading.rt", "names", "NAMES_AT_ONCE"): "4,096 bytes of names",
-    ("process_build/src/tally.rt", "new", "unsettled : usize :: MAX"): (
+    ("process_build/src/counts.rt", "new", "unsettled : usize :: MAX"): (
         "no size: no count reaches it"
     ),
     ("process_build/src/time.rt", "micros_of", "unwrap_or ( u64 :: MAX"): (

@@ -1,7 +1,7 @@
 //! The program `nix_realise`: its terminal, and the builders and the locks of a run.
 #![tactic(auto)]
 
-use process_build::{ByProcesses, Progress, Watching};
+use process_build::{ByProcesses, ProgressLine, Watching};
 use std::io::IsTerminal;
 use std::process::ExitCode;
 use std::rt::Env;
@@ -12,7 +12,7 @@ fn main(rt: HostRuntime) -> ExitCode {
     let make = ByProcesses::new(&rt, &rt);
     let mut err = rt.stderr();
     let ending = if err.is_terminal() && !is_dumb(&rt) {
-        let progress = Progress::new(rt.alloc(), columns(&rt), err);
+        let progress = ProgressLine::new(rt.alloc(), columns(&rt), err);
         let make = Watching::new(&rt, &make, &progress);
         let keep = || progress.keep(&rt);
         let run = || {

@@ -1,6 +1,6 @@
 pub mod AllowedLinks
 pub mod BuilderCalls
 pub mod Callable
+pub mod Counting
 pub mod FileReads
 pub mod PlainPaths
-pub mod Tallies

@@ -5,9 +5,9 @@ use Rattle.std.specs.Process.{exit_code}
 use Rattle.std.specs.declared.fs.FileType.{FileType}
 use Rattle.std.specs.declared.io.Error.{Error}
 use Rattle.process_build.specs.Errors.{IsNoMemory, IsNotFound}
-use Rattle.process_build.specs.declared.ended.Left.{Left}
-use Rattle.process_build.specs.declared.reading.Node.{Node}
-use Rattle.process_build.specs.declared.reading.Node.TheVariants as node
+use Rattle.process_build.specs.declared.ended.EndedBuild.{EndedBuild}
+use Rattle.process_build.specs.declared.reading.FileKind.{FileKind}
+use Rattle.process_build.specs.declared.reading.FileKind.TheVariants as kind
 use Rattle.ref_scan.specs.declared.tree.Tree.{Tree, Pieces, Link, Dir'}
 use Rattle.build_outcome.specs.declared.job.Answer.{Answer}
 use Rattle.build_outcome.specs.declared.job.Job.{Job}
@@ -16,11 +16,11 @@ use Rattle.build_outcome.specs.declared.reason.Reason.TheVariants.{NoStart, OutO
 
 -- the answer of what a builder left behind: the exit status of its process, and what lies at the
 -- outputs' paths
-abbrev pub answer_of : Left → Answer
+abbrev pub answer_of : EndedBuild → Answer
 answer_of left = record { status = exit_code left.ended.status; trees = left.trees }
 
 -- whether a builder may have run, by what it left, or by the reason why it left nothing
-abbrev pub may_have_run : Result Left Reason → Bool
+abbrev pub may_have_run : Result EndedBuild Reason → Bool
 may_have_run (Ok left) = true
 may_have_run (Err NoStart) = false
 may_have_run (Err OutOfMemory) = false
@@ -51,31 +51,31 @@ MayEnd job (Err reason) = (reason ≡ NoStart) ⊎ (reason ≡ ReadFault) ⊎ (r
 
 -- the part of an output that lies at a path: a file, a folder, or a symbolic link where outputs may
 -- have links; anything else is a read fault
-abbrev pub IsNodeAt : (links : Bool) → FileType → Result Node Reason → Type 0
-IsNodeAt links found (Ok node.File) = IsFile found
-IsNodeAt links found (Ok node.Folder) = IsDir found
-IsNodeAt links found (Ok node.Link) = IsSymlink found × IsTrue links
-IsNodeAt links found (Err reason) =
+abbrev pub IsKindAt : (links : Bool) → FileType → Result FileKind Reason → Type 0
+IsKindAt links found (Ok kind.File) = IsFile found
+IsKindAt links found (Ok kind.Folder) = IsDir found
+IsKindAt links found (Ok kind.Link) = IsSymlink found × IsTrue links
+IsKindAt links found (Err reason) =
     (reason ≡ ReadFault) × ¬ (IsFile found) × ¬ (IsDir found) × ¬ (IsSymlink found × IsTrue links)
 
 -- the same, where the answer may also be that nothing lies there: here something does
-abbrev pub IsNodeOf : (links : Bool) → FileType → Result (Option Node) Reason → Type 0
-IsNodeOf links found (Ok (Some part)) = IsNodeAt links found (Ok part)
-IsNodeOf links found (Ok None) = ⊥
-IsNodeOf links found (Err reason) = IsNodeAt links found (Err reason)
+abbrev pub IsKindOf : (links : Bool) → FileType → Result (Option FileKind) Reason → Type 0
+IsKindOf links found (Ok (Some part)) = IsKindAt links found (Ok part)
+IsKindOf links found (Ok None) = ⊥
+IsKindOf links found (Err reason) = IsKindAt links found (Err reason)
 
 -- what is read of a part of an output: a file's pieces, a folder's members, a link's own target
-abbrev pub IsReadAs : Node → Tree → Type 0
-IsReadAs node.File (Pieces parts) = ⊤
-IsReadAs node.Folder (Dir' shape members) = ⊤
-IsReadAs node.Link (Link target) = ⊤
+abbrev pub IsReadAs : FileKind → Tree → Type 0
+IsReadAs kind.File (Pieces parts) = ⊤
+IsReadAs kind.Folder (Dir' shape members) = ⊤
+IsReadAs kind.Link (Link target) = ⊤
 IsReadAs part tree = ⊥
 
 -- what lies at a path by an error of the system: nothing, exactly where the error is that nothing
 -- is found; else want of memory or a read fault
-abbrev pub IsNoNode : Error → Result (Option Node) Reason → Type 0
-IsNoNode error (Ok (Some node)) = ⊥
-IsNoNode error (Ok None) = IsNotFound error
-IsNoNode error (Err reason) =
+abbrev pub IsNoKind : Error → Result (Option FileKind) Reason → Type 0
+IsNoKind error (Ok (Some kind)) = ⊥
+IsNoKind error (Ok None) = IsNotFound error
+IsNoKind error (Err reason) =
     ¬ (IsNotFound error) × (IsNoMemory error → reason ≡ OutOfMemory)
     × (¬ (IsNoMemory error) → reason ≡ ReadFault)

@@ -9,4 +9,4 @@ pub mod Answers
 pub mod BuilderCalls
 pub mod Contents
 pub mod Folders
-pub mod Orders
+pub mod Preparations

@@ -6,11 +6,11 @@ use Rattle.std.specs.Global.{Vec}
 use Rattle.std.specs.List.Sorted.{IsPermutation}
 use Rattle.nix_names.specs.Bytes.{Bytes}
 use Rattle.process_build.specs.Leases.{drv_name}
-use Rattle.process_build.specs.declared.lease.Running.{Running}
-use Rattle.process_build.specs.declared.line.Line.{Line}
-use Rattle.process_build.specs.declared.tally.Numbers.{Numbers}
-use Rattle.process_build.specs.declared.tally.Tally.{Tally}
-use Rattle.process_build.specs.declared.told.Told.{Told}
+use Rattle.process_build.specs.declared.counts.JobCounts.{JobCounts}
+use Rattle.process_build.specs.declared.counts.Numbers.{Numbers}
+use Rattle.process_build.specs.declared.lease.RunningLease.{RunningLease}
+use Rattle.process_build.specs.declared.line.LineContent.{LineContent}
+use Rattle.process_build.specs.declared.shown_numbers.ShownNumbers.{ShownNumbers}
 
 -- a call that the line hears: a job began, or a job ended, well or not; with the number of
 -- derivations that were unsettled then
@@ -67,13 +67,13 @@ IsAllOf calls n = IsGreatest (0 ∷ map unsettled_at calls) n
 abbrev pub IsUnsettledOf : List Heard → ℕ → Type 0
 IsUnsettledOf calls n = IsLeast (most ∷ map unsettled_at calls) n
 
--- The tally counts these calls.
-pub record IsTallyOf (calls : List Heard) (tally : Tally) : Type 0 where
-  pub begun : tally.begun ≡ count_of begins calls
-  pub built : tally.built ≡ count_of ends_well calls
-  pub failed : tally.failed ≡ count_of ends_badly calls
-  pub all : IsAllOf calls tally.all
-  pub unsettled : IsUnsettledOf calls tally.unsettled
+-- These are the counts of the calls.
+pub record AreCountsOf (calls : List Heard) (counts : JobCounts) : Type 0 where
+  pub begun : counts.begun ≡ count_of begins calls
+  pub built : counts.built ≡ count_of ends_well calls
+  pub failed : counts.failed ≡ count_of ends_badly calls
+  pub all : IsAllOf calls counts.all
+  pub unsettled : IsUnsettledOf calls counts.unsettled
 
 -- The numbers of these calls. Running are the jobs that began, less those that ended. Waiting are
 -- the unsettled derivations, less the running jobs. A difference is never below 0.
@@ -85,53 +85,55 @@ pub record AreNumbersOf (calls : List Heard) (numbers : Numbers) : Type 0 where
       × (numbers.waiting ≡ unsettled - numbers.running)
   pub all : IsAllOf calls numbers.all
 
--- what was told last is the numbers of these calls; before any call nothing was told
-abbrev pub IsToldLast : List Heard → Option Told → Type 0
-IsToldLast calls None = calls ≡ []
-IsToldLast calls (Some told) = AreNumbersOf calls told.numbers
+-- what was shown last is the numbers of these calls; before any call nothing was shown
+abbrev pub IsShownLast : List Heard → Option ShownNumbers → Type 0
+IsShownLast calls None = calls ≡ []
+IsShownLast calls (Some last) = AreNumbersOf calls last.numbers
 
--- the tally counts some calls, and what was told last is their numbers
-abbrev pub IsHeardAndTold : Tally → Option Told → Type 0
-IsHeardAndTold tally told = (calls : List Heard) × IsTallyOf calls tally × IsToldLast calls told
+-- these are the counts of some calls, and what was shown last is their numbers
+abbrev pub IsHeardAndShown : JobCounts → Option ShownNumbers → Type 0
+IsHeardAndShown counts last =
+    (calls : List Heard) × AreCountsOf calls counts × IsShownLast calls last
 
 -- the bytes that erase the line
 abbrev pub no_line : Bytes
 no_line = 13 ∷ 27 ∷ codes "[K"
 
 -- the numbers in words
-unfoldable pub counts_of : Numbers → Bytes
-counts_of numbers =
+unfoldable pub number_words : Numbers → Bytes
+number_words numbers =
     codes "nix_realise: " ++ decimal numbers.running ++ codes " running, " ++ decimal numbers.built
     ++ codes " built, " ++ decimal numbers.failed ++ codes " failed, " ++ decimal numbers.waiting
     ++ codes " waiting, of " ++ decimal numbers.all
 
 -- for how many whole seconds a lease has run at this time, in microseconds, and the name of its
 -- derivation
-unfoldable pub named_by : (at : ℕ) → Running → Bytes
+unfoldable pub named_by : (at : ℕ) → RunningLease → Bytes
 named_by at running =
     codes ", " ++ decimal ((at - running.start) / 1_000_000) ++ codes " s in "
     ++ drv_name running.path
 
 -- what is said of the lease that runs longest, if one is known
-abbrev pub longest_words : (at : ℕ) → Option (Bor Running) → Bytes
+abbrev pub longest_words : (at : ℕ) → Option (Bor RunningLease) → Bytes
 longest_words at (Some running) = named_by at running.now
 longest_words at None = []
 
 -- the words of a line
-unfoldable pub words_of : Line → Bytes
-words_of line = counts_of line.numbers ++ longest_words line.at line.longest
+unfoldable pub words_of : LineContent → Bytes
+words_of line = number_words line.numbers ++ longest_words line.at line.longest
 
 -- the beginning of some words that fits into so many columns; all of them where the columns are not
 -- known
-abbrev pub fitted : (columns : Option ℕ) → (words : Bytes) → Bytes
-fitted (Some columns) words = take columns words
-fitted None words = words
+abbrev pub cut_to_columns : (columns : Option ℕ) → (words : Bytes) → Bytes
+cut_to_columns (Some columns) words = take columns words
+cut_to_columns None words = words
 
 -- A line: it erases the line before it, and has the words that fit. A terminal that is narrower than
 -- is known cuts it at its last column.
-abbrev pub line_of : Line → Bytes
+abbrev pub line_of : LineContent → Bytes
 line_of line =
-    no_line ++ (27 ∷ codes "[?7l") ++ fitted line.columns (words_of line) ++ (27 ∷ codes "[?7h")
+    no_line ++ (27 ∷ codes "[?7l") ++ cut_to_columns line.columns (words_of line)
+    ++ (27 ∷ codes "[?7h")
 
 -- what is written while `running` jobs run: the line; or the bytes that erase it, where no job runs
 -- or there was no memory for a line
@@ -141,7 +143,7 @@ shown_text (suc running) (Ok line) = line.items
 shown_text (suc running) (Err error) = no_line
 
 -- the text is what is written for this line
-abbrev pub IsShown : Line → (text : Bytes) → Type 0
+abbrev pub IsShown : LineContent → (text : Bytes) → Type 0
 IsShown line text =
     (made : Result (Vec ℕ) AllocError) × IfOk made (λ m. m.items ≡ line_of line)
     × (text ≡ shown_text line.numbers.running made)
@@ -156,17 +158,17 @@ NumbersAddUp =
 -- the number of all derivations never falls when more calls are heard
 abbrev pub AllNeverFalls : Type 0
 AllNeverFalls =
-    (calls more : List Heard) (before after : Tally) → IsTallyOf calls before
-    → IsTallyOf (calls ++ more) after → before.all ≤ after.all
+    (calls more : List Heard) (before after : JobCounts) → AreCountsOf calls before
+    → AreCountsOf (calls ++ more) after → before.all ≤ after.all
 
 -- the number of unsettled derivations never rises when more calls are heard
 abbrev pub UnsettledNeverRises : Type 0
 UnsettledNeverRises =
-    (calls more : List Heard) (before after : Tally) → IsTallyOf calls before
-    → IsTallyOf (calls ++ more) after → after.unsettled ≤ before.unsettled
+    (calls more : List Heard) (before after : JobCounts) → AreCountsOf calls before
+    → AreCountsOf (calls ++ more) after → after.unsettled ≤ before.unsettled
 
--- the order of the calls doesn't change the tally
+-- the order of the calls doesn't change the counts
 abbrev pub OrderIsNoMatter : Type 0
 OrderIsNoMatter =
-    (calls others : List Heard) (left right : Tally) → IsPermutation calls others
-    → IsTallyOf calls left → IsTallyOf others right → left ≡ right
+    (calls others : List Heard) (left right : JobCounts) → IsPermutation calls others
+    → AreCountsOf calls left → AreCountsOf others right → left ≡ right

@@ -14,7 +14,9 @@ use std::str;
 /// An entry of an environment.
 #[derive(Clone, Copy)]
 pub struct Setting<'a> {
+    /// Its key.
     pub key: &'a str,
+    /// Its value.
     pub value: &'a str,
 }
 
@@ -30,8 +32,11 @@ impl<'a> Setting<'a> {
 /// A program, its arguments in order, and the entries that the derivation gives its environment.
 #[derive(Drop)]
 pub struct Call<'a> {
+    /// The path of the program.
     pub builder: &'a str,
+    /// Its arguments, without its own name.
     pub args: Vec<&'a str>,
+    /// The entries, in the derivation's order.
     pub env: Vec<Setting<'a>>,
 }
 

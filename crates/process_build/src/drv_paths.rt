@@ -29,7 +29,7 @@ impl DrvPaths {
     pub fn of(alloc: Global, plan: &Plan) -> Result<DrvPaths, AllocError>
         ensures { IfOk result (λ paths. paths ≡ paths_of plan.now.nodes) }
     {
-        let paths = copied(alloc, plan)?;
+        let paths = copy_paths(alloc, plan)?;
         Ok(DrvPaths {
             shared: Arc::new(alloc, paths)?,
         })
@@ -54,7 +54,7 @@ impl DrvPaths {
 }
 
 // Copies of the paths of a plan's derivations, by number.
-fn copied(alloc: Global, plan: &Plan) -> Result<Vec<StorePath>, AllocError>
+fn copy_paths(alloc: Global, plan: &Plan) -> Result<Vec<StorePath>, AllocError>
     ensures { IfOk result (λ paths. paths.items ≡ paths_of plan.now.nodes) }
 {
     let mut paths = Vec::with_capacity(alloc, plan.len())?;

@@ -10,17 +10,17 @@ use std::process::{Child, ExitStatus, OpenProcess};
 
 /// How a process ended that was waited for. Waiting alone makes this value.
 #[derive(Drop)]
-pub struct Ended {
+pub struct ProcessEnd {
     status: ExitStatus,
 }
 
-impl Ended {
+impl ProcessEnd {
     /// Waits for a process.
-    pub fn of<P: OpenProcess>(process: &mut Child<P>) -> io::Result<Ended>
+    pub fn of<P: OpenProcess>(process: &mut Child<P>) -> io::Result<ProcessEnd>
         ensures { IfOk result (λ ended. child_status process.new ≡ Some ended.status) }
     {
         let status = process.wait()?;
-        Ok(Ended { status })
+        Ok(ProcessEnd { status })
     }
 
     /// Its exit status, none where a signal ended it.
@@ -33,17 +33,17 @@ impl Ended {
 
 /// What a builder that was waited for left behind.
 #[derive(Drop)]
-pub struct Left {
-    ended: Ended,
+pub struct EndedBuild {
+    ended: ProcessEnd,
     trees: Vec<Option<Tree>>,
 }
 
-impl Left {
+impl EndedBuild {
     /// These trees, of a builder that ended so.
-    pub fn by(ended: Ended, trees: Vec<Option<Tree>>) -> Left
+    pub fn by(ended: ProcessEnd, trees: Vec<Option<Tree>>) -> EndedBuild
         ensures { result ≡ record { ended = ended; trees = trees } }
     {
-        Left { ended, trees }
+        EndedBuild { ended, trees }
     }
 
     /// The answer to the builder's job.

@@ -44,8 +44,8 @@ impl From<io::Error> for Failure {
     }
 }
 
-/// Whether a call that ended with an error is made again: a signal came between, and nothing was
-/// done.
+// Whether a call that ended with an error is made again: a signal came between, and nothing was
+// done.
 pub(crate) fn is_made_again(error: &io::Error) -> bool
     ensures { IsTrue result ↔ IsInterruption error.now }
 {

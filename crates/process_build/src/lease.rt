@@ -1,6 +1,6 @@
 //! The leases of a run: since when one runs, and how long one was.
 ghost use Rattle.std.specs.Prelude.{◌≡◌, IfSome, option_map};
-ghost use Rattle.process_build.specs.Leases.{IsRunning, drv_name, lease_of};
+ghost use Rattle.process_build.specs.Leases.{IsRunning, drv_name, ended_lease_of};
 
 use nix_names::StorePath;
 use std::alloc::Global;
@@ -10,7 +10,7 @@ const SUFFIX_LEN: usize = 4;
 
 /// A lease whose job is being run.
 #[derive(Drop)]
-pub struct Running {
+pub struct RunningLease {
     /// The path of its derivation.
     pub path: StorePath,
     /// The number of the lease.
@@ -21,7 +21,7 @@ pub struct Running {
 
 /// A lease that has ended.
 #[derive(Drop)]
-pub struct Lease {
+pub struct EndedLease {
     /// The path of its derivation.
     pub path: StorePath,
     /// The number of the lease.
@@ -36,15 +36,20 @@ pub struct Lease {
     pub is_good: bool,
 }
 
-impl Running {
+impl RunningLease {
     /// A lease with this number of the derivation at this path, which begins at this time. None
     /// where there is no such derivation, or the path has no room for one more owner.
-    pub fn of(alloc: Global, drv: Option<&StorePath>, number: u64, start: u64) -> Option<Running>
+    pub fn of(
+        alloc: Global,
+        drv: Option<&StorePath>,
+        number: u64,
+        start: u64,
+    ) -> Option<RunningLease>
         ensures { IfSome result
             (IsRunning (option_map (λ d. d.now) drv.entry) number start) }
     {
         let path = drv?.copy(alloc).ok()?;
-        Some(Running {
+        Some(RunningLease {
             path,
             number,
             start,
@@ -53,15 +58,15 @@ impl Running {
 
     /// The lease, which the worker with this number ended, well or not, after its builder ended at
     /// this time. A clock that went back gives the length 0.
-    pub fn ended(self, worker: usize, at: u64, is_good: bool) -> Lease
-        ensures { result ≡ lease_of self worker at is_good }
+    pub fn ended(self, worker: usize, at: u64, is_good: bool) -> EndedLease
+        ensures { result ≡ ended_lease_of self worker at is_good }
     {
-        let Running {
+        let RunningLease {
             path,
             number,
             start,
         } = self;
-        Lease {
+        EndedLease {
             path,
             number,
             worker,

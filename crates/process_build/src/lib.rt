@@ -17,8 +17,8 @@
 //! | `kept_folders` | the build folders of builders that failed, which are kept |
 //! | `failures`, `reasons` | what an error of the system means at a path, and for a build |
 //! | `progress` | the line of progress |
-//! | `told` | what the line's terminal was told last |
-//! | `tally`, `line` | the numbers of that line; its text |
+//! | `shown_numbers` | the numbers that the line's terminal was shown last |
+//! | `counts`, `line` | the numbers of that line; its text |
 //! | `watching` | builders whose builds the line tells |
 //! | `trace`, `traces` | the trace of a run, which its builders note; its text |
 //! | `tracing` | builders whose leases a trace notes |
@@ -29,6 +29,7 @@
 
 mod builders;
 mod call;
+mod counts;
 mod drv_paths;
 mod ended;
 mod environment;
@@ -46,10 +47,9 @@ mod progress;
 mod reading;
 mod reasons;
 mod removal;
+mod shown_numbers;
 mod start;
-mod tally;
 mod time;
-mod told;
 mod trace;
 mod traces;
 mod tracing;
@@ -62,7 +62,7 @@ pub use kept_folders::{KeptFolder, KeptFolders};
 pub use logs::Logs;
 pub use manner::Manner;
 pub use processes::{ByProcesses, ProcessBuild};
-pub use progress::Progress;
+pub use progress::ProgressLine;
 pub use trace::Trace;
 pub use tracing::Tracing;
 pub use watching::Watching;

@@ -1,9 +1,9 @@
 //! The text of the line of progress.
 ghost use Rattle.std.specs.Prelude.{◌≡◌, ◌/◌, ◌-◌, ◌++◌, IfOk, OnOk, codes, decimal, string_bytes};
-ghost use Rattle.process_build.specs.Progress.{counts_of, fitted, line_of, named_by, words_of};
+ghost use Rattle.process_build.specs.Progress.{cut_to_columns, line_of, named_by, number_words, words_of};
 
-use crate::lease::{Running, drv_name};
-use crate::tally::Numbers;
+use crate::counts::Numbers;
+use crate::lease::{RunningLease, drv_name};
 use itoa::Buffer;
 use std::alloc::{AllocError, Global};
 
@@ -20,18 +20,18 @@ const MICROS_PER_SEC: u64 = 1_000_000;
 
 /// What the line tells.
 #[derive(Clone, Copy)]
-pub struct Line<'a> {
+pub struct LineContent<'a> {
     /// Its numbers.
     pub numbers: Numbers,
     /// The lease that runs longest, if one is known.
-    pub longest: Option<&'a Running>,
+    pub longest: Option<&'a RunningLease>,
     /// The time, in microseconds of the clock by which leases begin.
     pub at: u64,
     /// How many columns the terminal has, if that is known.
     pub columns: Option<usize>,
 }
 
-impl Line<'_> {
+impl LineContent<'_> {
     /// The line, in the place of the one before. A terminal that is narrower than is known shows
     /// its beginning.
     pub fn text(&self, alloc: Global) -> Result<Vec<u8>, AllocError>
@@ -41,7 +41,7 @@ impl Line<'_> {
         let mut text = Vec::new(alloc);
         text.extend_from_slice(NO_LINE.as_bytes())?;
         text.extend_from_slice(CUT.as_bytes())?;
-        text.extend_from_slice(fitted(&words, self.columns))?;
+        text.extend_from_slice(cut_to_columns(&words, self.columns))?;
         text.extend_from_slice(WRAP.as_bytes())?;
         Ok(text)
     }
@@ -63,7 +63,7 @@ impl Line<'_> {
 impl Numbers {
     // The numbers in words.
     fn words(&self, alloc: Global) -> Result<String, AllocError>
-        ensures { IfOk result (λ words. string_bytes words ≡ counts_of self.now) }
+        ensures { IfOk result (λ words. string_bytes words ≡ number_words self.now) }
     {
         let Numbers {
             running,
@@ -80,7 +80,7 @@ impl Numbers {
 
 // Adds for how many whole seconds a lease has run, and the name of its derivation.
 #[tactic(auto, unfolding(crate::specs::Progress::named_by))]
-fn write_named(running: &Running, at: u64, out: &mut Vec<u8>) -> Result<(), AllocError>
+fn write_named(running: &RunningLease, at: u64, out: &mut Vec<u8>) -> Result<(), AllocError>
     ensures { OnOk result (out.new.items ≡ out.old.items ++ named_by at running.now) }
 {
     let seconds = at.saturating_sub(running.start) / MICROS_PER_SEC;
@@ -92,8 +92,8 @@ fn write_named(running: &Running, at: u64, out: &mut Vec<u8>) -> Result<(), Allo
 
 // The beginning of some words that a terminal with so many columns has room for. All bytes are
 // ASCII, so each takes a column.
-fn fitted(words: &[u8], columns: Option<usize>) -> &[u8]
-    ensures { result.now ≡ fitted columns words.now }
+fn cut_to_columns(words: &[u8], columns: Option<usize>) -> &[u8]
+    ensures { result.now ≡ cut_to_columns columns words.now }
 {
     match columns {
         Some(columns) => &words[..columns.min(words.len())],

@@ -61,42 +61,42 @@ impl LogPath {
 
 /// Where a builder's two output streams go.
 #[derive(Drop)]
-pub struct Outputs<'p> {
+pub struct OutputStreams<'p> {
     // The log to which both go, if they are not thrown away.
     log: Option<&'p LogPath>,
     out: Stdio,
     err: Stdio,
 }
 
-impl<'p> Outputs<'p> {
+impl<'p> OutputStreams<'p> {
     /// The log at this path, made anew, or none. What lies at the path is removed first: a file or
     /// a link, which isn't followed. `NoStart` where the log can't be made.
     pub fn to<R: Files, L: Logs>(
         rt: &R,
         opens: &L,
         log: Option<&'p LogPath>,
-    ) -> Result<Outputs<'p>, Reason>
+    ) -> Result<OutputStreams<'p>, Reason>
         ensures ok { IfOk result (λ outputs. outputs.log ≡ log.entry) }
         ensures err { IfErr result (λ reason. (reason ≡ OutOfMemory) ⊎ (reason ≡ NoStart)) }
     {
         let (out, err) = match log {
-            Some(log) => opened(rt, opens, log)?,
+            Some(log) => open_anew(rt, opens, log)?,
             None => (Stdio::null(), Stdio::null()),
         };
-        Ok(Outputs { log, out, err })
+        Ok(OutputStreams { log, out, err })
     }
 
     /// The streams of standard output and standard error.
     pub fn into_streams(self) -> (Stdio, Stdio)
         ensures { (result.0 ≡ self.entry.out) × (result.1 ≡ self.entry.err) }
     {
-        let Outputs { log: _, out, err } = self;
+        let OutputStreams { log: _, out, err } = self;
         (out, err)
     }
 }
 
 // A new file at the path of a log, opened for both streams.
-fn opened<R: Files, L: Logs>(rt: &R, opens: &L, log: &LogPath) -> Result<(Stdio, Stdio), Reason>
+fn open_anew<R: Files, L: Logs>(rt: &R, opens: &L, log: &LogPath) -> Result<(Stdio, Stdio), Reason>
     ensures { IfErr result (λ reason. (reason ≡ OutOfMemory) ⊎ (reason ≡ NoStart)) }
 {
     let path = log.text.as_str();

@@ -2,27 +2,27 @@
 ghost use Rattle.std.specs.Prelude.{◌≡◌, [], MatchOption};
 ghost use Rattle.process_build.specs.Leases.{HasMaybe, RunsLongest, others_than};
 
-use crate::lease::Running;
+use crate::lease::RunningLease;
 use std::alloc::Global;
 
 /// The leases that run and are known.
 #[derive(Drop)]
-pub struct AllRunning {
-    leases: Vec<Running>,
+pub struct RunningLeases {
+    leases: Vec<RunningLease>,
 }
 
-impl AllRunning {
+impl RunningLeases {
     /// No lease.
-    pub fn new(alloc: Global) -> AllRunning
+    pub fn new(alloc: Global) -> RunningLeases
         ensures { result.leases.items ≡ [] }
     {
-        AllRunning {
+        RunningLeases {
             leases: Vec::new(alloc),
         }
     }
 
     /// Adds a lease. Where memory is refused, it stays unknown.
-    pub fn add(&mut self, lease: Running)
+    pub fn add(&mut self, lease: RunningLease)
         ensures { HasMaybe self.old.leases.items lease self.new.leases.items }
     {
         let _ = self.leases.push(lease);
@@ -37,7 +37,7 @@ impl AllRunning {
 
     /// The lease that began first, and of several the one with the least number; none where none is
     /// known.
-    pub fn longest(&self) -> Option<&Running>
+    pub fn longest(&self) -> Option<&RunningLease>
         ensures { MatchOption result (self.now.leases.items ≡ [])
             (λ one. RunsLongest self.now.leases.items one.now) }
     {

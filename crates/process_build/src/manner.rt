@@ -43,9 +43,9 @@ impl OwnManner {
     {
         Ok(OwnManner {
             store_dir: String::from_str(alloc, manner.store_dir)?,
-            runner: owned(alloc, manner.runner)?,
-            logs: owned(alloc, manner.logs)?,
-            kept: shared(manner.kept)?,
+            runner: copy_text(alloc, manner.runner)?,
+            logs: copy_text(alloc, manner.logs)?,
+            kept: share_list(manner.kept)?,
             links: manner.links,
             drvs: manner.drvs.copy()?,
         })
@@ -95,7 +95,7 @@ impl OwnManner {
 }
 
 // A copy of a text, if there is one.
-fn owned(alloc: Global, text: Option<&str>) -> Result<Option<String>, AllocError>
+fn copy_text(alloc: Global, text: Option<&str>) -> Result<Option<String>, AllocError>
     ensures { IfOk result (λ copy. option_map string_bytes copy ≡ option_map (λ t. t.now) text.entry) }
 {
     match text {
@@ -115,7 +115,7 @@ fn text_of(text: &Option<String>) -> Option<&str>
 }
 
 // Another handle of a list, if there is one.
-fn shared(kept: Option<&KeptFolders>) -> Result<Option<KeptFolders>, AllocError>
+fn share_list(kept: Option<&KeptFolders>) -> Result<Option<KeptFolders>, AllocError>
     ensures { IfOk result (λ copy. is_some copy ≡ is_some kept.entry) }
 {
     match kept {

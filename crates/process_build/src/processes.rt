@@ -3,19 +3,19 @@ ghost use Rattle.std.specs.Prelude.{◌≡◌, ◌⊎◌, IfErr, IfOk, string_by
 ghost use Rattle.process_build.specs.Answers.{answer_of, may_have_run, IsAnswerOf, IsReadingFault};
 ghost use Rattle.process_build.specs.Answers.{IsRoomFault, IsRunFault};
 ghost use Rattle.process_build.specs.Manners.{IsMannerOf};
-ghost use Rattle.process_build.specs.Orders.{IsLogOf, IsNoteOf, IsOrderOf, IsPlaceOf};
+ghost use Rattle.process_build.specs.Preparations.{IsLogOf, IsNoteOf, IsPlaceOf, IsPreparationOf};
 
 use crate::builders::Builders;
 use crate::call::Call;
-use crate::ended::Left;
+use crate::ended::EndedBuild;
 use crate::folders::BuildFolder;
 use crate::kept_folders::KeptFolder;
-use crate::logs::{LogPath, Logs, Outputs};
+use crate::logs::{LogPath, Logs, OutputStreams};
 use crate::manner::{Manner, OwnManner};
 use crate::reading::read_outputs;
 use crate::reasons::{no_room, no_start};
 use crate::removal::Clearing;
-use crate::start::{Place, run_builder};
+use crate::start::{BuildPlace, run_builder};
 use build_outcome::{Answer, Build, Job, Reason, Watch};
 use std::alloc::{AllocError, Global};
 use std::cell::Cell;
@@ -43,7 +43,7 @@ pub struct ProcessBuild<'a, R, P> {
 
 // What is made for a lease before anything is changed.
 #[derive(Drop)]
-struct Order<'a> {
+struct Preparation<'a> {
     call: Call<'a>,
     log: Option<LogPath>,
     folder: BuildFolder,
@@ -114,10 +114,10 @@ impl<R: Files + Logs + AllocGlobal, P: Processes> Build for ProcessBuild<'_, R, 
     /// fails. `ReadFault` where its end can't be waited for. `ReadFault` and `TooLarge` where an
     /// output can't be read or passes a limit. `OutOfMemory` where memory was refused.
     fn run(&self, number: u64, job: &Job) -> Result<Answer, Reason> {
-        let order = self.order(number, job)?;
+        let preparation = self.prepare(number, job)?;
         let mut clearing = Clearing::new(self.rt, self.manner.store_dir());
-        let left = self.build(&order, job, &mut clearing);
-        self.leave(order, may_have_run(&left), &mut clearing);
+        let left = self.build(&preparation, job, &mut clearing);
+        self.leave(preparation, may_have_run(&left), &mut clearing);
         clearing.finish();
         Ok(left?.answer())
     }
@@ -138,7 +138,7 @@ impl<R: Files + AllocGlobal + Wait, P> Watch for ProcessBuild<'_, R, P> {
 }
 
 // Whether a builder may have run that left this. A want of memory is no fault of the builder.
-fn may_have_run(left: &Result<Left, Reason>) -> bool
+fn may_have_run(left: &Result<EndedBuild, Reason>) -> bool
     ensures { result ≡ may_have_run left.now }
 {
     !matches!(left, Err(Reason::NoStart | Reason::OutOfMemory))
@@ -194,8 +194,8 @@ impl<R: Files + Logs + AllocGlobal, P: Processes> ProcessBuild<'_, R, P> {
     }
 
     // What is made for the lease with this number before anything is changed.
-    fn order<'j>(&self, number: u64, job: &'j Job) -> Result<Order<'j>, Reason>
-        ensures ok { IfOk result (IsOrderOf self.now.manner number job.now) }
+    fn prepare<'j>(&self, number: u64, job: &'j Job) -> Result<Preparation<'j>, Reason>
+        ensures ok { IfOk result (IsPreparationOf self.now.manner number job.now) }
         ensures err { IfErr result IsRoomFault }
     {
         let alloc = self.rt.alloc();
@@ -203,7 +203,7 @@ impl<R: Files + Logs + AllocGlobal, P: Processes> ProcessBuild<'_, R, P> {
         let log = self.log_of(job)?;
         let folder = BuildFolder::new(alloc, self.manner.store_dir(), number)?;
         let note = self.note_of(job, &folder)?;
-        Ok(Order {
+        Ok(Preparation {
             call,
             log,
             folder,
@@ -214,8 +214,13 @@ impl<R: Files + Logs + AllocGlobal, P: Processes> ProcessBuild<'_, R, P> {
     // Leaves the build folder of a builder that may have run until the end of the lease, if the
     // folders of builders that failed are kept, and else clears it. The answer stands, whether the
     // folder can be removed or not.
-    fn leave(&self, order: Order<'_>, may_have_run: bool, clearing: &mut Clearing<'_, R>) {
-        let Order { folder, note, .. } = order;
+    fn leave(
+        &self,
+        preparation: Preparation<'_>,
+        may_have_run: bool,
+        clearing: &mut Clearing<'_, R>,
+    ) {
+        let Preparation { folder, note, .. } = preparation;
         if may_have_run && note.is_some() {
             self.left.set(note);
         } else {
@@ -226,30 +231,30 @@ impl<R: Files + Logs + AllocGlobal, P: Processes> ProcessBuild<'_, R, P> {
     // Makes room, runs the builder, and reads what it left, if its exit status is 0.
     fn build(
         &self,
-        order: &Order<'_>,
+        preparation: &Preparation<'_>,
         job: &Job,
         clearing: &mut Clearing<'_, R>,
-    ) -> Result<Left, Reason>
+    ) -> Result<EndedBuild, Reason>
         ensures good { IfOk result (λ left. IsAnswerOf job.now (answer_of left)) }
         ensures bad { IfErr result (λ reason. IsRunFault reason ⊎ IsReadingFault reason) }
     {
-        self.make_room(&order.folder, job, clearing)?;
+        self.make_room(&preparation.folder, job, clearing)?;
         let alloc = self.rt.alloc();
-        let outputs = Outputs::to(self.rt, self.rt, order.log.as_ref())?;
-        let place = self.place(&order.folder);
-        let ended = run_builder(alloc, self.processes, place, &order.call, outputs)?;
+        let outputs = OutputStreams::to(self.rt, self.rt, preparation.log.as_ref())?;
+        let place = self.place(&preparation.folder);
+        let ended = run_builder(alloc, self.processes, place, &preparation.call, outputs)?;
         let trees = match ended.code() {
             Some(0) => read_outputs(self.rt, job, self.manner.links())?,
             _ => Vec::new(alloc),
         };
-        Ok(Left::by(ended, trees))
+        Ok(EndedBuild::by(ended, trees))
     }
 
     // Where a builder runs in a folder, and what starts it.
-    fn place<'s>(&'s self, folder: &'s BuildFolder) -> Place<'s>
+    fn place<'s>(&'s self, folder: &'s BuildFolder) -> BuildPlace<'s>
         ensures { IsPlaceOf self.now.manner folder.now result }
     {
-        Place {
+        BuildPlace {
             store_dir: self.manner.store_dir(),
             folder,
             runner: self.manner.runner(),

@@ -1,13 +1,13 @@
 //! The line of progress, which tells how far a run is.
 ghost use Rattle.std.specs.Prelude.{◌≡◌, ◌∷◌, [], ◌++◌, List};
-ghost use Rattle.process_build.specs.Progress.{AreNumbersOf, Began, Ended, Heard, IsHeardAndTold, IsTallyOf};
+ghost use Rattle.process_build.specs.Progress.{AreCountsOf, AreNumbersOf, Began, Ended, Heard, IsHeardAndShown};
 
-use crate::lease::Running;
-use crate::line::Line;
-use crate::longest::AllRunning;
-use crate::tally::Tally;
+use crate::counts::JobCounts;
+use crate::lease::RunningLease;
+use crate::line::LineContent;
+use crate::longest::RunningLeases;
+use crate::shown_numbers::ShownNumbers;
 use crate::time::now;
-use crate::told::Told;
 use std::alloc::Global;
 use std::io::Write;
 use std::sync::{Condvar, Mutex, Wait};
@@ -16,71 +16,71 @@ use std::time::{Clock, Duration};
 // How many seconds the line stands before it is written again.
 const STANDS: u64 = 1;
 
-// A tally, the leases that run, the terminal to which the line is written, and what that was told
-// last. Whenever the lock is free, that has the numbers of the tally.
+// The counts, the leases that run, the terminal to which the line is written, and the numbers that
+// it was shown last. Whenever the lock is free, these are the numbers of the counts.
 #[derive(Drop)]
-struct Shown<W> {
-    tally: Tally,
-    running: AllRunning,
+struct LineState<W> {
+    counts: JobCounts,
+    running: RunningLeases,
     columns: Option<usize>,
     to: W,
-    told: Option<Told>,
+    last: Option<ShownNumbers>,
     is_over: bool,
-    ghost heard: { ∥ IsHeardAndTold tally told ∥₁ },
+    ghost heard: { ∥ IsHeardAndShown counts last ∥₁ },
 }
 
-impl<W: Write> Shown<W> {
+impl<W: Write> LineState<W> {
     // Hears at this time that a job begins, and tells it. The lease is not named later where it is
     // not known or memory is refused.
-    fn begin(&mut self, alloc: Global, running: Option<Running>, unsettled: usize, at: u64)
-        ensures { (calls : List Heard) → IsTallyOf calls self.old.tally
-            → IsTallyOf (calls ++ Began unsettled ∷ []) self.new.tally }
+    fn begin(&mut self, alloc: Global, running: Option<RunningLease>, unsettled: usize, at: u64)
+        ensures { (calls : List Heard) → AreCountsOf calls self.old.counts
+            → AreCountsOf (calls ++ Began unsettled ∷ []) self.new.counts }
     {
-        self.tally.begin(unsettled);
+        self.counts.begin(unsettled);
         if let Some(running) = running {
             self.running.add(running);
         }
-        let told = tell(
+        let last = tell(
             alloc,
-            &self.tally,
+            &self.counts,
             &self.running,
             at,
             self.columns,
             &mut self.to,
         );
-        self.told = Some(told);
+        self.last = Some(last);
     }
 
     // Hears at this time that the job of the lease with this number ended, and tells it.
     fn end(&mut self, alloc: Global, number: u64, is_good: bool, unsettled: usize, at: u64)
-        ensures { (calls : List Heard) → IsTallyOf calls self.old.tally
-            → IsTallyOf (calls ++ Ended is_good unsettled ∷ []) self.new.tally }
+        ensures { (calls : List Heard) → AreCountsOf calls self.old.counts
+            → AreCountsOf (calls ++ Ended is_good unsettled ∷ []) self.new.counts }
     {
-        self.tally.end(is_good, unsettled);
+        self.counts.end(is_good, unsettled);
         self.running.remove(number);
-        let told = tell(
+        let last = tell(
             alloc,
-            &self.tally,
+            &self.counts,
             &self.running,
             at,
             self.columns,
             &mut self.to,
         );
-        self.told = Some(told);
+        self.last = Some(last);
     }
 
     // Tells the line again at this time, while a job runs.
     fn tell_again(&mut self, alloc: Global, at: u64) {
-        if self.tally.numbers().running > 0 {
-            let told = tell(
+        if self.counts.numbers().running > 0 {
+            let last = tell(
                 alloc,
-                &self.tally,
+                &self.counts,
                 &self.running,
                 at,
                 self.columns,
                 &mut self.to,
             );
-            self.told = Some(told);
+            self.last = Some(last);
         }
     }
 }
@@ -88,22 +88,22 @@ impl<W: Write> Shown<W> {
 // Tells a terminal with so many columns the line at this time.
 fn tell<W: Write>(
     alloc: Global,
-    tally: &Tally,
-    running: &AllRunning,
+    counts: &JobCounts,
+    running: &RunningLeases,
     at: u64,
     columns: Option<usize>,
     to: &mut W,
-) -> Told
-    ensures { (calls : List Heard) → IsTallyOf calls tally.now
+) -> ShownNumbers
+    ensures { (calls : List Heard) → AreCountsOf calls counts.now
         → AreNumbersOf calls result.numbers }
 {
-    let line = Line {
-        numbers: tally.numbers(),
+    let line = LineContent {
+        numbers: counts.numbers(),
         longest: running.longest(),
         at,
         columns,
     };
-    Told::by(alloc, &line, to)
+    ShownNumbers::by(alloc, &line, to)
 }
 
 /// The line of progress of a run: how many derivations are being built, how many were built and how
@@ -112,23 +112,23 @@ fn tell<W: Write>(
 /// ends, and each second meanwhile. It is cleared while nothing is being built and if there is no
 /// memory for it.
 #[derive(Drop)]
-pub struct Progress<W> {
-    shown: Mutex<Shown<W>>,
+pub struct ProgressLine<W> {
+    shown: Mutex<LineState<W>>,
     ending: Condvar,
 }
 
-impl<W: Write> Progress<W> {
+impl<W: Write> ProgressLine<W> {
     /// Before anything is built; the line goes to this terminal, which has so many columns, if that
     /// is known.
-    pub fn new(alloc: Global, columns: Option<usize>, to: W) -> Progress<W> {
-        let tally = Tally::new();
-        Progress {
-            shown: Mutex::new(Shown {
-                tally,
-                running: AllRunning::new(alloc),
+    pub fn new(alloc: Global, columns: Option<usize>, to: W) -> ProgressLine<W> {
+        let counts = JobCounts::new();
+        ProgressLine {
+            shown: Mutex::new(LineState {
+                counts,
+                running: RunningLeases::new(alloc),
                 columns,
                 to,
-                told: None,
+                last: None,
                 is_over: false,
             }),
             ending: Condvar::new(),
@@ -159,7 +159,7 @@ impl<W: Write> Progress<W> {
     pub(crate) fn begin<R: Wait + Clock + AllocGlobal>(
         &self,
         rt: &R,
-        running: Option<Running>,
+        running: Option<RunningLease>,
         unsettled: usize,
     ) {
         let at = now(rt);

@@ -3,7 +3,7 @@ ghost use Rattle.std.specs.Prelude.{◌≡◌, ◌≤◌, ◌+◌, ◌⊎◌, []
 ghost use Rattle.std.specs.Prelude.{IsUtf8, length, string_bytes};
 ghost use Rattle.std.specs.Fs.{file_type};
 ghost use Rattle.std.specs.Io.KnownBytes.{Consumes, IsAtEnd, ReadConsumes};
-ghost use Rattle.process_build.specs.Answers.{IsNodeAt, IsNodeOf, IsNoNode, IsReadAs};
+ghost use Rattle.process_build.specs.Answers.{IsKindAt, IsKindOf, IsNoKind, IsReadAs};
 ghost use Rattle.process_build.specs.Answers.{IsReadingFault};
 ghost use Rattle.process_build.specs.Contents.{IsAllowed};
 ghost use Rattle.ref_scan.specs.declared.tree.Member.{Member};
@@ -57,15 +57,15 @@ fn read_output<R: Files + AllocGlobal>(
     ensures plain { IfOk result (λ tree. IfSome tree (IsAllowed links)) }
     ensures bad { IfErr result IsReadingFault }
 {
-    match node_of(fs::symlink_metadata(rt, path), links)? {
-        Some(node) => Ok(Some(Reader::new(rt).tree(node, path, MAX_DEPTH - 1, links)?)),
+    match kind_of(fs::symlink_metadata(rt, path), links)? {
+        Some(kind) => Ok(Some(Reader::new(rt).tree(kind, path, MAX_DEPTH - 1, links)?)),
         None => Ok(None),
     }
 }
 
 /// What an output may have.
 #[derive(Clone, Copy)]
-pub enum Node {
+pub enum FileKind {
     /// A regular file.
     File,
     /// A folder.
@@ -75,25 +75,25 @@ pub enum Node {
 }
 
 // What lies at a path, by the system's answer. A fault if outputs may not have it.
-fn node_of(asked: io::Result<Metadata>, links: bool) -> Result<Option<Node>, Reason>
-    ensures found { IfOk asked (λ found. IsNodeOf links (file_type found) result) }
-    ensures fault { IfErr asked (λ error. IsNoNode error result) }
+fn kind_of(asked: io::Result<Metadata>, links: bool) -> Result<Option<FileKind>, Reason>
+    ensures found { IfOk asked (λ found. IsKindOf links (file_type found) result) }
+    ensures fault { IfErr asked (λ error. IsNoKind error result) }
 {
     match asked {
-        Ok(found) => Ok(Some(node_at(&found, links)?)),
+        Ok(found) => Ok(Some(kind_at(&found, links)?)),
         Err(error) if error.kind() == ErrorKind::NotFound => Ok(None),
         Err(error) => Err(read_fault(error)),
     }
 }
 
 // What was found as a part of an output, which may have symbolic links or may not.
-fn node_at(found: &Metadata, links: bool) -> Result<Node, Reason>
-    ensures { IsNodeAt links (file_type found.now) result }
+fn kind_at(found: &Metadata, links: bool) -> Result<FileKind, Reason>
+    ensures { IsKindAt links (file_type found.now) result }
 {
     match (found.is_file(), found.is_dir(), found.is_symlink()) {
-        (true, _, _) => Ok(Node::File),
-        (_, true, _) => Ok(Node::Folder),
-        (_, _, true) if links => Ok(Node::Link),
+        (true, _, _) => Ok(FileKind::File),
+        (_, true, _) => Ok(FileKind::Folder),
+        (_, _, true) if links => Ok(FileKind::Link),
         _ => Err(Reason::ReadFault),
     }
 }
@@ -122,16 +122,22 @@ impl<'a, R: Files + AllocGlobal> Reader<'a, R> {
     // What lies at a path, by what was found there, with at most `below` levels below its own, and
     // with symbolic links if it may have some.
     #[cycle(tree)]
-    fn tree(&mut self, node: Node, path: &str, below: usize, links: bool) -> Result<Tree, Reason>
-        requires { node ≡ Node.Link → IsTrue links }
-        ensures tree { IfOk result (IsReadAs node) }
+    fn tree(
+        &mut self,
+        kind: FileKind,
+        path: &str,
+        below: usize,
+        links: bool,
+    ) -> Result<Tree, Reason>
+        requires { kind ≡ FileKind.Link → IsTrue links }
+        ensures tree { IfOk result (IsReadAs kind) }
         ensures plain { IfOk result (IsAllowed links) }
         ensures bad { IfErr result IsReadingFault }
     {
-        match node {
-            Node::File => Ok(Tree::Pieces(self.pieces(path)?)),
-            Node::Folder => Ok(Tree::Dir(self.members(path, below, links)?)),
-            Node::Link => Ok(Tree::Link(self.target(path)?)),
+        match kind {
+            FileKind::File => Ok(Tree::Pieces(self.pieces(path)?)),
+            FileKind::Folder => Ok(Tree::Dir(self.members(path, below, links)?)),
+            FileKind::Link => Ok(Tree::Link(self.target(path)?)),
         }
     }
 
@@ -167,10 +173,10 @@ impl<'a, R: Files + AllocGlobal> Reader<'a, R> {
         };
         let path = child_path(self.rt.alloc(), path, &name)?;
         let found = fs::symlink_metadata(self.rt, path.as_str());
-        let Some(node) = node_of(found, links)? else {
+        let Some(kind) = kind_of(found, links)? else {
             return Err(Reason::ReadFault);
         };
-        let tree = self.tree(node, path.as_str(), below, links)?;
+        let tree = self.tree(kind, path.as_str(), below, links)?;
         Ok(Member { name, tree })
     }
 
@@ -302,13 +308,13 @@ fn child_path(alloc: Global, path: &str, name: &[u8]) -> Result<String, Reason>
         (reason ≡ OutOfMemory) ⊎ ((reason ≡ ReadFault) × ¬ (IsUtf8 name.now))) }
 {
     match str::from_utf8(name) {
-        Ok(name) => Ok(joined(alloc, path, name)?),
+        Ok(name) => Ok(join_path(alloc, path, name)?),
         Err(_) => Err(Reason::ReadFault),
     }
 }
 
 // The path of a name in a folder.
-fn joined(alloc: Global, path: &str, name: &str) -> Result<String, AllocError>
+fn join_path(alloc: Global, path: &str, name: &str) -> Result<String, AllocError>
     ensures { IfOk result (λ child. string_bytes child ≡ child_of path.now name.now) }
 {
     format!(in alloc; "{path}/{name}")

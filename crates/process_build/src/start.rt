@@ -8,11 +8,11 @@ ghost use Rattle.process_build.specs.BuilderCalls.{entries_in_order, entry_of_se
 ghost use Rattle.process_build.specs.BuilderCalls.{args_by, name_by, program_by, program_of, Runs};
 
 use crate::call::Call;
-use crate::ended::Ended;
+use crate::ended::ProcessEnd;
 use crate::environment::{set_environment, settings};
 use crate::failures::is_made_again;
 use crate::folders::BuildFolder;
-use crate::logs::Outputs;
+use crate::logs::OutputStreams;
 use crate::reasons::{no_start, read_fault};
 use build_outcome::Reason;
 use std::alloc::{AllocError, Global};
@@ -23,9 +23,12 @@ use std::process::{Child, Command, Processes, Stdio};
 
 /// Where a builder runs, and the program that starts it, if one does.
 #[derive(Clone, Copy)]
-pub struct Place<'a> {
+pub struct BuildPlace<'a> {
+    /// The store folder.
     pub store_dir: &'a str,
+    /// The folder in which it runs.
     pub folder: &'a BuildFolder,
+    /// The path of the program that starts it, if one does.
     pub runner: Option<&'a str>,
 }
 
@@ -35,15 +38,15 @@ pub struct Place<'a> {
 pub fn run_builder<P: Processes>(
     alloc: Global,
     processes: &P,
-    place: Place<'_>,
+    place: BuildPlace<'_>,
     call: &Call<'_>,
-    outputs: Outputs<'_>,
-) -> Result<Ended, Reason>
+    outputs: OutputStreams<'_>,
+) -> Result<ProcessEnd, Reason>
     ensures { IfErr result IsRunFault }
 {
     let mut command = command(alloc, place, call, outputs)?;
     let mut builder = start(&mut command, processes).map_err(no_start)?;
-    Ended::of(&mut builder).map_err(read_fault)
+    ProcessEnd::of(&mut builder).map_err(read_fault)
 }
 
 // Starts a builder, again if a signal interrupted the start, for example at the opening of its
@@ -61,9 +64,9 @@ fn start<P: Processes>(command: &mut Command, processes: &P) -> io::Result<Child
 // The command that runs a builder at its place.
 fn command(
     alloc: Global,
-    place: Place<'_>,
+    place: BuildPlace<'_>,
     call: &Call<'_>,
-    outputs: Outputs<'_>,
+    outputs: OutputStreams<'_>,
 ) -> Result<Command, AllocError>
     ensures { IfOk result (Runs (option_map (λ r. r.now) place.entry.runner) call.now.builder.now
         (map (λ a. a.now) call.now.args.items)
@@ -72,7 +75,7 @@ fn command(
         (string_bytes place.entry.folder.now.path)) }
 {
     let folder = place.folder.path();
-    let mut command = called(alloc, place.runner, call)?;
+    let mut command = program_command(alloc, place.runner, call)?;
     set_streams(&mut command, outputs);
     let settings = settings(alloc, place.store_dir, folder, &call.env)?;
     set_environment(&mut command, &settings)?;
@@ -82,7 +85,11 @@ fn command(
 
 // The command of a builder's program and its arguments, by a runner where there is one, before
 // anything else is said of it.
-fn called(alloc: Global, runner: Option<&str>, call: &Call<'_>) -> Result<Command, AllocError>
+fn program_command(
+    alloc: Global,
+    runner: Option<&str>,
+    call: &Call<'_>,
+) -> Result<Command, AllocError>
     ensures program { IfOk result (λ c. command_program c
         ≡ program_by (option_map (λ r. r.now) runner.entry) call.now.builder.now) }
     ensures args { IfOk result (λ c. command_args c
@@ -156,7 +163,7 @@ fn set_args(command: &mut Command, args: &[&str]) -> Result<(), AllocError>
 }
 
 // Gives a command no input, and these outputs.
-fn set_streams(command: &mut Command, outputs: Outputs<'_>)
+fn set_streams(command: &mut Command, outputs: OutputStreams<'_>)
     ensures call { SameProgramAndArgs command.old command.new }
     ensures env { SameEnv command.old command.new }
     ensures dir { SameDir command.old command.new }

@@ -2,9 +2,9 @@
 ghost use Rattle.std.specs.Prelude.{◌≡◌, ◌∷◌, [], ◌++◌, IfOk, List};
 ghost use Rattle.process_build.specs.Leases.{HasNoted};
 ghost use Rattle.process_build.specs.Traces.{trace_of};
-ghost use Rattle.process_build.specs.declared.lease.Lease.{Lease};
+ghost use Rattle.process_build.specs.declared.lease.EndedLease.{EndedLease};
 
-use crate::lease::{Lease, Running};
+use crate::lease::{EndedLease, RunningLease};
 use crate::time::now;
 use crate::traces::trace_text;
 use std::alloc::{AllocError, Global};
@@ -13,25 +13,25 @@ use std::time::Clock;
 
 // The leases that ended, in that order, and whether each of them was noted.
 #[derive(Drop)]
-struct Noted {
-    leases: Vec<Lease>,
+struct NotedLeases {
+    leases: Vec<EndedLease>,
     is_whole: bool,
 }
 
-impl Noted {
+impl NotedLeases {
     // Before any lease ended.
-    fn new(alloc: Global) -> Noted
+    fn new(alloc: Global) -> NotedLeases
         ensures { HasNoted [] result }
     {
-        Noted {
+        NotedLeases {
             leases: Vec::new(alloc),
             is_whole: true,
         }
     }
 
     // Notes a lease that ended. Where memory is refused, it is missing.
-    fn add(&mut self, lease: Lease)
-        ensures { (ended : List Lease) → HasNoted ended self.old
+    fn add(&mut self, lease: EndedLease)
+        ensures { (ended : List EndedLease) → HasNoted ended self.old
             → HasNoted (ended ++ lease ∷ []) self.new }
     {
         if self.leases.push(lease).is_err() {
@@ -41,7 +41,7 @@ impl Noted {
 
     // Notes that a lease ended and is missing.
     fn miss(&mut self)
-        ensures { (ended : List Lease) → HasNoted ended self.new }
+        ensures { (ended : List EndedLease) → HasNoted ended self.new }
     {
         self.is_whole = false;
     }
@@ -49,7 +49,7 @@ impl Noted {
     // The trace of all leases that ended. Want of memory is the only error; it is also answered
     // where a lease is missing.
     fn text(&self, alloc: Global) -> Result<Vec<u8>, AllocError>
-        ensures { (ended : List Lease) → HasNoted ended self.now
+        ensures { (ended : List EndedLease) → HasNoted ended self.now
             → IfOk result (λ text. text.items ≡ trace_of ended) }
     {
         if self.is_whole {
@@ -64,7 +64,7 @@ impl Noted {
 #[derive(Drop)]
 pub struct Trace {
     began: u64,
-    noted: Mutex<Noted>,
+    noted: Mutex<NotedLeases>,
 }
 
 impl Trace {
@@ -72,14 +72,14 @@ impl Trace {
     pub fn new<R: Clock + AllocGlobal>(rt: &R) -> Trace {
         Trace {
             began: now(rt),
-            noted: Mutex::new(Noted::new(rt.alloc())),
+            noted: Mutex::new(NotedLeases::new(rt.alloc())),
         }
     }
 
     /// The text of the trace: an event for each lease that ended. Want of memory, now or when a
     /// lease was noted, is the only error: a trace has all leases, or there is none.
     pub fn text<R: Wait + AllocGlobal>(&self, rt: &R) -> Result<Vec<u8>, AllocError>
-        ensures { IfOk result (λ text. (ended : List Lease) × (text.items ≡ trace_of ended)) }
+        ensures { IfOk result (λ text. (ended : List EndedLease) × (text.items ≡ trace_of ended)) }
     {
         self.noted.lock(rt).text(rt.alloc())
     }
@@ -93,7 +93,7 @@ impl Trace {
     pub(crate) fn note<R: Wait>(
         &self,
         rt: &R,
-        running: Option<Running>,
+        running: Option<RunningLease>,
         worker: usize,
         at: u64,
         is_good: bool,

@@ -2,7 +2,7 @@
 ghost use Rattle.std.specs.Prelude.{◌≡◌, ◌++◌, IfOk, OnOk, codes, decimal, flat_map};
 ghost use Rattle.process_build.specs.Traces.{args_of, end_field, end_word, event_after, event_of, events_of, named_fields, number_field, path_field, timed_fields, trace_of};
 
-use crate::lease::{Lease, drv_name};
+use crate::lease::{EndedLease, drv_name};
 use itoa::Buffer;
 use std::alloc::{AllocError, Global};
 
@@ -10,7 +10,7 @@ use std::alloc::{AllocError, Global};
 /// for each, in their order. Names and paths stand as they are, since no byte of a store path
 /// needs an escape in a JSON string. Want of memory is the only error. Costs time in proportion to
 /// the text.
-pub fn trace_text(alloc: Global, leases: &[Lease]) -> Result<Vec<u8>, AllocError>
+pub fn trace_text(alloc: Global, leases: &[EndedLease]) -> Result<Vec<u8>, AllocError>
     ensures { IfOk result (λ text. text.items ≡ trace_of leases.now) }
 {
     let mut text = Vec::new(alloc);
@@ -22,7 +22,7 @@ pub fn trace_text(alloc: Global, leases: &[Lease]) -> Result<Vec<u8>, AllocError
 
 // Adds the events of some leases.
 #[tactic(auto, unfolding(crate::specs::Traces::events_of))]
-fn write_events(leases: &[Lease], out: &mut Vec<u8>) -> Result<(), AllocError>
+fn write_events(leases: &[EndedLease], out: &mut Vec<u8>) -> Result<(), AllocError>
     ensures { OnOk result (out.new.items ≡ out.old.items ++ events_of leases.now) }
 {
     match leases {
@@ -35,7 +35,7 @@ fn write_events(leases: &[Lease], out: &mut Vec<u8>) -> Result<(), AllocError>
 }
 
 // Adds the events that stand after the first one.
-fn write_more(leases: &[Lease], out: &mut Vec<u8>) -> Result<(), AllocError>
+fn write_more(leases: &[EndedLease], out: &mut Vec<u8>) -> Result<(), AllocError>
     ensures { OnOk result (out.new.items ≡ out.old.items ++ flat_map event_after leases.now) }
 {
     'leases: for lease in leases {
@@ -46,7 +46,7 @@ fn write_more(leases: &[Lease], out: &mut Vec<u8>) -> Result<(), AllocError>
 
 // Adds an event that stands after another.
 #[tactic(auto, unfolding(crate::specs::Traces::event_after))]
-fn write_next(lease: &Lease, out: &mut Vec<u8>) -> Result<(), AllocError>
+fn write_next(lease: &EndedLease, out: &mut Vec<u8>) -> Result<(), AllocError>
     ensures { OnOk result (out.new.items ≡ out.old.items ++ event_after lease.now) }
 {
     out.extend_from_slice(b",\n")?;
@@ -55,7 +55,7 @@ fn write_next(lease: &Lease, out: &mut Vec<u8>) -> Result<(), AllocError>
 
 // Adds the event of a lease.
 #[tactic(auto, unfolding(crate::specs::Traces::event_of))]
-fn write_event(lease: &Lease, out: &mut Vec<u8>) -> Result<(), AllocError>
+fn write_event(lease: &EndedLease, out: &mut Vec<u8>) -> Result<(), AllocError>
     ensures { OnOk result (out.new.items ≡ out.old.items ++ event_of lease.now) }
 {
     write_named(lease, out)?;
@@ -65,7 +65,7 @@ fn write_event(lease: &Lease, out: &mut Vec<u8>) -> Result<(), AllocError>
 
 // Adds the name of an event and its kind.
 #[tactic(auto, unfolding(crate::specs::Traces::named_fields))]
-fn write_named(lease: &Lease, out: &mut Vec<u8>) -> Result<(), AllocError>
+fn write_named(lease: &EndedLease, out: &mut Vec<u8>) -> Result<(), AllocError>
     ensures { OnOk result (out.new.items ≡ out.old.items ++ named_fields lease.now) }
 {
     out.extend_from_slice(b"{\"name\":\"")?;
@@ -75,7 +75,7 @@ fn write_named(lease: &Lease, out: &mut Vec<u8>) -> Result<(), AllocError>
 
 // Adds the worker of an event and its times.
 #[tactic(auto, unfolding(crate::specs::Traces::timed_fields))]
-fn write_timed(lease: &Lease, out: &mut Vec<u8>) -> Result<(), AllocError>
+fn write_timed(lease: &EndedLease, out: &mut Vec<u8>) -> Result<(), AllocError>
     ensures { OnOk result (out.new.items ≡ out.old.items ++ timed_fields lease.now) }
 {
     write_number(b",\"tid\":", lease.worker as u64, out)?;
@@ -85,7 +85,7 @@ fn write_timed(lease: &Lease, out: &mut Vec<u8>) -> Result<(), AllocError>
 
 // Adds the arguments of an event, and ends it.
 #[tactic(auto, unfolding(crate::specs::Traces::args_of))]
-fn write_args(lease: &Lease, out: &mut Vec<u8>) -> Result<(), AllocError>
+fn write_args(lease: &EndedLease, out: &mut Vec<u8>) -> Result<(), AllocError>
     ensures { OnOk result (out.new.items ≡ out.old.items ++ args_of lease.now) }
 {
     out.extend_from_slice(b",\"args\":{")?;
@@ -96,7 +96,7 @@ fn write_args(lease: &Lease, out: &mut Vec<u8>) -> Result<(), AllocError>
 
 // Adds the number of a lease.
 #[tactic(auto, unfolding(crate::specs::Traces::number_field))]
-fn write_lease(lease: &Lease, out: &mut Vec<u8>) -> Result<(), AllocError>
+fn write_lease(lease: &EndedLease, out: &mut Vec<u8>) -> Result<(), AllocError>
     ensures { OnOk result (out.new.items ≡ out.old.items ++ number_field lease.now) }
 {
     write_number(b"\"lease\":", lease.number, out)
@@ -104,7 +104,7 @@ fn write_lease(lease: &Lease, out: &mut Vec<u8>) -> Result<(), AllocError>
 
 // Adds how a lease ended.
 #[tactic(auto, unfolding(crate::specs::Traces::end_field))]
-fn write_end(lease: &Lease, out: &mut Vec<u8>) -> Result<(), AllocError>
+fn write_end(lease: &EndedLease, out: &mut Vec<u8>) -> Result<(), AllocError>
     ensures { OnOk result (out.new.items ≡ out.old.items ++ end_field lease.now) }
 {
     write_between(b",\"ended\":\"", end_word(lease.is_good), out)?;
@@ -113,7 +113,7 @@ fn write_end(lease: &Lease, out: &mut Vec<u8>) -> Result<(), AllocError>
 
 // Adds the path of an event's derivation, and ends the event.
 #[tactic(auto, unfolding(crate::specs::Traces::path_field))]
-fn write_path(lease: &Lease, out: &mut Vec<u8>) -> Result<(), AllocError>
+fn write_path(lease: &EndedLease, out: &mut Vec<u8>) -> Result<(), AllocError>
     ensures { OnOk result (out.new.items ≡ out.old.items ++ path_field lease.now) }
 {
     write_between(b",\"path\":\"", lease.path.text(), out)?;

@@ -2,7 +2,7 @@
 
 use crate::builders::Builders;
 use crate::drv_paths::DrvPaths;
-use crate::lease::Running;
+use crate::lease::RunningLease;
 use crate::manner::Manner;
 use crate::trace::Trace;
 use build_outcome::{Answer, Build, Job, Reason, Watch};
@@ -19,7 +19,7 @@ pub struct Traced<'a, R, B> {
     worker: usize,
     drvs: DrvPaths,
     trace: Option<&'a Trace>,
-    running: Cell<Option<Running>>,
+    running: Cell<Option<RunningLease>>,
     // When the builder of the last job ended.
     end: Cell<u64>,
 }
@@ -33,7 +33,7 @@ impl<R: Wait + Clock + AllocGlobal, B: Build> Build for Traced<'_, R, B> {
             let drv = self.drvs.get(job.derivation);
             let start = trace.time(self.rt);
             self.running
-                .set(Running::of(self.rt.alloc(), drv, number, start));
+                .set(RunningLease::of(self.rt.alloc(), drv, number, start));
         }
         let outcome = self.builder.run(number, job);
         if let Some(trace) = self.trace {

@@ -2,9 +2,9 @@
 
 use crate::builders::Builders;
 use crate::drv_paths::DrvPaths;
-use crate::lease::Running;
+use crate::lease::RunningLease;
 use crate::manner::Manner;
-use crate::progress::Progress;
+use crate::progress::ProgressLine;
 use crate::time::now;
 use build_outcome::{Answer, Build, Job, Reason, Watch};
 use std::alloc::{AllocError, Global};
@@ -19,7 +19,7 @@ pub struct Watched<'a, R, B, W> {
     rt: &'a R,
     builder: B,
     drvs: DrvPaths,
-    progress: &'a Progress<W>,
+    progress: &'a ProgressLine<W>,
     unsettled: Cell<usize>,
     number: Cell<u64>,
 }
@@ -30,7 +30,7 @@ impl<R: Wait + Clock + AllocGlobal, B: Build, W: Write> Build for Watched<'_, R,
     /// Tells the line that a job begins, and builds it as the builder does.
     fn run(&self, number: u64, job: &Job) -> Result<Answer, Reason> {
         let drv = self.drvs.get(job.derivation);
-        let running = Running::of(self.rt.alloc(), drv, number, now(self.rt));
+        let running = RunningLease::of(self.rt.alloc(), drv, number, now(self.rt));
         self.number.set(number);
         self.progress.begin(self.rt, running, self.unsettled.get());
         self.builder.run(number, job)
@@ -58,12 +58,12 @@ impl<R: Wait + Clock + AllocGlobal, B: Watch, W: Write> Watch for Watched<'_, R,
 pub struct Watching<'a, R, M, W> {
     rt: &'a R,
     make: &'a M,
-    progress: &'a Progress<W>,
+    progress: &'a ProgressLine<W>,
 }
 
 impl<'a, R, M, W> Watching<'a, R, M, W> {
     /// Makes these builders, and tells their builds by this line.
-    pub fn new(rt: &'a R, make: &'a M, progress: &'a Progress<W>) -> Watching<'a, R, M, W> {
+    pub fn new(rt: &'a R, make: &'a M, progress: &'a ProgressLine<W>) -> Watching<'a, R, M, W> {
         Watching { rt, make, progress }
     }
 }

@@ -4,7 +4,7 @@ use crate::running::{Outcome, Plain};
 use crate::scene::Scene;
 use crate::steps::Step;
 use crate::texts::replaced;
-use process_build::{Builders, ByProcesses, Progress, Watching};
+use process_build::{Builders, ByProcesses, ProgressLine, Watching};
 use sched_core::{Build, Job};
 use std::alloc::{AllocError, Global};
 use std::process;
@@ -187,7 +187,7 @@ fn folders_behind_the_line_of_progress(rt: HostRuntime) -> Result<(), Fail> {
     for number in [1, 64, u64::MAX] {
         let double = Double::new(rt.clone()?, rt.clone()?, Event::Nothing)?;
         let make = ByProcesses::new(&double, &double);
-        let progress = Progress::new(rt.alloc(), None, Vec::new(rt.alloc()));
+        let progress = ProgressLine::new(rt.alloc(), None, Vec::new(rt.alloc()));
         let make = Watching::new(&rt, &make, &progress);
         let build = make.builder(rt.alloc(), &scene.site.manner(&drvs))?;
         let is_right = is_in_its_folder(&double, &build, (folder, &job), number)?;

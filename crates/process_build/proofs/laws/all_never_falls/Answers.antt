@@ -1,4 +1,4 @@
-use Rattle.process_build.proofs.Tallies.{all_never_falls}
+use Rattle.process_build.proofs.Counting.{all_never_falls}
 use Rattle.process_build.proofs.laws.all_never_falls.Goals as goal
 
 pub returns : goal.returns

@@ -1,4 +1,4 @@
-use Rattle.process_build.proofs.Tallies.{unsettled_never_rises}
+use Rattle.process_build.proofs.Counting.{unsettled_never_rises}
 use Rattle.process_build.proofs.laws.unsettled_never_rises.Goals as goal
 
 pub returns : goal.returns

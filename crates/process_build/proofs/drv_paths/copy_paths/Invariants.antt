@@ -1,6 +1,6 @@
 use Rattle.std.proofs.Common.{◌≡◌, length, take, vec_capacity}
 use Rattle.drv_graph.specs.Nodes.{paths_of}
-use Rattle.process_build.proofs.drv_paths.copied.Given as goal
+use Rattle.process_build.proofs.drv_paths.copy_paths.Given as goal
 
 -- the paths so far stand there, and there is room for all
 abbrev pub invariant-loop-number : goal.invariant-loop-number

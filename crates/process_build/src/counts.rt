@@ -1,11 +1,11 @@
 //! What the line of progress tells of the calls that it heard.
 ghost use Rattle.std.specs.Prelude.{◌≡◌, ◌∷◌, [], ◌++◌, List, max, min};
-ghost use Rattle.process_build.specs.Progress.{AreNumbersOf, Began, Ended, Heard, IsTallyOf};
+ghost use Rattle.process_build.specs.Progress.{AreCountsOf, AreNumbersOf, Began, Ended, Heard};
 
 /// Of the calls that were heard: how many jobs began, and how many ended well and otherwise; the
 /// greatest number of unsettled derivations that a call told, and the least.
 #[derive(Clone, Copy)]
-pub struct Tally {
+pub struct JobCounts {
     begun: usize,
     built: usize,
     failed: usize,
@@ -13,12 +13,12 @@ pub struct Tally {
     unsettled: usize,
 }
 
-impl Tally {
+impl JobCounts {
     /// Before any call.
-    pub fn new() -> Tally
-        ensures { IsTallyOf [] result }
+    pub fn new() -> JobCounts
+        ensures { AreCountsOf [] result }
     {
-        Tally {
+        JobCounts {
             begun: 0,
             built: 0,
             failed: 0,
@@ -29,8 +29,8 @@ impl Tally {
 
     /// A job begins, while `unsettled` derivations are unsettled.
     pub fn begin(&mut self, unsettled: usize)
-        ensures { (calls : List Heard) → IsTallyOf calls self.old
-            → IsTallyOf (calls ++ Began unsettled ∷ []) self.new }
+        ensures { (calls : List Heard) → AreCountsOf calls self.old
+            → AreCountsOf (calls ++ Began unsettled ∷ []) self.new }
     {
         self.begun = self.begun.saturating_add(1);
         self.learn(unsettled);
@@ -38,8 +38,8 @@ impl Tally {
 
     /// A job ended, well or not, and `unsettled` derivations are unsettled.
     pub fn end(&mut self, is_good: bool, unsettled: usize)
-        ensures { (calls : List Heard) → IsTallyOf calls self.old
-            → IsTallyOf (calls ++ Ended is_good unsettled ∷ []) self.new }
+        ensures { (calls : List Heard) → AreCountsOf calls self.old
+            → AreCountsOf (calls ++ Ended is_good unsettled ∷ []) self.new }
     {
         if is_good {
             self.built = self.built.saturating_add(1);
@@ -63,7 +63,7 @@ impl Tally {
 
     /// The numbers that the line tells. A job runs that began and hasn't ended.
     pub fn numbers(&self) -> Numbers
-        ensures { (calls : List Heard) → IsTallyOf calls self.now → AreNumbersOf calls result }
+        ensures { (calls : List Heard) → AreCountsOf calls self.now → AreNumbersOf calls result }
     {
         let running = self
             .begun

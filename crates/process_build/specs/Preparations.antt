@@ -10,8 +10,8 @@ use Rattle.process_build.specs.declared.folders.BuildFolder.{BuildFolder}
 use Rattle.process_build.specs.declared.kept_folders.KeptFolder.{KeptFolder}
 use Rattle.process_build.specs.declared.logs.LogPath.{LogPath}
 use Rattle.process_build.specs.declared.manner.OwnManner.{OwnManner}
-use Rattle.process_build.specs.declared.processes.Order.{Order}
-use Rattle.process_build.specs.declared.start.Place.{Place}
+use Rattle.process_build.specs.declared.processes.Preparation.{Preparation}
+use Rattle.process_build.specs.declared.start.BuildPlace.{BuildPlace}
 use Rattle.build_outcome.specs.declared.job.Job.{Job}
 
 -- the log of the derivation with this number: none without a folder of logs
@@ -33,17 +33,18 @@ IsNoteOf own derivation folder (Some note) =
 
 -- What is made for the lease of a job with this number: the texts of its call, its log, its build
 -- folder, and what is noted if that is kept.
-pub record IsOrderOf (own : OwnManner) (number : ℕ) (job : Job) (order : Order) : Type 0 where
-  pub builder : order.call.builder.now ≡ job.builder.items
-  pub args : map (λ a. a.now) order.call.args.items ≡ map (λ a. a.items) job.args.items
-  pub env : map entry_of_setting order.call.env.items ≡ own_entries job
-  pub log : IsLogOf own job.derivation order.log
-  pub folder_is : string_bytes order.folder.path
+pub record IsPreparationOf (own : OwnManner) (number : ℕ) (job : Job)
+    (preparation : Preparation) : Type 0 where
+  pub builder : preparation.call.builder.now ≡ job.builder.items
+  pub args : map (λ a. a.now) preparation.call.args.items ≡ map (λ a. a.items) job.args.items
+  pub env : map entry_of_setting preparation.call.env.items ≡ own_entries job
+  pub log : IsLogOf own job.derivation preparation.log
+  pub folder_is : string_bytes preparation.folder.path
       ≡ build_folder_of (string_bytes own.store_dir) number
-  pub note : IsNoteOf own job.derivation order.folder order.note
+  pub note : IsNoteOf own job.derivation preparation.folder preparation.note
 
 -- A builder that builds in this manner runs in this folder at this place.
-pub record IsPlaceOf (own : OwnManner) (folder : BuildFolder) (place : Place) : Type 0 where
+pub record IsPlaceOf (own : OwnManner) (folder : BuildFolder) (place : BuildPlace) : Type 0 where
   pub store_dir : place.store_dir.now ≡ string_bytes own.store_dir
   pub folder_is : place.folder.now ≡ folder
   pub runner : option_map (λ r. r.now) place.runner ≡ option_map string_bytes own.runner

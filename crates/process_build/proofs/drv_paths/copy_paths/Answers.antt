@@ -3,7 +3,7 @@ use Rattle.std.specs.Prelude.{slice_get}
 use Rattle.std.proofs.lemmas.List.{length_push, take_more}
 use Rattle.std.proofs.lemmas.Option.{get_or_from_slice_get, slice_get_within}
 use Rattle.drv_graph.specs.Nodes.{paths_of}
-use Rattle.process_build.proofs.drv_paths.copied.Goals as goal
+use Rattle.process_build.proofs.drv_paths.copy_paths.Goals as goal
 
 -- one more of a list
 take_next : (xs : List (List ℕ)) (i : ℕ) (x : List ℕ) → slice_get xs i ≡ Some x

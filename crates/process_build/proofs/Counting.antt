@@ -1,4 +1,4 @@
--- Steps and laws of tallies.
+-- Steps and laws of counts.
 use Rattle.std.proofs.Common.{◌≡◌, ℕ, ◌+◌, ◌-◌, ◌<◌, ◌≤◌, Bool, true, false, cond, min, max, List, [], ◌∷◌, ◌++◌, map, refl, ap, sym, ◌∙◌, subst, inl, inr, arith}
 use Rattle.std.specs.Prelude.{Contains, count_by}
 use Rattle.std.specs.List.Sorted.{IsPermutation}
@@ -8,7 +8,7 @@ use Rattle.std.proofs.lemmas.List.Elements.{All-contains, All-push, All-weaker, 
 use Rattle.std.proofs.lemmas.List.Sorted.{All-permutation, Contains-permutation, IsPermutation-cons, IsPermutation-map, sum_by-IsPermutation}
 use Rattle.std.proofs.lemmas.List.Sums.{sum_by-cons, sum_by_push}
 use Rattle.process_build.specs.Progress.{AllNeverFalls, Began, Ended, Heard, IsAllOf, IsGreatest, IsLeast, IsUnsettledOf, NumbersAddUp, OrderIsNoMatter, UnsettledNeverRises, begins, count_of, ends, ends_badly, ends_well, most, unsettled_at}
-use Rattle.process_build.specs.declared.tally.Tally.{Tally}
+use Rattle.process_build.specs.declared.counts.JobCounts.{JobCounts}
 
 greatest_new : (numbers : List ℕ) (n m : ℕ) → IsGreatest numbers n → n < m
     → IsGreatest (numbers ++ m ∷ []) m
@@ -164,9 +164,9 @@ same_least ms ns m n p g h =
     All-contains (λ k. m ≤ k) ns n (All-permutation (λ k. m ≤ k) ms ns p g.1) h.0 in
     omega arith
 
-same_tally : (l r : Tally) → l.begun ≡ r.begun → l.built ≡ r.built → l.failed ≡ r.failed
+same_counts : (l r : JobCounts) → l.begun ≡ r.begun → l.built ≡ r.built → l.failed ≡ r.failed
     → l.all ≡ r.all → l.unsettled ≡ r.unsettled → l ≡ r
-same_tally l r begun built failed all unsettled =
+same_counts l r begun built failed all unsettled =
     ap (λ (n : ℕ). record l { begun = n }) begun
     ∙ ap (λ (n : ℕ). record l { begun = r.begun; built = n }) built
     ∙ ap (λ (n : ℕ). record l { begun = r.begun; built = r.built; failed = n }) failed
@@ -189,4 +189,4 @@ order_is_no_matter calls others left right p l r =
     let unsettled : left.unsettled ≡ right.unsettled =
     same_least (most ∷ map unsettled_at calls) (most ∷ map unsettled_at others) left.unsettled
     right.unsettled (IsPermutation-cons most _ _ moved) l.unsettled r.unsettled in
-    same_tally left right begun built failed all unsettled
+    same_counts left right begun built failed all unsettled

@@ -1,5 +1,5 @@
 use Rattle.std.proofs.lemmas.Result.{on_ok_weaker}
-use Rattle.process_build.proofs.told.write_line.Goals as goal
+use Rattle.process_build.proofs.shown_numbers.write_line.Goals as goal
 
 pub returns : goal.returns
 returns g c =

@@ -1,6 +1,6 @@
 use Rattle.std.proofs.Common.{ap, ◌-◌, ◌∙◌, ℕ}
-use Rattle.process_build.proofs.Tallies.{running_is}
-use Rattle.process_build.proofs.tally.Tally.numbers.Goals as goal
+use Rattle.process_build.proofs.Counting.{running_is}
+use Rattle.process_build.proofs.counts.JobCounts.numbers.Goals as goal
 
 pub returns : goal.returns
 returns c calls h = record {

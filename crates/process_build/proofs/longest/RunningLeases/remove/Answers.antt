@@ -1,6 +1,6 @@
 use Rattle.std.proofs.Common.{◌==◌, not, rules}
 use Rattle.std.proofs.lemmas.Fn.{filter_same}
-use Rattle.process_build.proofs.longest.AllRunning.remove.Goals as goal
+use Rattle.process_build.proofs.longest.RunningLeases.remove.Goals as goal
 
 pub returns : goal.returns
 returns c =

@@ -1,34 +1,34 @@
-//! What the terminal of the line of progress was told last.
+//! The numbers that the terminal of the line of progress was shown last.
 ghost use Rattle.std.specs.Prelude.{◌≡◌, List, OnOk, ℕ};
 ghost use Rattle.std.specs.Io.KnownBytes.{Appends};
 ghost use Rattle.process_build.specs.Progress.{IsShown, shown_text};
 
-use crate::line::{Line, NO_LINE};
-use crate::tally::Numbers;
+use crate::counts::Numbers;
+use crate::line::{LineContent, NO_LINE};
 use std::alloc::{AllocError, Global};
 use std::io;
 use std::io::Write;
 
-/// The numbers that a terminal was told. Telling alone makes this value.
+/// The numbers that a terminal was shown. Only `ShownNumbers::by`, which writes a line, makes one.
 #[derive(Drop)]
-pub struct Told {
+pub struct ShownNumbers {
     numbers: Numbers,
 }
 
-impl Told {
-    /// Tells a terminal a line. A refused write changes nothing.
-    pub fn by<W: Write>(alloc: Global, line: &Line<'_>, to: &mut W) -> Told
+impl ShownNumbers {
+    /// Shows a terminal a line. A refused write changes nothing.
+    pub fn by<W: Write>(alloc: Global, line: &LineContent<'_>, to: &mut W) -> ShownNumbers
         ensures { result.numbers ≡ line.now.numbers }
     {
         let _ = write_line(alloc, line, to);
-        Told {
+        ShownNumbers {
             numbers: line.numbers,
         }
     }
 }
 
 // Writes the line while a job runs, and clears it otherwise.
-fn write_line<W: Write>(alloc: Global, line: &Line<'_>, to: &mut W) -> io::Result<()>
+fn write_line<W: Write>(alloc: Global, line: &LineContent<'_>, to: &mut W) -> io::Result<()>
     ensures { OnOk result ((text : List ℕ) × IsShown line.now text
         × Appends (W.contents to.old) (W.contents to.new) text) }
 {
