@@ -1,7 +1,7 @@
 //! A book that is driven to its end with scripted answers.
 
 use crate::drive::drive;
-use crate::plans::loaded;
+use crate::plans::load_wanted;
 use crate::times::micros_since;
 use anyhow::Result;
 use drv_graph::Plan;
@@ -15,7 +15,7 @@ pub(crate) fn system(rt: &HostRuntime) -> Result<Vec<u8>> {
 }
 
 /// The book of a run over a plan, with nothing valid before it.
-pub(crate) fn opened(rt: &HostRuntime, plan: Plan) -> Result<Book<ListOutlet>> {
+pub(crate) fn open_book(rt: &HostRuntime, plan: Plan) -> Result<Book<ListOutlet>> {
     let journal = Journal::new(rt.alloc());
     let outlet = ListOutlet::open(rt.alloc(), &journal)?;
     Ok(Book::open(rt.alloc(), plan, journal, system(rt)?, outlet)?)
@@ -24,7 +24,7 @@ pub(crate) fn opened(rt: &HostRuntime, plan: Plan) -> Result<Book<ListOutlet>> {
 /// The same book, and how many microseconds its opening took.
 pub(crate) fn timed_opening(rt: &HostRuntime, plan: Plan) -> Result<(u128, Book<ListOutlet>)> {
     let start = Instant::now(rt)?;
-    let book = opened(rt, plan)?;
+    let book = open_book(rt, plan)?;
     Ok((micros_since(rt, start), book))
 }
 
@@ -39,7 +39,7 @@ fn timed_drive(rt: &HostRuntime, book: &mut Book<ListOutlet>) -> Result<(u128, u
 /// the words after the store folder name. Prints how many microseconds it took, and how many events
 /// there were.
 pub(crate) fn measure(rt: &HostRuntime) -> Result<()> {
-    let (opening, mut book) = timed_opening(rt, loaded(rt)?)?;
+    let (opening, mut book) = timed_opening(rt, load_wanted(rt)?)?;
     let driven = timed_drive(rt, &mut book);
     book.close();
     let (driving, events) = driven?;

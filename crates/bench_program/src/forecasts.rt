@@ -1,7 +1,7 @@
 //! A forecast beside the opening of two books.
 
 use crate::books::{system, timed_opening};
-use crate::plans::loaded;
+use crate::plans::load_wanted;
 use crate::times::micros_since;
 use anyhow::Result;
 use drv_graph::Plan;
@@ -10,15 +10,15 @@ use std::time::Instant;
 use valid_table::Journal;
 
 // Opens a book over the plan, and says how many microseconds that took.
-fn opening(rt: &HostRuntime) -> Result<u128> {
-    let (passed, book) = timed_opening(rt, loaded(rt)?)?;
+fn time_opening(rt: &HostRuntime) -> Result<u128> {
+    let (passed, book) = timed_opening(rt, load_wanted(rt)?)?;
     book.close();
     Ok(passed)
 }
 
 // Makes the forecast of a plan and its text. Says how many microseconds that took, and how many
 // bytes the text has.
-fn foretelling(rt: &HostRuntime, plan: Plan, system: Vec<u8>) -> Result<(u128, usize)> {
+fn time_forecast(rt: &HostRuntime, plan: Plan, system: Vec<u8>) -> Result<(u128, usize)> {
     let start = Instant::now(rt)?;
     let forecast = Forecast::open(rt.alloc(), plan, Journal::new(rt.alloc()), system)?;
     let text = forecast.text()?;
@@ -29,10 +29,10 @@ fn foretelling(rt: &HostRuntime, plan: Plan, system: Vec<u8>) -> Result<(u128, u
 /// makes the forecast of the same plan and its text. Prints how many microseconds each book and the
 /// forecast took, and how many bytes the text has.
 pub(crate) fn measure(rt: &HostRuntime) -> Result<()> {
-    let first = opening(rt)?;
-    let second = opening(rt)?;
+    let first = time_opening(rt)?;
+    let second = time_opening(rt)?;
     let system = system(rt)?;
-    let (foretold, length) = foretelling(rt, loaded(rt)?, system)?;
+    let (foretold, length) = time_forecast(rt, load_wanted(rt)?, system)?;
     println!(rt; "{first} {second} {foretold} {length}")?;
     Ok(())
 }

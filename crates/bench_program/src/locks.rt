@@ -44,7 +44,7 @@ pub(crate) fn output(alloc: Global) -> Result<Vec<u8>> {
 }
 
 // Drives the book of a run over a view with this name.
-fn timed<J: Naming + Send, R: Clock + Wait + AllocGlobal>(
+fn drive_view<J: Naming + Send, R: Clock + Wait + AllocGlobal>(
     rt: &R,
     name: Name,
     plan: Plan,
@@ -72,7 +72,7 @@ pub(crate) fn measure<R: Clock + Wait + Print + AllocGlobal>(
     system: Vec<u8>,
     bytes: &[u8],
 ) -> Result<()> {
-    let times = timed::<Brand, _>(rt, Name::new(), plan, journal, system, bytes)?;
+    let times = drive_view::<Brand, _>(rt, Name::new(), plan, journal, system, bytes)?;
     let Times {
         take,
         ask,

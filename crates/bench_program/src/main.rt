@@ -41,7 +41,7 @@ enum Measured {
 }
 
 // What a word stands for, if it isn't `lock`.
-fn named(word: &str) -> Option<Measured> {
+fn measured_by(word: &str) -> Option<Measured> {
     match word.as_bytes() {
         b"plan" => Some(Measured::Plan),
         b"book" => Some(Measured::Book),
@@ -79,7 +79,7 @@ fn main(rt: HostRuntime) -> Result<()> {
         let (plan, journal) = locks::load(&rt)?;
         return locks::measure(&rt, plan, journal, system, &bytes);
     }
-    match named(&word) {
+    match measured_by(&word) {
         Some(measured) => measure(&rt, measured),
         None => {
             println!(&rt; "words: plan, book, forecast, lock, journal, scan, strings")?;

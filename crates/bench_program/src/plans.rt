@@ -8,7 +8,7 @@ use nix_names::{StoreDir, StorePath};
 use std::time::Instant;
 
 // The store folder that the first word names, and the roots that the further ones name.
-fn asked(rt: &HostRuntime) -> Result<(StoreDir, Vec<StorePath>)> {
+fn wanted_roots(rt: &HostRuntime) -> Result<(StoreDir, Vec<StorePath>)> {
     let mut words = words_of(rt)?;
     let dir = folder_in(rt, &mut words)?;
     let roots = paths_in(rt, &dir, words)?;
@@ -22,15 +22,15 @@ pub(crate) fn load(rt: &HostRuntime, dir: &StoreDir, roots: &[StorePath]) -> Res
 }
 
 /// The plan of the roots that the words after the store folder name.
-pub(crate) fn loaded(rt: &HostRuntime) -> Result<Plan> {
-    let (dir, roots) = asked(rt)?;
+pub(crate) fn load_wanted(rt: &HostRuntime) -> Result<Plan> {
+    let (dir, roots) = wanted_roots(rt)?;
     load(rt, &dir, &roots)
 }
 
 /// Times the loading of the plan of the roots that the words after the store folder name. Prints
 /// how many milliseconds it took, and how many derivations there are.
 pub(crate) fn measure(rt: &HostRuntime) -> Result<()> {
-    let (dir, roots) = asked(rt)?;
+    let (dir, roots) = wanted_roots(rt)?;
     let start = Instant::now(rt)?;
     let plan = load(rt, &dir, &roots)?;
     let passed = start.elapsed(rt)?.as_millis();

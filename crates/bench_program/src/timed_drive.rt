@@ -65,7 +65,7 @@ fn build<J: Naming, O: Tells<J>, R: Clock + AllocGlobal>(
         lease.give_up();
         return Err(fault);
     }
-    match found(rt, book, &lease, bytes, times) {
+    match examine_left(rt, book, &lease, bytes, times) {
         Ok(Ok(checked)) => finish(rt, book, lease, checked, times),
         Ok(Err(_)) => {
             lease.give_up();
@@ -79,7 +79,7 @@ fn build<J: Naming, O: Tells<J>, R: Clock + AllocGlobal>(
 }
 
 // What is found of what a lease's builder left, by what the book itself permits.
-fn found<O: Outlet, R: Clock + AllocGlobal>(
+fn examine_left<O: Outlet, R: Clock + AllocGlobal>(
     rt: &R,
     book: &Book<O>,
     lease: &Lease<O::Told>,

@@ -1,5 +1,5 @@
 -- The list that was just made.
 use Rattle.bench_program.proofs.locks.measure.Given as goal
 
-abbrev pub ghosts-timed : goal.ghosts-timed
-ghosts-timed g a = record { book = a.name }
+abbrev pub ghosts-drive_view : goal.ghosts-drive_view
+ghosts-drive_view g a = record { book = a.name }

@@ -3,7 +3,7 @@ use Rattle.sched_core.specs.Books.{ArePermittedPaths}
 use Rattle.build_outcome.specs.Verdicts.{IsExamining}
 use Rattle.build_outcome.specs.declared.job.Job.{Job}
 use Rattle.sched_core.proofs.ExaminedRecords.{examined_may_refer}
-use Rattle.bench_program.proofs.timed_drive.found.Goals as goal
+use Rattle.bench_program.proofs.timed_drive.examine_left.Goals as goal
 
 pub returns : goal.returns
 returns g c =
