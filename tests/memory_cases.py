@@ -272,8 +272,8 @@ fn p(r: Result<u8, YFault>, out: &mut Vec<u8>) -> Result<(), AllocError> {
     "the line of want written out": """
 fn p(err: &mut E) -> io::Result<()> { print_bytes(b"nix_realise: run: NoMemory\n", err) }""",
     "a journal kept for another cause": """
-fn p(r: Result<Vec<u8>, Stop>) -> Kept { match r { Ok(_) => Kept::no_book(), Err(_) =>
-    Kept::no_memory() } }""",
+fn p(r: Result<Vec<u8>, Stop>) -> JournalOutcome { match r { Ok(_) =>
+    JournalOutcome::no_book(), Err(_) => JournalOutcome::no_memory() } }""",
     "code of another file": 'include!("more.txt");',
     "a module of another file": """
 #[path = "more.txt"]

@@ -48,9 +48,11 @@ PLACES = {
     ("subcommands/src/program.rt", "print_no_memory", "print_bytes ( NO_MEMORY_LINE , err )"): (
         "what the call means"
     ),
-    ("subcommands/src/realise.rt", "keep", "Err ( refused ) => Kept :: no_memory ( refused )"): (
-        "the only fault of the call is want of memory"
-    ),
+    (
+        "subcommands/src/realise.rt",
+        "keep",
+        "Err ( refused ) => JournalOutcome :: no_memory ( refused )",
+    ): "the only fault of the call is want of memory",
     ("subcommands/src/process.rt", "run_process", "Err ( _ ) => print_no_memory ( err )"): (
         "there was no memory for the buffer of standard output"
     ),

@@ -14,7 +14,7 @@ const NOT_TEXT: &str = "error: invalid UTF-8 was detected in one or more argumen
 fn words_that_are_not_text(rt: HostRuntime) -> Result<(), Fail> {
     let mut out = Vec::new(rt.alloc());
     let mut err = Vec::new(rt.alloc());
-    assert!(rt; refuse_words(rt.alloc(), &mut out, &mut err) == Ending::Told(Status::Refused));
+    assert!(rt; refuse_words(rt.alloc(), &mut out, &mut err) == Ending::Printed(Status::Refused));
     let told = text_of(rt.alloc(), &err)?;
     assert_eq!(rt; told.as_str(), NOT_TEXT);
     assert!(rt; out.is_empty());
@@ -28,6 +28,6 @@ fn refused_mistakes(rt: HostRuntime) {
         let words = ["nix_realise", "check", word];
         let mut out = Vec::new(rt.alloc());
         let ending = run(&rt, &Idle, &rt, &words, &mut out, &mut Narrow { room: 5 });
-        assert!(rt; ending == Ending::Untold && out.is_empty(), "at {word}");
+        assert!(rt; ending == Ending::Unprinted && out.is_empty(), "at {word}");
     }
 }

@@ -12,9 +12,9 @@ use Rattle.command_line.specs.declared.options.OutputKind.{OutputKind}
 use Rattle.command_line.specs.declared.options.OutputKind.TheVariants.{Plain, Nix}
 use Rattle.command_line.specs.declared.options.RealiseRequest.{RealiseRequest}
 use Rattle.subcommands.specs.declared.logs_folder.LogsFolder.{LogsFolder}
-use Rattle.subcommands.specs.declared.runner.Found.{Found}
-use Rattle.subcommands.specs.declared.runner.Found.TheVariants.{Program, NoProgram}
-use Rattle.subcommands.specs.declared.runner.Found.TheVariants as found
+use Rattle.subcommands.specs.declared.runner.RunnerFinding.{RunnerFinding}
+use Rattle.subcommands.specs.declared.runner.RunnerFinding.TheVariants.{Program, NoProgram}
+use Rattle.subcommands.specs.declared.runner.RunnerFinding.TheVariants as finding
 use Rattle.subcommands.specs.declared.runner.Runner.{Runner}
 use Rattle.subcommands.specs.declared.stop.Stop.{Stop}
 use Rattle.subcommands.specs.declared.stop.Stop.TheVariants.{NoLogs, NoMemory, NoRunner}
@@ -29,12 +29,12 @@ abbrev pub IsAbsolute : (path : Bytes) → Type 0
 IsAbsolute path = slice_get path 0 ≡ Some 47
 
 -- the runner that a request names, by the look at its path
-abbrev pub IsRunnerBy : (word : Bor Bytes) → Found → Result Runner Stop → Type 0
+abbrev pub IsRunnerBy : (word : Bor Bytes) → RunnerFinding → Result Runner Stop → Type 0
 IsRunnerBy word seen (Ok runner) =
     (seen ≡ Program) × IsAbsolute word.now × (runner.path ≡ Some word)
 IsRunnerBy word seen (Err (NoRunner blamed)) =
     ((seen ≡ NoProgram) ⊎ ¬ (IsAbsolute word.now)) × (blamed ≡ word)
-IsRunnerBy word seen (Err NoMemory) = seen ≡ found.NoMemory
+IsRunnerBy word seen (Err NoMemory) = seen ≡ finding.NoMemory
 IsRunnerBy word seen (Err stop) = ⊥
 
 -- Why a run has no runner: the request names one, and that can't be; or memory is refused.

@@ -9,14 +9,14 @@ use Rattle.std.specs.declared.io.ErrorKind.TheVariants as kind
 use Rattle.nix_names.specs.Bytes.{Bytes, Dir}
 use Rattle.process_build.specs.Errors.{IsInterruption, IsNoMemory}
 use Rattle.command_line.specs.declared.options.RealiseRequest.{RealiseRequest}
-use Rattle.subcommands.specs.declared.locks.Held.{Held as HeldFolder}
+use Rattle.subcommands.specs.declared.locks.HeldFolder.{HeldFolder}
 use Rattle.subcommands.specs.declared.locks.LockFault.{LockFault}
 use Rattle.subcommands.specs.declared.locks.LockFault.TheVariants.{Held, NoLock, Interrupted}
 use Rattle.subcommands.specs.declared.locks.LockFault.TheVariants as lock
 use Rattle.subcommands.specs.declared.nix_store.Allowed.{Allowed}
-use Rattle.subcommands.specs.declared.nix_store.Look.{Look}
-use Rattle.subcommands.specs.declared.nix_store.Look.TheVariants.{There, NotTold}
-use Rattle.subcommands.specs.declared.nix_store.Look.TheVariants as look
+use Rattle.subcommands.specs.declared.nix_store.DatabaseFinding.{DatabaseFinding}
+use Rattle.subcommands.specs.declared.nix_store.DatabaseFinding.TheVariants.{There, NotTold}
+use Rattle.subcommands.specs.declared.nix_store.DatabaseFinding.TheVariants as finding
 use Rattle.subcommands.specs.declared.stop.Stop.{Stop}
 use Rattle.subcommands.specs.declared.stop.Stop.TheVariants.{InUse, NixStore, NotLocked, NoMemory}
 
@@ -71,12 +71,12 @@ database_path dir = path_with_file_name dir (codes "var/nix/db/db.sqlite")
 
 -- whether `realise` may use its store folder, by the look at Nix's database: not where that is
 -- there
-abbrev pub IsAllowedBy : RealiseRequest → Look → Result Allowed Stop → Type 0
+abbrev pub IsAllowedBy : RealiseRequest → DatabaseFinding → Result Allowed Stop → Type 0
 IsAllowedBy request found (Ok allowed) =
     (found ≡ NotTold) × (allowed.dir ≡ request.run.store_dir)
 IsAllowedBy request found (Err (NixStore blamed)) =
     (found ≡ There) × (blamed ≡ request.run.store_dir)
-IsAllowedBy request found (Err NoMemory) = found ≡ look.NoMemory
+IsAllowedBy request found (Err NoMemory) = found ≡ finding.NoMemory
 IsAllowedBy request found (Err stop) = ⊥
 
 -- Why `realise` may not use its store folder: Nix manages it, and the run isn't to go on all the

@@ -22,7 +22,7 @@ use Rattle.subcommands.specs.Realising.{May, RealiseEnds}
 use Rattle.subcommands.specs.Stops.{IsStopOf, IsTold}
 use Rattle.subcommands.specs.declared.finish.Finish.{Finish}
 use Rattle.subcommands.specs.declared.status.Ending.{Ending}
-use Rattle.subcommands.specs.declared.status.Ending.TheVariants.{Told, Untold}
+use Rattle.subcommands.specs.declared.status.Ending.TheVariants.{Printed, Unprinted}
 use Rattle.subcommands.specs.declared.status.Status.{Status}
 use Rattle.subcommands.specs.declared.status.Status.TheVariants.{Done, Refused}
 use Rattle.subcommands.specs.declared.stop.Stop.{Stop}
@@ -60,9 +60,9 @@ SubcommandEnds may (Realise request) out outcome = RealiseEnds may request out.0
 -- A subcommand that wasn't stopped ends with its status. Standard error gets its last lines, or
 -- refuses them.
 abbrev pub IsToldWith : Status → Option (Vec ℕ) → Stream → Ending → Type 0
-IsToldWith status None err end = (end ≡ Told status) × IsUntouched err
+IsToldWith status None err end = (end ≡ Printed status) × IsUntouched err
 IsToldWith status (Some lines) err end =
-    ((end ≡ Told status) × Appends err.0 err.1 lines.items) ⊎ (end ≡ Untold)
+    ((end ≡ Printed status) × Appends err.0 err.1 lines.items) ⊎ (end ≡ Unprinted)
 
 -- What standard error gets: the last lines of a subcommand that wasn't stopped, else the line of
 -- what stopped it.
@@ -80,7 +80,7 @@ RequestEnds may request out err end =
 -- refuses it.
 abbrev pub ShownEnds : (err : Stream) → Ending → Type 0
 ShownEnds err end =
-    ((end ≡ Told Done) × IsUntouched err) ⊎ IsTold err.0 err.1 Unwritable end
+    ((end ≡ Printed Done) × IsUntouched err) ⊎ IsTold err.0 err.1 Unwritable end
 
 -- How a run ends whose words are not taken. A mistake in them is printed on standard error alone,
 -- unless that refuses the text. Want of memory is told as ever.
@@ -88,7 +88,7 @@ abbrev pub UsageEnds : ErrorKind → (out err : Stream) → Ending → Type 0
 UsageEnds DisplayHelp out err end = ShownEnds err end
 UsageEnds DisplayVersion out err end = ShownEnds err end
 UsageEnds OutOfMemory out err end = IsUntouched out × IsTold err.0 err.1 NoMemory end
-UsageEnds kind out err end = IsUntouched out × ((end ≡ Told Refused) ⊎ (end ≡ Untold))
+UsageEnds kind out err end = IsUntouched out × ((end ≡ Printed Refused) ⊎ (end ≡ Unprinted))
 
 -- How a run ends: by what the words ask for, or by what is wrong with them.
 abbrev pub ProgramEnds : May → (words : List Bytes) → (out err : Stream) → Ending → Type 0

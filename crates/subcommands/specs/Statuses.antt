@@ -15,6 +15,6 @@ code_of CutShort = 3
 
 -- the status of a run that ended so
 abbrev pub ending_status : Ending → Status
-ending_status (ending.Told status) = status
+ending_status (ending.Printed status) = status
 ending_status ending.NoMemory = CutShort
-ending_status ending.Untold = CutShort
+ending_status ending.Unprinted = CutShort

@@ -52,28 +52,29 @@ number_of (NoLogs folder) = 74
 number_of (NoTrace file) = 74
 number_of (NoRunner program) = 77
 
--- what the line blames: a word as it was given, a path, the journal or the run
-abbrev pub blamed_of : Stop → Bytes
-blamed_of (BadStoreDir dir) = dir.now
-blamed_of (Unreadable file) = file.now
-blamed_of (TooLong file) = file.now
-blamed_of (BadDraft file fault) = file.now
-blamed_of (BadName name) = name.now
-blamed_of (InUse dir) = dir.now
-blamed_of (NixStore dir) = dir.now
-blamed_of (NotLocked dir) = dir.now
-blamed_of (NoRunner program) = program.now
-blamed_of (NoLogs folder) = folder.now
-blamed_of (NoTrace file) = file.now
-blamed_of (NoPath word fault) = word.now
-blamed_of (BadDrv path fault) = path
-blamed_of JournalUnreadable = codes "journal"
-blamed_of (BadJournal fault) = codes "journal"
-blamed_of (NotWritten path) = path
-blamed_of JournalNotWritten = codes "journal"
-blamed_of (Run fault kept) = codes "run"
-blamed_of NoMemory = codes "run"
-blamed_of Unwritable = codes "run"
+-- where the fault was found, as the line says: a word as it was given, a path, the journal or the
+-- run
+abbrev pub location_of : Stop → Bytes
+location_of (BadStoreDir dir) = dir.now
+location_of (Unreadable file) = file.now
+location_of (TooLong file) = file.now
+location_of (BadDraft file fault) = file.now
+location_of (BadName name) = name.now
+location_of (InUse dir) = dir.now
+location_of (NixStore dir) = dir.now
+location_of (NotLocked dir) = dir.now
+location_of (NoRunner program) = program.now
+location_of (NoLogs folder) = folder.now
+location_of (NoTrace file) = file.now
+location_of (NoPath word fault) = word.now
+location_of (BadDrv path fault) = path
+location_of JournalUnreadable = codes "journal"
+location_of (BadJournal fault) = codes "journal"
+location_of (NotWritten path) = path
+location_of JournalNotWritten = codes "journal"
+location_of (Run fault kept) = codes "run"
+location_of NoMemory = codes "run"
+location_of Unwritable = codes "run"
 
 -- the fault's name and its value
 abbrev pub stop_fault_words : Stop → Bytes
@@ -101,7 +102,7 @@ stop_fault_words Unwritable = codes "Unwritable"
 -- the line of the fault on standard error
 abbrev pub stop_line : Stop → Bytes
 stop_line stop =
-    codes "nix_realise: " ++ blamed_of stop ++ codes ": " ++ stop_fault_words stop ++ 10 ∷ []
+    codes "nix_realise: " ++ location_of stop ++ codes ": " ++ stop_fault_words stop ++ 10 ∷ []
 
 -- the status of the run: `Refused` for a word, a file or a journal that is refused; `CutShort` for
 -- a store folder that may not be used now, a journal that can't be read, workers that end too
@@ -131,10 +132,10 @@ status_of Unwritable = CutShort
 -- A run ends with the line and the status of what ends it. Where there is no memory for the line,
 -- that of `NoMemory` is written; where standard error refuses a write, nothing is known of it.
 abbrev pub IsTold : (before after : Option Bytes) → Stop → Ending → Type 0
-IsTold before after stop (ending.Told status) =
+IsTold before after stop (ending.Printed status) =
     (status ≡ status_of stop) × Appends before after (stop_line stop)
 IsTold before after stop ending.NoMemory = Appends before after (stop_line NoMemory)
-IsTold before after stop ending.Untold = Unit {0}
+IsTold before after stop ending.Unprinted = Unit {0}
 
 -- why `check` prints no report: the given word is no store folder; or memory is refused; or it is a
 -- store folder, and a write is refused

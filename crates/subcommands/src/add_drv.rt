@@ -63,7 +63,7 @@ fn put<'w, R: Files + AllocGlobal, O: Write>(
     match print_path(&added.path, out) {
         Ok(()) => Ok(written),
         Err(_) => {
-            written.used();
+            written.spend();
             Err(Unput::Line)
         }
     }
@@ -73,7 +73,7 @@ fn put<'w, R: Files + AllocGlobal, O: Write>(
 fn done(written: Written<'_>) -> Status
     ensures { result ≡ Status.Done }
 {
-    written.used();
+    written.spend();
     Status::Done
 }
 

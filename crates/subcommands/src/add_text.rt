@@ -122,7 +122,7 @@ fn write_files<'w, R: Files + AllocGlobal>(
     match file.write(rt, bytes) {
         Ok(journal) => Ok(Some(Filed { text, journal })),
         Err(unwritten) => {
-            text.used();
+            text.spend();
             Err(Unfiled::Journal(unwritten))
         }
     }
@@ -133,8 +133,8 @@ fn done(filed: Option<Filed<'_>>) -> Status
     ensures { result ≡ Status.Done }
 {
     if let Some(Filed { text, journal }) = filed {
-        text.used();
-        journal.used();
+        text.spend();
+        journal.spend();
     }
     Status::Done
 }

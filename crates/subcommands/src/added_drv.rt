@@ -44,7 +44,7 @@ pub fn added_drv<'a, S: DrvSource>(
 {
     let dir = store_dir(alloc, request.store_dir)?;
     let draft = draft_of(alloc, request.file, draft)?;
-    let (filled, path) = filled(alloc, source, &dir, request, &draft)?;
+    let (filled, path) = fill_draft(alloc, source, &dir, request, &draft)?;
     let text = text_of(alloc, &filled)?;
     Ok(AddedDrv { path, text })
 }
@@ -72,7 +72,7 @@ fn read_draft<'a>(alloc: Global, file: &'a str, bytes: &[u8]) -> Result<Derivati
 }
 
 // The filled draft, and the path of its text.
-fn filled<'a, S: DrvSource>(
+fn fill_draft<'a, S: DrvSource>(
     alloc: Global,
     source: &mut S,
     dir: &StoreDir,

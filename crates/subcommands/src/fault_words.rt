@@ -113,7 +113,7 @@ pub fn stop_line(alloc: Global, stop: &Stop<'_>) -> Result<Vec<u8>, AllocError>
     ensures { IfOk result (λ line. line.items ≡ stop_line stop.now) }
 {
     let mut line = Vec::from_slice(alloc, b"nix_realise: ")?;
-    line.extend_from_slice(stop.blamed())?;
+    line.extend_from_slice(stop.location())?;
     write_why(stop, &mut line)?;
     Ok(line)
 }

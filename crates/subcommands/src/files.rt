@@ -94,7 +94,7 @@ pub fn read_start<R: Files>(
     let mut bytes = Vec::new(alloc);
     let file = fs::open(files, path)?;
     if let Err(error) = file.take(most).read_to_end(&mut bytes) {
-        return Err(unread(error));
+        return Err(read_failure(error));
     }
     // Nothing is known of the reader: it may claim to have read more than it was asked for.
     bytes.truncate(most as usize);
@@ -102,7 +102,7 @@ pub fn read_start<R: Files>(
 }
 
 // What an error in the reading of an open file means: such a file is not missing.
-fn unread(error: io::Error) -> Failure
+fn read_failure(error: io::Error) -> Failure
     ensures memory { IsNoMemory error → result ≡ Failure.NoMemory }
     ensures other { ¬ IsNoMemory error → result ≡ Failure.Other }
 {

@@ -74,7 +74,7 @@ fn is_written(_path: &str, _text: &[u8], tried: Result<Written<'_>, Unwritten>) 
 {
     match tried {
         Ok(written) => {
-            written.used();
+            written.spend();
             true
         }
         Err(_) => false,

@@ -12,14 +12,14 @@
 //! | `locks`, `waiting` | the lock of a store folder; the line that tells that a run waits for it |
 //! | `nix_store` | whether Nix manages a store folder |
 //! | `stop` | why a run ends without its report |
-//! | `kept` | what became of the journal of workers that gave no settled book |
+//! | `journal_outcome` | what became of the journal of workers that gave no settled book |
 //! | `status` | the status of a run |
 //! | `fault_words`, `graph_words` | the words of faults |
 //! | `verdict`, `check` | the verdict of `check` on one word; its lines |
 //! | `added_text`, `add_text` | the answer of `add-text`; the subcommand |
 //! | `added_drv`, `add_drv` | the answer of `add-drv`; the subcommand |
 //! | `task` | what `plan` and `realise` take: a plan and a journal |
-//! | `taken` | the same for a run that changes nothing |
+//! | `read_task` | the same for a run that changes nothing |
 //! | `plan` | the subcommand `plan` |
 //! | `settled` | the status, the journal and the report of a run, by its book |
 //! | `runner`, `logs_folder` | the program that starts the builders of a run; the folder of logs |
@@ -44,7 +44,7 @@ mod folder;
 mod graph_words;
 mod journal_file;
 mod journal_keeper;
-mod kept;
+mod journal_outcome;
 mod last_lines;
 mod locks;
 mod logs_folder;
@@ -53,13 +53,13 @@ mod plan;
 mod printing;
 mod process;
 mod program;
+mod read_task;
 mod realise;
 mod runner;
 mod settled;
 mod status;
 mod stop;
 mod store_dir;
-mod taken;
 mod task;
 mod trace_file;
 mod verdict;

@@ -82,18 +82,18 @@ impl From<io::Error> for LockFault {
 /// The right to use a store folder, as long as the value lives: its lock, or none where there is
 /// nothing to lock. Only `hold` makes one.
 #[derive(Drop)]
-pub struct Held<'a, K> {
+pub struct HeldFolder<'a, K> {
     dir: &'a str,
     lock: Option<K>,
 }
 
-/// Evidence that the right to use a store folder is held. Only `Held::holding` makes one.
+/// Evidence that the right to use a store folder is held. Only `HeldFolder::holding` makes one.
 #[derive(Clone, Copy)]
 pub struct Holding<'h> {
     dir: &'h str,
 }
 
-impl<K> Held<'_, K> {
+impl<K> HeldFolder<'_, K> {
     /// Evidence for it, for as long as it is held.
     pub fn holding(&self) -> Holding<'_>
         ensures { result.dir.now ≡ self.now.dir.now }
@@ -118,40 +118,40 @@ pub fn hold<'a, L: Locks>(
     locks: &L,
     dir: &'a str,
     wait: bool,
-) -> Result<Held<'a, L::Lock>, Stop<'a>>
+) -> Result<HeldFolder<'a, L::Lock>, Stop<'a>>
     ensures ok { IfOk result (λ held. held.dir ≡ dir.entry) }
     ensures err { IfErr result (IsNotHeld dir.entry wait) }
 {
     if wait {
-        held_by(dir, awaited(locks, dir))
+        held_by(dir, lock_or_wait(locks, dir))
     } else {
-        held_by(dir, asked(locks, dir, false))
+        held_by(dir, ask_for_lock(locks, dir, false))
     }
 }
 
 // What comes of a call for the lock; where another process holds it, of one that waits. No such
 // call ends because another process holds the lock.
-fn awaited<L: Locks>(locks: &L, dir: &str) -> Result<L::Lock, LockFault>
+fn lock_or_wait<L: Locks>(locks: &L, dir: &str) -> Result<L::Lock, LockFault>
     ensures { IfErr result (λ fault. fault ≢ HeldByOther) }
 {
-    match asked(locks, dir, false) {
-        Err(LockFault::Held) => waited(locks, dir),
+    match ask_for_lock(locks, dir, false) {
+        Err(LockFault::Held) => lock_by_waiting(locks, dir),
         answer => answer,
     }
 }
 
 // What comes of a call that waits.
-fn waited<L: Locks>(locks: &L, dir: &str) -> Result<L::Lock, LockFault>
+fn lock_by_waiting<L: Locks>(locks: &L, dir: &str) -> Result<L::Lock, LockFault>
     ensures { IfErr result (λ fault. fault ≢ HeldByOther) }
 {
-    match asked(locks, dir, true) {
+    match ask_for_lock(locks, dir, true) {
         Err(LockFault::Held) => Err(LockFault::Other),
         answer => answer,
     }
 }
 
 // What comes of a call for the lock, which is made again while a signal interrupts it.
-fn asked<L: Locks>(locks: &L, dir: &str, waits: bool) -> Result<L::Lock, LockFault> {
+fn ask_for_lock<L: Locks>(locks: &L, dir: &str, waits: bool) -> Result<L::Lock, LockFault> {
     for _ in 0..u64::MAX {
         match locks.lock(dir, waits).map_err(LockFault::from) {
             Err(LockFault::Interrupted) => {}
@@ -162,15 +162,18 @@ fn asked<L: Locks>(locks: &L, dir: &str, waits: bool) -> Result<L::Lock, LockFau
 }
 
 // The right to use a folder, by what came of the call for its lock.
-fn held_by<'a, K: Drop>(dir: &'a str, answer: Result<K, LockFault>) -> Result<Held<'a, K>, Stop<'a>>
+fn held_by<'a, K: Drop>(
+    dir: &'a str,
+    answer: Result<K, LockFault>,
+) -> Result<HeldFolder<'a, K>, Stop<'a>>
     ensures { IsHeldBy dir.entry answer result }
 {
     match answer {
-        Ok(lock) => Ok(Held {
+        Ok(lock) => Ok(HeldFolder {
             dir,
             lock: Some(lock),
         }),
-        Err(LockFault::NoLock) => Ok(Held { dir, lock: None }),
+        Err(LockFault::NoLock) => Ok(HeldFolder { dir, lock: None }),
         Err(LockFault::Held) => Err(Stop::InUse(dir)),
         Err(LockFault::NoMemory) => Err(Stop::NoMemory),
         Err(LockFault::Interrupted | LockFault::Other) => Err(Stop::NotLocked(dir)),

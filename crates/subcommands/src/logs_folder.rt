@@ -47,13 +47,13 @@ pub fn logs_folder<'a, R: Files>(rt: &R, word: Option<&'a str>) -> Result<LogsFo
     ensures err { IfErr result (IsNoFolder word.entry) }
 {
     match word {
-        Some(word) => LogsFolder::by(word, made(rt, word)),
+        Some(word) => LogsFolder::by(word, make_folder(rt, word)),
         None => Ok(LogsFolder::none()),
     }
 }
 
 // Makes a folder, unless there is one already.
-fn made<R: Files>(rt: &R, path: &str) -> Result<(), Failure> {
+fn make_folder<R: Files>(rt: &R, path: &str) -> Result<(), Failure> {
     match fs::create_dir(rt, path).map_err(Failure::from) {
         Err(Failure::Taken) => is_folder(rt, path),
         answer => answer,

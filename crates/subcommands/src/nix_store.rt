@@ -18,7 +18,7 @@ const DATABASE: &str = "var/nix/db/db.sqlite";
 
 /// What a look at a path found.
 #[derive(Clone, Copy, Debug, PartialEq, Eq)]
-pub enum Look {
+pub enum DatabaseFinding {
     /// Something lies there.
     There,
     /// Nothing is told to lie there: nothing does, or the process may not look.
@@ -29,30 +29,30 @@ pub enum Look {
 
 /// What a look at a path found, and the path. Only `look_at` makes one.
 #[derive(Clone, Copy)]
-pub struct Looked<'p> {
+pub struct DatabaseLook<'p> {
     path: &'p str,
-    found: Look,
+    found: DatabaseFinding,
 }
 
 /// Looks whether something lies at a path, even a link that leads nowhere.
-pub fn look_at<'p, R: Files>(rt: &R, path: &'p str) -> Looked<'p>
+pub fn look_at<'p, R: Files>(rt: &R, path: &'p str) -> DatabaseLook<'p>
     ensures { result.path ≡ path.entry }
 {
-    let found = look_of(fs::symlink_metadata(rt, path));
-    Looked { path, found }
+    let found = found_by(fs::symlink_metadata(rt, path));
+    DatabaseLook { path, found }
 }
 
 // What the system's answer for a path tells.
-fn look_of(asked: io::Result<Metadata>) -> Look
-    ensures found { IfOk asked (λ _. result ≡ Look.There) }
-    ensures memory { IfErr asked (λ error. IsNoMemory error → result ≡ Look.NoMemory) }
-    ensures other { IfErr asked (λ error. ¬ (IsNoMemory error) → result ≡ Look.NotTold) }
+fn found_by(asked: io::Result<Metadata>) -> DatabaseFinding
+    ensures found { IfOk asked (λ _. result ≡ DatabaseFinding.There) }
+    ensures memory { IfErr asked (λ error. IsNoMemory error → result ≡ DatabaseFinding.NoMemory) }
+    ensures other { IfErr asked (λ error. ¬ (IsNoMemory error) → result ≡ DatabaseFinding.NotTold) }
 {
     match asked {
-        Ok(_) => Look::There,
+        Ok(_) => DatabaseFinding::There,
         Err(error) => match Failure::from(error) {
-            Failure::NoMemory => Look::NoMemory,
-            _ => Look::NotTold,
+            Failure::NoMemory => DatabaseFinding::NoMemory,
+            _ => DatabaseFinding::NotTold,
         },
     }
 }
@@ -76,15 +76,15 @@ impl<'a> Allowed<'a> {
     }
 
     // By a look at Nix's database.
-    fn by(request: &RealiseRequest<'a>, looked: Looked<'_>) -> Result<Allowed<'a>, Stop<'a>>
+    fn by(request: &RealiseRequest<'a>, looked: DatabaseLook<'_>) -> Result<Allowed<'a>, Stop<'a>>
         requires { looked.path.now ≡ database_path request.now.run.store_dir.now }
         ensures { IsAllowedBy request.now looked.entry.found result }
     {
         let dir = request.run.store_dir;
         match looked.found {
-            Look::There => Err(Stop::NixStore(dir)),
-            Look::NotTold => Ok(Allowed { dir }),
-            Look::NoMemory => Err(Stop::NoMemory),
+            DatabaseFinding::There => Err(Stop::NixStore(dir)),
+            DatabaseFinding::NotTold => Ok(Allowed { dir }),
+            DatabaseFinding::NoMemory => Err(Stop::NoMemory),
         }
     }
 

@@ -5,9 +5,9 @@ ghost use Rattle.subcommands.specs.Planning.{whole_status};
 ghost use Rattle.subcommands.specs.declared.stop.Stop.TheVariants.{NoMemory};
 
 use crate::printing::print_bytes;
+use crate::read_task::read_task;
 use crate::status::Status;
 use crate::stop::Stop;
-use crate::taken::taken;
 use crate::task::Task;
 use command_line::{PlanRequest, RunRequest};
 use forecast::Forecast;
@@ -25,7 +25,7 @@ where
     O: Write,
     ensures { PlanEnds request.now (O.contents out.old) (O.contents out.new) result }
 {
-    let task = taken(rt, &request.run)?;
+    let task = read_task(rt, &request.run)?;
     print_forecast(rt.alloc(), request, task, out)
 }
 
@@ -71,7 +71,7 @@ fn text_of<'a>(forecast: &Forecast, dot: bool) -> Result<Vec<u8>, Stop<'a>>
         (λ text. IsForecastPrinted dot forecast.now.run forecast.now.entries text.items) }
     ensures err { IfErr result (λ stop. stop ≡ NoMemory) }
 {
-    match printed(forecast, dot) {
+    match text_or_picture(forecast, dot) {
         Ok(text) => Ok(text),
         Err(BookFault::NoMemory) => Err(Stop::NoMemory),
         Err(_) => unreachable!(),
@@ -79,7 +79,7 @@ fn text_of<'a>(forecast: &Forecast, dot: bool) -> Result<Vec<u8>, Stop<'a>>
 }
 
 // The text of a forecast, or its picture.
-fn printed(forecast: &Forecast, dot: bool) -> Result<Vec<u8>, BookFault>
+fn text_or_picture(forecast: &Forecast, dot: bool) -> Result<Vec<u8>, BookFault>
     ensures ok { IfOk result
         (λ text. IsForecastPrinted dot forecast.now.run forecast.now.entries text.items) }
     ensures err { IfErr result (λ fault. fault ≡ BookFault.NoMemory) }

@@ -126,11 +126,11 @@ fn print_lines<E: Write>(status: Status, lines: &Option<Vec<u8>>, err: &mut E) -
     ensures { IsToldWith status lines.now (E.contents err.old, E.contents err.new) result }
 {
     let Some(lines) = lines else {
-        return Ending::Told(status);
+        return Ending::Printed(status);
     };
     match print_bytes(lines, err) {
-        Ok(()) => Ending::Told(status),
-        Err(_) => Ending::Untold,
+        Ok(()) => Ending::Printed(status),
+        Err(_) => Ending::Unprinted,
     }
 }
 
@@ -156,8 +156,8 @@ pub fn print_stop<E: Write>(alloc: Global, stop: &Stop<'_>, err: &mut E) -> Endi
         Err(refused) => return print_no_line(refused, err),
     };
     match print_bytes(&line, err) {
-        Ok(()) => Ending::Told(stop.status()),
-        Err(_) => Ending::Untold,
+        Ok(()) => Ending::Printed(stop.status()),
+        Err(_) => Ending::Unprinted,
     }
 }
 
@@ -167,7 +167,7 @@ fn print_no_line<E: Write>(_refused: AllocError, err: &mut E) -> Ending
 {
     match print_bytes(NO_MEMORY_LINE, err) {
         Ok(()) => Ending::NoMemory,
-        Err(_) => Ending::Untold,
+        Err(_) => Ending::Unprinted,
     }
 }
 
@@ -176,8 +176,8 @@ pub fn print_no_memory<E: Write>(err: &mut E) -> Ending
     ensures { IsTold (E.contents err.old) (E.contents err.new) Stop.NoMemory result }
 {
     match print_bytes(NO_MEMORY_LINE, err) {
-        Ok(()) => Ending::Told(Status::CutShort),
-        Err(_) => Ending::Untold,
+        Ok(()) => Ending::Printed(Status::CutShort),
+        Err(_) => Ending::Unprinted,
     }
 }
 
@@ -197,12 +197,12 @@ fn print_usage<O: Write, E: Write>(
     }
     if fault.use_stderr() {
         return match print_text(fault, err) {
-            Ok(()) => Ending::Told(Status::Refused),
-            Err(_) => Ending::Untold,
+            Ok(()) => Ending::Printed(Status::Refused),
+            Err(_) => Ending::Unprinted,
         };
     }
     match print_text(fault, out) {
-        Ok(()) => Ending::Told(Status::Done),
+        Ok(()) => Ending::Printed(Status::Done),
         Err(_) => print_stop(alloc, &Stop::Unwritable, err),
     }
 }

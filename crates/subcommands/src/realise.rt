@@ -14,16 +14,16 @@ use crate::finish::Finish;
 use crate::folder::FolderSource;
 use crate::journal_file::OwnJournal;
 use crate::journal_keeper::{Places, RunJournal};
-use crate::kept::Kept;
+use crate::journal_outcome::JournalOutcome;
 use crate::last_lines::last_lines;
-use crate::locks::{Held, Holding, Locks, hold};
+use crate::locks::{HeldFolder, Holding, Locks, hold};
 use crate::logs_folder::logs_folder;
 use crate::nix_store::allow;
 use crate::printing::print_bytes;
 use crate::runner::{Runner, runner_of};
 use crate::settled::{journal_bytes, report_of, roots_status};
 use crate::stop::Stop;
-use crate::task::{Task, planned};
+use crate::task::{Task, load_plan};
 use crate::trace_file::{TraceFile, end_traced};
 use command_line::RealiseRequest;
 use drv_graph::Plan;
@@ -64,7 +64,7 @@ where
         result }
 {
     let runner = runner_of(rt, request.runner)?;
-    let (dir, plan) = planned(rt.alloc(), &mut FolderSource::new(rt), &request.run)?;
+    let (dir, plan) = load_plan(rt.alloc(), &mut FolderSource::new(rt), &request.run)?;
     let held = enter(rt, host, request)?;
     run_held(
         rt,
@@ -84,7 +84,7 @@ fn enter<'a, R: Files + AllocGlobal, L: Locks>(
     rt: &R,
     locks: &L,
     request: &RealiseRequest<'a>,
-) -> Result<Held<'a, L::Lock>, Stop<'a>>
+) -> Result<HeldFolder<'a, L::Lock>, Stop<'a>>
     ensures ok { IfOk result (λ held. held.dir ≡ request.now.run.store_dir) }
     ensures err { IfErr result (IsKeptOut request.now) }
 {
@@ -180,7 +180,7 @@ where
         result }
 {
     let trace = TraceFile::of(rt, request);
-    let make = Tracing::new(rt, make, TraceFile::noted(&trace));
+    let make = Tracing::new(rt, make, TraceFile::trace_in(&trace));
     let builders = make_all(rt.alloc(), &make, request, manner)?;
     let kept = manner.kept;
     let ended = run_built::<R, Tracing<'_, R, M>, P, O>(
@@ -261,7 +261,7 @@ fn end<'a, R: Files + AllocGlobal + Wait, V: Outlet, O: Write>(
     requires { IsRunSettled book.run book.history }
     ensures { BookEnds request.now book (O.contents out.old) (O.contents out.new) result }
 {
-    let ended = tell(rt, request, file, &book, kept, out);
+    let ended = write_and_report(rt, request, file, &book, kept, out);
     book.close();
     ended
 }
@@ -281,22 +281,26 @@ fn fall_short<'a, R: Files + AllocGlobal, V: Outlet>(
             book.close();
             Stop::Run(fault, kept)
         }
-        None => Stop::Run(fault, Kept::no_book()),
+        None => Stop::Run(fault, JournalOutcome::no_book()),
     }
 }
 
 // Puts the journal of a book that isn't settled in place of the journal file.
-fn keep<R: Files + AllocGlobal, V: Outlet>(rt: &R, file: &OwnJournal<'_>, book: &Book<V>) -> Kept
+fn keep<R: Files + AllocGlobal, V: Outlet>(
+    rt: &R,
+    file: &OwnJournal<'_>,
+    book: &Book<V>,
+) -> JournalOutcome
     ensures { result.has_book ≡ true }
 {
     match journal_bytes(rt.alloc(), book) {
-        Ok(bytes) => Kept::tried(book, file.write(rt, &bytes)),
-        Err(refused) => Kept::no_memory(refused),
+        Ok(bytes) => JournalOutcome::of_write(book, file.write(rt, &bytes)),
+        Err(refused) => JournalOutcome::no_memory(refused),
     }
 }
 
 // Writes the journal of a settled book, and prints its report.
-fn tell<'a, R: Files + AllocGlobal + Wait, V: Outlet, O: Write>(
+fn write_and_report<'a, R: Files + AllocGlobal + Wait, V: Outlet, O: Write>(
     rt: &R,
     request: &RealiseRequest<'a>,
     file: &OwnJournal<'_>,
@@ -310,7 +314,7 @@ fn tell<'a, R: Files + AllocGlobal + Wait, V: Outlet, O: Write>(
     let bytes = journal_bytes(rt.alloc(), book)?;
     let written = file.write(rt, &bytes)?;
     let report = report_of(book, written)?;
-    let lines = last_lines(rt.alloc(), request, book, taken(rt, kept))?;
+    let lines = last_lines(rt.alloc(), request, book, take_kept(rt, kept))?;
     match print_bytes(&report, out) {
         Ok(()) => Ok(Finish::with(roots_status(book), lines)),
         Err(_) => Err(Stop::Unwritable),
@@ -318,7 +322,7 @@ fn tell<'a, R: Files + AllocGlobal + Wait, V: Outlet, O: Write>(
 }
 
 // The build folders that were kept.
-fn taken<R: AllocGlobal + Wait>(rt: &R, kept: Option<&KeptFolders>) -> Vec<KeptFolder> {
+fn take_kept<R: AllocGlobal + Wait>(rt: &R, kept: Option<&KeptFolders>) -> Vec<KeptFolder> {
     match kept {
         Some(kept) => kept.take(rt),
         None => Vec::new(rt.alloc()),

@@ -15,7 +15,7 @@ const EXECUTE: u32 = 0o111;
 
 /// What a look at a path found there.
 #[derive(Clone, Copy, Debug, PartialEq, Eq)]
-pub enum Found {
+pub enum RunnerFinding {
     /// A file that may be executed.
     Program,
     /// Anything else, or nothing that is told.
@@ -26,31 +26,31 @@ pub enum Found {
 
 /// What a look at a path found there, and the path. Only `look_for` makes one.
 #[derive(Clone, Copy)]
-pub struct Seen<'p> {
+pub struct RunnerLook<'p> {
     path: &'p str,
-    found: Found,
+    found: RunnerFinding,
 }
 
 /// Looks what lies at a path; links are followed.
-pub fn look_for<'p, R: Files>(rt: &R, path: &'p str) -> Seen<'p>
+pub fn look_for<'p, R: Files>(rt: &R, path: &'p str) -> RunnerLook<'p>
     ensures { result.path ≡ path.entry }
 {
     let found = found_by(fs::metadata(rt, path));
-    Seen { path, found }
+    RunnerLook { path, found }
 }
 
 // What the system's answer for a path tells.
-fn found_by(asked: io::Result<Metadata>) -> Found
-    ensures there { IfOk asked (λ found. IsExecutable found ↔ (result ≡ Found.Program)) }
-    ensures memory { IfErr asked (λ error. IsNoMemory error → result ≡ Found.NoMemory) }
-    ensures other { IfErr asked (λ error. ¬ (IsNoMemory error) → result ≡ Found.NoProgram) }
+fn found_by(asked: io::Result<Metadata>) -> RunnerFinding
+    ensures there { IfOk asked (λ found. IsExecutable found ↔ (result ≡ RunnerFinding.Program)) }
+    ensures memory { IfErr asked (λ error. IsNoMemory error → result ≡ RunnerFinding.NoMemory) }
+    ensures other { IfErr asked (λ error. ¬ (IsNoMemory error) → result ≡ RunnerFinding.NoProgram) }
 {
     match asked {
-        Ok(metadata) if is_executable(&metadata) => Found::Program,
-        Ok(_) => Found::NoProgram,
+        Ok(metadata) if is_executable(&metadata) => RunnerFinding::Program,
+        Ok(_) => RunnerFinding::NoProgram,
         Err(error) => match Failure::from(error) {
-            Failure::NoMemory => Found::NoMemory,
-            _ => Found::NoProgram,
+            Failure::NoMemory => RunnerFinding::NoMemory,
+            _ => RunnerFinding::NoProgram,
         },
     }
 }
@@ -85,14 +85,14 @@ impl<'a> Runner<'a> {
     }
 
     // By a look at its path.
-    fn by(word: &'a str, seen: Seen<'_>) -> Result<Runner<'a>, Stop<'a>>
+    fn by(word: &'a str, seen: RunnerLook<'_>) -> Result<Runner<'a>, Stop<'a>>
         requires { seen.path.now ≡ word.now }
         ensures { IsRunnerBy word.entry seen.entry.found result }
     {
         match seen.found {
-            Found::Program if is_absolute(word) => Ok(Runner { path: Some(word) }),
-            Found::Program | Found::NoProgram => Err(Stop::NoRunner(word)),
-            Found::NoMemory => Err(Stop::NoMemory),
+            RunnerFinding::Program if is_absolute(word) => Ok(Runner { path: Some(word) }),
+            RunnerFinding::Program | RunnerFinding::NoProgram => Err(Stop::NoRunner(word)),
+            RunnerFinding::NoMemory => Err(Stop::NoMemory),
         }
     }
 

@@ -51,7 +51,7 @@ pub fn report_of<'a, O: Outlet>(book: &Book<O>, journal: Written<'_>) -> Result<
     ensures ok { IfOk result (λ text. IsReportIn book.now.run book.now.history text.items) }
     ensures err { IfErr result (λ stop. stop ≡ Stop.NoMemory) }
 {
-    journal.used();
+    journal.spend();
     match book.report() {
         Ok(text) => Ok(text),
         Err(BookFault::NoMemory) => Err(Stop::NoMemory),

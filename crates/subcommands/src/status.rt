@@ -20,12 +20,12 @@ pub enum Status {
 #[derive(Clone, Copy, Debug, PartialEq, Eq)]
 pub enum Ending {
     /// With this status. Where a line or a text says why, all of it was written.
-    Told(Status),
+    Printed(Status),
     /// Cut short: there was no memory for the line that says why. The line of `NoMemory` was
     /// written in its place.
     NoMemory,
     /// Cut short: standard error refused a write.
-    Untold,
+    Unprinted,
 }
 
 impl Ending {
@@ -34,8 +34,8 @@ impl Ending {
         ensures { result ≡ ending_status self }
     {
         match self {
-            Ending::Told(status) => status,
-            Ending::NoMemory | Ending::Untold => Status::CutShort,
+            Ending::Printed(status) => status,
+            Ending::NoMemory | Ending::Unprinted => Status::CutShort,
         }
     }
 

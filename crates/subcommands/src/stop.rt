@@ -1,8 +1,8 @@
 //! Why a run ends without its report.
 ghost use Rattle.std.specs.Prelude.{◌≡◌};
-ghost use Rattle.subcommands.specs.Stops.{blamed_of, number_of, status_of};
+ghost use Rattle.subcommands.specs.Stops.{location_of, number_of, status_of};
 
-use crate::kept::Kept;
+use crate::journal_outcome::JournalOutcome;
 use crate::status::Status;
 use crate::whole_file::Unwritten;
 use drv_graph::NodeFault;
@@ -51,7 +51,7 @@ pub enum Stop<'a> {
     /// The journal file cannot be written.
     JournalNotWritten,
     /// The workers gave no settled book; what became of the journal.
-    Run(RunFault, Kept),
+    Run(RunFault, JournalOutcome),
     /// Memory was refused.
     NoMemory,
     /// Standard output refused a write.
@@ -110,9 +110,10 @@ impl Stop<'_> {
         }
     }
 
-    /// What the line blames: a word as it was given, a path, the journal or the run.
-    pub fn blamed(&self) -> &[u8]
-        ensures { result.now ≡ blamed_of self.now }
+    /// Where the fault was found, as the line says: a word as it was given, a path, the journal or
+    /// the run.
+    pub fn location(&self) -> &[u8]
+        ensures { result.now ≡ location_of self.now }
     {
         match self {
             Stop::BadStoreDir(word)

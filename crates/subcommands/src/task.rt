@@ -72,7 +72,7 @@ impl Task {
 /// faults, in this order: `BadStoreDir`; `NoPath` for the first word that is no path of the folder;
 /// `BadDrv` with a fault of `Plan::load`. `NoMemory` may be answered in place of each but the
 /// first. Files are read through the source alone, and none is read unless all words are paths.
-pub fn planned<'a, S: DrvSource>(
+pub fn load_plan<'a, S: DrvSource>(
     alloc: Global,
     source: &mut S,
     request: &RunRequest<'a>,

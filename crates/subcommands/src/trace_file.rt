@@ -33,7 +33,7 @@ impl<'a> TraceFile<'a> {
     }
 
     /// The trace, which the builders of the run note.
-    pub fn noted<'t>(file: &'t Option<TraceFile<'a>>) -> Option<&'t Trace> {
+    pub fn trace_in<'t>(file: &'t Option<TraceFile<'a>>) -> Option<&'t Trace> {
         match file {
             Some(file) => Some(&file.trace),
             None => None,
@@ -65,7 +65,7 @@ impl<'a> TraceWritten<'a> {
         requires { written.path.now ≡ path.now }
         ensures { result.path ≡ path.entry }
     {
-        written.used();
+        written.spend();
         TraceWritten { path }
     }
 }

@@ -19,8 +19,8 @@ pub struct Written<'a> {
 }
 
 impl Written<'_> {
-    /// Uses the value where nothing else is made of it.
-    pub fn used(self) {
+    /// Spends the value where nothing else is made of it.
+    pub fn spend(self) {
         let Written { path: _, bytes: _ } = self;
     }
 }

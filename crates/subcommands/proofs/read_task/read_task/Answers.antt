@@ -3,7 +3,7 @@ use Rattle.std.proofs.lemmas.Result.{err_from_is_err_and}
 use Rattle.subcommands.specs.AddedText.{IsJournalOf}
 use Rattle.subcommands.specs.Files.{FileBytes, journal_bytes}
 use Rattle.subcommands.specs.declared.files.FileFault.TheVariants.{Unreadable}
-use Rattle.subcommands.proofs.taken.taken.Goals as goal
+use Rattle.subcommands.proofs.read_task.read_task.Goals as goal
 
 pub returns-in_err-dir-clause-err : goal.returns-in_err-dir-clause-err
 returns-in_err-dir-clause-err g c =

@@ -8,37 +8,40 @@ use valid_table::{Outlet, TableFault};
 
 /// Evidence of what became of the journal of a book. Only this module makes one.
 #[derive(Clone, Copy, Debug, PartialEq, Eq)]
-pub struct Kept {
+pub struct JournalOutcome {
     // Whether the workers left a book.
     has_book: bool,
 }
 
-impl Kept {
+impl JournalOutcome {
     /// The workers left no book, so there is no journal.
-    pub fn no_book() -> Kept
+    pub fn no_book() -> JournalOutcome
         ensures { result.has_book ≡ false }
     {
-        Kept { has_book: false }
+        JournalOutcome { has_book: false }
     }
 
     /// The journal of a book was written, or could not be.
-    pub fn tried<O: Outlet>(_book: &Book<O>, tried: Result<Written<'_>, Unwritten>) -> Kept
+    pub fn of_write<O: Outlet>(
+        _book: &Book<O>,
+        tried: Result<Written<'_>, Unwritten>,
+    ) -> JournalOutcome
         requires { IfOk tried
             (λ written. written.bytes.now ≡ written_text _book.now.history.entries) }
         ensures { result.has_book ≡ true }
     {
         // Only the fault of the run is reported.
         if let Ok(written) = tried {
-            written.used();
+            written.spend();
         }
-        Kept { has_book: true }
+        JournalOutcome { has_book: true }
     }
 
     /// There was no memory for the journal's bytes.
-    pub fn no_memory(_refused: TableFault) -> Kept
+    pub fn no_memory(_refused: TableFault) -> JournalOutcome
         requires { _refused ≡ TableFault.NoMemory }
         ensures { result.has_book ≡ true }
     {
-        Kept { has_book: true }
+        JournalOutcome { has_book: true }
     }
 }

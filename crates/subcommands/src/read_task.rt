@@ -7,19 +7,22 @@ ghost use Rattle.subcommands.specs.Tasks.{IsTaskTaken};
 use crate::folder::FolderSource;
 use crate::journal_file::JournalFile;
 use crate::stop::Stop;
-use crate::task::{Task, planned};
+use crate::task::{Task, load_plan};
 use command_line::RunRequest;
 use std::rt::Files;
 
 /// The plan and the journal of a request that changes nothing. The plan is loaded, then the journal
 /// is read.
-pub fn taken<'a, R: Files + AllocGlobal>(rt: &R, request: &RunRequest<'a>) -> Result<Task, Stop<'a>>
+pub fn read_task<'a, R: Files + AllocGlobal>(
+    rt: &R,
+    request: &RunRequest<'a>,
+) -> Result<Task, Stop<'a>>
     ensures ok { IfOk result (λ task. (gave : FileBytes)
         × IsTaskTaken (λ _ answer. may_give answer) request.now gave (Ok task)) }
     ensures err { IfErr result (λ stop. (gave : FileBytes)
         × IsTaskTaken (λ _ answer. may_give answer) request.now gave (Err stop)) }
 {
-    let (dir, plan) = planned(rt.alloc(), &mut FolderSource::new(rt), request)?;
+    let (dir, plan) = load_plan(rt.alloc(), &mut FolderSource::new(rt), request)?;
     let file = JournalFile::new(rt.alloc(), request.store_dir, request.journal)?;
     let gave = file.read(rt);
     let task = Task::new(rt.alloc(), request, &dir, plan, gave)?;
