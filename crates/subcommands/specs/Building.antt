@@ -1,6 +1,6 @@
 -- What a run makes of the system's answers on the program that starts its builders, and on the
 -- folder of logs; and how its builders build.
-use Rattle.std.specs.Prelude.{◌≡◌, ◌≢◌, ◌⊎◌, Bool, true, false, List, Option, Some, None, Result, Ok, Err, bit_and, is_some, slice_get}
+use Rattle.std.specs.Prelude.{◌≡◌, ◌≢◌, ◌⊎◌, Bool, true, false, List, Option, Some, Result, Ok, Err, bit_and, is_some, slice_get}
 use Rattle.std.specs.Borrow.{Bor}
 use Rattle.std.specs.Fs.{IsFile, file_type, metadata_mode}
 use Rattle.std.specs.declared.fs.Metadata.{Metadata}

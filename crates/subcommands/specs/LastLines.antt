@@ -1,6 +1,6 @@
 -- The lines that standard error gets at the end of a run of `realise` (this product's own,
 -- `FORMATS.md`).
-use Rattle.std.specs.Prelude.{◌≡◌, ℕ, Bool, true, false, ◌++◌, List, [], Option, Some, None, codes}
+use Rattle.std.specs.Prelude.{◌≡◌, ℕ, Bool, true, false, ◌++◌, List, [], Option, Some, codes}
 use Rattle.std.specs.Prelude.{flat_map, length, map, option_map, string_bytes}
 use Rattle.std.specs.Cmp.Lexicographic.{slice_cmp}
 use Rattle.std.specs.List.{range_with_len}

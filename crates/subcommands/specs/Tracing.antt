@@ -1,5 +1,5 @@
 -- How a run ends whose trace is asked for.
-use Rattle.std.specs.Prelude.{◌≡◌, ◌⊎◌, Option, Some, None, Result, Ok, Err}
+use Rattle.std.specs.Prelude.{◌≡◌, ◌⊎◌, Option, Some, Result, Ok, Err}
 use Rattle.std.specs.Borrow.{Bor}
 use Rattle.nix_names.specs.Bytes.{Bytes}
 use Rattle.subcommands.specs.declared.finish.Finish.{Finish}

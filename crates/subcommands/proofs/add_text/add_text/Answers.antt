@@ -1,6 +1,5 @@
-use Rattle.std.proofs.Common.{ℕ, List, Option, Err, subst}
+use Rattle.std.proofs.Common.{ℕ, List, Option, Err}
 use Rattle.std.proofs.lemmas.Result.{err_from_is_err_and}
-use Rattle.nix_names.specs.Names.{IsStoreDir}
 use Rattle.subcommands.proofs.Endings.{folder_refused, not_held, text_refused}
 use Rattle.subcommands.specs.Files.{FileBytes, needed_bytes}
 use Rattle.subcommands.specs.declared.files.FileFault.TheVariants.{Unreadable}

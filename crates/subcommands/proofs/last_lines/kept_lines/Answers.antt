@@ -1,7 +1,7 @@
 use Rattle.std.specs.Cmp.Lexicographic.{slice_cmp}
 use Rattle.std.specs.List.{flat_map}
 use Rattle.std.specs.Ordering.{is_lt, nat_cmp}
-use Rattle.std.proofs.Common.{◌∙◌, ◌++◌, ap, ap₂, rules}
+use Rattle.std.proofs.Common.{◌∙◌, ◌++◌, ap₂, rules}
 use Rattle.std.proofs.lemmas.Cmp.{nat_list_cmp_total}
 use Rattle.std.proofs.lemmas.List.Sorted.{answers_always, ranks_by}
 use Rattle.drv_graph.proofs.Gathering.{sorted_map}
