@@ -1,6 +1,7 @@
 -- How a run of `add-text` ends where its text is refused, or where a file is not written.
-use Rattle.std.proofs.Common.{◌≡◌, ◌⊎◌, inl, inr, refl, sym, ℕ, List, Option, Result, Ok, Err}
-use Rattle.std.specs.Prelude.{IsSome}
+use Rattle.std.proofs.Common.{◌≡◌, ◌≤◌, ◌<◌, ◌⊎◌, inl, inr, refl, subst, sym, ℕ, List, Option, Some, None, Result, Ok, Err}
+use Rattle.std.proofs.Math.Nat.{not-le_of_lt}
+use Rattle.std.specs.Prelude.{IsSome, length}
 use Rattle.std.specs.Io.KnownBytes.{Appends}
 use Rattle.command_line.specs.declared.options.AddTextRequest.{AddTextRequest}
 use Rattle.nix_names.specs.Names.{IsStoreDir}
@@ -11,20 +12,27 @@ use Rattle.process_build.specs.declared.failures.Failure.{Failure}
 use Rattle.process_build.specs.declared.failures.Failure.TheVariants as failure
 use Rattle.subcommands.specs.Endings.{EndsBy, IsPrintedAndWritten, path_line}
 use Rattle.subcommands.specs.DrvEndings.{IsNotPut}
-use Rattle.subcommands.specs.Filed.{IsUnprinted, unfiled_stop, unput_stop}
-use Rattle.subcommands.specs.JournalFiles.{journal_stop, text_stop}
+use Rattle.subcommands.specs.Filed.{AreFiled, HasLongJournal, HasShortJournal, IsUnfiled}
+use Rattle.subcommands.specs.Filed.{IsUnprinted, IsUnwrittenNew, new_bytes, unfiled_stop, unput_stop}
+use Rattle.subcommands.specs.JournalFiles.{IsUnwrittenJournal, journal_stop, max_journal_len}
+use Rattle.subcommands.specs.JournalFiles.{text_stop, unwritten_stop}
 use Rattle.subcommands.specs.StoreDirs.{IsStoreDirOf}
 use Rattle.subcommands.specs.declared.add_drv.Unput.{Unput}
 use Rattle.subcommands.specs.declared.add_drv.Unput.TheVariants.{File, Line}
+use Rattle.subcommands.specs.declared.add_text.Filed.{Filed}
 use Rattle.subcommands.specs.declared.add_text.Unfiled.{Unfiled}
 use Rattle.subcommands.specs.declared.add_text.Unfiled.TheVariants.{Text, Journal}
 use Rattle.subcommands.specs.declared.added_text.AddedText.{AddedText}
 use Rattle.subcommands.specs.declared.added_text.NamedText.{NamedText}
+use Rattle.subcommands.specs.declared.journal_file.OwnJournal.{OwnJournal}
+use Rattle.subcommands.specs.declared.journal_write.UnwrittenJournal.{UnwrittenJournal}
+use Rattle.subcommands.specs.declared.journal_write.UnwrittenJournal.TheVariants as journal_fault
 use Rattle.subcommands.specs.declared.status.Status.{Status}
 use Rattle.subcommands.specs.declared.stop.Stop.{Stop}
 use Rattle.subcommands.specs.declared.stop.Stop.TheVariants.{BadJournal, BadName, BadStoreDir}
 use Rattle.subcommands.specs.declared.stop.Stop.TheVariants.{InUse, JournalNotWritten}
-use Rattle.subcommands.specs.declared.stop.Stop.TheVariants.{JournalUnreadable, NoMemory, NotLocked}
+use Rattle.subcommands.specs.declared.stop.Stop.TheVariants.{JournalTooLong, JournalUnreadable}
+use Rattle.subcommands.specs.declared.stop.Stop.TheVariants.{NoMemory, NotLocked}
 use Rattle.subcommands.specs.declared.stop.Stop.TheVariants.{NotWritten, TooLong, Unreadable}
 use Rattle.subcommands.specs.declared.stop.Stop.TheVariants.{Unwritable}
 
@@ -87,29 +95,70 @@ text_not_written : (added : AddedText) (failure : Failure) (before after : Optio
 text_not_written added failure.NoMemory before after printed renewed = (tt, printed)
 text_not_written added failure before after printed renewed = ((refl, renewed), printed)
 
--- a journal is not written after the text's path was printed
-journal_not_written : (added : AddedText) (failure : Failure) (before after : Option (List ℕ))
-    → Appends before after (path_line added.path) → IsSome added.journal
+-- a journal's file can't be written after the text's path was printed
+file_refused : (added : AddedText) (failure : Failure) (before after : Option (List ℕ))
+    → Appends before after (path_line added.path) → HasShortJournal (new_bytes added)
     → IsPrintedAndWritten added before after (Err (journal_stop failure))
-journal_not_written added failure.NoMemory before after printed renewed = (tt, printed)
-journal_not_written added failure before after printed renewed = (renewed, printed)
+file_refused added failure.NoMemory before after printed short = (tt, printed)
+file_refused added failure before after printed short = (short, printed)
+
+-- a journal is not written after the text's path was printed
+journal_not_written : (added : AddedText) (fault : UnwrittenJournal)
+    (before after : Option (List ℕ))
+    → Appends before after (path_line added.path) → IsUnwrittenNew (new_bytes added) fault
+    → IsPrintedAndWritten added before after (Err (unwritten_stop fault))
+journal_not_written added journal_fault.TooLong before after printed why = (why, printed)
+journal_not_written added (journal_fault.File unwritten) before after printed why =
+    file_refused added unwritten.failure before after printed why
+
+-- why a journal's bytes are not written is why the new bytes are not, where they are the same
+unwritten_same : (bytes : List ℕ) (fault : UnwrittenJournal) → IsUnwrittenJournal bytes fault
+    → IsUnwrittenNew (Some bytes) fault
+unwritten_same bytes journal_fault.TooLong why = why
+unwritten_same bytes (journal_fault.File unwritten) why = why
+
+pub unwritten_new : (added : AddedText) (bytes : List ℕ) (fault : UnwrittenJournal)
+    → new_bytes added ≡ Some bytes → IsUnwrittenJournal bytes fault
+    → IsUnwrittenNew (new_bytes added) fault
+unwritten_new added bytes fault same why =
+    subst (λ (new : Option (List ℕ)). IsUnwrittenNew new fault) (sym same)
+    (unwritten_same bytes fault why)
+
+-- no bytes that were written are too many
+none_long : (new : Option (List ℕ)) → new ≡ None → ¬ (HasLongJournal new)
+none_long new none = subst (λ (o : Option (List ℕ)). ¬ (HasLongJournal o)) (sym none) (λ long. long)
+
+some_short : (new : Option (List ℕ)) (bytes : List ℕ) → new ≡ Some bytes
+    → length bytes ≤ max_journal_len → ¬ (HasLongJournal new)
+some_short new bytes same short =
+    subst (λ (o : Option (List ℕ)). ¬ (HasLongJournal o)) (sym same)
+    (λ (long : max_journal_len < length bytes). not-le_of_lt long short)
+
+pub filed_not_long : (added : AddedText) (file : OwnJournal) (filed : Option Filed)
+    → AreFiled added file filed → ¬ (HasLongJournal (new_bytes added))
+filed_not_long added file None h = none_long (new_bytes added) h
+filed_not_long added file (Some filed) h =
+    some_short (new_bytes added) filed.journal.bytes.now h.2 h.3
 
 -- a file is not written after the text's path was printed
 pub file_not_written : (added : AddedText) (unfiled : Unfiled) (before after : Option (List ℕ))
-    (stop : Stop) → Appends before after (path_line added.path) → IsSome added.journal
+    (stop : Stop) → Appends before after (path_line added.path) → IsUnfiled added unfiled
     → stop ≡ unfiled_stop added.path unfiled → IsPrintedAndWritten added before after (Err stop)
-file_not_written added (Text unwritten) before after stop printed renewed is =
-    rw is (text_not_written added unwritten.failure before after printed renewed)
-file_not_written added (Journal unwritten) before after stop printed renewed is =
-    rw is (journal_not_written added unwritten.failure before after printed renewed)
+file_not_written added (Text unwritten) before after stop printed why is =
+    rw is (text_not_written added unwritten.failure before after printed why)
+file_not_written added (Journal fault) before after stop printed why is =
+    rw is (journal_not_written added fault before after printed why)
 
 -- how the printing and the writing end is how the run does
 pub put_ends : (request : AddTextRequest) (gave journal : FileBytes)
     (before after : Option (List ℕ)) (added : AddedText) (result : Result Status Stop)
     → IsAddingText request gave journal (Ok added) → IsPrintedAndWritten added before after result
     → EndsBy request gave journal before after result
-put_ends request gave journal before after added (Ok status) is h = (h.0, (added, (is, h.1)))
+put_ends request gave journal before after added (Ok status) is h =
+    (h.0, (added, (is, h.1), h.2))
 put_ends request gave journal before after added (Err (NotWritten path)) is h =
+    (added, (is, h.1), h.0)
+put_ends request gave journal before after added (Err JournalTooLong) is h =
     (added, (is, h.1), h.0)
 put_ends request gave journal before after added (Err JournalNotWritten) is h =
     (added, (is, h.1), h.0)

@@ -5,6 +5,7 @@ use Rattle.nix_names.specs.Bytes.{Bytes, Path}
 use Rattle.nix_names.specs.Names.{IsStoreDir}
 use Rattle.command_line.specs.declared.options.AddTextRequest.{AddTextRequest}
 use Rattle.subcommands.specs.AddedText.{HasNamedText, IsAddingText, IsNaming}
+use Rattle.subcommands.specs.Filed.{HasLongJournal, HasShortJournal, new_bytes}
 use Rattle.subcommands.specs.Files.{FileBytes}
 use Rattle.subcommands.specs.Locking.{IsNotHeld}
 use Rattle.subcommands.specs.declared.added_text.AddedText.{AddedText}
@@ -14,26 +15,30 @@ use Rattle.subcommands.specs.declared.status.Status.TheVariants.{Done}
 use Rattle.subcommands.specs.declared.stop.Stop.{Stop}
 use Rattle.subcommands.specs.declared.stop.Stop.TheVariants.{InUse, NotLocked}
 use Rattle.subcommands.specs.declared.stop.Stop.TheVariants.{NotWritten, JournalNotWritten}
+use Rattle.subcommands.specs.declared.stop.Stop.TheVariants.{JournalTooLong}
 use Rattle.subcommands.specs.declared.stop.Stop.TheVariants.{NoMemory, Unwritable}
 
 -- the line of a path
 abbrev pub path_line : Path → Bytes
 path_line path = path ++ 10 ∷ []
 
--- Why the files are not written: the text can't be written at its path; or the text is written and
--- the journal is not; or memory is refused. A file is written only where the journal has new bytes.
+-- Why the files are not written: the text can't be written at its path; or the text is written, and
+-- the journal is not, exactly where its new bytes are too many, or else since it can't be; or
+-- memory is refused. A file is written only where the journal has new bytes.
 abbrev pub IsWriteFault : AddedText → Stop → Type 0
 IsWriteFault added (NotWritten path) = (path ≡ added.path) × IsSome added.journal
-IsWriteFault added JournalNotWritten = IsSome added.journal
+IsWriteFault added JournalTooLong = HasLongJournal (new_bytes added)
+IsWriteFault added JournalNotWritten = HasShortJournal (new_bytes added)
 IsWriteFault added NoMemory = Unit {0}
 IsWriteFault added stop = ⊥
 
--- How it ends to print an accepted text's path and to write its files. Nothing more is known where
--- the line is refused.
+-- How it ends to print an accepted text's path and to write its files: well only where the
+-- journal's new bytes are not too many. Nothing more is known where the line is refused.
 abbrev pub IsPrintedAndWritten : AddedText → (before after : Option Bytes) → Result Status Stop
     → Type 0
 IsPrintedAndWritten added before after (Ok status) =
     (status ≡ Done) × Appends before after (path_line added.path)
+    × ¬ (HasLongJournal (new_bytes added))
 IsPrintedAndWritten added before after (Err Unwritable) = Unit {0}
 IsPrintedAndWritten added before after (Err stop) =
     IsWriteFault added stop × Appends before after (path_line added.path)
@@ -51,10 +56,14 @@ IsPrinted request gave journal before after added =
 abbrev pub EndsBy : AddTextRequest → (gave journal : FileBytes)
     → (before after : Option Bytes) → Result Status Stop → Type 0
 EndsBy request gave journal before after (Ok status) =
-    (status ≡ Done) × ((added : AddedText) × IsPrinted request gave journal before after added)
+    (status ≡ Done) × ((added : AddedText) × IsPrinted request gave journal before after added
+    × ¬ (HasLongJournal (new_bytes added)))
 EndsBy request gave journal before after (Err (NotWritten path)) =
     (added : AddedText) × IsPrinted request gave journal before after added
     × IsWriteFault added (NotWritten path)
+EndsBy request gave journal before after (Err JournalTooLong) =
+    (added : AddedText) × IsPrinted request gave journal before after added
+    × IsWriteFault added JournalTooLong
 EndsBy request gave journal before after (Err JournalNotWritten) =
     (added : AddedText) × IsPrinted request gave journal before after added
     × IsWriteFault added JournalNotWritten

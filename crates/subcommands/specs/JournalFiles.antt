@@ -1,5 +1,5 @@
 -- Where the journal file is, and what ends a run that can't write a file.
-use Rattle.std.specs.Prelude.{◌++◌, Option, Some, None, codes, option_map}
+use Rattle.std.specs.Prelude.{◌≤◌, ◌<◌, ℕ, ◌++◌, Option, Some, None, codes, length, option_map}
 use Rattle.nix_names.specs.Bytes.{Bytes, Dir, Path}
 use Rattle.process_build.specs.declared.failures.Failure.{Failure}
 use Rattle.process_build.specs.declared.failures.Failure.TheVariants as failure
@@ -7,9 +7,11 @@ use Rattle.command_line.specs.declared.options.AddTextRequest.{AddTextRequest}
 use Rattle.command_line.specs.declared.options.RunRequest.{RunRequest}
 use Rattle.subcommands.specs.Files.{IsReadFrom}
 use Rattle.subcommands.specs.declared.files.Given.{Given}
+use Rattle.subcommands.specs.declared.journal_write.UnwrittenJournal.{UnwrittenJournal}
+use Rattle.subcommands.specs.declared.journal_write.UnwrittenJournal.TheVariants.{File, TooLong}
 use Rattle.subcommands.specs.declared.stop.Stop.{Stop}
-use Rattle.subcommands.specs.declared.stop.Stop.TheVariants.{JournalNotWritten, NoMemory}
-use Rattle.subcommands.specs.declared.stop.Stop.TheVariants.{NotWritten}
+use Rattle.subcommands.specs.declared.stop.Stop.TheVariants.{JournalNotWritten, JournalTooLong}
+use Rattle.subcommands.specs.declared.stop.Stop.TheVariants.{NoMemory, NotWritten}
 
 -- the journal file's path: the given one, else that of `realiser-journal` in the store folder
 abbrev pub journal_path_of : (store_dir : Dir) → (given : Option Bytes) → Bytes
@@ -28,10 +30,25 @@ IsTextsJournal request given =
     IsReadFrom (journal_path_of request.store_dir.now (option_map (λ f. f.now) request.journal))
     134217729 given
 
+-- the greatest length of a journal's text that is written or read, in bytes
+abbrev pub max_journal_len : ℕ
+max_journal_len = 134217728
+
+-- why a journal's text is not written: it has more bytes than that, and then no file is touched; or
+-- it has not, and the file could not be written
+abbrev pub IsUnwrittenJournal : (text : Bytes) → UnwrittenJournal → Type 0
+IsUnwrittenJournal text TooLong = max_journal_len < length text
+IsUnwrittenJournal text (File unwritten) = length text ≤ max_journal_len
+
 -- what ends a run whose journal file is not written, by this failure
 abbrev pub journal_stop : Failure → Stop
 journal_stop failure.NoMemory = NoMemory
 journal_stop failure = JournalNotWritten
+
+-- what ends a run whose journal is not written
+abbrev pub unwritten_stop : UnwrittenJournal → Stop
+unwritten_stop TooLong = JournalTooLong
+unwritten_stop (File unwritten) = journal_stop unwritten.failure
 
 -- what ends a run whose file at this path is not written, by this failure
 abbrev pub text_stop : Path → Failure → Stop

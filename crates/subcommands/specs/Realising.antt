@@ -1,5 +1,5 @@
 -- How a run of `realise` ends: its status, and what was printed.
-use Rattle.std.specs.Prelude.{◌≡◌, ◌⊎◌, Bool, List, Option, Result, Ok, Err, is_some}
+use Rattle.std.specs.Prelude.{◌≡◌, ◌⊎◌, ◌≤◌, ◌<◌, Bool, List, Option, Result, Ok, Err, is_some, length}
 use Rattle.std.specs.Io.KnownBytes.{Appends}
 use Rattle.nix_names.specs.Bytes.{Bytes}
 use Rattle.drv_graph.specs.Plans.{Graph}
@@ -10,6 +10,7 @@ use Rattle.build_outcome.specs.declared.job.Job.{Job}
 use Rattle.build_outcome.specs.declared.reason.Reason.{Reason}
 use Rattle.store_run.specs.Realising.{IsRealised, IsRunFault}
 use Rattle.store_run.specs.declared.fault.RunFault.{RunFault}
+use Rattle.valid_table.specs.Written.{written_text}
 use Rattle.command_line.specs.declared.options.RealiseRequest.{RealiseRequest}
 use Rattle.process_build.specs.declared.kept_folders.KeptFolder.{KeptFolder}
 use Rattle.subcommands.specs.AddedText.{IsJournalOf}
@@ -17,6 +18,7 @@ use Rattle.subcommands.specs.Building.{IsNoFolder, IsNoRunner}
 use Rattle.subcommands.specs.Files.{FileBytes}
 use Rattle.subcommands.specs.Finishes.{last_text}
 use Rattle.subcommands.specs.Folders.{may_give}
+use Rattle.subcommands.specs.JournalFiles.{max_journal_len}
 use Rattle.subcommands.specs.LastLines.{IsLastText}
 use Rattle.subcommands.specs.Locking.{IsKeptOut}
 use Rattle.subcommands.specs.Tasks.{HasPlan, IsNotPlanned}
@@ -24,8 +26,8 @@ use Rattle.subcommands.specs.Tracing.{IsTracedEnd}
 use Rattle.subcommands.specs.RootsStatus.{roots_status}
 use Rattle.subcommands.specs.declared.finish.Finish.{Finish}
 use Rattle.subcommands.specs.declared.stop.Stop.{Stop}
-use Rattle.subcommands.specs.declared.stop.Stop.TheVariants.{JournalNotWritten, NoMemory, Run}
-use Rattle.subcommands.specs.declared.stop.Stop.TheVariants.{Unwritable}
+use Rattle.subcommands.specs.declared.stop.Stop.TheVariants.{JournalNotWritten, JournalTooLong}
+use Rattle.subcommands.specs.declared.stop.Stop.TheVariants.{NoMemory, Run, Unwritable}
 use Rattle.subcommands.specs.declared.task.Task.{Task}
 
 -- what a builder may give for a job
@@ -49,8 +51,13 @@ IsFallingShort may request task stop = (fault : RunFault) × (book : Option Ledg
     × IsRunFault may task.plan request.run.system.now task.journal.entries request.jobs fault book
     × IsCutShort fault (is_some book) stop
 
--- How a run ends with a settled book: its report is printed, or nothing where the journal can't be
--- written or memory is refused. The last lines tell of some folders that were kept.
+-- the text of the book's entries has no more bytes than a journal may have
+abbrev pub HasShortText : Ledger → Type 0
+HasShortText book = length (written_text book.history.entries) ≤ max_journal_len
+
+-- How a run ends with a settled book: its report is printed, or nothing where the journal is not
+-- written, exactly where its text is too long or else since it can't be, or memory is refused. The
+-- last lines tell of some folders that were kept.
 abbrev pub BookEnds : RealiseRequest → Ledger → (before after : Option Bytes)
     → Result Finish Stop → Type 0
 BookEnds request book before after (Ok finish) =
@@ -58,9 +65,12 @@ BookEnds request book before after (Ok finish) =
     × (finish.status ≡ roots_status book.run book.history)
     × ((kept : List KeptFolder)
     × IsLastText request book.run book.history kept (last_text finish))
-BookEnds request book before after (Err JournalNotWritten) = after ≡ before
+    × HasShortText book
+BookEnds request book before after (Err JournalTooLong) =
+    (after ≡ before) × (max_journal_len < length (written_text book.history.entries))
+BookEnds request book before after (Err JournalNotWritten) = (after ≡ before) × HasShortText book
 BookEnds request book before after (Err NoMemory) = after ≡ before
-BookEnds request book before after (Err Unwritable) = Unit {0}
+BookEnds request book before after (Err Unwritable) = HasShortText book
 BookEnds request book before after (Err stop) = ⊥
 
 -- How a run ends over a plan and a journal: with a settled book; or with the fault of the workers,

@@ -21,6 +21,7 @@ use Rattle.subcommands.specs.declared.stop.Stop.TheVariants.{BadDraft, BadDrv}
 use Rattle.subcommands.specs.declared.stop.Stop.TheVariants.{BadName, JournalUnreadable, BadJournal}
 use Rattle.subcommands.specs.declared.stop.Stop.TheVariants.{InUse, NixStore, NotLocked}
 use Rattle.subcommands.specs.declared.stop.Stop.TheVariants.{NotWritten, JournalNotWritten}
+use Rattle.subcommands.specs.declared.stop.Stop.TheVariants.{JournalTooLong}
 use Rattle.subcommands.specs.declared.stop.Stop.TheVariants.{NoLogs, NoPath, NoRunner, NoTrace, Run}
 use Rattle.subcommands.specs.declared.stop.Stop.TheVariants.{NoMemory, Unwritable}
 
@@ -43,6 +44,7 @@ number_of (Run fault kept) = run_number_of fault
 number_of (BadDraft file fault) = node_number_of fault
 number_of (BadDrv path fault) = node_number_of fault
 number_of (NotWritten path) = 74
+number_of JournalTooLong = 35
 number_of JournalNotWritten = 74
 number_of Unwritable = 74
 number_of (NotLocked dir) = 74
@@ -71,6 +73,7 @@ location_of (BadDrv path fault) = path
 location_of JournalUnreadable = codes "journal"
 location_of (BadJournal fault) = codes "journal"
 location_of (NotWritten path) = path
+location_of JournalTooLong = codes "journal"
 location_of JournalNotWritten = codes "journal"
 location_of (Run fault kept) = codes "run"
 location_of NoMemory = codes "run"
@@ -94,6 +97,7 @@ stop_fault_words (NoRunner program) = codes "NoRunner"
 stop_fault_words (NoLogs folder) = codes "Unwritable"
 stop_fault_words (NoTrace file) = codes "Unwritable"
 stop_fault_words (NotWritten path) = codes "Unwritable"
+stop_fault_words JournalTooLong = codes "TooLong"
 stop_fault_words JournalNotWritten = codes "Unwritable"
 stop_fault_words (Run fault kept) = run_fault_words fault
 stop_fault_words NoMemory = codes "NoMemory"
@@ -106,7 +110,7 @@ stop_line stop =
 
 -- the status of the run: `Refused` for a word, a file or a journal that is refused; `CutShort` for
 -- a store folder that may not be used now, a journal that can't be read, workers that end too
--- early, want of memory and a refused write
+-- early, want of memory, a journal that would be too long to be read again and a refused write
 abbrev pub status_of : Stop → Status
 status_of (BadStoreDir dir) = Refused
 status_of (Unreadable file) = Refused
@@ -125,6 +129,7 @@ status_of (NoLogs folder) = CutShort
 status_of (NoTrace file) = CutShort
 status_of (Run fault kept) = CutShort
 status_of (NotWritten path) = CutShort
+status_of JournalTooLong = CutShort
 status_of JournalNotWritten = CutShort
 status_of NoMemory = CutShort
 status_of Unwritable = CutShort

@@ -1,13 +1,14 @@
 //! The subcommand `add-text`.
-ghost use Rattle.std.specs.Prelude.{◌≡◌, IfErr, IfOk, IsSome, OnOk};
+ghost use Rattle.std.specs.Prelude.{◌≡◌, IfErr, IfOk, OnOk};
 ghost use Rattle.std.specs.Io.KnownBytes.{Appends};
 ghost use Rattle.subcommands.specs.Endings.{Ends, HeldTextEnds, IsPrintedAndWritten, path_line};
-ghost use Rattle.subcommands.specs.Filed.{AreFiled, unfiled_stop};
+ghost use Rattle.subcommands.specs.Filed.{AreFiled, IsUnfiled, unfiled_stop};
 ghost use Rattle.subcommands.specs.JournalFiles.{text_stop};
 
 use crate::added_text::{AddedText, NamedText, added_text, named_text};
 use crate::files::read_text;
 use crate::journal_file::OwnJournal;
+use crate::journal_write::UnwrittenJournal;
 use crate::locks::{Holding, Locks, hold};
 use crate::printing::print_bytes;
 use crate::status::Status;
@@ -65,6 +66,7 @@ fn add_held<'a, R: Files + AllocGlobal, O: Write>(
 }
 
 // Prints the path of an accepted text, and writes the files.
+#[tactic(auto, using(crate::proofs::Endings::filed_not_long))]
 fn put<'a, R: Files + AllocGlobal, O: Write>(
     rt: &R,
     file: &OwnJournal<'_>,
@@ -100,17 +102,18 @@ struct Filed<'w> {
 #[derive(Clone, Copy)]
 enum Unfiled {
     Text(Unwritten),
-    Journal(Unwritten),
+    Journal(UnwrittenJournal),
 }
 
 // Writes the text at its path and then the journal, unless the path is valid already.
+#[tactic(auto, using(crate::proofs::Endings::unwritten_new))]
 fn write_files<'w, R: Files + AllocGlobal>(
     rt: &R,
     file: &'w OwnJournal<'_>,
     added: &'w AddedText,
 ) -> Result<Option<Filed<'w>>, Unfiled>
     ensures ok { IfOk result (AreFiled added.entry.now file.entry.now) }
-    ensures err { IfErr result (λ _. IsSome added.entry.now.journal) }
+    ensures err { IfErr result (IsUnfiled added.entry.now) }
 {
     let Some(bytes) = added.journal() else {
         return Ok(None);
@@ -121,9 +124,9 @@ fn write_files<'w, R: Files + AllocGlobal>(
     };
     match file.write(rt, bytes) {
         Ok(journal) => Ok(Some(Filed { text, journal })),
-        Err(unwritten) => {
+        Err(fault) => {
             text.spend();
-            Err(Unfiled::Journal(unwritten))
+            Err(Unfiled::Journal(fault))
         }
     }
 }
@@ -145,7 +148,7 @@ fn stop_of<'a>(unfiled: Unfiled, added: AddedText) -> Stop<'a>
 {
     match unfiled {
         Unfiled::Text(unwritten) => text_stop(added.into_path(), unwritten),
-        Unfiled::Journal(unwritten) => Stop::from(unwritten),
+        Unfiled::Journal(fault) => Stop::from(fault),
     }
 }
 

@@ -101,6 +101,7 @@ pub fn write_stop_fault(stop: &Stop<'_>, out: &mut Vec<u8>) -> Result<(), AllocE
         Stop::NoLogs(_) => write_name(b"Unwritable", out),
         Stop::NoTrace(_) => write_name(b"Unwritable", out),
         Stop::NotWritten(_) => write_name(b"Unwritable", out),
+        Stop::JournalTooLong => write_name(b"TooLong", out),
         Stop::JournalNotWritten => write_name(b"Unwritable", out),
         Stop::Run(fault, _) => write_run_fault(*fault, out),
         Stop::NoMemory => write_name(b"NoMemory", out),

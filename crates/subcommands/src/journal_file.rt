@@ -1,13 +1,15 @@
 //! The journal file of a run: its path, read and written.
-ghost use Rattle.std.specs.Prelude.{◌≡◌, IfOk, option_map, string_bytes};
+ghost use Rattle.std.specs.Prelude.{◌≡◌, ◌≤◌, IfErr, IfOk, length, option_map, string_bytes};
 ghost use Rattle.nix_names.specs.Bytes.{Bytes};
 ghost use Rattle.subcommands.specs.Files.{IsReadFrom};
-ghost use Rattle.subcommands.specs.JournalFiles.{journal_path_of};
+ghost use Rattle.subcommands.specs.JournalFiles.{IsUnwrittenJournal, journal_path_of};
+ghost use Rattle.subcommands.specs.JournalFiles.{max_journal_len};
 
 use crate::files::{Given, read_journal};
 use crate::journal_keeper::Places;
+use crate::journal_write::{UnwrittenJournal, write_journal};
 use crate::locks::Holding;
-use crate::whole_file::{Tried, Unwritten, Written, try_out, write_whole};
+use crate::whole_file::{Tried, Unwritten, Written, try_out};
 use std::alloc::{AllocError, Global};
 use std::rt::Files;
 
@@ -97,15 +99,18 @@ impl<'h> OwnJournal<'h> {
         places.place(String::from_str(alloc, self.path.as_str())?)
     }
 
-    /// Puts a file with these bytes in place of the journal file, if there is one.
+    /// Puts a file with these bytes in place of the journal file, if there is one. They are not
+    /// written if they are more than 134,217,728, and the journal file stays then.
     pub fn write<'b, R: Files + AllocGlobal>(
         &'b self,
         rt: &R,
         bytes: &'b [u8],
-    ) -> Result<Written<'b>, Unwritten>
-        ensures { IfOk result (λ written. (written.path.now ≡ string_bytes self.entry.now.path)
+    ) -> Result<Written<'b>, UnwrittenJournal>
+        ensures ok { IfOk result (λ written. (written.path.now ≡ string_bytes self.entry.now.path)
             × (written.bytes.now ≡ bytes.entry.now)) }
+        ensures fits { IfOk result (λ _. length bytes.entry.now ≤ max_journal_len) }
+        ensures err { IfErr result (IsUnwrittenJournal bytes.entry.now) }
     {
-        write_whole(rt, self.path.as_str(), bytes)
+        write_journal(rt, self.path.as_str(), bytes)
     }
 }

@@ -1,8 +1,10 @@
 //! The journal file, as it is written while a run goes on.
-ghost use Rattle.std.specs.Prelude.{◌≡◌, IfErr, IfOk, string_bytes, true, false};
+ghost use Rattle.std.specs.Prelude.{◌≡◌, ◌≤◌, ◌<◌, IfErr, IfOk, false, length, string_bytes, true};
+ghost use Rattle.subcommands.specs.JournalFiles.{IsUnwrittenJournal, max_journal_len};
 
 use crate::journal_file::OwnJournal;
-use crate::whole_file::{Tried, Unwritten, Written, write_whole};
+use crate::journal_write::{UnwrittenJournal, write_journal};
+use crate::whole_file::{Tried, Written};
 use std::alloc::AllocError;
 use std::rt::Files;
 use store_run::Keep;
@@ -58,19 +60,24 @@ impl<R: Files + AllocGlobal> Keep for InJournal<R> {
 
     ghost may_keep = { λ text. ⊤ };
 
-    /// A fault of the write is not told. The file that was there stays then.
+    /// A fault of the write is not told. The file that was there stays then. So it does where the
+    /// text has more bytes than a journal may have.
     fn keep(&mut self, text: &[u8]) -> bool {
         let path = self.path.as_str();
-        is_written(path, text, write_whole(&self.rt, path, text))
+        is_written(path, text, write_journal(&self.rt, path, text))
     }
 }
 
-// Whether a text was written to the file at a path.
-fn is_written(_path: &str, _text: &[u8], tried: Result<Written<'_>, Unwritten>) -> bool
+// Whether a text was written to the file at a path: never a text that has more bytes than a journal
+// may have.
+#[tactic(auto, using(crate::proofs::Unwritten::never_both))]
+fn is_written(_path: &str, _text: &[u8], tried: Result<Written<'_>, UnwrittenJournal>) -> bool
     requires path { IfOk tried (λ written. written.path.now ≡ _path.now) }
     requires text { IfOk tried (λ written. written.bytes.now ≡ _text.now) }
+    requires fits { IfOk tried (λ _. length _text.now ≤ max_journal_len) }
     ensures ok { IfOk tried.entry (λ _. result ≡ true) }
     ensures err { IfErr tried.entry (λ _. result ≡ false) }
+    ensures long { max_journal_len < length _text.now → result ≡ false }
 {
     match tried {
         Ok(written) => {

@@ -2,7 +2,8 @@
 ghost use Rattle.std.specs.Prelude.{◌≡◌, IfOk, false, true};
 ghost use Rattle.valid_table.specs.Written.{written_text};
 
-use crate::whole_file::{Unwritten, Written};
+use crate::journal_write::UnwrittenJournal;
+use crate::whole_file::Written;
 use sched_core::Book;
 use valid_table::{Outlet, TableFault};
 
@@ -24,7 +25,7 @@ impl JournalOutcome {
     /// The journal of a book was written, or could not be.
     pub fn of_write<O: Outlet>(
         _book: &Book<O>,
-        tried: Result<Written<'_>, Unwritten>,
+        tried: Result<Written<'_>, UnwrittenJournal>,
     ) -> JournalOutcome
         requires { IfOk tried
             (λ written. written.bytes.now ≡ written_text _book.now.history.entries) }

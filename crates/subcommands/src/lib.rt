@@ -8,6 +8,7 @@
 //! | `folder` | derivations read from the files of a folder |
 //! | `whole_file` | a file that is written whole or not at all |
 //! | `journal_file` | the journal file: its path, read and written |
+//! | `journal_write` | the journal file, written only where a later run can read it |
 //! | `journal_keeper` | the journal file, as it is written while a run goes on |
 //! | `locks`, `waiting` | the lock of a store folder; the line that tells that a run waits for it |
 //! | `nix_store` | whether Nix manages a store folder |
@@ -45,6 +46,7 @@ mod graph_words;
 mod journal_file;
 mod journal_keeper;
 mod journal_outcome;
+mod journal_write;
 mod last_lines;
 mod locks;
 mod logs_folder;

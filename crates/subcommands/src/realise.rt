@@ -300,6 +300,7 @@ fn keep<R: Files + AllocGlobal, V: Outlet>(
 }
 
 // Writes the journal of a settled book, and prints its report.
+#[tactic(auto, using(crate::proofs::Unwritten::short_text, crate::proofs::Unwritten::book_unwritten))]
 fn write_and_report<'a, R: Files + AllocGlobal + Wait, V: Outlet, O: Write>(
     rt: &R,
     request: &RealiseRequest<'a>,

@@ -11,8 +11,8 @@ pub enum Status {
     Unrealised,
     /// A word, a file or the journal is refused, or a line of `check` is bad.
     Refused,
-    /// Memory was refused, the journal could not be read, the workers ended too early, or a write
-    /// was refused.
+    /// Memory was refused, the journal could not be read or would be too long, the workers ended too
+    /// early, or a write was refused.
     CutShort,
 }
 

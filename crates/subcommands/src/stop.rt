@@ -3,6 +3,7 @@ ghost use Rattle.std.specs.Prelude.{◌≡◌};
 ghost use Rattle.subcommands.specs.Stops.{location_of, number_of, status_of};
 
 use crate::journal_outcome::JournalOutcome;
+use crate::journal_write::UnwrittenJournal;
 use crate::status::Status;
 use crate::whole_file::Unwritten;
 use drv_graph::NodeFault;
@@ -48,6 +49,8 @@ pub enum Stop<'a> {
     NoTrace(&'a str),
     /// The file at this path cannot be written.
     NotWritten(StorePath),
+    /// The journal's new text has more than 134,217,728 bytes, and is not written.
+    JournalTooLong,
     /// The journal file cannot be written.
     JournalNotWritten,
     /// The workers gave no settled book; what became of the journal.
@@ -71,6 +74,7 @@ impl Stop<'_> {
             Stop::TooLong(_) => 12,
             Stop::Unreadable(_) | Stop::JournalUnreadable => 20,
             Stop::BadJournal(fault) => fault.number(),
+            Stop::JournalTooLong => 35,
             Stop::Run(fault, _) => fault.number(),
             Stop::BadDraft(_, fault) | Stop::BadDrv(_, fault) => fault.number(),
             Stop::NotWritten(_) | Stop::JournalNotWritten | Stop::Unwritable => 74,
@@ -104,6 +108,7 @@ impl Stop<'_> {
             | Stop::NoTrace(_)
             | Stop::Run(..)
             | Stop::NotWritten(_)
+            | Stop::JournalTooLong
             | Stop::JournalNotWritten
             | Stop::NoMemory
             | Stop::Unwritable => Status::CutShort,
@@ -129,13 +134,16 @@ impl Stop<'_> {
             | Stop::NoTrace(word)
             | Stop::NoPath(word, _) => word.as_bytes(),
             Stop::BadDrv(path, _) | Stop::NotWritten(path) => path.text(),
-            Stop::JournalUnreadable | Stop::BadJournal(_) | Stop::JournalNotWritten => b"journal",
+            Stop::JournalUnreadable
+            | Stop::BadJournal(_)
+            | Stop::JournalTooLong
+            | Stop::JournalNotWritten => b"journal",
             Stop::Run(..) | Stop::NoMemory | Stop::Unwritable => b"run",
         }
     }
 }
 
-// What ends a run whose journal file is not written.
+// What ends a run whose journal file cannot be written.
 impl From<Unwritten> for Stop<'_> {
     ghost use Rattle.std.specs.Prelude.{◌⊎◌};
     ghost use Rattle.subcommands.specs.JournalFiles.{journal_stop};
@@ -148,6 +156,20 @@ impl From<Unwritten> for Stop<'_> {
         match unwritten.failure() {
             Failure::NoMemory => Stop::NoMemory,
             _ => Stop::JournalNotWritten,
+        }
+    }
+}
+
+// What ends a run whose journal is not written.
+impl From<UnwrittenJournal> for Stop<'_> {
+    ghost use Rattle.subcommands.specs.JournalFiles.{unwritten_stop};
+
+    ghost from_gives = { λ fault stop. stop ≡ unwritten_stop fault };
+
+    fn from(fault: UnwrittenJournal) -> Self {
+        match fault {
+            UnwrittenJournal::TooLong => Stop::JournalTooLong,
+            UnwrittenJournal::File(unwritten) => Stop::from(unwritten),
         }
     }
 }
