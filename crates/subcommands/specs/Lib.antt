@@ -6,10 +6,12 @@ pub mod CheckLines
 pub mod DrvEndings
 pub mod Endings
 pub mod FaultWords
+pub mod Filed
 pub mod Files
 pub mod Finishes
 pub mod Folders
 pub mod GraphWords
+pub mod JournalFiles
 pub mod LastLines
 pub mod Locking
 pub mod Planning
@@ -23,6 +25,4 @@ pub mod StoreDirs
 pub mod Tasks
 pub mod Tracing
 -- What only private contracts and proofs cite.
-pub mod Filed
-pub mod JournalFiles
 pub mod Waiting
