@@ -1,6 +1,7 @@
 //! Base-32 texts.
 use nix_names::{NameFault, from_base32, to_base32};
 use std::alloc::Global;
+use std::process::Abort;
 use std::test::Fail;
 
 // Bytes in hex and their base-32 text.
@@ -26,18 +27,25 @@ fn vectors() -> &'static [(&'static str, &'static str)] {
     &VECTORS
 }
 
-// Whether the bytes have this text, and the text these bytes.
-fn is_text_of(alloc: Global, bytes: &[u8], text: &str) -> Result<bool, Fail> {
+// Stops unless the bytes have this text, and the text these bytes.
+fn expect_text_of(
+    rt: &impl Abort,
+    alloc: Global,
+    bytes: &[u8],
+    text: &'static str,
+) -> Result<(), Fail> {
     let written = to_base32(alloc, bytes)?;
+    assert_eq!(*rt; written.as_str(), text);
     let read = from_base32(alloc, text.as_bytes(), bytes.len())?;
-    Ok(written.as_str() == text && read.as_slice() == bytes)
+    assert_eq!(*rt; read.as_slice(), bytes, "of {text}");
+    Ok(())
 }
 
 #[test]
 fn base32_texts(rt: HostRuntime) -> Result<(), Fail> {
     for (digits, text) in vectors() {
         let bytes = hex::decode(rt.alloc(), *digits)?;
-        assert!(rt; is_text_of(rt.alloc(), &bytes, text)?, "at {text}");
+        expect_text_of(&rt, rt.alloc(), &bytes, text)?;
     }
     Ok(())
 }
@@ -52,13 +60,10 @@ static REFUSED: [(&str, NameFault); 6] = [
     ("e", NameFault::BadLength),
 ];
 
-fn is_refused(alloc: Global, text: &str, fault: NameFault) -> bool {
-    from_base32(alloc, text.as_bytes(), 1).err() == Some(fault)
-}
-
 #[test]
 fn texts_of_no_byte(rt: HostRuntime) {
     for (text, fault) in &REFUSED {
-        assert!(rt; is_refused(rt.alloc(), text, *fault), "at {text}");
+        let found = from_base32(rt.alloc(), text.as_bytes(), 1).err();
+        assert_eq!(rt; found, Some(*fault), "of {text}");
     }
 }

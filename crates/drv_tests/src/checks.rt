@@ -2,9 +2,13 @@
 ghost use Rattle.nix_names.specs.Rising.{IsRising};
 
 use crate::nix_derivations::derivations;
-use nix_drv::{DrvSource, ListSource, ListedFile, SourceFault, check_text, text_path};
+use crate::wanted::{expect_answer, expect_text};
+use nix_drv::{
+    Derivation, DrvFault, DrvSource, ListSource, ListedFile, SourceFault, check_text, text_path,
+};
 use nix_names::{StoreDir, StorePath, parse_path};
 use std::alloc::{AllocError, Global};
+use std::process::Abort;
 use std::test::*;
 
 const NOTHING: &[u8] = b"Derive([],[],[],\"\",\"\",[],[])";
@@ -29,25 +33,19 @@ fn in_store(alloc: Global, text: &[u8]) -> Result<StorePath, Fail> {
     Ok(parse_path(alloc, &dir, text)?)
 }
 
-// Whether a text under this name, with these references, has this path.
-fn has_text_path(
-    alloc: Global,
-    name: &[u8],
-    text: &[u8],
-    refs: &[StorePath],
-    expected: &[u8],
-) -> Result<bool, Fail>
+// The path of a text under this name, with these references.
+fn path_of(alloc: Global, name: &[u8], text: &[u8], refs: &[StorePath]) -> Result<StorePath, Fail>
     requires { IsRising refs.now }
 {
     let dir = StoreDir::new(alloc, b"/nix/store")?;
-    let path = text_path(alloc, &dir, name, text, refs)?;
-    Ok(path.text() == expected)
+    Ok(text_path(alloc, &dir, name, text, refs)?)
 }
 
 #[test]
 fn text_path_without_references(rt: HostRuntime) -> Result<(), Fail> {
     let expected = b"/nix/store/wflv0hgb0qb1ddc5nxmsg0y9zjjhfvmh-empty";
-    assert!(rt; has_text_path(rt.alloc(), b"empty", b"", &[], expected)?);
+    let path = path_of(rt.alloc(), b"empty", b"", &[])?;
+    expect_text(&rt, &"the path", path.text(), expected);
     Ok(())
 }
 
@@ -60,31 +58,34 @@ fn two_sources(alloc: Global) -> Result<(StorePath, StorePath), Fail> {
 #[test]
 fn text_path_with_references(rt: HostRuntime) -> Result<(), Fail> {
     let (first, second) = two_sources(rt.alloc())?;
-    assert!(rt; first < second);
-    let expected = b"/nix/store/w5j4lp0mpmc1qm8yan4ig1ka71pqaj6q-x.drv";
     assert!(rt;
-        has_text_path(
-            rt.alloc(),
-            b"x.drv",
-            TWO_SOURCES,
-            &[first, second],
-            expected
-        )?
+        first < second,
+        "wanted {} before {}",
+        first.as_str(),
+        second.as_str()
     );
+    let expected = b"/nix/store/w5j4lp0mpmc1qm8yan4ig1ka71pqaj6q-x.drv";
+    let path = path_of(rt.alloc(), b"x.drv", TWO_SOURCES, &[first, second])?;
+    expect_text(&rt, &"the path", path.text(), expected);
     Ok(())
 }
 
-// Whether these bytes are a derivation that stands at the path.
-fn is_sound(alloc: Global, path: &[u8], bytes: &[u8]) -> Result<bool, Fail> {
+// The derivation that these bytes are at the path, or the fault.
+fn checked(alloc: Global, path: &[u8], bytes: &[u8]) -> Result<Result<Derivation, DrvFault>, Fail> {
     let dir = StoreDir::new(alloc, b"/nix/store")?;
     let path = parse_path(alloc, &dir, path)?;
-    Ok(check_text(alloc, &dir, &path, bytes).is_ok())
+    Ok(check_text(alloc, &dir, &path, bytes))
 }
 
 #[test]
 fn derivations_of_nix_stand_at_their_paths(rt: HostRuntime) -> Result<(), Fail> {
     for written in derivations() {
-        assert!(rt; is_sound(rt.alloc(), written.path, written.text)?);
+        let answer = checked(rt.alloc(), written.path, written.text)?;
+        let path = written.path.escape_ascii();
+        assert!(rt;
+            answer.is_ok(),
+            "{path}: wanted a derivation, got {answer:?}"
+        );
     }
     Ok(())
 }
@@ -139,34 +140,25 @@ static FETCH_ROWS: [FetchRow; 3] = [
     },
 ];
 
-// Whether the next fetch answers the derivation of nothing, or this fault.
-fn fetches(
-    alloc: Global,
-    source: &mut ListSource,
-    path: &StorePath,
-    fault: Option<SourceFault>,
-) -> bool {
-    match source.fetch(alloc, path) {
-        Ok(bytes) => fault.is_none() && bytes.as_slice() == NOTHING,
-        Err(found) => fault == Some(found),
-    }
-}
-
-fn is_fetched(alloc: Global, row: &FetchRow) -> Result<bool, Fail> {
+// Stops unless the fetches answer as the row says.
+fn expect_fetches(rt: &impl Abort, alloc: Global, row: &FetchRow) -> Result<(), Fail> {
     let path = in_store(alloc, row.path)?;
     let mut source = source_of(alloc, row.files, row.failing)?;
-    let mut holds = true;
     for (fault, failures) in row.fetches {
-        let is_answer = fetches(alloc, &mut source, &path, *fault);
-        holds = holds && is_answer && source.failures() == *failures;
+        let answer = source.fetch(alloc, &path);
+        match fault {
+            None => expect_answer(rt, &row.label, &answer, NOTHING),
+            Some(fault) => assert_eq!(*rt; answer.err(), Some(*fault), "{}", row.label),
+        }
+        assert_eq!(*rt; source.failures(), *failures, "failures of {}", row.label);
     }
-    Ok(holds)
+    Ok(())
 }
 
 #[test]
 fn sources_of_files(rt: HostRuntime) -> Result<(), Fail> {
     for row in &FETCH_ROWS {
-        assert!(rt; is_fetched(rt.alloc(), row)?, "{}", row.label);
+        expect_fetches(&rt, rt.alloc(), row)?;
     }
     Ok(())
 }

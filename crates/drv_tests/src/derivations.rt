@@ -1,7 +1,9 @@
 //! Derivations read, made of parts, copied and written.
 use crate::nix_derivations::derivations;
+use crate::wanted::{expect_answer, expect_text};
 use nix_drv::{Derivation, DrvFault, EnvEntry, Parts, read, write};
 use std::alloc::{AllocError, Global};
+use std::process::Abort;
 use std::test::*;
 
 const NOTHING: &[u8] = b"Derive([],[],[],\"\",\"\",[],[])";
@@ -24,26 +26,9 @@ pub(crate) fn parts_of(alloc: Global, text: &[u8]) -> Result<Parts, Fail> {
     Ok(read(alloc, text)?.into_parts())
 }
 
-/// Whether a derivation has this text.
-pub(crate) fn is_written_as(alloc: Global, drv: &Derivation, text: &[u8]) -> bool {
-    match write(alloc, drv) {
-        Ok(written) => written.as_slice() == text,
-        Err(_) => false,
-    }
-}
-
-// Whether an answer is a derivation that has this text.
-fn is_written(alloc: Global, answer: &Result<Derivation, DrvFault>, text: &[u8]) -> bool {
-    match answer {
-        Ok(drv) => is_written_as(alloc, drv, text),
-        Err(_) => false,
-    }
-}
-
-/// Whether parts make a derivation with this text.
-pub(crate) fn make_text(alloc: Global, parts: Parts, text: &[u8]) -> bool {
-    let answer = Derivation::new(parts);
-    is_written(alloc, &answer, text)
+/// The text of the derivation that parts make.
+pub(crate) fn text_of(alloc: Global, parts: Parts) -> Result<Vec<u8>, DrvFault> {
+    write(alloc, &Derivation::new(parts)?)
 }
 
 // A text, and what it says: the system, the builder, and the numbers of sources, arguments and
@@ -98,71 +83,69 @@ fn text_rows() -> &'static [TextRow] {
     &TEXT_ROWS
 }
 
-fn is_as_told(drv: &Derivation, row: &TextRow) -> bool {
-    drv.system() == row.system
-        && drv.builder() == row.builder
-        && drv.sources().len() == row.counts.0
-        && drv.args().len() == row.counts.1
-        && drv.env().len() == row.counts.2
-}
-
-fn is_read_as_told(alloc: Global, row: &TextRow) -> bool {
-    match read(alloc, row.text) {
-        Ok(drv) => is_as_told(&drv, row),
-        Err(_) => false,
-    }
+// Stops unless the derivation says what the row says.
+fn expect_row(rt: &impl Abort, drv: &Derivation, row: &TextRow) {
+    let counts = (drv.sources().len(), drv.args().len(), drv.env().len());
+    expect_text(rt, &row.label, drv.system(), row.system);
+    expect_text(rt, &row.label, drv.builder(), row.builder);
+    assert_eq!(*rt; counts, row.counts, "{}", row.label);
 }
 
 #[test]
 fn derivations_are_read(rt: HostRuntime) {
     for row in text_rows() {
-        assert!(rt; is_read_as_told(rt.alloc(), row), "{}", row.label);
+        match read(rt.alloc(), row.text) {
+            Ok(drv) => expect_row(&rt, &drv, row),
+            Err(fault) => panic!(rt; "{}: wanted a derivation, got {fault:?}", row.label),
+        }
     }
 }
 
-// Whether the first output, input and entry are those of `FULL`.
-fn has_elements(drv: &Derivation) -> bool {
+// The first output and entry, and the path and the number of names of the first input.
+fn elements(alloc: Global, drv: &Derivation) -> Result<String, Fail> {
     let Some(output) = drv.outputs().first() else {
-        return false;
+        return Err("wanted an output, got none".into());
     };
     let Some(input) = drv.inputs().first() else {
-        return false;
+        return Err("wanted an input, got none".into());
     };
     let Some(entry) = drv.env().first() else {
-        return false;
+        return Err("wanted an entry, got none".into());
     };
-    output.name.as_slice() == b"dev".as_slice()
-        && output.path.as_slice() == b"/d".as_slice()
-        && output.algo.as_slice() == b"sha256".as_slice()
-        && output.hash.as_slice() == b"00".as_slice()
-        && input.path.as_slice() == b"/i".as_slice()
-        && input.names.len() == 2
-        && entry.key.as_slice() == b"k".as_slice()
-        && entry.value.as_slice() == b"v".as_slice()
+    Ok(format!(in alloc;
+        "{} {} {} {}, {} {}, {} {}",
+        output.name.escape_ascii(),
+        output.path.escape_ascii(),
+        output.algo.escape_ascii(),
+        output.hash.escape_ascii(),
+        entry.key.escape_ascii(),
+        entry.value.escape_ascii(),
+        input.path.escape_ascii(),
+        input.names.len()
+    )?)
 }
 
 #[test]
 fn elements_of_a_derivation(rt: HostRuntime) -> Result<(), Fail> {
     let drv = read(rt.alloc(), FULL)?;
-    assert!(rt; has_elements(&drv));
+    let elements = elements(rt.alloc(), &drv)?;
+    assert_eq!(rt; elements.as_str(), "dev /d sha256 00, k v, /i 2");
     let copy = drv.copy(rt.alloc())?;
-    assert!(rt; is_written_as(rt.alloc(), &copy, FULL), "a copy");
+    expect_answer(&rt, &"a copy", &write(rt.alloc(), &copy), FULL);
     Ok(())
 }
 
-// Whether an answer is a derivation that has this text, or a fault at a place of at most 97.
-fn is_written_or_placed(alloc: Global, answer: &Result<Derivation, DrvFault>, text: &[u8]) -> bool {
-    match answer {
-        Err(DrvFault::Syntax(place) | DrvFault::Order(place)) => *place <= 97,
-        _ => is_written(alloc, answer, text),
-    }
+// The text of the derivation with this text.
+fn rewritten(alloc: Global, text: &[u8]) -> Result<Vec<u8>, DrvFault> {
+    write(alloc, &read(alloc, text)?)
 }
 
-// Whether the bytes are a derivation that is written back to the same bytes, or are refused at a
-// place of at most 97.
-fn is_read_or_placed(alloc: Global, text: &[u8]) -> bool {
-    let answer = read(alloc, text);
-    is_written_or_placed(alloc, &answer, text)
+// Stops unless the text is that of a derivation, or is refused at a place of at most 97.
+fn expect_same_or_placed(rt: &impl Abort, alloc: Global, text: &[u8]) {
+    match rewritten(alloc, text) {
+        Err(DrvFault::Syntax(place) | DrvFault::Order(place)) if place <= 97 => {}
+        answer => expect_answer(rt, &"one byte replaced", &answer, text),
+    }
 }
 
 #[test]
@@ -171,20 +154,17 @@ fn each_byte_of_a_draft_replaced(rt: HostRuntime) {
         for byte in [b'x', b'"', b'\\', b',', 0, b'\n', 0xff] {
             let mut text = *GREET;
             text[at] = byte;
-            assert!(rt; is_read_or_placed(rt.alloc(), &text));
+            expect_same_or_placed(&rt, rt.alloc(), &text);
         }
     }
-}
-
-fn is_written_back(alloc: Global, text: &[u8]) -> bool {
-    let answer = read(alloc, text);
-    is_written(alloc, &answer, text)
 }
 
 #[test]
 fn derivations_of_nix_are_written_back(rt: HostRuntime) {
     for written in derivations() {
-        assert!(rt; is_written_back(rt.alloc(), written.text));
+        let path = written.path.escape_ascii();
+        let answer = rewritten(rt.alloc(), written.text);
+        expect_answer(&rt, &path, &answer, written.text);
     }
 }
 
@@ -197,7 +177,8 @@ fn with_builder(alloc: Global, builder: &[u8]) -> Result<Parts, Fail> {
 #[test]
 fn builder_is_escaped(rt: HostRuntime) -> Result<(), Fail> {
     let parts = with_builder(rt.alloc(), ESCAPED)?;
-    assert!(rt; make_text(rt.alloc(), parts, BUILDER_ESCAPES));
+    let answer = text_of(rt.alloc(), parts);
+    expect_answer(&rt, &"its text", &answer, BUILDER_ESCAPES);
     Ok(())
 }
 
@@ -235,7 +216,7 @@ fn sorted_args(parts: Parts) -> Result<Option<usize>, Fail> {
     match Derivation::new(parts) {
         Ok(drv) => Ok(Some(drv.args().len())),
         Err(DrvFault::NotSorted) => Ok(None),
-        Err(_) => Err("the parts are in order or not".into()),
+        Err(fault) => Err(fault.into()),
     }
 }
 
@@ -250,7 +231,7 @@ static PARTS_ROWS: [(&[&[u8]], &[&[u8]], Option<usize>); 3] = [
 fn keys_must_rise_and_arguments_need_not(rt: HostRuntime) -> Result<(), Fail> {
     for (keys, args, count) in &PARTS_ROWS {
         let parts = with_texts(rt.alloc(), keys, args)?;
-        assert!(rt; sorted_args(parts)? == *count);
+        assert_eq!(rt; sorted_args(parts)?, *count, "{keys:?} and {args:?}");
     }
     Ok(())
 }

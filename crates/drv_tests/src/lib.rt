@@ -10,6 +10,7 @@
 //! | `modulo_texts` | modulo texts |
 //! | `loads` | plans loaded, their outputs and twins, and drafts filled |
 //! | `nix_derivations` | derivations that Nix wrote |
+//! | `wanted` | comparing of texts, which prints what was wanted and got |
 #![tactic(auto)]
 
 #[cfg(test)]
@@ -30,3 +31,5 @@ mod parts;
 mod places;
 #[cfg(test)]
 mod store_paths;
+#[cfg(test)]
+mod wanted;

@@ -1,4 +1,5 @@
 //! Tests of loading.
+use crate::wanted::expect_text;
 use drv_graph::{GraphFault, NodeFault, Plan};
 use files::*;
 use nix_drv::{ListSource, ListedFile};
@@ -6,6 +7,7 @@ use nix_files::nix_files;
 use nix_names::{StoreDir, StorePath, parse_path};
 use output_files::output_files;
 use std::alloc::{AllocError, Global};
+use std::process::Abort;
 use std::test::*;
 use twin_files::*;
 
@@ -196,32 +198,33 @@ static PLAN_ROWS: [PlanRow; 14] = [
     },
 ];
 
-// Whether a plan has these derivations and no others, with the numbers of the inputs of each.
-fn has_nodes(plan: &Plan, nodes: &[(&[u8], &[usize])]) -> bool {
+// Stops unless a plan has the row's derivations and no others, with the numbers of the inputs of
+// each, and the row's roots.
+fn expect_plan(rt: &impl Abort, plan: &Plan, row: &PlanRow) {
+    assert_eq!(*rt; plan.len(), row.nodes.len(), "{}", row.label);
     for number in 0..plan.len() {
-        let Some((path, inputs)) = nodes.get(number) else {
-            return false;
-        };
-        if plan.path(number).text() != *path || plan.inputs(number) != *inputs {
-            return false;
+        if let Some((path, inputs)) = row.nodes.get(number) {
+            expect_text(rt, &row.label, plan.path(number).text(), path);
+            assert_eq!(*rt;
+                plan.inputs(number),
+                *inputs,
+                "inputs of {number}, {}",
+                row.label
+            );
         }
     }
-    plan.len() == nodes.len()
+    assert_eq!(*rt; plan.roots(), row.numbers, "roots of {}", row.label);
 }
 
 fn plan_rows() -> &'static [PlanRow] {
     &PLAN_ROWS
 }
 
-fn has_plan(alloc: Global, row: &PlanRow) -> Result<bool, Fail> {
-    let plan = plan_of(alloc, row.roots)?;
-    Ok(has_nodes(&plan, row.nodes) && plan.roots() == row.numbers)
-}
-
 #[test]
 fn plans_of_roots(rt: HostRuntime) -> Result<(), Fail> {
     for row in plan_rows() {
-        assert!(rt; has_plan(rt.alloc(), row)?, "{}", row.label);
+        let plan = plan_of(rt.alloc(), row.roots)?;
+        expect_plan(&rt, &plan, row);
     }
     Ok(())
 }
@@ -236,35 +239,39 @@ static FETCHES: [(u64, &[u8]); 6] = [
     (5, SPLIT),
 ];
 
-// Whether an answer is that the file at the path can't be read.
-fn is_unreadable(answer: &Result<Plan, GraphFault>, path: &[u8]) -> bool {
+// Stops unless an answer is that the file at the path can't be read.
+fn expect_unreadable(rt: &impl Abort, answer: &Result<Plan, GraphFault>, path: &[u8]) {
     match answer {
-        Err(GraphFault::At(at, NodeFault::Unreadable)) => at.text() == path,
-        _ => false,
+        Err(GraphFault::At(at, NodeFault::Unreadable)) => {
+            expect_text(rt, &"the unreadable file", at.text(), path);
+        }
+        _ => panic!(*rt;
+            "{}: wanted Unreadable, got {answer:?}",
+            path.escape_ascii()
+        ),
     }
 }
 
-// Whether loading `BOTH` by the source answers that the file at the path can't be read.
-fn is_blamed(alloc: Global, source: &mut ListSource, path: &[u8]) -> Result<bool, Fail> {
+// Stops unless loading `BOTH` by the source answers that the file at the path can't be read.
+fn expect_blamed(
+    rt: &impl Abort,
+    alloc: Global,
+    source: &mut ListSource,
+    path: &[u8],
+) -> Result<(), Fail> {
     let dir = StoreDir::new(alloc, b"/nix/store")?;
     let roots = parse_all(alloc, &dir, &[BOTH])?;
     let answer = Plan::load(alloc, source, &dir, &roots);
-    Ok(is_unreadable(&answer, path))
-}
-
-// Whether loading `BOTH` fails at the path, if the fetch with this number fails; once.
-fn is_failed_fetch(alloc: Global, number: u64, path: &[u8]) -> Result<bool, Fail> {
-    let mut source = all_but(alloc, &[number])?;
-    Ok(is_blamed(alloc, &mut source, path)? && source.failures() == 1)
+    expect_unreadable(rt, &answer, path);
+    Ok(())
 }
 
 #[test]
 fn each_fetch_that_fails(rt: HostRuntime) -> Result<(), Fail> {
     for (number, path) in &FETCHES {
-        assert!(rt;
-            is_failed_fetch(rt.alloc(), *number, path)?,
-            "fetch {number}"
-        );
+        let mut source = all_but(rt.alloc(), &[*number])?;
+        expect_blamed(&rt, rt.alloc(), &mut source, path)?;
+        assert_eq!(rt; source.failures(), 1, "failures of fetch {number}");
     }
     Ok(())
 }
@@ -278,6 +285,6 @@ fn failures_past(alloc: Global, number: u64) -> Result<u64, Fail> {
 
 #[test]
 fn each_path_is_fetched_once(rt: HostRuntime) -> Result<(), Fail> {
-    assert!(rt; failures_past(rt.alloc(), 6)? == 0);
+    assert_eq!(rt; failures_past(rt.alloc(), 6)?, 0);
     Ok(())
 }

@@ -1,4 +1,5 @@
 //! Tests of modulo texts. The texts were made with Python.
+use crate::wanted::expect_text;
 use drv_graph::modulo_text;
 use nix_drv::{Derivation, read};
 use std::alloc::Global;
@@ -132,24 +133,20 @@ fn modulo_rows() -> &'static [ModuloRow] {
     &MODULO_ROWS
 }
 
-// Whether a derivation has the row's modulo text.
-fn has_modulo_text(alloc: Global, drv: &Derivation, row: &ModuloRow) -> Result<bool, Fail> {
+// The modulo text of a derivation, which has as many inputs as the row has hashes.
+fn modulo_text_of(alloc: Global, drv: &Derivation, row: &ModuloRow) -> Result<Vec<u8>, Fail> {
     if row.hashes.len() != drv.inputs().len() {
-        return Ok(false);
+        return Err("wanted a hash for each input, got another number".into());
     }
-    let text = modulo_text(alloc, drv, row.hashes, row.is_masked)?;
-    Ok(text.as_slice() == row.expected)
-}
-
-fn is_as_expected(alloc: Global, row: &ModuloRow) -> Result<bool, Fail> {
-    let drv = read(alloc, row.text)?;
-    has_modulo_text(alloc, &drv, row)
+    Ok(modulo_text(alloc, drv, row.hashes, row.is_masked)?)
 }
 
 #[test]
 fn modulo_texts(rt: HostRuntime) -> Result<(), Fail> {
     for row in modulo_rows() {
-        assert!(rt; is_as_expected(rt.alloc(), row)?, "{}", row.label);
+        let drv = read(rt.alloc(), row.text)?;
+        let text = modulo_text_of(rt.alloc(), &drv, row)?;
+        expect_text(&rt, &row.label, &text, row.expected);
     }
     Ok(())
 }

@@ -1,7 +1,9 @@
 //! Parts taken out of derivations, texts with other inputs, and strings.
-use crate::derivations::{GREET, make_text, parts_of};
+use crate::derivations::{GREET, parts_of, text_of};
+use crate::wanted::{expect_answer, expect_text};
 use nix_drv::{Input, write_string};
-use std::alloc::Global;
+use std::alloc::{AllocError, Global};
+use std::process::Abort;
 use std::test::Fail;
 
 // A derivation's text with one input derivation, and the text with another input derivation
@@ -14,7 +16,8 @@ const OTHER_INPUT: &[u8] = b"Derive([],[(\"00ff\",[\"a\"])],[\"/s\"],\"sys\",\"/
 fn parts_make_the_derivation_again(rt: HostRuntime) -> Result<(), Fail> {
     let parts = parts_of(rt.alloc(), GREET)?;
     let copy = parts.copy(rt.alloc())?;
-    assert!(rt; make_text(rt.alloc(), copy, GREET));
+    let answer = text_of(rt.alloc(), copy);
+    expect_answer(&rt, &"a copy", &answer, GREET);
     Ok(())
 }
 
@@ -22,21 +25,21 @@ fn inputs_of(alloc: Global, text: &[u8]) -> Result<Vec<Input>, Fail> {
     Ok(parts_of(alloc, text)?.inputs)
 }
 
-// Whether parts have the other text: once with the other inputs given beside them, and once with
-// these inputs as their own.
-fn takes_other_inputs(alloc: Global) -> Result<bool, Fail> {
+// Stops unless parts have the other text: once with the other inputs given beside them, and once
+// with these inputs as their own.
+fn expect_other_text(rt: &impl Abort, alloc: Global) -> Result<(), Fail> {
     let inputs = inputs_of(alloc, OTHER_INPUT)?;
     let mut parts = parts_of(alloc, ONE_INPUT)?;
     let text = parts.text_with_inputs(alloc, &inputs)?;
-    let is_text = text.as_slice() == OTHER_INPUT;
+    expect_text(rt, &"inputs beside", &text, OTHER_INPUT);
     parts.inputs = inputs;
-    Ok(make_text(alloc, parts, OTHER_INPUT) && is_text)
+    expect_answer(rt, &"own inputs", &text_of(alloc, parts), OTHER_INPUT);
+    Ok(())
 }
 
 #[test]
 fn other_inputs_make_another_derivation(rt: HostRuntime) -> Result<(), Fail> {
-    assert!(rt; takes_other_inputs(rt.alloc())?);
-    Ok(())
+    expect_other_text(&rt, rt.alloc())
 }
 
 // Bytes, and the string as which they are written.
@@ -47,14 +50,16 @@ static STRINGS: [(&[u8], &[u8]); 4] = [
     (b"\0\na\x7f\n\n\xff", b"\"\0\\na\x7f\\n\\n\xff\""),
 ];
 
-fn is_string(alloc: Global, bytes: &[u8], expected: &[u8]) -> bool {
+fn string_of(alloc: Global, bytes: &[u8]) -> Result<Vec<u8>, AllocError> {
     let mut text = Vec::new(alloc);
-    write_string(&mut text, bytes).is_ok() && text.as_slice() == expected
+    write_string(&mut text, bytes)?;
+    Ok(text)
 }
 
 #[test]
 fn strings(rt: HostRuntime) {
     for (bytes, text) in &STRINGS {
-        assert!(rt; is_string(rt.alloc(), bytes, text));
+        let answer = string_of(rt.alloc(), bytes);
+        expect_answer(&rt, &bytes.escape_ascii(), &answer, text);
     }
 }

@@ -1,6 +1,5 @@
 //! Tests of finding parts of a derivation, and of equality.
-use nix_drv::{Derivation, read};
-use std::alloc::Global;
+use nix_drv::read;
 use std::test::*;
 
 // Outputs `dev`, `doc` and `out`; entries `a`, `a b` and `out`.
@@ -19,16 +18,12 @@ static PLACES: [(&[u8], Option<usize>, Option<usize>); 8] = [
     (b"", None, None),
 ];
 
-// Whether a name has these places.
-fn has_places(drv: &Derivation, row: &(&[u8], Option<usize>, Option<usize>)) -> bool {
-    drv.output_place(row.0) == row.1 && drv.env_place(row.0) == row.2
-}
-
 #[test]
 fn places_of_names(rt: HostRuntime) -> Result<(), Fail> {
     let drv = read(rt.alloc(), TEXT)?;
-    for row in &PLACES {
-        assert!(rt; has_places(&drv, row));
+    for (name, output, entry) in &PLACES {
+        let places = (drv.output_place(name), drv.env_place(name));
+        assert_eq!(rt; places, (*output, *entry), "{}", name.escape_ascii());
     }
     Ok(())
 }
@@ -45,26 +40,13 @@ static OTHERS: [&[u8]; 8] = [
     b"Derive([(\"dev\",\"/d\",\"\",\"\"),(\"doc\",\"/e\",\"\",\"\"),(\"out\",\"/o\",\"\",\"\")],[(\"/i\",[\"a\"])],[\"/s\"],\"sys\",\"/sh\",[\"z\"],[(\"a\",\"1\"),(\"a b\",\"3\"),(\"out\",\"/o\")])",
 ];
 
-// Whether a copy of the derivation is equal to it.
-fn is_copied(alloc: Global, drv: &Derivation) -> Result<bool, Fail> {
-    let copy = drv.copy(alloc)?;
-    Ok(copy == *drv)
-}
-
-// Whether the text is that of another derivation.
-fn is_other(alloc: Global, drv: &Derivation, text: &[u8]) -> bool {
-    match read(alloc, text) {
-        Ok(other) => *drv != other,
-        Err(_) => false,
-    }
-}
-
 #[test]
 fn one_part_tells_derivations(rt: HostRuntime) -> Result<(), Fail> {
     let drv = read(rt.alloc(), TEXT)?;
-    assert!(rt; is_copied(rt.alloc(), &drv)?, "a copy");
+    assert_eq!(rt; drv.copy(rt.alloc())?, drv, "a copy");
     for text in &OTHERS {
-        assert!(rt; is_other(rt.alloc(), &drv, text));
+        let other = read(rt.alloc(), text)?;
+        assert_ne!(rt; other, drv, "{}", text.escape_ascii());
     }
     Ok(())
 }

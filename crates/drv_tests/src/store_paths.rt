@@ -1,8 +1,10 @@
 //! Store paths made, copied and compared.
+use crate::wanted::expect_text;
 use nix_names::{NameFault, StoreDir, StorePath, fold20, make_path, parse_path, to_base32};
 use std::alloc::Global;
 use std::collections::HashMap;
 use std::mem::size_of;
+use std::process::Abort;
 use std::test::Fail;
 
 // The SHA-256 digest of no bytes (FIPS 180-4).
@@ -25,17 +27,17 @@ fn nothing() -> [u8; 32] {
 fn fold_of_empty(rt: HostRuntime) -> Result<(), Fail> {
     let folded = fold20(&nothing());
     let digits = hex::encode(rt.alloc(), &folded)?;
-    assert!(rt; digits.as_str() == "872b570e3c69850fe2a94c9d996fb92427ae41e4");
+    assert_eq!(rt; digits.as_str(), "872b570e3c69850fe2a94c9d996fb92427ae41e4");
     let text = to_base32(rt.alloc(), &folded)?;
-    assert!(rt; text.as_bytes() == EMPTY_HASH);
+    expect_text(&rt, &"base 32", text.as_bytes(), EMPTY_HASH);
     Ok(())
 }
 
-fn is_empty_path(path: &StorePath) -> bool {
-    path.text() == EMPTY
-        && path.hash_part() == EMPTY_HASH
-        && path.name() == b"empty".as_slice()
-        && path.key() == EMPTY_KEY
+fn expect_empty_path(rt: &impl Abort, path: &StorePath) {
+    expect_text(rt, &"text", path.text(), EMPTY);
+    expect_text(rt, &"hash part", path.hash_part(), EMPTY_HASH);
+    expect_text(rt, &"name", path.name(), b"empty");
+    assert_eq!(*rt; path.key(), EMPTY_KEY);
 }
 
 // The path in `/nix/store` with this text.
@@ -52,10 +54,11 @@ fn held_by_threads<T: Send + Sync>(value: T) -> T {
 #[test]
 fn copies_outlive_their_path(rt: HostRuntime) -> Result<(), Fail> {
     let path = held_by_threads(in_store(rt.alloc(), EMPTY)?);
-    assert!(rt; is_empty_path(&path));
+    expect_empty_path(&rt, &path);
     let copy = held_by_threads(path.copy(rt.alloc())?);
     drop(path);
-    assert!(rt; is_empty_path(&copy) && size_of::<StorePath>() == 8);
+    expect_empty_path(&rt, &copy);
+    assert_eq!(rt; size_of::<StorePath>(), 8);
     Ok(())
 }
 
@@ -81,26 +84,15 @@ static MADE: [(&[u8], &[u8], &[u8]); 3] = [
     ),
 ];
 
-// Whether the path of this type and name has this text.
-fn is_made(
-    alloc: Global,
-    dir: &StoreDir,
-    kind: &[u8],
-    name: &[u8],
-    text: &[u8],
-) -> Result<bool, NameFault> {
-    let path = make_path(alloc, kind, &nothing(), dir, name)?;
-    Ok(path.text() == text)
-}
-
 #[test]
 fn paths_of_fingerprints(rt: HostRuntime) -> Result<(), Fail> {
     let dir = StoreDir::new(rt.alloc(), b"/nix/store")?;
     for (kind, name, text) in &MADE {
-        assert!(rt; is_made(rt.alloc(), &dir, kind, name, text)?);
+        let path = make_path(rt.alloc(), kind, &nothing(), &dir, name)?;
+        expect_text(&rt, &kind.escape_ascii(), path.text(), text);
     }
-    let bad = is_made(rt.alloc(), &dir, b"text", b"..", b"");
-    assert!(rt; bad.err() == Some(NameFault::BadName));
+    let bad = make_path(rt.alloc(), b"text", &nothing(), &dir, b"..");
+    assert_eq!(rt; bad.err(), Some(NameFault::BadName));
     Ok(())
 }
 
@@ -111,22 +103,18 @@ fn map_of(alloc: Global, path: StorePath) -> Result<HashMap<StorePath, i32>, Fai
     Ok(map)
 }
 
-fn is_lesser(x: &StorePath, y: &StorePath) -> bool {
-    x != y && x < y
-}
-
-// Whether a copy of the path is equal to it, and is found in a map in which the other path isn't.
-fn is_found(alloc: Global, path: &StorePath, other: &StorePath) -> Result<bool, Fail> {
-    let copy = path.copy(alloc)?;
-    let is_equal = *path == copy;
-    let seen = map_of(alloc, copy)?;
-    Ok(is_equal && seen.get(path).copied() == Some(1) && !seen.contains_key(other))
-}
-
 #[test]
 fn paths_compare_by_their_text(rt: HostRuntime) -> Result<(), Fail> {
     let x = in_store(rt.alloc(), b"/nix/store/aaaaaaaaaaaaaaaaaaaaaaaaaaaaaaaa-x")?;
     let y = in_store(rt.alloc(), b"/nix/store/cccccccccccccccccccccccccccccccc-y")?;
-    assert!(rt; is_lesser(&x, &y) && is_found(rt.alloc(), &x, &y)?);
+    assert_ne!(rt; x, y);
+    assert!(rt; x < y, "wanted {} before {}", x.as_str(), y.as_str());
+    let copy = x.copy(rt.alloc())?;
+    assert_eq!(rt; copy, x);
+    let map = map_of(rt.alloc(), copy)?;
+    assert_eq!(rt;
+        (map.get(&x).copied(), map.contains_key(&y)),
+        (Some(1), false)
+    );
     Ok(())
 }

@@ -2,10 +2,12 @@
 use super::files::UNICODE;
 use super::outputs::sound_rows;
 use super::{all_but, plan_of};
+use crate::wanted::{expect_answer, expect_text};
 use drv_graph::{GraphFault, NodeFault, fill_outputs};
-use nix_drv::{Derivation, DrvFault, ListSource, Parts};
+use nix_drv::{Derivation, DrvFault, ListSource, Parts, write};
 use nix_names::{StoreDir, StorePath};
 use std::alloc::Global;
+use std::process::Abort;
 use std::test::*;
 
 // Leaves out the paths of the outputs, where a derivation has them.
@@ -29,52 +31,59 @@ fn draft_of(alloc: Global, drv: &Derivation) -> Result<Derivation, Fail> {
 // What filling a draft answers: the derivation and its path, or a fault.
 type Filled = Result<(Derivation, StorePath), GraphFault>;
 
-// Whether a draft was filled to this derivation at this path.
-fn is_filled(answer: &Filled, drv: &Derivation, path: &StorePath) -> bool {
+// Stops unless a draft was filled to this text at this path.
+fn expect_filled(rt: &impl Abort, alloc: Global, answer: &Filled, text: &[u8], path: &StorePath) {
     match answer {
-        Ok((filled, at)) => filled == drv && at == path,
-        Err(_) => false,
+        Ok((filled, at)) => {
+            expect_text(rt, &"path", at.text(), path.text());
+            expect_answer(rt, &path.as_str(), &write(alloc, filled), text);
+        }
+        Err(fault) => panic!(*rt; "{}: wanted a filled draft, got {fault:?}", path.as_str()),
     }
 }
 
-// Whether filling a draft by the source, under the name of the path, gives the derivation at the
-// path.
-fn is_filled_by(
+// What filling a draft by the source answers, under the name of the path.
+fn filled_by(
     alloc: Global,
     source: &mut ListSource,
     dir: &StoreDir,
     draft: &Derivation,
-    drv: &Derivation,
     path: &StorePath,
-) -> bool {
+) -> Filled {
     let name = path.name();
     let name = name.strip_suffix(b".drv").unwrap_or(name);
-    let answer = fill_outputs(alloc, source, dir, name, draft);
-    is_filled(&answer, drv, path)
+    fill_outputs(alloc, source, dir, name, draft)
 }
 
-// Whether filling the draft of the derivation gives the derivation at its path.
-fn is_filled_again(alloc: Global, drv: &Derivation, path: &StorePath) -> Result<bool, Fail> {
+// Stops unless filling the draft of the derivation gives the derivation at its path.
+fn expect_filled_again(
+    rt: &impl Abort,
+    alloc: Global,
+    drv: &Derivation,
+    path: &StorePath,
+) -> Result<(), Fail> {
     let dir = StoreDir::new(alloc, b"/nix/store")?;
     let draft = draft_of(alloc, drv)?;
     let mut source = all_but(alloc, &[])?;
-    Ok(is_filled_by(alloc, &mut source, &dir, &draft, drv, path))
+    let answer = filled_by(alloc, &mut source, &dir, &draft, path);
+    expect_filled(rt, alloc, &answer, &write(alloc, drv)?, path);
+    Ok(())
 }
 
-fn root_is_filled_again(alloc: Global, root: &[u8]) -> Result<bool, Fail> {
+fn expect_root_filled_again(rt: &impl Abort, alloc: Global, root: &[u8]) -> Result<(), Fail> {
     let plan = plan_of(alloc, &[root])?;
     match plan.roots().first() {
         Some(root) if *root < plan.len() => {
-            is_filled_again(alloc, plan.drv(*root), plan.path(*root))
+            expect_filled_again(rt, alloc, plan.drv(*root), plan.path(*root))
         }
-        _ => Ok(false),
+        _ => Err("wanted a root, got none".into()),
     }
 }
 
 #[test]
 fn outputs_left_out_are_filled(rt: HostRuntime) -> Result<(), Fail> {
     for row in sound_rows() {
-        assert!(rt; root_is_filled_again(rt.alloc(), row.root)?);
+        expect_root_filled_again(&rt, rt.alloc(), row.root)?;
     }
     Ok(())
 }
@@ -83,20 +92,21 @@ fn outputs_left_out_are_filled(rt: HostRuntime) -> Result<(), Fail> {
 fn plain_draft(alloc: Global) -> Result<Derivation, Fail> {
     let plan = plan_of(alloc, &[UNICODE])?;
     if plan.len() == 0 {
-        return Err("the plan has a derivation".into());
+        return Err("wanted a plan with a derivation, got none".into());
     }
     draft_of(alloc, plan.drv(0))
 }
 
 const STRAY: &[u8] = b"/other/store/source";
 
-// Whether an answer names the stray path as a bad reference of the draft.
-fn tells_of_stray(answer: &Filled) -> bool {
+// Stops unless an answer names the stray path as a bad reference of the draft.
+fn expect_stray(rt: &impl Abort, answer: &Filled) {
     match answer {
         Err(GraphFault::Draft(NodeFault::Text(DrvFault::BadReference(found)))) => {
-            found.as_slice() == STRAY
+            expect_text(rt, &"the bad reference", found, STRAY);
         }
-        _ => false,
+        Err(fault) => panic!(*rt; "wanted BadReference of the draft, got {fault:?}"),
+        Ok((_, path)) => panic!(*rt; "wanted BadReference of the draft, got {}", path.as_str()),
     }
 }
 
@@ -110,17 +120,16 @@ fn long_draft(alloc: Global) -> Result<Derivation, Fail> {
     Ok(Derivation::new(parts)?)
 }
 
-// Whether the stray source is told of where that draft is filled.
-fn is_told_before_length(alloc: Global) -> Result<bool, Fail> {
+// What filling that draft answers.
+fn filled_long(alloc: Global) -> Result<Filled, Fail> {
     let dir = StoreDir::new(alloc, b"/nix/store")?;
     let draft = long_draft(alloc)?;
     let mut source = all_but(alloc, &[])?;
-    let answer = fill_outputs(alloc, &mut *source, &dir, b"draft", &draft);
-    Ok(tells_of_stray(&answer))
+    Ok(fill_outputs(alloc, &mut *source, &dir, b"draft", &draft))
 }
 
 #[test]
 fn stray_source_before_a_text_that_is_too_long(rt: HostRuntime) -> Result<(), Fail> {
-    assert!(rt; is_told_before_length(rt.alloc())?);
+    expect_stray(&rt, &filled_long(rt.alloc())?);
     Ok(())
 }

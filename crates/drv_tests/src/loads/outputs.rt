@@ -3,9 +3,10 @@ use super::files::*;
 use super::nix_files::*;
 use super::output_files::*;
 use super::plan_of;
+use crate::wanted::expect_text;
 use drv_graph::{Kind, Method, Plan};
 use nix_names::{Digest, StorePath};
-use std::alloc::Global;
+use std::process::Abort;
 use std::test::*;
 
 // The digests of no bytes.
@@ -163,43 +164,36 @@ static SOUND_ROWS: [SoundRow; 22] = [
     },
 ];
 
-// Whether these are the texts of the paths.
-fn are_texts(paths: &[StorePath], texts: &[&[u8]]) -> bool {
-    for (place, path) in paths.iter().enumerate() {
-        let Some(text) = texts.get(place) else {
-            return false;
-        };
-        if path.text() != *text {
-            return false;
-        }
-    }
-    paths.len() == texts.len()
-}
-
-// Whether a plan says this of the row's root.
-fn has_outputs(plan: &Plan, row: &SoundRow) -> bool {
-    for number in 0..plan.len() {
-        if plan.path(number).text() == row.root {
-            return plan.kind(number) == row.kind
-                && are_texts(plan.output_paths(number), row.outputs);
-        }
-    }
-    false
-}
-
 pub(crate) fn sound_rows() -> &'static [SoundRow] {
     &SOUND_ROWS
 }
 
-fn is_right(alloc: Global, row: &SoundRow) -> Result<bool, Fail> {
-    let plan = plan_of(alloc, &[row.root])?;
-    Ok(has_outputs(&plan, row))
+// Stops unless these are the texts of the paths.
+fn expect_texts(rt: &impl Abort, paths: &[StorePath], texts: &[&[u8]], root: &[u8]) {
+    let of = root.escape_ascii();
+    assert_eq!(*rt; paths.len(), texts.len(), "outputs of {of}");
+    for (path, text) in paths.iter().zip(texts) {
+        expect_text(rt, &of, path.text(), text);
+    }
+}
+
+// Stops unless a plan says this of the row's root.
+fn expect_outputs(rt: &impl Abort, plan: &Plan, row: &SoundRow) -> Result<(), Fail> {
+    for number in 0..plan.len() {
+        if plan.path(number).text() == row.root {
+            assert_eq!(*rt; plan.kind(number), row.kind, "{}", row.root.escape_ascii());
+            expect_texts(rt, plan.output_paths(number), row.outputs, row.root);
+            return Ok(());
+        }
+    }
+    Err(Fail::new(format_args!("no root {}", row.root.escape_ascii())))
 }
 
 #[test]
 fn outputs_that_are_right(rt: HostRuntime) -> Result<(), Fail> {
     for row in sound_rows() {
-        assert!(rt; is_right(rt.alloc(), row)?);
+        let plan = plan_of(rt.alloc(), &[row.root])?;
+        expect_outputs(&rt, &plan, row)?;
     }
     Ok(())
 }

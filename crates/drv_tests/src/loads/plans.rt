@@ -1,7 +1,6 @@
 //! Tests of copying and comparing plans.
 use super::files::*;
 use super::plan_of;
-use std::alloc::Global;
 use std::test::*;
 
 // Roots, and other roots with the same plan or another one.
@@ -67,16 +66,12 @@ fn pair_rows() -> &'static [PairRow] {
     &PAIR_ROWS
 }
 
-fn are_as_told(alloc: Global, row: &PairRow) -> Result<bool, Fail> {
-    let plan = plan_of(alloc, row.roots)?;
-    let other = plan_of(alloc, row.others)?;
-    Ok((plan == other) == row.is_same)
-}
-
 #[test]
 fn plans_that_are_equal(rt: HostRuntime) -> Result<(), Fail> {
     for row in pair_rows() {
-        assert!(rt; are_as_told(rt.alloc(), row)?, "{}", row.label);
+        let plan = plan_of(rt.alloc(), row.roots)?;
+        let other = plan_of(rt.alloc(), row.others)?;
+        assert_eq!(rt; plan == other, row.is_same, "{}", row.label);
     }
     Ok(())
 }
@@ -85,6 +80,7 @@ fn plans_that_are_equal(rt: HostRuntime) -> Result<(), Fail> {
 fn copy_is_equal(rt: HostRuntime) -> Result<(), Fail> {
     let plan = plan_of(rt.alloc(), &[BOTH, TOP])?;
     let copy = plan.copy(rt.alloc())?;
-    assert!(rt; copy == plan && copy.len() == 10);
+    assert_eq!(rt; copy.len(), 10);
+    assert_eq!(rt; copy, plan);
     Ok(())
 }
