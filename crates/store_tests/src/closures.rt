@@ -1,10 +1,10 @@
 //! Closures of small tables.
 use crate::journal_texts::{CYCLE, TWO_PATHS};
 use crate::paths::*;
-use nix_names::StorePath;
 use std::alloc::Global;
+use std::process::Abort;
 use std::test::Fail;
-use valid_table::{Table, TableFault};
+use valid_table::TableFault;
 
 // Paths 0 to 5: 1 and 2 refer to each other, 3 to 1, 4 to itself, 5 to 0 and 4.
 const SIX_PATHS: &[u8] = b"realiser-journal 2
@@ -106,26 +106,28 @@ fn closings() -> &'static [Closing] {
     &CLOSINGS
 }
 
-// Whether the table's closure of the roots is as the row says.
-fn closes(alloc: Global, table: &Table, roots: &[StorePath], row: &Closing) -> bool {
-    match table.closure(alloc, roots) {
-        Ok(all) => row.missing.is_empty() && are(&all, row.all),
-        Err(TableFault::NotValid(root)) => root.text() == row.missing,
-        Err(_) => false,
-    }
-}
-
-// Whether the closure of the row's roots is as the row says.
-fn is_closed(alloc: Global, row: &Closing) -> Result<bool, Fail> {
+// Stops unless the closure of the row's roots is as the row says.
+fn expect_closure(rt: &impl Abort, alloc: Global, row: &Closing) -> Result<(), Fail> {
     let roots = all_paths(alloc, row.roots)?;
-    let table = table_of(alloc, row.journal)?;
-    Ok(closes(alloc, &table, &roots, row))
+    let of = line_of(alloc, row.roots)?;
+    let missing = line_of(alloc, &[row.missing])?;
+    match table_of(alloc, row.journal)?.closure(alloc, &roots) {
+        Ok(all) => {
+            assert!(*rt;
+                row.missing.is_empty(),
+                "{of}: wanted NotValid {missing}, got a closure"
+            );
+            expect_paths(rt, alloc, &of, &all, row.all)
+        }
+        Err(TableFault::NotValid(root)) => { expect_paths(rt, alloc, &of, &[root], &[row.missing]) }
+        Err(fault) => Err(fault.into()),
+    }
 }
 
 #[test]
 fn closures_of_roots(rt: HostRuntime) -> Result<(), Fail> {
     for row in closings() {
-        assert!(rt; is_closed(rt.alloc(), row)?, "of {:?}", row.roots);
+        expect_closure(&rt, rt.alloc(), row)?;
     }
     Ok(())
 }

@@ -1,5 +1,5 @@
 //! A journal with digests: its beginnings, and how it is read with one byte changed.
-use crate::journal_texts::{first_altered, is_read_rightly};
+use crate::journal_texts::{expect_reading, first_altered};
 use std::test::Fail;
 
 // A file for each algorithm.
@@ -15,14 +15,14 @@ A /nix/store/dddddddddddddddddddddddddddddddd-z sha512:cf83e1357eefb8bdf1542850d
 #[test]
 fn beginnings_with_digests(rt: HostRuntime) -> Result<(), Fail> {
     for len in 0..=FOUR_FILES.len() {
-        assert!(rt; is_read_rightly(rt.alloc(), &FOUR_FILES[..len]), "at {len}");
+        expect_reading(&rt, rt.alloc(), &FOUR_FILES[..len]);
     }
     Ok(())
 }
 
 #[test]
 fn digests_with_one_byte_changed(rt: HostRuntime) -> Result<(), Fail> {
-    let place = first_altered(rt.alloc(), FOUR_FILES, b"\n -/:12aAfFgm");
-    assert!(rt; place.is_none(), "at {place:?}");
+    let altered = first_altered(rt.alloc(), FOUR_FILES, b"\n -/:12aAfFgm");
+    assert!(rt; altered.is_none(), "wanted none altered, got {altered:?}");
     Ok(())
 }

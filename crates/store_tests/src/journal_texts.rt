@@ -1,6 +1,7 @@
 //! Beginnings of journals, and journals with one byte changed: how they are read and written.
 use crate::paths::read;
 use std::alloc::{AllocError, Global};
+use std::process::Abort;
 use std::test::Fail;
 use valid_table::{Journal, TableFault, write_lines};
 
@@ -69,64 +70,94 @@ fn is_kept(alloc: Global, journal: &Journal, text: &[u8]) -> bool {
     }
 }
 
-// The line that a fault names, or 0.
-fn line_of(fault: &TableFault) -> usize {
-    match fault {
-        TableFault::BadLine(line) | TableFault::NotClosed(line) | TableFault::Twice(line) => *line,
-        _ => 0,
+/// What becomes of a text of version 2, or without digests, that is read and written again.
+#[derive(Debug, Drop)]
+pub(crate) enum Outcome {
+    /// The same lines.
+    Kept,
+    /// Other lines, or none for want of memory.
+    Altered,
+    /// A fault.
+    Refused(TableFault),
+}
+
+impl Outcome {
+    // Whether both are `Kept`, or refused for the same bad line.
+    fn is_like(&self, other: &Outcome) -> bool {
+        match (self, other) {
+            (Outcome::Kept, Outcome::Kept) => true,
+            (
+                Outcome::Refused(TableFault::BadLine(line)),
+                Outcome::Refused(TableFault::BadLine(found)),
+            ) => line == found,
+            _ => false,
+        }
     }
 }
 
-/// How a text of version 2, or without digests, is read: 0 and the number of entries, or the number
-/// of the fault and its line. None where the journal is not written as it was read.
-pub(crate) fn reading(alloc: Global, text: &[u8]) -> Option<(u8, usize)> {
+fn outcome(alloc: Global, text: &[u8]) -> Outcome {
     match read(alloc, text) {
-        Ok(journal) if is_kept(alloc, &journal, text) => Some((0, journal.entries().len())),
-        Ok(_) => None,
-        Err(fault) => Some((fault.number(), line_of(&fault))),
+        Ok(journal) if is_kept(alloc, &journal, text) => Outcome::Kept,
+        Ok(_) => Outcome::Altered,
+        Err(fault) => Outcome::Refused(fault),
     }
 }
 
-/// Whether a beginning of the text of a journal of added paths is read rightly. It is accepted
+/// Stops unless a beginning of the text of a journal of added paths is read rightly. It is accepted
 /// where it ends with a line, and else its last line is the bad one.
-pub(crate) fn is_read_rightly(alloc: Global, front: &[u8]) -> bool {
+pub(crate) fn expect_reading(rt: &impl Abort, alloc: Global, front: &[u8]) {
     let line = 1 + front.iter().filter(|byte| **byte == b'\n').count();
     let is_whole = front.is_empty() || front.ends_with(b"\n");
-    match reading(alloc, front) {
-        Some((0, _)) => is_whole,
-        Some((30, found)) => found == line && !is_whole,
-        _ => false,
-    }
+    let wanted = if is_whole {
+        Outcome::Kept
+    } else {
+        Outcome::Refused(TableFault::BadLine(line))
+    };
+    let got = outcome(alloc, front);
+    assert!(*rt;
+        got.is_like(&wanted),
+        "wanted {wanted:?}, got {got:?}, of {}",
+        front.escape_ascii()
+    );
 }
 
 #[test]
 fn beginnings(rt: HostRuntime) -> Result<(), Fail> {
     let other = in_version_1(rt.alloc(), TWO_PATHS)?;
     for len in 0..=TWO_PATHS.len() {
-        assert!(rt; is_read_rightly(rt.alloc(), &TWO_PATHS[..len]));
-        assert!(rt; is_read_rightly(rt.alloc(), &other[..len.min(other.len())]));
+        expect_reading(&rt, rt.alloc(), &TWO_PATHS[..len]);
+        expect_reading(&rt, rt.alloc(), &other[..len.min(other.len())]);
     }
     Ok(())
 }
 
-// Whether a text with another byte at a place is refused, or written as it was read.
-fn is_refused_or_kept(alloc: Global, text: &[u8], place: usize, byte: u8) -> bool {
+// What becomes of a text with another byte at a place.
+fn outcome_with(alloc: Global, text: &[u8], place: usize, byte: u8) -> Outcome {
     let Ok(mut text) = text.to_vec(alloc) else {
-        return false;
+        return Outcome::Refused(TableFault::NoMemory);
     };
     if let Some(at) = text.get_mut(place) {
         *at = byte;
     }
-    matches!(reading(alloc, &text), Some((number, _)) if number != 9)
+    outcome(alloc, &text)
 }
 
 /// The first place of a text at which one of the bytes makes another text that is neither refused
-/// nor written as it was read, or for which there is no memory.
-pub(crate) fn first_altered(alloc: Global, text: &[u8], bytes: &[u8]) -> Option<usize> {
+/// nor written as it was read, or for which there is no memory; with the byte, and what becomes of
+/// the text.
+pub(crate) fn first_altered(
+    alloc: Global,
+    text: &[u8],
+    bytes: &[u8],
+) -> Option<(usize, u8, Outcome)> {
     for place in 0..text.len() {
         for byte in bytes {
-            if !is_refused_or_kept(alloc, text, place, *byte) {
-                return Some(place);
+            match outcome_with(alloc, text, place, *byte) {
+                Outcome::Altered => return Some((place, *byte, Outcome::Altered)),
+                Outcome::Refused(TableFault::NoMemory) => {
+                    return Some((place, *byte, Outcome::Refused(TableFault::NoMemory)));
+                }
+                _ => {}
             }
         }
     }
@@ -136,8 +167,13 @@ pub(crate) fn first_altered(alloc: Global, text: &[u8], bytes: &[u8]) -> Option<
 #[test]
 fn one_byte_changed(rt: HostRuntime) -> Result<(), Fail> {
     let bytes = b"\n -/12ADORz";
-    assert!(rt; first_altered(rt.alloc(), TWO_PATHS, bytes).is_none());
+    let altered = first_altered(rt.alloc(), TWO_PATHS, bytes);
+    assert!(rt; altered.is_none(), "wanted none altered, got {altered:?}");
     let other = in_version_1(rt.alloc(), TWO_PATHS)?;
-    assert!(rt; first_altered(rt.alloc(), &other, bytes).is_none());
+    let altered = first_altered(rt.alloc(), &other, bytes);
+    assert!(rt;
+        altered.is_none(),
+        "wanted none altered in version 1, got {altered:?}"
+    );
     Ok(())
 }

@@ -1,9 +1,10 @@
 //! A journal of two paths, its copy and its table.
-use crate::paths::{add, are, path, registration};
-use nix_names::{StorePath, is_drv_name};
+use crate::paths::{add, expect_paths, path, registration};
+use nix_names::is_drv_name;
 use std::alloc::Global;
+use std::process::Abort;
 use std::test::Fail;
-use valid_table::{Entry, Journal, Outputs, Table};
+use valid_table::{Entry, Journal, Outputs, Table, TableFault};
 
 const X: &[u8] = b"/nix/store/aaaaaaaaaaaaaaaaaaaaaaaaaaaaaaaa-x";
 
@@ -13,41 +14,49 @@ const Z: &[u8] = b"/nix/store/cccccccccccccccccccccccccccccccc-z";
 
 const Z_DRV: &[u8] = b"/nix/store/dddddddddddddddddddddddddddddddd-z.drv";
 
-// Whether X, which refers to nothing, is added, and then Y, which refers to X.
-fn has_two_paths(alloc: Global, journal: &mut Journal) -> Result<bool, Fail> {
-    let first = add(alloc, journal, X, &[])?;
-    let second = add(alloc, journal, Y, &[X])?;
-    Ok(first == 0 && second == 0)
+// Adds X, which refers to nothing, and then Y, which refers to X.
+fn add_two_paths(alloc: Global, journal: &mut Journal) -> Result<(), Fail> {
+    add(alloc, journal, X, &[])??;
+    Ok(add(alloc, journal, Y, &[X])??)
 }
 
-// Whether X is refused when it is added again, and a path is refused whose reference is not valid.
-fn refuses_paths(alloc: Global, journal: &mut Journal) -> Result<bool, Fail> {
+// Stops unless X is refused when it is added again, and a path is refused whose reference is not
+// valid.
+fn expect_refusals(rt: &impl Abort, alloc: Global, journal: &mut Journal) -> Result<(), Fail> {
     let again = add(alloc, journal, X, &[Y])?;
+    let is_valid = matches!(again, Err(TableFault::AlreadyValid(_)));
+    assert!(*rt; is_valid, "wanted AlreadyValid, got {again:?}");
     let open = add(alloc, journal, Z_DRV, &[Z])?;
-    Ok(again == 37 && open == 36 && journal.entries().len() == 2)
+    let is_open = matches!(open, Err(TableFault::Unclosed(_)));
+    assert!(*rt; is_open, "wanted Unclosed, got {open:?}");
+    assert_eq!(*rt; journal.entries().len(), 2);
+    Ok(())
 }
 
-// Whether the copy has the same entries, of which none adds X with a reference to Y.
-fn is_copied(alloc: Global, journal: &Journal) -> Result<bool, Fail> {
-    let same = journal.copy(alloc)?.entries() == journal.entries();
+// Stops unless the copy has the same entries, of which none adds X with a reference to Y.
+fn expect_copied(rt: &impl Abort, alloc: Global, journal: &Journal) -> Result<(), Fail> {
+    assert_eq!(*rt; journal.copy(alloc)?.entries(), journal.entries());
     let other = Entry::Add(registration(alloc, X, &[Y])?);
-    Ok(same && !journal.entries().contains(&other))
+    assert!(*rt;
+        !journal.entries().contains(&other),
+        "wanted no X with Y, got it"
+    );
+    Ok(())
 }
 
-// Whether the table says of Y that it refers to X alone, and nothing of Z.
-fn says(table: &Table, y: &StorePath, z: &StorePath) -> bool {
-    match table.get(y) {
-        Some(info) => are(info.references(), &[X]) && table.get(z).is_none(),
-        None => false,
-    }
-}
-
-// Whether the table of the journal says that of Y and Z.
-fn is_table_of_two(alloc: Global, journal: &Journal) -> Result<bool, Fail> {
+// Stops unless the table of the journal says of Y that it refers to X alone, and nothing of Z.
+fn expect_table_of_two(rt: &impl Abort, alloc: Global, journal: &Journal) -> Result<(), Fail> {
     let y = path(alloc, Y)?;
     let z = path(alloc, Z)?;
     let table = Table::replay(alloc, journal)?;
-    Ok(says(&table, &y, &z))
+    assert!(*rt;
+        table.get(&z).is_none(),
+        "wanted nothing of Z, got its record"
+    );
+    match table.get(&y) {
+        Some(info) => expect_paths(rt, alloc, "references of Y", info.references(), &[X]),
+        None => Err("wanted the record of Y, got none".into()),
+    }
 }
 
 // The one output of a derivation, Z, which refers to itself.
@@ -56,31 +65,30 @@ fn output(alloc: Global) -> Result<Outputs, Fail> {
     Ok(Outputs::new(vec![in alloc; output]?))
 }
 
-// Whether adding the output of a derivation adds one entry.
-fn takes_output(alloc: Global, journal: &mut Journal) -> Result<bool, Fail> {
+// Stops unless adding the output of a derivation adds one entry to two.
+fn expect_output_taken(rt: &impl Abort, alloc: Global, journal: &mut Journal) -> Result<(), Fail> {
     let outputs = output(alloc)?;
     let deriver = path(alloc, Z_DRV)?;
     if !is_drv_name(deriver.name()) {
-        return Ok(false);
+        return Err("wanted a derivation's name, got another".into());
     }
-    let is_taken = journal.append(deriver, outputs).is_ok();
-    Ok(is_taken && journal.entries().len() == 3)
+    journal.append(deriver, outputs)?;
+    assert_eq!(*rt; journal.entries().len(), 3);
+    Ok(())
 }
 
 #[test]
 fn journal_of_two_paths(rt: HostRuntime) -> Result<(), Fail> {
     let mut journal = Journal::new(rt.alloc());
-    assert!(rt; has_two_paths(rt.alloc(), &mut journal)?);
-    assert!(rt; refuses_paths(rt.alloc(), &mut journal)?);
-    assert!(rt; is_copied(rt.alloc(), &journal)?);
-    Ok(())
+    add_two_paths(rt.alloc(), &mut journal)?;
+    expect_refusals(&rt, rt.alloc(), &mut journal)?;
+    expect_copied(&rt, rt.alloc(), &journal)
 }
 
 #[test]
 fn table_and_output(rt: HostRuntime) -> Result<(), Fail> {
     let mut journal = Journal::new(rt.alloc());
-    assert!(rt; has_two_paths(rt.alloc(), &mut journal)?);
-    assert!(rt; is_table_of_two(rt.alloc(), &journal)?);
-    assert!(rt; takes_output(rt.alloc(), &mut journal)?);
-    Ok(())
+    add_two_paths(rt.alloc(), &mut journal)?;
+    expect_table_of_two(&rt, rt.alloc(), &journal)?;
+    expect_output_taken(&rt, rt.alloc(), &mut journal)
 }

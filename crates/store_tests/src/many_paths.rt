@@ -1,8 +1,9 @@
 //! As many entries, outputs, roots and permitted paths as in a large store.
-use crate::paths::{P0, add, all_paths, are, is_rewritten_as, is_written_as, path, read, table_of};
+use crate::paths::{P0, add, all_paths, expect_paths, path, read, table_of};
 use nix_names::StorePath;
 use ref_scan::{Tree, scan};
 use std::alloc::{AllocError, Global};
+use std::process::Abort;
 use std::test::Fail;
 use valid_table::{Entry, Journal, ListOutlet, Table, TableFault, union};
 
@@ -38,33 +39,43 @@ fn chain_text(alloc: Global) -> Result<String, AllocError> {
     Ok(text)
 }
 
-// Adds path n, which refers to the path before it. Gives the number of the fault, or 0.
-fn add_link(alloc: Global, journal: &mut Journal, n: usize) -> Result<u8, Fail> {
+// Adds path n, which refers to the path before it.
+fn add_link(alloc: Global, journal: &mut Journal, n: usize) -> Result<(), Fail> {
     let before = text(alloc, n.saturating_sub(1))?;
     let text = text(alloc, n)?;
-    add(alloc, journal, text.as_bytes(), &[before.as_bytes()])
+    Ok(add(alloc, journal, text.as_bytes(), &[before.as_bytes()])??)
 }
 
 // The journal with that text, made path by path.
 fn chain(alloc: Global) -> Result<Journal, Fail> {
     let mut journal = Journal::new(alloc);
-    add(alloc, &mut journal, P0, &[])?;
+    add(alloc, &mut journal, P0, &[])??;
     for n in 1..MANY {
         add_link(alloc, &mut journal, n)?;
     }
     Ok(journal)
 }
 
-// Whether the text is read as `MANY` entries and written back to the same text, and the journal
-// that is made path by path is written to it too.
-fn is_chain(alloc: Global, text: &[u8]) -> Result<bool, Fail> {
+// Stops unless a long text is the wanted one. Prints their lengths then, and the first place at
+// which they differ, if one is not the beginning of the other.
+fn expect_long(rt: &impl Abort, of: &str, got: &[u8], wanted: &[u8]) {
+    let place = got.iter().zip(wanted).position(|(one, other)| one != other);
+    let (len, other) = (wanted.len(), got.len());
+    assert!(*rt;
+        got == wanted,
+        "{of}: wanted {len} bytes, got {other}, which differ at {place:?}"
+    );
+}
+
+// Stops unless the text is read as `MANY` entries and written back to the same text, and the
+// journal that is made path by path is written to it too.
+fn expect_chain(rt: &impl Abort, alloc: Global, text: &[u8]) -> Result<(), Fail> {
     let journal = read(alloc, text)?;
-    Ok(
-        journal.entries().len() == MANY
-            && is_written_as(alloc, &journal, text)
-            && is_written_as(alloc, &chain(alloc)?, text)
-            && shown(alloc, &journal.copy(alloc)?)? == MANY,
-    )
+    assert_eq!(*rt; journal.entries().len(), MANY);
+    expect_long(rt, "as it was read", &journal.write(alloc)?, text);
+    expect_long(rt, "made path by path", &chain(alloc)?.write(alloc)?, text);
+    assert_eq!(*rt; shown(alloc, &journal.copy(alloc)?)?, MANY, "shown entries");
+    Ok(())
 }
 
 // How many entries an outlet shows that opens with the journal.
@@ -76,8 +87,7 @@ fn shown(alloc: Global, journal: &Journal) -> Result<usize, Fail> {
 #[test]
 fn many_entries(rt: HostRuntime) -> Result<(), Fail> {
     let text = chain_text(rt.alloc())?;
-    assert!(rt; is_chain(rt.alloc(), text.as_bytes())?);
-    Ok(())
+    expect_chain(&rt, rt.alloc(), text.as_bytes())
 }
 
 // The table of that journal, as it is read.
@@ -96,28 +106,45 @@ fn chain_paths(alloc: Global) -> Result<Vec<StorePath>, Fail> {
     Ok(paths)
 }
 
-// Whether the closure of all paths is all paths, and so is the closure of the last path.
-fn leads_to_all(alloc: Global, table: &Table, paths: &[StorePath]) -> Result<bool, Fail> {
+// Stops unless paths are the wanted ones. Prints their numbers then.
+fn expect_all(rt: &impl Abort, of: &str, got: &[StorePath], wanted: &[StorePath]) {
+    let (len, other) = (wanted.len(), got.len());
+    assert!(*rt;
+        got == wanted,
+        "{of}: wanted all {len} paths, got {other} paths"
+    );
+}
+
+// Stops unless the closure of all paths is all paths, and so is the closure of the last path.
+fn expect_all_reached(
+    rt: &impl Abort,
+    alloc: Global,
+    table: &Table,
+    paths: &[StorePath],
+) -> Result<(), Fail> {
     let of_all = table.closure(alloc, paths)?;
     let of_last = table.closure(alloc, &all_paths(alloc, &[LAST])?)?;
     let both = union(alloc, &of_all, &of_last)?;
-    let are_all = of_all.as_slice() == paths && of_last.as_slice() == paths;
-    Ok(are_all && both.as_slice() == paths)
+    expect_all(rt, "from all", &of_all, paths);
+    expect_all(rt, "from the last", &of_last, paths);
+    expect_all(rt, "union", &both, paths);
+    Ok(())
 }
 
-// Whether a file that holds the hash parts of three paths refers to these three of all paths.
-fn finds_three(alloc: Global, table: &Table) -> Result<bool, Fail> {
+// Stops unless a file that holds the hash parts of three paths refers to these three of all paths.
+fn expect_three(rt: &impl Abort, alloc: Global, table: &Table) -> Result<(), Fail> {
     let permitted = table.closure(alloc, &all_paths(alloc, &[LAST])?)?;
     let tree = Tree::File(THREE_PARTS.to_vec(alloc)?);
-    Ok(tree.fits() && are(&scan(alloc, &tree, &permitted)?, &[P0, MIDDLE, LAST]))
+    assert_eq!(*rt; tree.fits(), true);
+    let found = scan(alloc, &tree, &permitted)?;
+    expect_paths(rt, alloc, "a file", &found, &[P0, MIDDLE, LAST])
 }
 
 #[test]
 fn many_roots_and_permitted_paths(rt: HostRuntime) -> Result<(), Fail> {
     let table = chain_table(rt.alloc())?;
-    assert!(rt; leads_to_all(rt.alloc(), &table, &chain_paths(rt.alloc())?)?);
-    assert!(rt; finds_three(rt.alloc(), &table)?);
-    Ok(())
+    expect_all_reached(&rt, rt.alloc(), &table, &chain_paths(rt.alloc())?)?;
+    expect_three(&rt, rt.alloc(), &table)
 }
 
 // The text of a journal with the outputs of one derivation, each of which refers to itself.
@@ -155,7 +182,8 @@ fn valid_in(table: &Table, entry: &Entry) -> usize {
 #[test]
 fn many_outputs(rt: HostRuntime) -> Result<(), Fail> {
     let text = outputs_text(rt.alloc())?;
-    assert!(rt; is_rewritten_as(rt.alloc(), text.as_bytes(), text.as_bytes())?);
+    let written = read(rt.alloc(), text.as_bytes())?.write(rt.alloc())?;
+    expect_long(&rt, "as it was read", &written, text.as_bytes());
     assert_eq!(rt; valid_outputs(rt.alloc(), text.as_bytes())?, OUTPUTS);
     Ok(())
 }

@@ -22,20 +22,26 @@ fn told<O: Outlet<Told = usize>>(outlet: &O) -> usize {
     outlet.tell()
 }
 
-// Whether `shown` entries are shown, as the outlet tells, and `pending` entries are pending.
-fn is_at(outlet: &ListOutlet, shown: usize, pending: usize) -> bool {
-    told(outlet) == shown && outlet.shown().len() == shown && outlet.pending().len() == pending
+// How many entries the outlet tells, shows and has pending.
+fn counts(outlet: &ListOutlet) -> [usize; 3] {
+    [told(outlet), outlet.shown().len(), outlet.pending().len()]
 }
 
 #[test]
 fn pending_until_published(rt: HostRuntime) -> Result<(), Fail> {
     let alloc = rt.alloc();
     let mut outlet = ListOutlet::open(alloc, &Journal::new(alloc))?;
-    assert!(rt; is_at(&outlet, 0, 0));
+    assert_eq!(rt; counts(&outlet), [0, 0, 0]);
     outlet.append(added(alloc)?)?;
-    assert!(rt; is_at(&outlet, 0, 1));
-    assert!(rt; outlet.publish().is_ok() && is_at(&outlet, 1, 0));
-    assert!(rt; matches!(outlet.shown(), [Entry::Add(one)] if one.path.name() == b"x".as_slice()));
+    assert_eq!(rt; counts(&outlet), [0, 0, 1]);
+    outlet.publish()?;
+    assert_eq!(rt; counts(&outlet), [1, 1, 0]);
+    let is_x = matches!(outlet.shown(), [Entry::Add(one)] if one.path.name() == b"x".as_slice());
+    assert!(rt;
+        is_x,
+        "wanted an entry that adds x, got {:?}",
+        outlet.shown()
+    );
     outlet.close();
     Ok(())
 }

@@ -1,6 +1,7 @@
 //! Lists of paths and of outputs: sorting and unions.
 use crate::paths::*;
 use std::alloc::Global;
+use std::process::Abort;
 use std::test::Fail;
 use valid_table::{Outputs, union};
 
@@ -30,19 +31,28 @@ fn sortings() -> &'static [(&'static [Pair], &'static [Pair])] {
     &SORTINGS
 }
 
-// Whether the outputs are sorted to these pairs, or refused where no pairs are given.
-fn is_sorted(alloc: Global, outputs: &[Pair], sorted: &[Pair]) -> Result<bool, Fail> {
-    let sorted = registrations(alloc, sorted)?;
+// Stops unless the outputs are sorted to these pairs, or refused where no pairs are given.
+fn expect_sorted(
+    rt: &impl Abort,
+    alloc: Global,
+    outputs: &[Pair],
+    sorted: &[Pair],
+) -> Result<(), Fail> {
+    let wanted = registrations(alloc, sorted)?;
     match Outputs::sorted(registrations(alloc, outputs)?) {
-        None => Ok(sorted.is_empty()),
-        Some(outputs) => Ok(outputs.as_slice() == sorted.as_slice()),
+        None => assert!(*rt;
+            sorted.is_empty(),
+            "{outputs:?}: wanted {sorted:?}, got none"
+        ),
+        Some(got) => assert_eq!(*rt; got.as_slice(), wanted.as_slice(), "{outputs:?}"),
     }
+    Ok(())
 }
 
 #[test]
 fn sorted_outputs(rt: HostRuntime) -> Result<(), Fail> {
     for (outputs, sorted) in sortings() {
-        assert!(rt; is_sorted(rt.alloc(), outputs, sorted)?, "of {outputs:?}");
+        expect_sorted(&rt, rt.alloc(), outputs, sorted)?;
     }
     Ok(())
 }
@@ -106,22 +116,19 @@ fn all_unions() -> &'static [Union] {
     &UNIONS
 }
 
-// Whether the union of the two lists is the third.
-fn is_union(alloc: Global, row: &Union) -> Result<bool, Fail> {
+// Stops unless the union of the two lists is the third.
+fn expect_union(rt: &impl Abort, alloc: Global, row: &Union) -> Result<(), Fail> {
     let left = rising(alloc, row.left)?;
     let right = rising(alloc, row.right)?;
-    Ok(are(&union(alloc, &left, &right)?, row.all))
+    let (l, r) = (line_of(alloc, row.left)?, line_of(alloc, row.right)?);
+    let of = format!(in alloc; "{l}and {r}")?;
+    expect_paths(rt, alloc, &of, &union(alloc, &left, &right)?, row.all)
 }
 
 #[test]
 fn unions(rt: HostRuntime) -> Result<(), Fail> {
     for row in all_unions() {
-        assert!(rt;
-            is_union(rt.alloc(), row)?,
-            "of {:?} and {:?}",
-            row.left,
-            row.right
-        );
+        expect_union(&rt, rt.alloc(), row)?;
     }
     Ok(())
 }

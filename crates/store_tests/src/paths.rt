@@ -3,7 +3,9 @@ ghost use Rattle.std.specs.Prelude.{◌++◌, ◌∷◌, [], IfOk, IsTrue};
 ghost use Rattle.nix_names.specs.Rising.{IsRising};
 
 use nix_names::{StoreDir, StorePath, parse_path};
-use std::alloc::Global;
+use std::alloc::{AllocError, Global};
+use std::process::Abort;
+use std::str;
 use std::test::Fail;
 use valid_table::{Journal, Record, Registration, Table, TableFault};
 
@@ -74,13 +76,38 @@ pub(crate) fn rising(alloc: Global, texts: &[&[u8]]) -> Result<Vec<StorePath>, F
     Ok(paths)
 }
 
-// Whether the paths have these texts.
-pub(crate) fn are(paths: &[StorePath], texts: &[&[u8]]) -> bool {
-    paths.len() == texts.len()
-        && paths
-            .iter()
-            .zip(texts)
-            .all(|(path, text)| path.text() == *text)
+// The texts in one line, with a space behind each.
+pub(crate) fn line_of(alloc: Global, texts: &[&[u8]]) -> Result<String, Fail> {
+    let mut line = String::new(alloc);
+    for text in texts {
+        line.push_str(str::from_utf8(text)?)?;
+        line.push_str(" ")?;
+    }
+    Ok(line)
+}
+
+// The paths in one line, with a space behind each.
+pub(crate) fn line_of_paths(alloc: Global, paths: &[StorePath]) -> Result<String, AllocError> {
+    let mut line = String::new(alloc);
+    for path in paths {
+        line.push_str(path.as_str())?;
+        line.push_str(" ")?;
+    }
+    Ok(line)
+}
+
+// Stops unless the paths have these texts. Prints both then, after what they are of.
+pub(crate) fn expect_paths(
+    rt: &impl Abort,
+    alloc: Global,
+    of: &str,
+    paths: &[StorePath],
+    texts: &[&[u8]],
+) -> Result<(), Fail> {
+    let got = line_of_paths(alloc, paths)?;
+    let wanted = line_of(alloc, texts)?;
+    assert!(*rt; got == wanted, "{of}: wanted {wanted}, got {got}");
+    Ok(())
 }
 
 // A folder's path with these references.
@@ -103,18 +130,15 @@ pub(crate) fn registrations(alloc: Global, pairs: &[Pair]) -> Result<Vec<Registr
     Ok(all)
 }
 
-// Adds a path with its references to a journal. Gives the number of the fault, or 0.
+// Adds a path with its references to a journal. Gives the journal's answer.
 pub(crate) fn add(
     alloc: Global,
     journal: &mut Journal,
     text: &[u8],
     references: &[&[u8]],
-) -> Result<u8, Fail> {
+) -> Result<Result<(), TableFault>, Fail> {
     let Registration { path, info } = registration(alloc, text, references)?;
-    match journal.add(path, info) {
-        Ok(_) => Ok(0),
-        Err(fault) => Ok(fault.number()),
-    }
+    Ok(journal.add(path, info))
 }
 
 // The journal of the store with this text.
@@ -129,22 +153,4 @@ pub(crate) fn read(alloc: Global, text: &[u8]) -> Result<Journal, TableFault> {
 pub(crate) fn table_of(alloc: Global, text: &[u8]) -> Result<Table, TableFault> {
     let journal = read(alloc, text)?;
     Table::replay(alloc, &journal)
-}
-
-// Whether a journal is written to this text.
-pub(crate) fn is_written_as(alloc: Global, journal: &Journal, text: &[u8]) -> bool {
-    match journal.write(alloc) {
-        Ok(written) => written.as_slice() == text,
-        Err(_) => false,
-    }
-}
-
-// Whether the journal that is read from a text is written to the other text.
-pub(crate) fn is_rewritten_as(
-    alloc: Global,
-    text: &[u8],
-    other: &[u8],
-) -> Result<bool, TableFault> {
-    let journal = read(alloc, text)?;
-    Ok(is_written_as(alloc, &journal, other))
 }

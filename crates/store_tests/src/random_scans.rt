@@ -2,10 +2,11 @@
 ghost use Rattle.std.specs.Prelude.{◌<◌, IfOk};
 ghost use Rattle.nix_names.specs.Rising.{IsRising};
 
-use crate::paths::{follows, path};
+use crate::paths::{follows, line_of_paths, path};
 use nix_names::StorePath;
 use ref_scan::Scanner;
-use std::alloc::Global;
+use std::alloc::{AllocError, Global};
+use std::process::Abort;
 use std::test::Fail;
 
 const DIGITS: [u8; 32] = *b"0123456789abcdfghijklmnpqrsvwxyz";
@@ -134,32 +135,50 @@ fn occurs(lists: &[Vec<u8>], part: &[u8]) -> bool {
         .any(|list| list.windows(32).any(|window| window == part))
 }
 
-// Whether these are the paths whose hash part occurs.
-fn are_found(found: &[StorePath], paths: &[StorePath], lists: &[Vec<u8>]) -> bool {
-    let mut rest = found.iter();
+// The paths whose hash part occurs.
+fn searched(
+    alloc: Global,
+    paths: &[StorePath],
+    lists: &[Vec<u8>],
+) -> Result<Vec<StorePath>, AllocError> {
+    let mut searched = Vec::new(alloc);
     for path in paths {
-        if occurs(lists, path.hash_part())
-            && rest.next().map(|next| next.text()) != Some(path.text())
-        {
-            return false;
+        if occurs(lists, path.hash_part()) {
+            searched.push(path.copy(alloc)?)?;
         }
     }
-    rest.next().is_none()
+    Ok(searched)
 }
 
 #[test]
 fn same_as_a_plain_search(rt: HostRuntime) -> Result<(), Fail> {
     let paths = rising_paths(rt.alloc(), PATHS)?;
-    assert!(rt; paths.len() == PATHS);
-    assert!(rt; agrees(rt.alloc(), &mut Random { state: 1 }, &paths)?);
-    Ok(())
+    assert_eq!(rt; paths.len(), PATHS);
+    expect_searched(&rt, rt.alloc(), &mut Random { state: 1 }, &paths)
 }
 
-fn agrees(alloc: Global, random: &mut Random, paths: &[StorePath]) -> Result<bool, Fail>
+// Stops unless the scanner finds the same paths as the search, and enough of them.
+fn expect_searched(
+    rt: &impl Abort,
+    alloc: Global,
+    random: &mut Random,
+    paths: &[StorePath],
+) -> Result<(), Fail>
     requires { IsRising paths.now }
 {
     let bytes = random_bytes(alloc, random, paths)?;
     let lists = random_lists(alloc, random, &bytes)?;
     let found = found(alloc, random, paths, &lists)?;
-    Ok(found.len() > 60 && are_found(&found, paths, &lists))
+    let wanted = searched(alloc, paths, &lists)?;
+    assert!(*rt;
+        found.len() > 60,
+        "wanted more than 60 paths, got {}",
+        found.len()
+    );
+    let (got, wanted) = (
+        line_of_paths(alloc, &found)?,
+        line_of_paths(alloc, &wanted)?,
+    );
+    assert_eq!(*rt; got, wanted);
+    Ok(())
 }

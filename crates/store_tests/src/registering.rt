@@ -2,7 +2,9 @@
 ghost use Rattle.std.specs.Prelude.{◌+◌, ◌≤◌};
 
 use crate::paths::*;
-use std::alloc::Global;
+use std::alloc::{AllocError, Global};
+use std::process::Abort;
+use std::str;
 use std::test::Fail;
 use valid_table::{Entry, Journal, Obstacle, Outputs, Table, TableFault};
 
@@ -19,65 +21,56 @@ R /nix/store/00000000000000000000000000000000-x
 // Which of paths 0 to 4 are valid where paths 0 and 3 are.
 const TWO_VALID: [bool; 5] = [true, false, false, true, false];
 
-// Outputs, each with its reference; the number and the path of the fault with which the table of
-// two paths refuses them, or 0 and no path; and which of paths 0 to 4 are valid then.
+// Outputs, each with its reference; the answer of the table of two paths to them; and which of
+// paths 0 to 4 are valid then.
 struct Attempt {
     outputs: &'static [Pair],
-    fault: u8,
-    path: &'static [u8],
+    answer: &'static str,
     valid: [bool; 5],
 }
 
 static ATTEMPTS: [Attempt; 8] = [
     Attempt {
         outputs: &[(P2, P2)],
-        fault: 0,
-        path: b"",
+        answer: "taken",
         valid: [true, false, true, true, false],
     },
     Attempt {
         outputs: &[(P4, P3)],
-        fault: 0,
-        path: b"",
+        answer: "taken",
         valid: [true, false, false, true, true],
     },
     Attempt {
         outputs: &[(P2, P1), (P1, P2)],
-        fault: 0,
-        path: b"",
+        answer: "taken",
         valid: [true, true, true, true, false],
     },
     // An output that is valid already; of two such outputs, the first one.
     Attempt {
         outputs: &[(P3, P0)],
-        fault: 37,
-        path: P3,
+        answer: "AlreadyValid /nix/store/00000000000000000000000000000003-x",
         valid: TWO_VALID,
     },
     Attempt {
         outputs: &[(P2, P2), (P3, P0), (P0, P0)],
-        fault: 37,
-        path: P0,
+        answer: "AlreadyValid /nix/store/00000000000000000000000000000000-x",
         valid: TWO_VALID,
     },
     // A reference that is neither valid nor an output; of two such references, the first one.
     Attempt {
         outputs: &[(P1, P2), (P2, P4)],
-        fault: 36,
-        path: P4,
+        answer: "Unclosed /nix/store/00000000000000000000000000000004-x",
         valid: TWO_VALID,
     },
     Attempt {
         outputs: &[(P2, P6), (P1, P5), (P4, P1)],
-        fault: 36,
-        path: P5,
+        answer: "Unclosed /nix/store/00000000000000000000000000000005-x",
         valid: TWO_VALID,
     },
     // Both faults: the valid path is named, though it comes after the reference.
     Attempt {
         outputs: &[(P2, P4), (P3, P0)],
-        fault: 37,
-        path: P3,
+        answer: "AlreadyValid /nix/store/00000000000000000000000000000003-x",
         valid: TWO_VALID,
     },
 ];
@@ -103,56 +96,56 @@ fn two_paths(alloc: Global) -> Result<Table, Fail> {
     Ok(table)
 }
 
-// Whether these of paths 0 to 4 are valid and no others.
-fn are_valid(alloc: Global, table: &Table, valid: &[bool; 5]) -> Result<bool, Fail> {
-    for (text, is_valid) in [P0, P1, P2, P3, P4].iter().zip(valid) {
-        if table.registers(&path(alloc, text)?) != *is_valid {
-            return Ok(false);
-        }
+// Which of paths 0 to 4 are valid.
+fn valid(alloc: Global, table: &Table) -> Result<[bool; 5], Fail> {
+    let paths = all_paths(alloc, &[P0, P1, P2, P3, P4])?;
+    let mut valid = [false; 5];
+    for (place, path) in valid.iter_mut().zip(&paths) {
+        *place = table.registers(path);
     }
-    Ok(true)
+    Ok(valid)
 }
 
-// Whether the entry is registered where the row has no fault, and else refused with the row's
-// fault.
-fn is_answered(table: &mut Table, entry: &Entry, row: &Attempt) -> bool {
-    match table.register(entry) {
-        Ok(()) => row.fault == 0,
-        Err(TableFault::AlreadyValid(path)) => row.fault == 37 && path.text() == row.path,
-        Err(TableFault::Unclosed(reference)) => row.fault == 36 && reference.text() == row.path,
-        Err(_) => false,
-    }
-}
-
-// Whether the obstacle of the entry is the row's.
-fn is_obstacle(table: &Table, entry: &Entry, row: &Attempt) -> bool {
-    match table.obstacle(entry) {
-        None => row.fault == 0,
-        Some(Obstacle::AlreadyValid(path)) => row.fault == 37 && path.text() == row.path,
-        Some(Obstacle::Unclosed(path)) => row.fault == 36 && path.text() == row.path,
+// What a table answers to an entry, with the path to which the answer is due.
+fn answer_of(alloc: Global, answer: &Result<(), TableFault>) -> Result<String, AllocError> {
+    match answer {
+        Ok(()) => String::from_str(alloc, "taken"),
+        Err(TableFault::AlreadyValid(path)) => format!(in alloc; "AlreadyValid {}", path.as_str()),
+        Err(TableFault::Unclosed(one)) => format!(in alloc; "Unclosed {}", one.path().as_str()),
+        Err(fault) => format!(in alloc; "{fault:?}"),
     }
 }
 
-// Whether the table answers for the entry as the row says, and has the row's paths then.
-fn answers(alloc: Global, table: &mut Table, entry: &Entry, row: &Attempt) -> Result<bool, Fail> {
-    Ok(
-        is_obstacle(table, entry, row)
-            && is_answered(table, entry, row)
-            && are_valid(alloc, table, &row.valid)?,
-    )
+// The same of an obstacle.
+fn answer_by(alloc: Global, obstacle: Option<Obstacle<'_>>) -> Result<String, AllocError> {
+    match obstacle {
+        None => String::from_str(alloc, "taken"),
+        Some(Obstacle::AlreadyValid(path)) => format!(in alloc; "AlreadyValid {}", path.as_str()),
+        Some(Obstacle::Unclosed(path)) => format!(in alloc; "Unclosed {}", path.as_str()),
+    }
 }
 
-// Whether the table of two paths answers for the row's entry as the row says.
-fn holds(alloc: Global, row: &Attempt) -> Result<bool, Fail> {
+// Stops unless the table of two paths answers to the row's entry as the row says, and has the row's
+// paths then.
+fn expect_answers(rt: &impl Abort, alloc: Global, row: &Attempt) -> Result<(), Fail> {
     let entry = built(alloc, row.outputs)?;
     let mut table = two_paths(alloc)?;
-    answers(alloc, &mut table, &entry, row)
+    let obstacle = answer_by(alloc, table.obstacle(&entry))?;
+    assert_eq!(*rt; obstacle.as_str(), row.answer, "an obstacle");
+    let answer = answer_of(alloc, &table.register(&entry))?;
+    assert_eq!(*rt; answer.as_str(), row.answer);
+    assert_eq!(*rt;
+        valid(alloc, &table)?,
+        row.valid,
+        "valid paths after {answer}"
+    );
+    Ok(())
 }
 
 #[test]
 fn registered_entries_and_obstacles(rt: HostRuntime) -> Result<(), Fail> {
     for row in attempts() {
-        assert!(rt; holds(rt.alloc(), row)?, "of {:?}", row.outputs);
+        expect_answers(&rt, rt.alloc(), row)?;
     }
     Ok(())
 }
@@ -161,7 +154,8 @@ fn registered_entries_and_obstacles(rt: HostRuntime) -> Result<(), Fail> {
 #[test]
 fn registered_record(rt: HostRuntime) -> Result<(), Fail> {
     let entry = registration(rt.alloc(), P3, &[P0])?;
-    assert!(rt; two_paths(rt.alloc())?.get(&entry.path) == Some(&entry.info));
+    let table = two_paths(rt.alloc())?;
+    assert_eq!(rt; table.get(&entry.path), Some(&entry.info));
     Ok(())
 }
 
@@ -179,21 +173,22 @@ fn push(alloc: Global, journal: &mut Journal, text: &[u8], reference: &[u8]) -> 
     Ok(true)
 }
 
-// Whether two paths are added, and a path that is valid then is not.
-fn are_pushed(alloc: Global, journal: &mut Journal) -> Result<bool, Fail>
+// Whether two paths are added, and a path that is valid then.
+fn pushed(alloc: Global, journal: &mut Journal) -> Result<[bool; 3], Fail>
     requires { 3 ≤ journal.old.room }
 {
     let first = push(alloc, journal, P0, P0)?;
     let second = push(alloc, journal, P3, P0)?;
     let again = push(alloc, journal, P3, P3)?;
-    Ok(first && second && !again)
+    Ok([first, second, again])
 }
 
 #[test]
 fn entries_in_reserved_room(rt: HostRuntime) -> Result<(), Fail> {
     let mut journal = Journal::new(rt.alloc());
     journal.reserve(3)?;
-    assert!(rt; are_pushed(rt.alloc(), &mut journal)?);
-    assert!(rt; is_written_as(rt.alloc(), &journal, TWO_PATHS));
+    assert_eq!(rt; pushed(rt.alloc(), &mut journal)?, [true, true, false]);
+    let written = journal.write(rt.alloc())?;
+    assert_eq!(rt; str::from_utf8(&written)?, str::from_utf8(TWO_PATHS)?);
     Ok(())
 }

@@ -1,8 +1,9 @@
 //! The limits of an output, and the rows of the scan.
-use crate::paths::{are, rising};
+use crate::paths::{expect_paths, rising};
 use nix_names::StorePath;
 use ref_scan::{Member, ScanFault, Scanner, Tree, scan};
 use std::alloc::Global;
+use std::process::Abort;
 use std::test::Fail;
 
 // 32 times `a`; 31 times `a` and one `b`.
@@ -28,6 +29,7 @@ const B_Q: &[u8] = b"/nix/store/aaaaaaaaaaaaaaaaaaaaaaaaaaaaaaab-q";
 const TWO: &[&[u8]] = &[A_P, B_Q];
 
 // The parts of a tree.
+#[derive(Debug)]
 enum Form {
     // A file with these bytes.
     File(&'static [u8]),
@@ -292,22 +294,24 @@ fn made(alloc: Global, form: &Form) -> Result<Tree, Fail> {
 #[test]
 fn limits_of_an_output(rt: HostRuntime) -> Result<(), Fail> {
     for (form, fits) in limits() {
-        assert!(rt; made(rt.alloc(), form)?.fits() == *fits);
+        assert_eq!(rt; made(rt.alloc(), form)?.fits(), *fits, "{form:?}");
     }
     Ok(())
 }
 
-// Whether the tree refers to these of the permitted paths and no others.
-fn refers(alloc: Global, row: &Row) -> Result<bool, Fail> {
+// Stops unless the tree refers to these of the permitted paths and no others.
+fn expect_found(rt: &impl Abort, alloc: Global, row: &Row) -> Result<(), Fail> {
     let tree = made(alloc, &row.tree)?;
     let permitted = rising(alloc, row.permitted)?;
-    Ok(tree.fits() && are(&scan(alloc, &tree, &permitted)?, row.found))
+    let of = format!(in alloc; "{:?}", row.tree)?;
+    assert!(*rt; tree.fits(), "{of}: wanted a tree that fits");
+    expect_paths(rt, alloc, &of, &scan(alloc, &tree, &permitted)?, row.found)
 }
 
 #[test]
 fn paths_that_trees_refer_to(rt: HostRuntime) -> Result<(), Fail> {
     for row in rows() {
-        assert!(rt; refers(rt.alloc(), row)?);
+        expect_found(&rt, rt.alloc(), row)?;
     }
     Ok(())
 }
@@ -329,12 +333,13 @@ fn scanned(alloc: Global, pieces: &[&[u8]]) -> Result<Vec<StorePath>, Fail> {
 #[test]
 fn paths_that_a_scanner_finds(rt: HostRuntime) -> Result<(), Fail> {
     for (pieces, found) in fed() {
-        assert!(rt; are(&scanned(rt.alloc(), pieces)?, found));
+        let of = format!(in rt.alloc(); "{pieces:?}")?;
+        expect_paths(&rt, rt.alloc(), &of, &scanned(rt.alloc(), pieces)?, found)?;
     }
     Ok(())
 }
 
 #[test]
 fn number_of_the_fault(rt: HostRuntime) {
-    assert!(rt; ScanFault::NoMemory.number() == 9);
+    assert_eq!(rt; ScanFault::NoMemory.number(), 9);
 }
