@@ -157,12 +157,12 @@ fn refused<J: Naming + Send, R: Wait + Abort>(
         refused: "nothing",
     };
     let is_right = trial.groups();
-    let refused = trial.refused;
+    let (refused, last) = (trial.refused, trial.last);
     trial.close();
     if is_right? {
         Ok(refused)
     } else {
-        Err("an answer is wrong".into())
+        Err(Fail::new(format_args!("an answer is wrong at path {last}; refused {refused}")))
     }
 }
 

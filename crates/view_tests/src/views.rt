@@ -23,26 +23,26 @@ A /nix/store/aaaaaaaaaaaaaaaaaaaaaaaaaaaaaaaa-x -
 #[test]
 fn shown_once_published(rt: HostRuntime) -> Result<(), Fail> {
     let (absent, valid) = (Seen::Absent, Seen::Valid(None));
-    let (answers, is_gone) = seen_at_each_step::<Brand, _>(&rt, rt.alloc(), Name::new())?;
+    let (answers, end) = seen_at_each_step::<Brand, _>(&rt, rt.alloc(), Name::new())?;
     assert_eq!(rt; answers, [absent, absent, valid, valid]);
-    assert!(rt; is_gone);
+    assert!(rt;
+        matches!(end, Err(ViewFault::NoView(_))),
+        "wanted NoView, got {end:?}"
+    );
     Ok(())
 }
 
 #[test]
 fn closure_of_a_reader(rt: HostRuntime) -> Result<(), Fail> {
-    let (is_refused, is_found) = asked_for_closures::<Brand, _>(&rt, rt.alloc(), Name::new())?;
-    assert!(rt; is_refused);
-    assert!(rt; is_found);
-    Ok(())
+    asked_for_closures::<Brand, _>(&rt, rt.alloc(), Name::new())
 }
 
 #[test]
 fn asked_beside_a_writer(rt: HostRuntime) -> Result<(), Fail> {
-    let (published, wrong, told) = raced::<Brand, _>(&rt, rt.alloc(), Name::new())?;
-    assert!(rt; published);
-    assert_eq!(rt; wrong, 0);
-    assert_eq!(rt; told, 2);
+    let (refused, wrong, told) = raced::<Brand, _>(&rt, rt.alloc(), Name::new())?;
+    assert_eq!(rt; refused, 0, "publications that were refused");
+    assert_eq!(rt; wrong, 0, "answers that were wrong");
+    assert_eq!(rt; told, 2, "entries");
     Ok(())
 }
 
@@ -84,12 +84,14 @@ fn append_y<J: Naming, R>(
     append_next(journal, writer, added_y(alloc)?)
 }
 
-// What a reader finds of y at each step, and whether it has no view once the writer is closed.
+// What a reader finds of y at each step, and what it answers once the writer is closed.
+type Steps = ([Seen; 4], Result<Seen, ViewFault>);
+
 fn seen_at_each_step<J: Naming + Send, R: Wait + Abort>(
     rt: &R,
     alloc: Global,
     name: Name,
-) -> Result<([Seen; 4], bool), Fail>
+) -> Result<Steps, Fail>
     requires { name ≡ J.book }
 {
     let journal = opening(alloc)?;
@@ -97,17 +99,8 @@ fn seen_at_each_step<J: Naming + Send, R: Wait + Abort>(
     let (mut writer, mut readers) = open::<J, &R>(alloc, rt, name, &journal, 1)?;
     let answers = answers(alloc, &journal, &mut writer, &mut readers[0]);
     writer.close();
-    with_end(answers, &mut readers[0], &x)
-}
-
-// These answers, and whether the reader that gave them has no view any more.
-fn with_end<J: Naming>(
-    answers: Result<[Seen; 4], Fail>,
-    reader: &mut ViewReader<J>,
-    path: &StorePath,
-) -> Result<([Seen; 4], bool), Fail> {
-    let is_gone = matches!(reader.look(path), Err(ViewFault::NoView(_)));
-    Ok((answers?, is_gone))
+    let end = readers[0].look(&x);
+    Ok((answers?, end))
 }
 
 // What a reader finds of y: at first, when y is pending, when the reader has learnt of y, and
@@ -129,13 +122,13 @@ fn answers<J: Naming + Send, R: Wait + Drop>(
     Ok([first, waiting, reader.look(&y)?, reader.look(&y)?])
 }
 
-// Whether the closure of x and y is refused for y before y is shown, and whether the closure of y
-// is x and y after that.
+// Fails unless the closure of x and y is refused for y before y is shown, and the closure of y is x
+// and y after that.
 fn asked_for_closures<J: Naming + Send, R: Wait + Abort>(
     rt: &R,
     alloc: Global,
     name: Name,
-) -> Result<(bool, bool), Fail>
+) -> Result<(), Fail>
     requires { name ≡ J.book }
 {
     let journal = opening(alloc)?;
@@ -150,28 +143,45 @@ fn closures<J: Naming + Send, R: Wait + Drop>(
     journal: &Journal,
     writer: &mut ViewWriter<J, R>,
     reader: &mut ViewReader<J>,
-) -> Result<(bool, bool), Fail>
+) -> Result<(), Fail>
     requires { writer.old.shown ++ writer.old.pending ≡ journal.now.entries }
 {
-    let is_refused = refuses_y(alloc, reader)?;
+    refuses_y(alloc, reader)?;
     append_y(alloc, journal, writer)?;
     writer.publish()?;
-    Ok((is_refused, finds_both(alloc, reader)?))
+    finds_both(alloc, reader)
 }
 
-// Whether the closure of x and y is refused, since y is not valid.
-fn refuses_y<J: Naming>(alloc: Global, reader: &mut ViewReader<J>) -> Result<bool, Fail> {
+// Fails unless the closure of x and y is refused, since y is not valid.
+fn refuses_y<J: Naming>(alloc: Global, reader: &mut ViewReader<J>) -> Result<(), Fail> {
     let roots = vec![in alloc; path(alloc, X)?, path(alloc, Y)?]?;
     match reader.closure(alloc, &roots) {
-        Err(ViewFault::NotValid(root)) => Ok(roots.last() == Some(&root)),
-        _ => Ok(false),
+        Err(ViewFault::NotValid(root)) => expect_y(&root, roots.last()),
+        Err(fault) => Err(Fail::new(format_args!("wanted NotValid of y, got {fault:?}"))),
+        Ok(found) => Err(Fail::new(format_args!("wanted NotValid of y, got {found:?}"))),
     }
 }
 
-// Whether the closure of y is x and y.
-fn finds_both<J: Naming>(alloc: Global, reader: &mut ViewReader<J>) -> Result<bool, Fail> {
+// Fails unless the path that is not valid is y.
+fn expect_y(root: &StorePath, y: Option<&StorePath>) -> Result<(), Fail> {
+    if y == Some(root) {
+        return Ok(());
+    }
+    Err(Fail::new(format_args!("wanted NotValid of y, got that of {}", root.as_str())))
+}
+
+// Fails unless the closure of y is x and y.
+fn finds_both<J: Naming>(alloc: Global, reader: &mut ViewReader<J>) -> Result<(), Fail> {
     let both = vec![in alloc; path(alloc, X)?, path(alloc, Y)?]?;
-    Ok(reader.closure(alloc, &both[1..])? == both)
+    let found = reader.closure(alloc, &both[1..])?;
+    if found == both {
+        return Ok(());
+    }
+    let mut texts = Vec::new(alloc);
+    for path in &found {
+        texts.push(path.as_str())?;
+    }
+    Err(Fail::new(format_args!("wanted the closure x and y, got {texts:?}")))
 }
 
 // What `publishes` and `forgets` find beside each other, and how many entries the writer shows.
@@ -179,7 +189,7 @@ fn raced<J: Naming + Send + Sync, R: Threads + Wait + Abort + Sync>(
     rt: &R,
     alloc: Global,
     name: Name,
-) -> Result<(bool, u32, u64), Fail>
+) -> Result<(u32, u32, u64), Fail>
     requires { name ≡ J.book }
 {
     let journal = opening(alloc)?;
@@ -195,22 +205,22 @@ fn race<J: Naming + Send + Sync, R: Threads + Wait + Abort + Sync>(
     journal: &Journal,
     writer: &mut ViewWriter<J, &R>,
     reader: &mut ViewReader<J>,
-) -> Result<(bool, u32, u64), Fail>
+) -> Result<(u32, u32, u64), Fail>
     requires { writer.old.shown ++ writer.old.pending ≡ journal.now.entries }
 {
     append_y(alloc, journal, writer)?;
     let y = path(alloc, Y)?;
-    let (published, wrong) = join(rt, || publishes(writer), || forgets(reader, &y));
-    Ok((published, wrong, writer.tell().len()))
+    let (refused, wrong) = join(rt, || publishes(writer), || forgets(reader, &y));
+    Ok((refused, wrong, writer.tell().len()))
 }
 
-// Publishes the pending entries, and then nothing many times. Says whether each call succeeded.
-fn publishes<J: Naming + Send, R: Wait + Drop>(writer: &mut ViewWriter<J, R>) -> bool {
-    let mut all = true;
+// Publishes the pending entries, and then nothing many times. Counts the calls that were refused.
+fn publishes<J: Naming + Send, R: Wait + Drop>(writer: &mut ViewWriter<J, R>) -> u32 {
+    let mut refused = 0u32;
     for _ in 0..5_000 {
-        all = writer.publish().is_ok() && all;
+        refused = refused.wrapping_add(writer.publish().is_err() as u32);
     }
-    all
+    refused
 }
 
 // Counts how often a path is absent that was valid before.
