@@ -144,7 +144,7 @@ fn rewritten(alloc: Global, text: &[u8]) -> Result<Vec<u8>, DrvFault> {
 fn expect_same_or_placed(rt: &impl Abort, alloc: Global, text: &[u8]) {
     match rewritten(alloc, text) {
         Err(DrvFault::Syntax(place) | DrvFault::Order(place)) if place <= 97 => {}
-        answer => expect_answer(rt, &"one byte replaced", &answer, text),
+        answer => expect_answer(rt, &"the same text or a fault by 97", &answer, text),
     }
 }
 
