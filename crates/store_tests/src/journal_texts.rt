@@ -95,7 +95,7 @@ impl Outcome {
     }
 }
 
-fn outcome(alloc: Global, text: &[u8]) -> Outcome {
+fn outcome_of(alloc: Global, text: &[u8]) -> Outcome {
     match read(alloc, text) {
         Ok(journal) if is_kept(alloc, &journal, text) => Outcome::Kept,
         Ok(_) => Outcome::Altered,
@@ -113,7 +113,7 @@ pub(crate) fn expect_reading(rt: &impl Abort, alloc: Global, front: &[u8]) {
     } else {
         Outcome::Refused(TableFault::BadLine(line))
     };
-    let got = outcome(alloc, front);
+    let got = outcome_of(alloc, front);
     assert!(*rt;
         got.is_like(&wanted),
         "wanted {wanted:?}, got {got:?}, of {}",
@@ -139,7 +139,7 @@ fn outcome_with(alloc: Global, text: &[u8], place: usize, byte: u8) -> Outcome {
     if let Some(at) = text.get_mut(place) {
         *at = byte;
     }
-    outcome(alloc, &text)
+    outcome_of(alloc, &text)
 }
 
 /// The first place of a text at which one of the bytes makes another text that is neither refused

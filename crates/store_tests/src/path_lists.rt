@@ -3,7 +3,7 @@ use crate::paths::*;
 use std::alloc::Global;
 use std::process::Abort;
 use std::test::Fail;
-use valid_table::{Outputs, union};
+use valid_table::{Outputs, Registration, union};
 
 // Outputs with their references in any order, and the same sorted; none where there are no outputs
 // or a path comes twice.
@@ -31,6 +31,17 @@ fn sortings() -> &'static [(&'static [Pair], &'static [Pair])] {
     &SORTINGS
 }
 
+// The paths with their references in one line.
+fn line_of_all(alloc: Global, all: &[Registration]) -> Result<String, Fail> {
+    let mut line = String::new(alloc);
+    for Registration { path, info } in all {
+        line.push_str(path.as_str())?;
+        line.push_str(" to ")?;
+        line.push_str(&line_of_paths(alloc, info.references())?)?;
+    }
+    Ok(line)
+}
+
 // Stops unless the outputs are sorted to these pairs, or refused where no pairs are given.
 fn expect_sorted(
     rt: &impl Abort,
@@ -38,13 +49,18 @@ fn expect_sorted(
     outputs: &[Pair],
     sorted: &[Pair],
 ) -> Result<(), Fail> {
+    let of = line_of_all(alloc, &registrations(alloc, outputs)?)?;
     let wanted = registrations(alloc, sorted)?;
+    let line = line_of_all(alloc, &wanted)?;
     match Outputs::sorted(registrations(alloc, outputs)?) {
-        None => assert!(*rt;
-            sorted.is_empty(),
-            "{outputs:?}: wanted {sorted:?}, got none"
-        ),
-        Some(got) => assert_eq!(*rt; got.as_slice(), wanted.as_slice(), "{outputs:?}"),
+        None => assert!(*rt; sorted.is_empty(), "{of}: wanted {line}, got none"),
+        Some(got) => {
+            let found = line_of_all(alloc, got.as_slice())?;
+            assert!(*rt;
+                got.as_slice() == wanted.as_slice(),
+                "{of}: wanted [{line}], got [{found}]"
+            );
+        }
     }
     Ok(())
 }

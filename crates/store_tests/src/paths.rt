@@ -106,7 +106,7 @@ pub(crate) fn expect_paths(
 ) -> Result<(), Fail> {
     let got = line_of_paths(alloc, paths)?;
     let wanted = line_of(alloc, texts)?;
-    assert!(*rt; got == wanted, "{of}: wanted {wanted}, got {got}");
+    assert!(*rt; got == wanted, "{of}: wanted [{wanted}], got [{got}]");
     Ok(())
 }
 
