@@ -205,6 +205,6 @@ class Crate:
 
 
 def all_crates():
-    """The crates of crates.txt in their order, less those of tests and the program."""
+    """The crates of crates.txt in their order, less those of tests, what these share, and the programs."""
     listed = re.findall(r"(?m)^(\w+):", (TOP / "crates.txt").read_text())
-    return [Crate(it) for it in listed if not it.endswith("_tests") and (CRATES / it / "src/lib.rt").exists()]
+    return [Crate(it) for it in listed if not it.endswith(("_tests", "test_plans")) and (CRATES / it / "src/lib.rt").exists()]

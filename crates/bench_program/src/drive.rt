@@ -3,9 +3,9 @@ ghost use Rattle.std.specs.Prelude.{IfOk};
 ghost use Rattle.sched_core.specs.Books.{MayAllRefer};
 
 use anyhow::{Result, bail};
-use ref_scan::Tree;
-use sched_core::{Answer, Book, Checked, Lease, Reason, examine};
+use sched_core::{Book, Checked, Lease, Reason, examine};
 use std::alloc::Global;
+use test_plans::leases::{end_lease, left};
 use valid_table::ListOutlet;
 
 /// Builds all that can be built, and says how many events there were.
@@ -25,7 +25,7 @@ pub(crate) fn drive(alloc: Global, book: &mut Book<ListOutlet>) -> Result<usize>
 // Builds under a lease, and ends it.
 fn build(alloc: Global, book: &mut Book<ListOutlet>, lease: Lease<usize>) -> Result<()> {
     match verdict(alloc, book, &lease) {
-        Ok(Ok(checked)) => finish(book, lease, checked),
+        Ok(Ok(checked)) => Ok(end_lease(book, lease, checked)?),
         Ok(Err(_)) => {
             lease.give_up();
             bail!("an answer is refused")
@@ -37,7 +37,7 @@ fn build(alloc: Global, book: &mut Book<ListOutlet>, lease: Lease<usize>) -> Res
     }
 }
 
-// What is found of what a lease's builder left.
+// What is found of what a lease's builder left: a short file at each output.
 fn verdict(
     alloc: Global,
     book: &Book<ListOutlet>,
@@ -47,30 +47,6 @@ fn verdict(
         MayAllRefer book.now.history.entries lease.now.job checked)) }
 {
     let permitted = book.permitted(lease)?;
-    let answer = answer(alloc, lease.job().outputs.len())?;
+    let answer = left(alloc, lease.job(), b"built\n")?;
     Ok(examine(alloc, lease.job(), &permitted, answer))
-}
-
-fn finish(book: &mut Book<ListOutlet>, lease: Lease<usize>, checked: Checked) -> Result<()>
-    requires { MayAllRefer book.old.history.entries lease.job checked }
-{
-    match book.finish(lease, checked) {
-        Ok(()) => Ok(()),
-        Err((fault, lease, _)) => {
-            lease.give_up();
-            Err(fault.into())
-        }
-    }
-}
-
-// What every builder leaves: one short file at each output.
-fn answer(alloc: Global, outputs: usize) -> Result<Answer> {
-    let mut trees = Vec::with_capacity(alloc, outputs)?;
-    for _ in 0..outputs {
-        trees.push(Some(Tree::File(Vec::from_slice(alloc, b"built\n")?)))?;
-    }
-    Ok(Answer {
-        status: Some(0),
-        trees,
-    })
 }

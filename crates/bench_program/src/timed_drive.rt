@@ -4,11 +4,10 @@ ghost use Rattle.sched_core.specs.Books.{MayAllRefer};
 
 use crate::times::micros_since;
 use anyhow::{Context, Result, bail};
-use ref_scan::Tree;
-use sched_core::{Answer, Book, Checked, Lease, Reason, examine};
-use std::alloc::Global;
+use sched_core::{Book, Checked, Lease, Reason, examine};
 use std::rt::Clock;
 use std::time::Instant;
+use test_plans::leases::left;
 use valid_table::Outlet;
 use valid_view::{Naming, Tells, ViewReader};
 
@@ -78,7 +77,8 @@ fn build<J: Naming, O: Tells<J>, R: Clock + AllocGlobal>(
     }
 }
 
-// What is found of what a lease's builder left, by what the book itself permits.
+// What is found of the files with these bytes that a lease's builder left, by what the book itself
+// permits.
 fn examine_left<O: Outlet, R: Clock + AllocGlobal>(
     rt: &R,
     book: &Book<O>,
@@ -89,7 +89,7 @@ fn examine_left<O: Outlet, R: Clock + AllocGlobal>(
     ensures { IfOk result (λ verdict. IfOk verdict (λ checked.
         MayAllRefer book.now.history.entries lease.now.job checked)) }
 {
-    let answer = answer(rt.alloc(), lease.job().outputs.len(), bytes)?;
+    let answer = left(rt.alloc(), lease.job(), bytes)?;
     let start = Instant::now(rt)?;
     let permitted = book.permitted(lease)?;
     let verdict = examine(rt.alloc(), lease.job(), &permitted, answer);
@@ -134,16 +134,4 @@ fn finish<O: Outlet, R: Clock>(
             Err(fault.into())
         }
     }
-}
-
-// What every builder leaves: a file with these bytes at each output.
-fn answer(alloc: Global, outputs: usize, bytes: &[u8]) -> Result<Answer> {
-    let mut trees = Vec::with_capacity(alloc, outputs)?;
-    for _ in 0..outputs {
-        trees.push(Some(Tree::File(Vec::from_slice(alloc, bytes)?)))?;
-    }
-    Ok(Answer {
-        status: Some(0),
-        trees,
-    })
 }

@@ -3,84 +3,41 @@ ghost use Rattle.std.specs.Prelude.{◌≡◌, ◌++◌, IfOk};
 ghost use Rattle.run_states.specs.Runs.{opened};
 
 use crate::digests::DIGEST_FILES;
-use crate::files::{FILES, File};
 use crate::hindered::HINDERED;
 use crate::twin_files::TWIN_FILES;
 use drv_graph::Plan;
-use nix_drv::{ListSource, ListedFile};
-use nix_names::{StoreDir, StorePath, parse_path};
+use nix_drv::ListedFile;
 use sched_core::{Book, State};
 use std::alloc::{AllocError, Global};
+use std::io::Print;
 use std::test::Fail;
+use test_plans::files::{FIVE, MORE};
+use test_plans::plans::{joined, journal_of, listed, listed_file, plan_of, system};
+use test_plans::texts::is_text;
 use valid_table::{Journal, ListOutlet, Outlet};
 
 /// A text, in pieces.
 pub(crate) type Pieces = &'static [&'static [u8]];
 
-pub(crate) fn joined(alloc: Global, pieces: &[&[u8]]) -> Result<Vec<u8>, AllocError> {
-    let mut text = Vec::new(alloc);
-    for piece in pieces {
-        text.extend_from_slice(piece)?;
-    }
-    Ok(text)
-}
-
-pub(crate) fn store_dir(alloc: Global) -> Result<StoreDir, Fail> {
-    Ok(StoreDir::new(alloc, b"/nix/store")?)
-}
-
-/// The paths with these texts.
-pub(crate) fn paths(alloc: Global, texts: &[&[u8]]) -> Result<Vec<StorePath>, Fail> {
-    let dir = store_dir(alloc)?;
-    let mut paths = Vec::new(alloc);
-    for text in texts {
-        paths.push(parse_path(alloc, &dir, text)?)?;
-    }
-    Ok(paths)
-}
-
-fn listed(alloc: Global, file: &File) -> Result<ListedFile, AllocError> {
-    let path = Vec::from_slice(alloc, file.path)?;
-    let bytes = Vec::from_slice(alloc, file.text)?;
-    Ok(ListedFile { path, bytes })
-}
-
+// The files of all tests.
 fn all_files(alloc: Global) -> Result<Vec<ListedFile>, AllocError> {
-    let mut files = Vec::new(alloc);
+    let mut files = listed(alloc, &FIVE)?;
     let hindered = HINDERED.iter().map(|hindered| &hindered.file);
     let fixed = TWIN_FILES.iter().chain(&DIGEST_FILES);
-    for file in FILES.iter().chain(fixed).chain(hindered) {
-        files.push(listed(alloc, file)?)?;
+    for file in MORE.iter().chain(fixed).chain(hindered) {
+        files.push(listed_file(alloc, file)?)?;
     }
     Ok(files)
 }
 
-fn source(alloc: Global) -> Result<ListSource, Fail> {
-    let files = all_files(alloc)?;
-    Ok(ListSource::new(alloc, files, Vec::new(alloc))?)
-}
-
 /// The plan of the roots at these paths.
 pub(crate) fn plan(alloc: Global, roots: &[&[u8]]) -> Result<Plan, Fail> {
-    let dir = store_dir(alloc)?;
-    let mut source = source(alloc)?;
-    let roots = paths(alloc, roots)?;
-    Ok(Plan::load(alloc, &mut source, &dir, &roots)?)
+    plan_of(alloc, all_files(alloc)?, roots)
 }
 
 /// The journal with this text.
 pub(crate) fn journal(alloc: Global, text: &[&[u8]]) -> Result<Journal, Fail> {
-    let dir = store_dir(alloc)?;
-    let text = joined(alloc, text)?;
-    Ok(Journal::read(alloc, &dir, &text)?)
-}
-
-/// The system for which each run builds.
-pub(crate) const SYSTEM: &[u8] = b"x86_64-linux";
-
-/// The same system, as a vector.
-pub(crate) fn system(alloc: Global) -> Result<Vec<u8>, AllocError> {
-    Vec::from_slice(alloc, SYSTEM)
+    journal_of(alloc, &joined(alloc, text)?)
 }
 
 /// The book of a run over a plan that opens with a journal, over a plain outlet.
@@ -110,13 +67,24 @@ pub(crate) fn state_of<O: Outlet>(book: &Book<O>, d: usize) -> Option<State> {
     }
 }
 
-/// Whether a book has this journal and nothing else in it.
-pub(crate) fn has_journal<O: Outlet>(
+/// Whether a text is that of these pieces. Prints both where it isn't.
+pub(crate) fn is_joined<R: Print>(
+    rt: &R,
+    alloc: Global,
+    got: &[u8],
+    pieces: &[&[u8]],
+) -> Result<bool, AllocError> {
+    Ok(is_text(rt, got, &joined(alloc, pieces)?))
+}
+
+/// Whether a book has this journal and nothing else in it. Prints both where it hasn't.
+pub(crate) fn has_journal<R: Print, O: Outlet>(
+    rt: &R,
     alloc: Global,
     book: &Book<O>,
     text: &[&[u8]],
 ) -> Result<bool, Fail> {
-    Ok(book.journal().write(alloc)? == joined(alloc, text)?)
+    Ok(is_joined(rt, alloc, &book.journal().write(alloc)?, text)?)
 }
 
 /// The report of a book that is settled.
@@ -127,14 +95,12 @@ pub(crate) fn report<O: Outlet>(book: &Book<O>) -> Result<Vec<u8>, Fail> {
     Ok(book.report()?)
 }
 
-/// Whether a book is settled and has this report.
-pub(crate) fn has_report<O: Outlet>(
+/// Whether a book that is settled has this report. Prints both where it hasn't.
+pub(crate) fn has_report<R: Print, O: Outlet>(
+    rt: &R,
     alloc: Global,
     book: &Book<O>,
     text: &[&[u8]],
 ) -> Result<bool, Fail> {
-    if !book.settled() {
-        return Ok(false);
-    }
-    Ok(book.report()? == joined(alloc, text)?)
+    Ok(is_joined(rt, alloc, &report(book)?, text)?)
 }

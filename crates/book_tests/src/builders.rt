@@ -6,6 +6,7 @@ use ref_scan::Tree;
 use sched_core::{Answer, Book, Checked, Job, Lease, Reason, examine};
 use std::alloc::{AllocError, Global};
 use std::test::Fail;
+use test_plans::leases::{end_lease, left};
 use valid_table::{ListOutlet, Outlet};
 
 /// What the builder of the derivation with this first output does: the status with which it ends,
@@ -40,19 +41,6 @@ pub(crate) fn left_nothing(alloc: Global, status: i32) -> Answer {
         status: Some(status),
         trees: Vec::new(alloc),
     }
-}
-
-/// The answer of a builder that leaves a file with these bytes at each output.
-pub(crate) fn left(alloc: Global, job: &Job, bytes: &[u8]) -> Result<Answer, AllocError> {
-    let mut trees = Vec::new(alloc);
-    for _ in 0..job.outputs.len() {
-        let file = Vec::from_slice(alloc, bytes)?;
-        trees.push(Some(Tree::File(file)))?;
-    }
-    Ok(Answer {
-        status: Some(0),
-        trees,
-    })
 }
 
 /// The answer of a builder that leaves an empty file at each output.
@@ -112,18 +100,6 @@ pub(crate) fn verdict<O: Outlet>(
     Ok(examine(alloc, lease.job(), &permitted, answer))
 }
 
-fn finish(book: &mut Book<ListOutlet>, lease: Lease<usize>, checked: Checked) -> Result<(), Fail>
-    requires { MayAllRefer book.old.history.entries lease.job checked }
-{
-    match book.finish(lease, checked) {
-        Ok(()) => Ok(()),
-        Err((fault, lease, _)) => {
-            lease.give_up();
-            Err(fault.into())
-        }
-    }
-}
-
 /// Ends a lease by a failure, and says whether the lease is the book's.
 pub(crate) fn fails(book: &mut Book<ListOutlet>, lease: Lease<usize>, reason: Reason) -> bool {
     match book.fail(lease, reason) {
@@ -156,7 +132,7 @@ pub(crate) fn build(
     scripts: &[Script],
 ) -> Result<(), Fail> {
     match verdict(alloc, book, &lease, scripts) {
-        Ok(Ok(checked)) => finish(book, lease, checked),
+        Ok(Ok(checked)) => Ok(end_lease(book, lease, checked)?),
         Ok(Err(reason)) => fail(book, lease, reason),
         Err(fault) => {
             lease.give_up();
@@ -178,12 +154,4 @@ pub(crate) fn build_all(
         build(alloc, book, lease, scripts)?;
     }
     Err("it doesn't end".into())
-}
-
-/// The next lease of a book.
-pub(crate) fn lease<O: Outlet>(book: &mut Book<O>) -> Result<Lease<O::Told>, Fail> {
-    match book.next()? {
-        Some(lease) => Ok(lease),
-        None => Err("nothing is ready".into()),
-    }
 }

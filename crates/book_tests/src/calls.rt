@@ -1,11 +1,13 @@
 //! Leases, and what a book answers about itself.
-use crate::books::{has_report, open, state_of};
-use crate::builders::{build, fail, fails, lease};
-use crate::files::*;
+use crate::books::{open, report, state_of};
+use crate::builders::{build, fail, fails};
 use crate::twin_files::*;
 use sched_core::{Book, Event, Lease, Reason, Refusal, State};
 use std::alloc::Global;
 use std::test::*;
+use test_plans::files::*;
+use test_plans::leases::lease;
+use test_plans::plans::SYSTEM;
 use valid_table::ListOutlet;
 
 // What an outlet told at a lease, at the first call and at the next one.
@@ -80,19 +82,20 @@ fn is_idle(book: &mut Book<ListOutlet>) -> Result<bool, Fail> {
     }
 }
 
-// Whether a derivation whose lease was given up is still building in a book.
-fn keeps_given_up(book: &mut Book<ListOutlet>) -> Result<bool, Fail> {
+// Whether a book is idle once its lease was given up, whether it is settled, and the state of its
+// derivation.
+fn behind_given_up(book: &mut Book<ListOutlet>) -> Result<(bool, bool, Option<State>), Fail> {
     lease(book)?.give_up();
     let is_idle = is_idle(book)?;
-    Ok(is_idle && !book.settled() && state_of(book, 0) == Some(State::Building(0)))
+    Ok((is_idle, book.settled(), state_of(book, 0)))
 }
 
 #[test]
 fn given_up(rt: HostRuntime) -> Result<(), Fail> {
     let mut book = open(rt.alloc(), &[BASE], &[])?;
-    let keeps = keeps_given_up(&mut book);
+    let behind = behind_given_up(&mut book);
     book.close();
-    assert!(rt; keeps?);
+    assert_eq!(rt; behind?, (true, false, Some(State::Building(0))));
     Ok(())
 }
 
@@ -108,35 +111,24 @@ fn abandon(book: &mut Book<ListOutlet>) -> Result<(), Fail> {
     }
 }
 
-// Whether a book reports a derivation that is abandoned.
-fn reports_abandoned(alloc: Global, book: &mut Book<ListOutlet>) -> Result<bool, Fail> {
+// The state of a derivation that is abandoned, and the book's report.
+fn behind_abandoned(book: &mut Book<ListOutlet>) -> Result<(Option<State>, Vec<u8>), Fail> {
     abandon(book)?;
-    let is_failed = state_of(book, 0) == Some(State::Failed(Reason::OutOfMemory));
-    Ok(is_failed && has_report(alloc, book, &[b"failed ", BASE, b": OutOfMemory\n"])?)
+    Ok((state_of(book, 0), report(book)?))
 }
+
+const ABANDONED: &str =
+    "failed /nix/store/xwrdsxnlq6n2qnx61xya715sfa49wkxm-base.drv: OutOfMemory\n";
 
 #[test]
 fn abandoned(rt: HostRuntime) -> Result<(), Fail> {
     let mut book = open(rt.alloc(), &[BASE], &[])?;
-    let reports = reports_abandoned(rt.alloc(), &mut book);
+    let behind = behind_abandoned(&mut book);
     book.close();
-    assert!(rt; reports?);
+    let (state, report) = behind?;
+    assert_eq!(rt; state, Some(State::Failed(Reason::OutOfMemory)));
+    assert_eq!(rt; str::from_utf8(&report)?, ABANDONED);
     Ok(())
-}
-
-// What a book answers about itself after a run in which a link fails.
-fn tells(book: &Book<ListOutlet>) -> bool {
-    let events = [
-        Event::Begin(0, 0),
-        Event::Done(0, 0),
-        Event::Begin(1, 1),
-        Event::Fail(1, 1, Reason::Killed),
-    ];
-    book.system() == b"x86_64-linux".as_slice()
-        && book.opening() == 2
-        && book.journal().entries().len() == 3
-        && book.plan().len() == 3
-        && book.events() == events.as_slice()
 }
 
 // Builds one derivation, and lets the next one fail.
@@ -146,6 +138,30 @@ fn build_and_fail(alloc: Global, book: &mut Book<ListOutlet>) -> Result<(), Fail
     let second = lease(book)?;
     fail(book, second, Reason::Killed)
 }
+
+// What a book answers about itself after that: its system, how many entries it opened with and has,
+// how many derivations there are, and its events.
+fn told_of_itself(
+    alloc: Global,
+    book: &mut Book<ListOutlet>,
+) -> Result<(Vec<u8>, [usize; 3], Vec<Event>), Fail> {
+    build_and_fail(alloc, book)?;
+    let counts = [
+        book.opening(),
+        book.journal().entries().len(),
+        book.plan().len(),
+    ];
+    let system = Vec::from_slice(alloc, book.system())?;
+    Ok((system, counts, Vec::from_slice(alloc, book.events())?))
+}
+
+// The events of a run in which the second link fails.
+const LINK_FAILED: [Event; 4] = [
+    Event::Begin(0, 0),
+    Event::Done(0, 0),
+    Event::Begin(1, 1),
+    Event::Fail(1, 1, Reason::Killed),
+];
 
 #[test]
 fn tells_of_itself(rt: HostRuntime) -> Result<(), Fail> {
@@ -159,11 +175,12 @@ fn tells_of_itself(rt: HostRuntime) -> Result<(), Fail> {
         b" -\n",
     ];
     let mut book = open(rt.alloc(), &[THIRD], &before)?;
-    let built = build_and_fail(rt.alloc(), &mut book);
-    let tells = tells(&book);
+    let told = told_of_itself(rt.alloc(), &mut book);
     book.close();
-    built?;
-    assert!(rt; tells);
+    let (system, counts, events) = told?;
+    assert_eq!(rt; system.as_slice(), SYSTEM);
+    assert_eq!(rt; counts, [2, 3, 3]);
+    assert_eq!(rt; events.as_slice(), LINK_FAILED.as_slice());
     Ok(())
 }
 

@@ -2,13 +2,14 @@
 //! failure takes no memory, however many users it refuses; large plans and reports take memory.
 
 use crate::books::{book_of, open, state_of};
-use crate::builders::{build, build_all, fails, lease};
+use crate::builders::{build, build_all, fails};
 use crate::random_plans::{nothing, plan_of};
 use crate::rows::{Row, diamonds};
 use drv_graph::Plan;
 use sched_core::{Book, Lease, Reason, Refusal, State};
 use std::alloc::Global;
 use std::test::*;
+use test_plans::leases::lease;
 use valid_table::{Journal, ListOutlet};
 
 // How many users the failed derivation has.
@@ -93,8 +94,7 @@ fn users_of_one_that_failed(rt: HostRuntime) -> Result<(), Fail> {
     let ends = rt.println(format_args!("up to here; {} steps", book.steps()));
     let (refused, settled, steps) = (refused(&book), book.settled(), book.steps());
     book.close();
-    assert!(rt; begins.is_ok() && ends.is_ok());
-    assert!(rt; failed? && settled);
+    assert_eq!(rt; [begins.is_ok(), failed?, ends.is_ok(), settled], [true; 4]);
     assert_eq!(rt; refused, USERS);
     assert_eq!(rt; steps, 2 + 2 * USERS as u64);
     Ok(())
@@ -126,8 +126,7 @@ fn steps_of_a_chain_of_twins(rt: HostRuntime) -> Result<(), Fail> {
     let (settled, steps) = (book.settled(), book.steps());
     book.close();
     built?;
-    assert!(rt; settled);
-    assert_eq!(rt; steps, 600 + 2 * (897 + 600));
+    assert_eq!(rt; (settled, steps), (true, 600 + 2 * (897 + 600)));
     Ok(())
 }
 
@@ -140,8 +139,7 @@ fn steps_of_many_twins(rt: HostRuntime) -> Result<(), Fail> {
     let (settled, steps) = (book.settled(), book.steps());
     book.close();
     built?;
-    assert!(rt; settled);
-    assert_eq!(rt; steps, 2 + 2 * (TWINS as u64 - 1));
+    assert_eq!(rt; (settled, steps), (true, 2 + 2 * (TWINS as u64 - 1)));
     Ok(())
 }
 
@@ -154,8 +152,7 @@ fn steps_of_failing_twins(rt: HostRuntime) -> Result<(), Fail> {
     let (settled, steps) = (book.settled(), book.steps());
     book.close();
     failed?;
-    assert!(rt; settled);
-    assert_eq!(rt; steps, 2 * 500 + 2 * 499);
+    assert_eq!(rt; (settled, steps), (true, 2 * 500 + 2 * 499));
     Ok(())
 }
 
@@ -229,7 +226,6 @@ fn plan_of_many_edges(rt: HostRuntime) -> Result<(), Fail> {
     let (settled, steps) = (book.settled(), book.steps());
     book.close();
     failed?;
-    assert!(rt; settled);
-    assert_eq!(rt; steps, 2 * 450 + 2 * 450 * 450);
+    assert_eq!(rt; (settled, steps), (true, 2 * 450 + 2 * 450 * 450));
     Ok(())
 }

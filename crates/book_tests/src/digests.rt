@@ -1,8 +1,8 @@
 //! Derivations with a fixed output by each other algorithm than SHA-256, and runs over them. Paths
 //! and digests were computed with Python's hashlib.
 use crate::builders::Script;
-use crate::files::File;
 use crate::rows::{BUILT, END, FAILED, OUTPUT, Row, VERSION};
+use test_plans::files::File;
 
 // MD5 of no bytes.
 const MD5: &[u8] = b"/nix/store/1rjj4hjjr4yjxgvzbnfsfl8km27iblhy-md5.drv";

@@ -1,6 +1,5 @@
 //! The texts of forecasts. Rows of `tests/rows` say them beside the reports of the runs.
-use crate::books::{Pieces, joined, journal, plan, system};
-use crate::files::*;
+use crate::books::{Pieces, journal, plan};
 use crate::hindered::ASKING;
 use crate::rows::{BEHIND, CLOSED, END, NONE, OUTPUT, VERSION};
 use crate::twin_files::*;
@@ -9,6 +8,8 @@ use drv_graph::Plan;
 use forecast::Forecast;
 use std::alloc::Global;
 use std::test::*;
+use test_plans::files::*;
+use test_plans::plans::{joined, system};
 use valid_table::Journal;
 
 // A run: its roots, the lines of its journal, its forecast, and whether the forecast is whole.

@@ -3,13 +3,16 @@
 ghost use Rattle.std.specs.Prelude.{◌≡◌, ◌++◌};
 ghost use Rattle.sched_core.specs.Books.{MayAllRefer};
 
-use crate::books::{has_report, journal, plan, state_of, system};
-use crate::builders::{Script, lease, verdict};
-use crate::files::*;
+use crate::books::{has_report, journal, plan, state_of};
+use crate::builders::{Script, verdict};
 use drv_graph::Plan;
 use sched_core::{Book, BookFault, Checked, Event, Lease, State};
 use std::alloc::Global;
+use std::io::Print;
 use std::test::*;
+use test_plans::files::*;
+use test_plans::leases::lease;
+use test_plans::plans::system;
 use valid_table::{Entry, Journal, ListOutlet, Outlet, OutletFault};
 
 // A plain outlet that refuses memory for its next entries, `refusals` times.
@@ -134,12 +137,12 @@ fn build(alloc: Global, book: &mut Book<Scarce>) -> Result<usize, Fail> {
 }
 
 // How often memory was refused while the one derivation of a run was registered.
-fn refusals(alloc: Global, book: &mut Book<Scarce>) -> Result<usize, Fail> {
+fn refusals<R: Print>(rt: &R, alloc: Global, book: &mut Book<Scarce>) -> Result<usize, Fail> {
     let refusals = build(alloc, book)?;
     let report: [&[u8]; 9] = [
         b"built ", TWO, b"\n", b"output ", TWO_DEV, b"\n", b"output ", TWO_OUT, b"\n",
     ];
-    if has_report(alloc, book, &report)? && state_of(book, 0) == Some(State::Done) {
+    if has_report(rt, alloc, book, &report)? && state_of(book, 0) == Some(State::Done) {
         Ok(refusals)
     } else {
         Err("another report".into())
@@ -147,18 +150,18 @@ fn refusals(alloc: Global, book: &mut Book<Scarce>) -> Result<usize, Fail> {
 }
 
 // The same where the outlet refuses memory `scarce` times.
-fn refusals_with(alloc: Global, scarce: usize) -> Result<usize, Fail> {
+fn refusals_with<R: Print>(rt: &R, alloc: Global, scarce: usize) -> Result<usize, Fail> {
     let plan = plan(alloc, &[TWO])?;
     let journal = journal(alloc, &[])?;
     let mut book = scarce_book(alloc, plan, journal, scarce)?;
-    let refusals = refusals(alloc, &mut book);
+    let refusals = refusals(rt, alloc, &mut book);
     book.close();
     refusals
 }
 
 #[test]
 fn outlet_refuses_memory(rt: HostRuntime) -> Result<(), Fail> {
-    assert_eq!(rt; refusals_with(rt.alloc(), 1)?, 1);
+    assert_eq!(rt; refusals_with(&rt, rt.alloc(), 1)?, 1);
     Ok(())
 }
 
@@ -166,8 +169,8 @@ fn outlet_refuses_memory(rt: HostRuntime) -> Result<(), Fail> {
 // `tests/refused-growths` lets each growth fail in turn.
 #[test]
 fn at_most_one_refusal(rt: HostRuntime) -> Result<(), Fail> {
-    let refusals = refusals_with(rt.alloc(), 0)?;
-    assert!(rt; refusals <= 1);
+    let refusals = refusals_with(&rt, rt.alloc(), 0)?;
+    assert!(rt; refusals <= 1, "wanted at most 1, got {refusals}");
     rt.println(format_args!("refused {refusals}"))?;
     Ok(())
 }

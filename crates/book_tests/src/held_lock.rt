@@ -2,8 +2,7 @@
 //! a reader waits.
 ghost use Rattle.std.specs.Prelude.{◌≡◌};
 
-use crate::books::{journal, paths, plan, system};
-use crate::files::*;
+use crate::books::{journal, plan};
 use drv_graph::Plan;
 use nix_names::StorePath;
 use sched_core::Book;
@@ -12,6 +11,8 @@ use std::marker::Brand;
 use std::process::Abort;
 use std::sync::{Mutex, Wait};
 use std::test::*;
+use test_plans::files::*;
+use test_plans::plans::{paths, system};
 use valid_table::Journal;
 use valid_view::{Name, Naming, Tells, ViewFault, ViewReader, open};
 
@@ -68,7 +69,7 @@ fn asked<J: Naming + Send, R: Wait + Abort>(rt: &R, alloc: Global, name: Name) -
     let roots = paths(alloc, &[BASE_OUT])?;
     let (journal, plan) = (journal(alloc, BEFORE)?, plan(alloc, &[BASE])?);
     let (answer, entries) = asked_of_book::<J, R>(rt, alloc, name, plan, journal, &roots)?;
-    assert!(rt; answer == roots);
+    assert!(rt; answer == roots, "wanted {roots:?}, got {answer:?}");
     assert_eq!(rt; entries, 1);
     Ok(())
 }

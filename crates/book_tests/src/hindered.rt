@@ -1,6 +1,6 @@
 //! Derivations that ask for a feature that is left out. Their paths were computed with Python's
 //! hashlib.
-use crate::files::File;
+use test_plans::files::File;
 
 /// A derivation that asks for a feature that is left out, with the path of its output.
 pub(crate) struct Hindered {

@@ -23,8 +23,8 @@
 //! | `random_runs` | random plans and answers, beside states that the test computes |
 //! | `random_plans`, `made`, `random` | random derivations, and random numbers |
 //! | `builders` | the answers of builders, and how leases end by them |
-//! | `books` | plans, journals and books for the tests |
-//! | `files`, `hindered`, `twin_files` | files of derivations |
+//! | `books` | plans, journals and books for the tests, beside `test_plans` |
+//! | `hindered`, `twin_files` | files of derivations |
 //! | `words` | the words and numbers of faults, reasons and refusals |
 #![tactic(auto)]
 
@@ -44,8 +44,6 @@ mod digest_vectors;
 mod digests;
 #[cfg(test)]
 mod example;
-#[cfg(test)]
-mod files;
 #[cfg(test)]
 mod forecasts;
 #[cfg(test)]

@@ -2,13 +2,13 @@
 //! inputs' files. `Plan::load` tests whether their paths are right.
 ghost use Rattle.std.specs.Prelude.{◌≡◌, length};
 
-use crate::books::{joined, store_dir};
 use drv_graph::modulo_text;
 use nix_drv::{Derivation, Output, Parts, references, text_path, write};
 use nix_names::{StorePath, make_path};
 use sha2::{Digest, Sha256};
 use std::alloc::{AllocError, Global};
 use std::test::Fail;
+use test_plans::plans::{joined, store_dir};
 
 /// A derivation, its text, its path and its modulo hash.
 #[derive(Drop)]

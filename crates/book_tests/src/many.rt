@@ -1,7 +1,6 @@
 //! A job with many inputs.
 
-use crate::books::{book_of, store_dir};
-use crate::builders::lease;
+use crate::books::book_of;
 use crate::made::{Made, derivation, make};
 use drv_graph::Plan;
 use nix_drv::{Derivation, Input, ListSource, ListedFile, Output, Parts};
@@ -9,6 +8,8 @@ use nix_names::{StorePath, parse_path};
 use sched_core::{Book, Job};
 use std::alloc::{AllocError, Global};
 use std::test::*;
+use test_plans::leases::lease;
+use test_plans::plans::store_dir;
 use valid_table::{Journal, ListOutlet, Record};
 
 const INPUTS: usize = 3_000;

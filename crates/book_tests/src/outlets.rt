@@ -1,14 +1,15 @@
 //! The calls that a book makes of its outlet, in order: it publishes once for each lease, and shows
 //! nothing when it is closed.
-ghost use Rattle.sched_core.specs.Books.{MayAllRefer};
 
-use crate::books::{plan, system};
-use crate::builders::{lease, verdict};
-use crate::files::*;
-use sched_core::{Book, Checked, Lease};
+use crate::books::plan;
+use crate::builders::verdict;
+use sched_core::{Book, Lease};
 use std::alloc::{AllocError, Global};
 use std::sync::{Mutex, Wait};
 use std::test::*;
+use test_plans::files::*;
+use test_plans::leases::{end_lease, lease};
+use test_plans::plans::system;
 use valid_table::{Entry, Journal, ListOutlet, Outlet, OutletFault};
 
 // A plain outlet that notes its calls, and refuses memory for its first entries, `refusals` times.
@@ -159,20 +160,12 @@ static ROWS: [Row; 6] = [
     },
 ];
 
-// Ends a lease by what was built, or gives it up where memory is refused.
-fn finish<O: Outlet>(book: &mut Book<O>, lease: Lease<O::Told>, checked: Checked)
-    requires { MayAllRefer book.old.history.entries lease.job checked }
-{
-    if let Err((_, lease, _)) = book.finish(lease, checked) {
-        lease.give_up();
-    }
-}
-
 // Builds under a lease.
 fn build<O: Outlet>(alloc: Global, book: &mut Book<O>, lease: Lease<O::Told>) -> Result<(), Fail> {
     match verdict(alloc, book, &lease, &[]) {
         Ok(Ok(checked)) => {
-            finish(book, lease, checked);
+            // It is given up where memory is refused.
+            let _ = end_lease(book, lease, checked);
             Ok(())
         }
         Ok(Err(reason)) => {

@@ -2,13 +2,16 @@
 ghost use Rattle.std.specs.Prelude.{IfOk};
 ghost use Rattle.nix_names.specs.Rising.{IsRising};
 
-use crate::books::{journal, paths};
-use crate::files::*;
+use crate::books::journal;
 use drv_graph::Kind;
 use nix_names::StorePath;
 use sched_core::{Job, JobOutput, permitted_beside};
 use std::alloc::Global;
+use std::io::Print;
 use std::test::*;
+use test_plans::files::*;
+use test_plans::plans::paths;
+use test_plans::texts::are_paths;
 use valid_table::Table;
 
 // The closure of a job's seeds, the job's outputs, and the paths that are permitted to it.
@@ -89,17 +92,17 @@ fn job(alloc: Global, texts: &[&[u8]]) -> Result<Job, Fail> {
 }
 
 // Whether these paths and no others are permitted.
-fn is_permitted(alloc: Global, beside: &Beside) -> Result<bool, Fail> {
+fn is_permitted<R: Print>(rt: &R, alloc: Global, beside: &Beside) -> Result<bool, Fail> {
     let reached = reached(alloc, beside.reached)?;
     let permitted = permitted_beside(alloc, reached, &job(alloc, beside.outputs)?)?;
-    Ok(permitted == paths(alloc, beside.permitted)?)
+    Ok(are_paths(rt, &permitted, beside.permitted))
 }
 
 #[test]
 fn permitted_rows(rt: HostRuntime) -> Result<(), Fail> {
     for beside in &BESIDE {
         assert!(rt;
-            is_permitted(rt.alloc(), beside)?,
+            is_permitted(&rt, rt.alloc(), beside)?,
             "of {:?}",
             beside.outputs
         );

@@ -1,6 +1,5 @@
 //! Plans of random derivations. The first letter of a derivation's name says which kind it is of.
 //! For twins with a fixed output the first letter of their argument says it.
-use crate::books::store_dir;
 use crate::made::{Made, derivation, make};
 use crate::random::Random;
 use drv_graph::Plan;
@@ -8,6 +7,7 @@ use nix_drv::{Derivation, EnvEntry, Input, ListSource, ListedFile, Output, Parts
 use nix_names::{StorePath, parse_path};
 use std::alloc::{AllocError, Global};
 use std::test::Fail;
+use test_plans::plans::store_dir;
 use valid_table::{Journal, Record};
 
 /// For another system, with an output that is valid.

@@ -3,15 +3,18 @@ ghost use Rattle.std.specs.Prelude.{IfOk};
 ghost use Rattle.sched_core.specs.Books.{MayAllRefer};
 
 use crate::books::{Pieces, has_journal, has_report, open};
-use crate::builders::{build, build_all, lease, verdict};
-use crate::files::*;
+use crate::builders::{build, build_all, verdict};
 use drv_graph::Kind;
 use nix_drv::EnvEntry;
 use nix_names::StorePath;
 use ref_scan::Tree;
 use sched_core::{Answer, Book, BookFault, Checked, Event, Job, JobOutput, Lease, Reason, examine};
 use std::alloc::{AllocError, Global};
+use std::io::Print;
 use std::test::*;
+use test_plans::files::*;
+use test_plans::leases::lease;
+use test_plans::texts::are_values;
 use valid_table::ListOutlet;
 
 // The report of a diamond whose derivations are all built.
@@ -93,24 +96,29 @@ fn refuses_lease_of(
     }
 }
 
-// Whether a book doesn't change when it refuses such a lease, and goes on to its end.
-fn stays_beside(
+// Whether a book refuses such a lease, whether it is then as before, and whether it goes on to its
+// end.
+fn stays_beside<R: Print>(
+    rt: &R,
     alloc: Global,
     book: &mut Book<ListOutlet>,
     other: &mut Book<ListOutlet>,
-) -> Result<bool, Fail> {
+) -> Result<[bool; 3], Fail> {
     let before = look(alloc, book)?;
-    if !(refuses_lease_of(alloc, book, other)? && is_as(alloc, book, &before)?) {
-        return Ok(false);
-    }
+    let refuses = refuses_lease_of(alloc, book, other)?;
+    let stays = is_as(alloc, book, &before)?;
     build_all(alloc, book, &[])?;
-    has_report(alloc, book, &ALL_BUILT)
+    Ok([refuses, stays, has_report(rt, alloc, book, &ALL_BUILT)?])
 }
 
 // The same for the books of two diamonds.
-fn stays_beside_another(alloc: Global, book: &mut Book<ListOutlet>) -> Result<bool, Fail> {
+fn stays_beside_another<R: Print>(
+    rt: &R,
+    alloc: Global,
+    book: &mut Book<ListOutlet>,
+) -> Result<[bool; 3], Fail> {
     let mut other = open(alloc, &[TOP], &[])?;
-    let stays = stays_beside(alloc, book, &mut other);
+    let stays = stays_beside(rt, alloc, book, &mut other);
     other.close();
     stays
 }
@@ -118,9 +126,9 @@ fn stays_beside_another(alloc: Global, book: &mut Book<ListOutlet>) -> Result<bo
 #[test]
 fn foreign_lease(rt: HostRuntime) -> Result<(), Fail> {
     let mut book = open(rt.alloc(), &[TOP], &[])?;
-    let stays = stays_beside_another(rt.alloc(), &mut book);
+    let stays = stays_beside_another(&rt, rt.alloc(), &mut book);
     book.close();
-    assert!(rt; stays?);
+    assert_eq!(rt; stays?, [true; 3]);
     Ok(())
 }
 
@@ -289,7 +297,8 @@ fn refused_lease(
 }
 
 // Whether a book doesn't change when it refuses such records, and goes on under that lease.
-fn stays_with_lease(
+fn stays_with_lease<R: Print>(
+    rt: &R,
     alloc: Global,
     book: &mut Book<ListOutlet>,
     other: &Other,
@@ -297,16 +306,17 @@ fn stays_with_lease(
     let Some(lease) = refused_lease(alloc, book, other.places)? else {
         return Ok(false);
     };
-    let stays = book.events() == [Event::Begin(0, 0)].as_slice()
-        && book.journal().entries().is_empty();
+    let stays = are_values(rt, book.events(), &[Event::Begin(0, 0)])
+        && are_values(rt, &[book.journal().entries().len()], &[0]);
     build(alloc, book, lease, &[])?;
-    Ok(stays && has_report(alloc, book, other.report)? && has_journal(alloc, book, other.journal)?)
+    let is_report = has_report(rt, alloc, book, other.report)?;
+    Ok(has_journal(rt, alloc, book, other.journal)? && is_report && stays)
 }
 
 // The same for the book of such a run.
-fn is_refused(alloc: Global, other: &Other) -> Result<bool, Fail> {
+fn is_refused<R: Print>(rt: &R, alloc: Global, other: &Other) -> Result<bool, Fail> {
     let mut book = open(alloc, &[other.root], &[])?;
-    let stays = stays_with_lease(alloc, &mut book, other);
+    let stays = stays_with_lease(rt, alloc, &mut book, other);
     book.close();
     stays
 }
@@ -314,7 +324,7 @@ fn is_refused(alloc: Global, other: &Other) -> Result<bool, Fail> {
 #[test]
 fn verdicts_of_other_jobs(rt: HostRuntime) -> Result<(), Fail> {
     for other in others() {
-        assert!(rt; is_refused(rt.alloc(), other)?, "{:?}", other.places);
+        assert!(rt; is_refused(&rt, rt.alloc(), other)?, "{:?}", other.places);
     }
     Ok(())
 }

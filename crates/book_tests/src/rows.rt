@@ -1,7 +1,7 @@
 //! Runs and how they end, on one thread and by any number of workers.
 use crate::books::Pieces;
 use crate::builders::Script;
-use crate::files::*;
+use test_plans::files::*;
 
 /// A run: its roots, the lines of its journal before it and, where they are checked, after it, its
 /// builders, its number of events, and its report.

@@ -1,25 +1,32 @@
 //! Runs on one thread to their end, whose builders follow scripts.
 use crate::books::{has_journal, has_report, open};
 use crate::builders::build_all;
-use crate::files::TOP;
 use crate::rows::{Row, others};
 use sched_core::{Book, Event};
 use std::alloc::Global;
+use std::io::Print;
 use std::test::*;
+use test_plans::files::TOP;
+use test_plans::texts::are_values;
 use valid_table::ListOutlet;
 
 // Whether a book ends as its row says, when every derivation that can be built is built.
-fn runs_to(alloc: Global, book: &mut Book<ListOutlet>, row: &Row) -> Result<bool, Fail> {
+fn runs_to<R: Print>(
+    rt: &R,
+    alloc: Global,
+    book: &mut Book<ListOutlet>,
+    row: &Row,
+) -> Result<bool, Fail> {
     build_all(alloc, book, row.scripts)?;
-    let is_journal = row.after.is_empty() || has_journal(alloc, book, row.after)?;
-    let is_report = has_report(alloc, book, row.report)?;
-    Ok(is_report && is_journal && book.events().len() == row.events)
+    let is_journal = row.after.is_empty() || has_journal(rt, alloc, book, row.after)?;
+    let is_report = has_report(rt, alloc, book, row.report)?;
+    Ok(are_values(rt, &[book.events().len()], &[row.events]) && is_report && is_journal)
 }
 
 // Whether a run ends as its row says.
-fn holds(alloc: Global, row: &Row) -> Result<bool, Fail> {
+fn holds<R: Print>(rt: &R, alloc: Global, row: &Row) -> Result<bool, Fail> {
     let mut book = open(alloc, row.roots, row.before)?;
-    let holds = runs_to(alloc, &mut book, row);
+    let holds = runs_to(rt, alloc, &mut book, row);
     book.close();
     holds
 }
@@ -27,7 +34,7 @@ fn holds(alloc: Global, row: &Row) -> Result<bool, Fail> {
 #[test]
 fn other_runs(rt: HostRuntime) -> Result<(), Fail> {
     for row in others() {
-        assert!(rt; holds(rt.alloc(), row)?, "{}", row.label);
+        assert!(rt; holds(&rt, rt.alloc(), row)?, "{}", row.label);
     }
     Ok(())
 }

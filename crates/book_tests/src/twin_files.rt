@@ -1,6 +1,6 @@
 //! Files of derivations that share all their outputs. Their paths were computed with Python's
 //! hashlib.
-use crate::files::File;
+use test_plans::files::File;
 
 /// Its fixed output is an empty file, which it makes. Its twins are `BROKEN`, `BROKEN_TOO` and
 /// `STRANGE`.

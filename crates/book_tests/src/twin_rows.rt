@@ -1,8 +1,8 @@
 //! Runs over derivations that share all their outputs, and how they end.
 use crate::builders::Script;
-use crate::files::*;
 use crate::rows::*;
 use crate::twin_files::*;
+use test_plans::files::*;
 
 const ONE_STATUS: &[u8] = b": ExitStatus(1)\n";
 

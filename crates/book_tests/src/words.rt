@@ -1,11 +1,13 @@
 //! The words and the numbers of each fault, each reason and each refusal.
 use crate::books::{has_report, open};
-use crate::builders::{fail, lease};
-use crate::files::TWO;
+use crate::builders::fail;
 use sched_core::{Book, BookFault, Reason, Refusal};
 use std::alloc::Global;
+use std::io::Print;
 use std::test::*;
 use store_run::RunFault;
+use test_plans::files::TWO;
+use test_plans::leases::lease;
 use valid_table::ListOutlet;
 
 #[test]
@@ -90,7 +92,8 @@ const REASONS: [(Reason, u8, &[u8]); 13] = [
 ];
 
 // Whether a book reports its one derivation with these words, once it failed for this reason.
-fn is_reported(
+fn is_reported<R: Print>(
+    rt: &R,
     alloc: Global,
     book: &mut Book<ListOutlet>,
     reason: Reason,
@@ -98,13 +101,13 @@ fn is_reported(
 ) -> Result<bool, Fail> {
     let lease = lease(book)?;
     fail(book, lease, reason)?;
-    has_report(alloc, book, &[b"failed ", TWO, words])
+    has_report(rt, alloc, book, &[b"failed ", TWO, words])
 }
 
 // The same for a book that is opened for the test.
-fn is_told(alloc: Global, reason: Reason, words: &[u8]) -> Result<bool, Fail> {
+fn is_told<R: Print>(rt: &R, alloc: Global, reason: Reason, words: &[u8]) -> Result<bool, Fail> {
     let mut book = open(alloc, &[TWO], &[])?;
-    let is_told = is_reported(alloc, &mut book, reason, words);
+    let is_told = is_reported(rt, alloc, &mut book, reason, words);
     book.close();
     is_told
 }
@@ -113,7 +116,7 @@ fn is_told(alloc: Global, reason: Reason, words: &[u8]) -> Result<bool, Fail> {
 fn reasons(rt: HostRuntime) -> Result<(), Fail> {
     for (reason, number, words) in REASONS {
         assert_eq!(rt; reason.number(), number, "{reason:?}");
-        assert!(rt; is_told(rt.alloc(), reason, words)?, "{reason:?}");
+        assert!(rt; is_told(&rt, rt.alloc(), reason, words)?, "{reason:?}");
     }
     Ok(())
 }

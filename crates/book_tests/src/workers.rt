@@ -1,18 +1,21 @@
 //! Runs by workers, over a view.
 ghost use Rattle.std.specs.Prelude.{◌≡◌};
 
-use crate::books::{book_of, joined, journal, plan};
+use crate::books::{book_of, is_joined, journal, plan};
 use crate::builders::Script;
-use crate::files::*;
 use crate::rows::{END, FAILED, Row, others};
 use builders::{Hungry, Scripted};
 use drv_graph::Plan;
 use sched_core::Event;
 use std::alloc::{AllocError, Global};
+use std::io::Print;
 use std::sync::Wait;
 use std::test::*;
 use std::thread::Threads;
 use store_run::{Locked, RunFault};
+use test_plans::files::*;
+use test_plans::plans::joined;
+use test_plans::texts::are_values;
 use traces::{Traces, fault_of, realised};
 use valid_table::{Journal, ListOutlet};
 
@@ -39,14 +42,19 @@ fn scripted(
 }
 
 // Whether a run ended as its row says.
-fn is_right(alloc: Global, traces: &Traces, row: &Row) -> Result<bool, AllocError> {
-    let is_journal = row.after.is_empty() || traces.text == joined(alloc, row.after)?;
-    let is_report = traces.report == joined(alloc, row.report)?;
-    Ok(is_report && is_journal && traces.events.len() == row.events)
+fn is_right<R: Print>(
+    rt: &R,
+    alloc: Global,
+    traces: &Traces,
+    row: &Row,
+) -> Result<bool, AllocError> {
+    let is_journal = row.after.is_empty() || is_joined(rt, alloc, &traces.text, row.after)?;
+    let is_report = is_joined(rt, alloc, &traces.report, row.report)?;
+    Ok(are_values(rt, &[traces.events.len()], &[row.events]) && is_report && is_journal)
 }
 
 // Whether a run by `workers` workers ends as its row says.
-fn holds<R: Threads + Wait + Sync>(
+fn holds<R: Threads + Wait + Sync + Print>(
     rt: &R,
     alloc: Global,
     row: &Row,
@@ -56,7 +64,7 @@ fn holds<R: Threads + Wait + Sync>(
     let journal = journal(alloc, row.before)?;
     let builders = scripted(alloc, row.scripts, workers)?;
     let traces = realised(rt, alloc, &plan, &journal, builders)?;
-    Ok(is_right(alloc, &traces, row)?)
+    Ok(is_right(rt, alloc, &traces, row)?)
 }
 
 #[test]
@@ -151,6 +159,6 @@ fn book_behind_a_lock(rt: HostRuntime) -> Result<(), Fail> {
     let began = book.events().len();
     book.close();
     assert_eq!(rt; (count, began), (1, 0));
-    assert!(rt; stop.is_none());
+    assert_eq!(rt; stop, None);
     Ok(())
 }

@@ -3,18 +3,17 @@ ghost use Rattle.std.specs.Prelude.{◌≡◌, ◌++◌, IfOk};
 ghost use Rattle.nix_names.specs.Rising.{IsRising};
 
 use crate::calls::*;
-use crate::files::*;
-use crate::samples::{has_text, journal};
+use crate::samples::{has_text, plan};
 use drv_graph::Plan;
 use nix_names::StorePath;
 use sched_core::*;
 use std::alloc::Global;
 use std::io::Print;
 use std::test::*;
+use test_plans::files::*;
+use test_plans::leases::lease;
+use test_plans::plans::{SYSTEM, journal_of, system};
 use valid_table::{Journal, ListOutlet, Outlet};
-
-/// The system of the run.
-pub(crate) const SYSTEM: &[u8] = b"x86_64-linux";
 
 /// The journal with which a run opens: the output of `BASE` is valid, and so are outputs of four
 /// derivations that the plan has not.
@@ -56,8 +55,8 @@ pub(crate) static BUILDING: Stand = Stand {
 fn parts(alloc: Global) -> Result<(Plan, Journal, Vec<u8>, ListOutlet), Fail>
     ensures { IfOk result (λ x. x.3.shown ++ x.3.pending ≡ x.1.entries) }
 {
-    let system = Vec::from_slice(alloc, SYSTEM)?;
-    let journal = journal(alloc, BEFORE)?;
+    let system = system(alloc)?;
+    let journal = journal_of(alloc, BEFORE)?;
     let outlet = ListOutlet::open(alloc, &journal)?;
     Ok((plan(alloc, LEFT)?, journal, system, outlet))
 }
@@ -109,14 +108,6 @@ fn books_that_open(rt: HostRuntime) -> Result<(), Fail> {
     book.close();
     assert!(rt; stands);
     Ok(())
-}
-
-/// The next lease of a book.
-pub(crate) fn lease(book: &mut Book<ListOutlet>) -> Result<Lease<usize>, Fail> {
-    match book.next()? {
-        Some(lease) => Ok(lease),
-        None => Err("nothing is ready".into()),
-    }
 }
 
 // The lease of `LEFT`, given between two printed lines; where memory was refused, it is asked for

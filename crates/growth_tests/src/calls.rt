@@ -1,15 +1,15 @@
-//! Calls between two printed lines, and the values that are wanted of their answers.
+//! Calls between two printed lines, and the texts that are wanted of their answers.
 //! `tests/refused-growths` refuses memory from the first line to the second.
 
 use drv_graph::GraphFault;
 use nix_drv::DrvFault;
-use nix_names::{NameFault, StorePath};
+use nix_names::NameFault;
 use ref_scan::ScanFault;
 use sched_core::BookFault;
 use std::alloc::{AllocError, Global};
-use std::fmt::Debug;
 use std::io::Print;
 use std::test::Fail;
+pub(crate) use test_plans::texts::{are_paths, are_values, is_text};
 use valid_table::{OutletFault, TableFault};
 
 /// A fault that may be want of memory.
@@ -87,45 +87,9 @@ pub(crate) fn granted<T: Drop, E: Wanting + Drop>(
     }
 }
 
-// Prints a word and a text.
-fn print_text<R: Print>(rt: &R, word: &str, text: &[u8]) {
-    let _ = match str::from_utf8(text) {
-        Ok(text) => rt.println(format_args!("{word} {text}")),
-        Err(_) => rt.println(format_args!("{word} {text:?}")),
-    };
-}
-
-/// Whether a text is the wanted one. Prints both where it isn't.
-pub(crate) fn is_text<R: Print>(rt: &R, got: &[u8], wanted: &[u8]) -> bool {
-    let is_wanted = got == wanted;
-    if !is_wanted {
-        print_text(rt, "wanted", wanted);
-        print_text(rt, "got", got);
-    }
-    is_wanted
-}
-
 /// Whether a text begins with the wanted one. Prints both where it doesn't.
 pub(crate) fn begins_with<R: Print>(rt: &R, got: &[u8], wanted: &[u8]) -> bool {
     got.starts_with(wanted) || is_text(rt, got, wanted)
-}
-
-/// Whether values are the wanted ones. Prints both where they aren't.
-pub(crate) fn are_values<R: Print, T: Debug + PartialEq>(rt: &R, got: &[T], wanted: &[T]) -> bool {
-    let are_wanted = got == wanted;
-    if !are_wanted {
-        let _ = rt.println(format_args!("wanted {wanted:?}, got {got:?}"));
-    }
-    are_wanted
-}
-
-/// Whether paths have the wanted texts. Prints both where they haven't.
-pub(crate) fn are_paths<R: Print>(rt: &R, paths: &[StorePath], texts: &[&[u8]]) -> bool {
-    let mut are_wanted = are_values(rt, &[paths.len()], &[texts.len()]);
-    for (path, text) in paths.iter().zip(texts) {
-        are_wanted = is_text(rt, path.text(), text) && are_wanted;
-    }
-    are_wanted
 }
 
 const BEFORE: &[u8] = b"before";

@@ -1,12 +1,14 @@
 //! Calls on derivations, their texts and their sources.
 
 use crate::calls::*;
-use crate::files::*;
+use crate::samples::source;
 use nix_drv::*;
 use nix_names::{StorePath, is_name};
 use std::alloc::Global;
 use std::io::Print;
 use std::test::*;
+use test_plans::files::*;
+use test_plans::plans::{listed, path, paths, store_dir};
 
 // A text with a source, an argument and an entry, and the same text with another input.
 const PLAIN: &[u8] =
@@ -119,7 +121,7 @@ fn gives_top(alloc: Global, source: &mut ListSource) -> Result<bool, Fail> {
 // The source of the files, made between two printed lines; where memory was refused, it is made
 // again.
 fn made<R: Print>(rt: &R, alloc: Global) -> Result<ListSource, Fail> {
-    let files = listed(alloc)?;
+    let files = listed(alloc, &FIVE)?;
     begins(rt, "ListSource::new");
     let answer = ListSource::new(alloc, files, Vec::new(alloc));
     ends(rt, "ListSource::new");

@@ -1,21 +1,22 @@
 //! Calls on forecasts.
 
-use crate::books::{BEFORE, SYSTEM};
+use crate::books::BEFORE;
 use crate::calls::*;
-use crate::files::*;
-use crate::samples::journal;
+use crate::samples::plan;
 use drv_graph::Plan;
 use forecast::{Forecast, Prospect};
 use sched_core::BookFault;
 use std::alloc::Global;
 use std::io::Print;
 use std::test::*;
+use test_plans::files::*;
+use test_plans::plans::{journal_of, system};
 use valid_table::Journal;
 
 // The parts of a forecast: a plan whose root is `LEFT`, a journal and a system.
 fn parts(alloc: Global) -> Result<(Plan, Journal, Vec<u8>), Fail> {
-    let system = Vec::from_slice(alloc, SYSTEM)?;
-    let journal = journal(alloc, BEFORE)?;
+    let system = system(alloc)?;
+    let journal = journal_of(alloc, BEFORE)?;
     Ok((plan(alloc, LEFT)?, journal, system))
 }
 

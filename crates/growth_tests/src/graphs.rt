@@ -2,13 +2,15 @@
 
 use crate::calls::*;
 use crate::drvs::has_text;
-use crate::files::*;
+use crate::samples::{plan, source};
 use drv_graph::*;
 use nix_drv::{Derivation, ListSource, read};
 use nix_names::{StoreDir, StorePath};
 use std::alloc::Global;
 use std::io::Print;
 use std::test::*;
+use test_plans::files::*;
+use test_plans::plans::{paths, store_dir};
 
 // Whether a plan's derivations have these paths, in its order.
 fn has_paths(plan: &Plan, texts: &[&[u8]]) -> bool {
@@ -82,6 +84,10 @@ fn fills_left<R: Print>(rt: &R, alloc: Global, draft: &Derivation) -> Result<boo
     let (drv, path) = filled(rt, alloc, &mut source(alloc)?, draft)?;
     Ok(has_text(alloc, &drv, LEFT_TEXT)? && path.text() == LEFT)
 }
+
+// `LEFT` without the paths of its outputs.
+const LEFT_DRAFT: &[u8] =
+    b"Derive([(\"dev\",\"\",\"\",\"\"),(\"out\",\"\",\"\",\"\")],[(\"/nix/store/xwrdsxnlq6n2qnx61xya715sfa49wkxm-base.drv\",[\"out\"])],[],\"x86_64-linux\",\"/bin/sh\",[],[])";
 
 #[test]
 fn drafts(rt: HostRuntime) -> Result<(), Fail> {

@@ -4,7 +4,6 @@ ghost use Rattle.valid_table.specs.Entries.{registered_by};
 ghost use Rattle.valid_table.specs.Valid.{references_of};
 
 use crate::calls::*;
-use crate::files::path;
 use crate::samples::*;
 use crate::tables::*;
 use nix_names::{StorePath, is_drv_name};
@@ -12,6 +11,7 @@ use std::alloc::{AllocError, Global};
 use std::io::Print;
 use std::slice;
 use std::test::*;
+use test_plans::plans::{journal_of, path};
 use valid_table::*;
 
 const W_DRV: &[u8] = b"/nix/store/ffffffffffffffffffffffffffffffff-w.drv";
@@ -42,7 +42,7 @@ fn registration(alloc: Global) -> Result<Registration, Fail> {
 
 // The journal `JOURNAL`, whose list of entries has no room for one more.
 fn full(alloc: Global) -> Result<Journal, Fail> {
-    Ok(journal(alloc, JOURNAL)?.copy(alloc)?)
+    Ok(journal_of(alloc, JOURNAL)?.copy(alloc)?)
 }
 
 // Whether this entry is the last one of four, and the table has what it registers.
@@ -172,7 +172,7 @@ fn append_each(journal: &mut Journal, all: Vec<(StorePath, Outputs)>) -> Result<
 // How many entries a journal has to which all were appended between two printed lines. None where
 // memory was refused.
 fn length_behind<R: Print>(rt: &R, alloc: Global) -> Result<Option<usize>, Fail> {
-    let (mut journal, all) = (journal(alloc, JOURNAL)?, all_built(alloc)?);
+    let (mut journal, all) = (journal_of(alloc, JOURNAL)?, all_built(alloc)?);
     begins(rt, "Journal::append often");
     let answer = append_each(&mut journal, all);
     ends(rt, "Journal::append often");
@@ -237,7 +237,7 @@ fn pushed<R: Print>(rt: &R, alloc: Global, journal: &mut Journal) -> Result<bool
 
 #[test]
 fn room_in_a_journal(rt: HostRuntime) -> Result<(), Fail> {
-    let mut journal = journal(rt.alloc(), JOURNAL)?;
+    let mut journal = journal_of(rt.alloc(), JOURNAL)?;
     assert!(rt; pushed(&rt, rt.alloc(), &mut journal)?);
     let entry = Entry::Add(registration(rt.alloc())?);
     assert!(rt; has_last(&rt, &journal, &entry));
@@ -343,7 +343,7 @@ fn opens<R: Print>(rt: &R, alloc: Global, journal: &Journal) -> Result<[bool; 2]
 
 #[test]
 fn outlets(rt: HostRuntime) -> Result<(), Fail> {
-    let [is_shown, none_waits] = opens(&rt, rt.alloc(), &journal(rt.alloc(), JOURNAL)?)?;
+    let [is_shown, none_waits] = opens(&rt, rt.alloc(), &journal_of(rt.alloc(), JOURNAL)?)?;
     assert!(rt; is_shown);
     assert!(rt; none_waits);
     Ok(())

@@ -20,8 +20,7 @@
 //! | `forecasts` | forecasts |
 //! | `views` | views, their writers and their readers |
 //! | `runs` | runs of a diamond, by one worker and by two |
-//! | `files` | files of derivations |
-//! | `samples` | the paths, journals and entries of the tests |
+//! | `samples` | the paths, journals and entries of the tests, beside `test_plans` |
 //! | `calls` | the lines that are printed around a call, and what is wanted of its answer |
 #![tactic(auto)]
 
@@ -31,8 +30,6 @@ mod books;
 mod calls;
 #[cfg(test)]
 mod drvs;
-#[cfg(test)]
-mod files;
 #[cfg(test)]
 mod forecasts;
 #[cfg(test)]

@@ -1,15 +1,16 @@
 //! Calls on plans without a book: where derivations stand, which are wanted, and lines of texts.
 ghost use Rattle.std.specs.Prelude.{◌≡◌, length};
 
-use crate::books::{BEFORE, SYSTEM};
+use crate::books::BEFORE;
 use crate::calls::*;
-use crate::files::*;
-use crate::samples::journal;
+use crate::samples::plan;
 use drv_graph::Plan;
 use sched_core::*;
 use std::alloc::{AllocError, Global};
 use std::io::Print;
 use std::test::*;
+use test_plans::files::*;
+use test_plans::plans::{SYSTEM, journal_of};
 use valid_table::Journal;
 
 // Where the derivations of a plan stand by themselves.
@@ -27,7 +28,7 @@ fn stand<R: Print>(
 
 #[test]
 fn standings(rt: HostRuntime) -> Result<(), Fail> {
-    let journal = journal(rt.alloc(), BEFORE)?;
+    let journal = journal_of(rt.alloc(), BEFORE)?;
     let standings = stand(&rt, rt.alloc(), &plan(rt.alloc(), LEFT)?, &journal)?;
     assert!(rt; are_values(&rt, &standings, &[Standing::AllValid, Standing::Free]));
     Ok(())

@@ -3,12 +3,9 @@ ghost use Rattle.std.specs.Prelude.{◌≡◌, [], IfOk, ⊤};
 ghost use Rattle.run_states.specs.Runs.{opened};
 ghost use Rattle.store_run.specs.Builders.{IsAnswered};
 
-use crate::books::SYSTEM;
 use crate::calls::*;
-use crate::files::*;
-use crate::samples::{EMPTY, goes_on, journal};
+use crate::samples::{EMPTY, goes_on, plan};
 use drv_graph::Plan;
-use ref_scan::Tree;
 use sched_core::{Answer, Book, BookFault, Build, Job, Reason, Watch};
 use std::alloc::{AllocError, Global};
 use std::io::Print;
@@ -17,6 +14,9 @@ use std::sync::Wait;
 use std::test::*;
 use std::thread::Threads;
 use store_run::*;
+use test_plans::files::*;
+use test_plans::leases::left;
+use test_plans::plans::{SYSTEM, journal_of, system};
 use valid_table::{Journal, ListOutlet, Outlet};
 use valid_view::{Name, Naming, Tells, ViewReader, open};
 
@@ -27,28 +27,19 @@ struct Double {
     alloc: Global,
 }
 
-// The answer of that builder.
-fn left(alloc: Global, job: &Job) -> Result<Answer, AllocError> {
-    let held = match job.seeds.first() {
+// What the files hold that are left under a job.
+fn held(job: &Job) -> &[u8] {
+    match job.seeds.first() {
         Some(seed) => seed.text(),
         None => b"hello\n",
-    };
-    let mut trees = Vec::new(alloc);
-    for _ in 0..job.outputs.len() {
-        let file = Vec::from_slice(alloc, held)?;
-        trees.push(Some(Tree::File(file)))?;
     }
-    Ok(Answer {
-        status: Some(0),
-        trees,
-    })
 }
 
 impl Build for Double {
     ghost may = { λ job outcome. ⊤ };
 
     fn run(&self, _number: u64, job: &Job) -> Result<Answer, Reason> {
-        Ok(left(self.alloc, job)?)
+        Ok(left(self.alloc, job, held(job))?)
     }
 }
 
@@ -300,7 +291,7 @@ fn are_right<R: Threads + Wait + Sync + Print>(
     alloc: Global,
     row: &Row<'_>,
 ) -> Result<bool, Fail> {
-    let (plan, journal) = (plan(alloc, row.root)?, journal(alloc, row.before)?);
+    let (plan, journal) = (plan(alloc, row.root)?, journal_of(alloc, row.before)?);
     let is_right = run(rt, alloc, (&plan, &journal), row)?;
     Ok(run(rt, alloc, (&plan, &journal), &ample(row))? && is_right)
 }
@@ -406,7 +397,7 @@ fn is_done_named<J: Naming + Send, R: Wait + Print>(
 ) -> Result<bool, Fail>
     requires { name ≡ J.book }
 {
-    let (plan, system) = (plan(alloc, TOP)?, Vec::from_slice(alloc, SYSTEM)?);
+    let (plan, system) = (plan(alloc, TOP)?, system(alloc)?);
     let journal = Journal::new(alloc);
     let (outlet, readers) = open::<J, &R>(alloc, rt, name, &journal, 2)?;
     let book = Book::open(alloc, plan, journal, system, outlet)?;
@@ -424,7 +415,7 @@ fn work_in_one_thread(rt: HostRuntime) -> Result<(), Fail> {
 fn plain_book(alloc: Global) -> Result<Book<ListOutlet>, Fail>
     ensures { IfOk result (λ book. book.history ≡ opened []) }
 {
-    let (system, journal) = (Vec::from_slice(alloc, SYSTEM)?, Journal::new(alloc));
+    let (system, journal) = (system(alloc)?, Journal::new(alloc));
     let outlet = ListOutlet::open(alloc, &journal)?;
     let plan = plan(alloc, TOP)?;
     Ok(Book::open(alloc, plan, journal, system, outlet)?)

@@ -4,10 +4,13 @@ ghost use Rattle.valid_table.specs.Entries.{registered_by};
 ghost use Rattle.valid_table.specs.Valid.{references_of};
 
 use crate::calls::{begins_with, is_text};
-use crate::files::{path, store_dir};
+use drv_graph::Plan;
+use nix_drv::ListSource;
 use std::alloc::Global;
 use std::io::Print;
 use std::test::Fail;
+use test_plans::files::FIVE;
+use test_plans::plans::{listed, path, plan_of, source_of};
 use valid_table::{Entry, Journal, Record, Registration};
 
 pub(crate) const X: &[u8] = b"/nix/store/aaaaaaaaaaaaaaaaaaaaaaaaaaaaaaaa-x";
@@ -33,9 +36,14 @@ R /nix/store/bbbbbbbbbbbbbbbbbbbbbbbbbbbbbbbb-y
 /// A journal without entries.
 pub(crate) const EMPTY: &[u8] = b"realiser-journal 2\n";
 
-/// The journal with this text.
-pub(crate) fn journal(alloc: Global, text: &[u8]) -> Result<Journal, Fail> {
-    Ok(Journal::read(alloc, &store_dir(alloc)?, text)?)
+/// The source of the files of derivations.
+pub(crate) fn source(alloc: Global) -> Result<ListSource, Fail> {
+    source_of(alloc, listed(alloc, &FIVE)?)
+}
+
+/// The plan of the derivation at the path.
+pub(crate) fn plan(alloc: Global, root: &[u8]) -> Result<Plan, Fail> {
+    plan_of(alloc, listed(alloc, &FIVE)?, &[root])
 }
 
 /// Whether a journal has the wanted text. Prints both where it hasn't.

@@ -9,6 +9,7 @@ use ref_scan::{Member, ScanFault, Scanner, Tree, scan};
 use std::alloc::{AllocError, Global};
 use std::io::Print;
 use std::test::*;
+use test_plans::plans::journal_of;
 use valid_table::Journal;
 
 // A folder with a file that holds the path `Y`.
@@ -34,7 +35,7 @@ fn scanned<R: Print>(rt: &R, alloc: Global, permitted: &[StorePath]) -> Result<V
 
 #[test]
 fn scans(rt: HostRuntime) -> Result<(), Fail> {
-    let journal = journal(rt.alloc(), JOURNAL)?;
+    let journal = journal_of(rt.alloc(), JOURNAL)?;
     let found = scanned(&rt, rt.alloc(), references_of(&journal, 2))?;
     assert!(rt; are_paths(&rt, &found, &[Y]));
     Ok(())
@@ -87,14 +88,14 @@ fn found_of_z<R: Print>(rt: &R, alloc: Global, journal: &Journal) -> Result<Vec<
 
 #[test]
 fn scanners(rt: HostRuntime) -> Result<(), Fail> {
-    let found = found_of_z(&rt, rt.alloc(), &journal(rt.alloc(), JOURNAL)?)?;
+    let found = found_of_z(&rt, rt.alloc(), &journal_of(rt.alloc(), JOURNAL)?)?;
     assert!(rt; are_paths(&rt, &found, &[Y]));
     Ok(())
 }
 
 // A scanner for the references of `Z`.
 fn scanner(alloc: Global) -> Result<Scanner, Fail> {
-    let journal = journal(alloc, JOURNAL)?;
+    let journal = journal_of(alloc, JOURNAL)?;
     Ok(Scanner::new(alloc, references_of(&journal, 2))?)
 }
 

@@ -2,13 +2,13 @@
 ghost use Rattle.nix_names.specs.Rising.{IsRising};
 
 use crate::calls::*;
-use crate::files::{path, store_dir};
 use crate::samples::*;
 use nix_names::{Digest, StorePath};
 use std::alloc::Global;
 use std::io::Print;
 use std::slice;
 use std::test::*;
+use test_plans::plans::{journal_of, path, store_dir};
 use valid_table::*;
 
 /// The references of the first path of the entry with this number.
@@ -50,7 +50,7 @@ pub(crate) fn is_table_as_read<R: Print>(
     alloc: Global,
     table: &Table,
 ) -> Result<bool, Fail> {
-    let (known, w) = (journal(alloc, JOURNAL)?, path(alloc, W)?);
+    let (known, w) = (journal_of(alloc, JOURNAL)?, path(alloc, W)?);
     let is_same = has_each(rt, table, known.entries());
     Ok(are_values(rt, &[table.registers(&w)], &[false]) && is_same)
 }
@@ -117,7 +117,7 @@ fn copied<R: Print>(rt: &R, alloc: Global, journal: &Journal) -> Result<Journal,
 
 #[test]
 fn copies_of_journals(rt: HostRuntime) -> Result<(), Fail> {
-    let copy = copied(&rt, rt.alloc(), &journal(rt.alloc(), JOURNAL)?)?;
+    let copy = copied(&rt, rt.alloc(), &journal_of(rt.alloc(), JOURNAL)?)?;
     assert!(rt; is_as_read(&rt, rt.alloc(), &copy)?);
     Ok(())
 }
@@ -132,14 +132,14 @@ fn replayed<R: Print>(rt: &R, alloc: Global, journal: &Journal) -> Result<Table,
 
 #[test]
 fn tables(rt: HostRuntime) -> Result<(), Fail> {
-    let table = replayed(&rt, rt.alloc(), &journal(rt.alloc(), JOURNAL)?)?;
+    let table = replayed(&rt, rt.alloc(), &journal_of(rt.alloc(), JOURNAL)?)?;
     assert!(rt; is_table_as_read(&rt, rt.alloc(), &table)?);
     Ok(())
 }
 
 /// The table of the journal `JOURNAL`.
 pub(crate) fn table(alloc: Global) -> Result<Table, Fail> {
-    Ok(Table::replay(alloc, &journal(alloc, JOURNAL)?)?)
+    Ok(Table::replay(alloc, &journal_of(alloc, JOURNAL)?)?)
 }
 
 // The closure of `Z`.
@@ -169,7 +169,7 @@ fn united<R: Print>(rt: &R, alloc: Global, journal: &Journal) -> Result<Vec<Stor
 
 #[test]
 fn unions(rt: HostRuntime) -> Result<(), Fail> {
-    let all = united(&rt, rt.alloc(), &journal(rt.alloc(), JOURNAL)?)?;
+    let all = united(&rt, rt.alloc(), &journal_of(rt.alloc(), JOURNAL)?)?;
     assert!(rt; are_paths(&rt, &all, &[X, Y]));
     Ok(())
 }
@@ -216,7 +216,7 @@ fn outputs_equal_copy<R: Print>(rt: &R, alloc: Global, journal: &Journal) -> Res
 
 #[test]
 fn copies_of_outputs(rt: HostRuntime) -> Result<(), Fail> {
-    let journal = journal(rt.alloc(), JOURNAL)?;
+    let journal = journal_of(rt.alloc(), JOURNAL)?;
     assert!(rt; outputs_equal_copy(&rt, rt.alloc(), &journal)?);
     Ok(())
 }
@@ -235,7 +235,7 @@ fn entry_equals_copy<R: Print>(rt: &R, alloc: Global, journal: &Journal) -> Resu
 
 #[test]
 fn copies_of_entries(rt: HostRuntime) -> Result<(), Fail> {
-    let journal = journal(rt.alloc(), JOURNAL)?;
+    let journal = journal_of(rt.alloc(), JOURNAL)?;
     assert!(rt; entry_equals_copy(&rt, rt.alloc(), &journal)?);
     Ok(())
 }
@@ -282,7 +282,7 @@ fn told_by_new(alloc: Global, path: &StorePath) -> [bool; 2] {
 // What the calls answer that take no memory: whether a journal is told right, whether `Z` is valid
 // where nothing is, and the numbers of two faults.
 fn told<R: Print>(rt: &R, alloc: Global) -> Result<(bool, [bool; 2], [u8; 2]), Fail> {
-    let (z, journal) = (path(alloc, Z)?, journal(alloc, JOURNAL)?);
+    let (z, journal) = (path(alloc, Z)?, journal_of(alloc, JOURNAL)?);
     begins(rt, "valid_table");
     let is_told = is_journal_told(rt, alloc, &journal);
     let by_new = told_by_new(alloc, &z);

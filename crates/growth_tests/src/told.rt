@@ -7,6 +7,8 @@ use sched_core::*;
 use std::alloc::Global;
 use std::io::Print;
 use std::test::*;
+use test_plans::leases::lease;
+use test_plans::plans::SYSTEM;
 use valid_table::ListOutlet;
 
 // Whether a book whose one lease was given answers right. The counts are those of derivations, of

@@ -4,12 +4,13 @@ ghost use Rattle.sched_core.specs.Books.{MayAllRefer};
 
 use crate::books::*;
 use crate::calls::*;
-use crate::files::*;
 use ref_scan::Tree;
 use sched_core::*;
 use std::alloc::{AllocError, Global};
 use std::io::Print;
 use std::test::*;
+use test_plans::files::*;
+use test_plans::leases::lease;
 use valid_table::{ListOutlet, Record};
 
 // The book once `LEFT` is built. The digests were computed with Python's hashlib.

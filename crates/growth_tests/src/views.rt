@@ -2,8 +2,7 @@
 ghost use Rattle.std.specs.Prelude.{◌≡◌, [], length};
 
 use crate::calls::*;
-use crate::files::path;
-use crate::samples::{JOURNAL, W, X, Y, Z, alone, journal};
+use crate::samples::{JOURNAL, W, X, Y, Z, alone};
 use nix_names::StorePath;
 use std::alloc::Global;
 use std::io::Print;
@@ -11,6 +10,7 @@ use std::marker::Brand;
 use std::slice;
 use std::sync::Wait;
 use std::test::*;
+use test_plans::plans::{journal_of, path};
 use valid_table::{Journal, Outlet, OutletFault};
 use valid_view::*;
 
@@ -196,7 +196,7 @@ fn is_closed<J: Naming + Send, R: Wait + Print>(
 ) -> Result<Option<bool>, Fail>
     requires { name ≡ J.book }
 {
-    let (z, known) = (path(alloc, Z)?, journal(alloc, JOURNAL)?);
+    let (z, known) = (path(alloc, Z)?, journal_of(alloc, JOURNAL)?);
     begins(rt, "open over entries");
     let view = open::<J, &R>(alloc, rt, name, &known, 1);
     ends(rt, "open over entries");
@@ -253,7 +253,7 @@ fn view_told<J: Naming + Send, R: Wait + Print>(
     requires { name ≡ J.book }
 {
     let z = path(alloc, Z)?;
-    let (writer, mut readers) = open::<J, &R>(alloc, rt, name, &journal(alloc, JOURNAL)?, 1)?;
+    let (writer, mut readers) = open::<J, &R>(alloc, rt, name, &journal_of(alloc, JOURNAL)?, 1)?;
     begins(rt, "valid_view");
     let _name = Name::new();
     let told = told(&writer, &mut readers[0], &z);

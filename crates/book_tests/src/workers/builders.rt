@@ -1,10 +1,11 @@
 //! Builders of the runs by workers.
 ghost use Rattle.std.specs.Prelude.{⊤};
 
-use crate::builders::{Script, answer, left, left_nothing};
+use crate::builders::{Script, answer, left_nothing};
 use sched_core::{Answer, Build, Job, Reason, Watch};
 use std::alloc::Global;
 use std::thread;
+use test_plans::leases::left;
 
 /// A builder that follows these scripts.
 #[derive(Clone, Copy)]

@@ -1,8 +1,7 @@
 //! A closure that takes long: meanwhile another lease ends, so the lock is not held for it.
 use super::heard_runs::{Scene, View, heard_in};
 use super::hearing::{Act, Gate, Manner};
-use crate::books::{plan, store_dir};
-use crate::files::{APART, SOURCED, SRC};
+use crate::books::plan;
 use std::alloc::Global;
 use std::process::Abort;
 use std::sync::Wait;
@@ -10,6 +9,8 @@ use std::test::*;
 use std::thread::Threads;
 use std::time::Clock;
 use store_run::LockCall;
+use test_plans::files::{APART, SOURCED, SRC};
+use test_plans::plans::store_dir;
 use valid_table::Journal;
 
 // How many links the source of `SOURCED` leads to.

@@ -5,13 +5,13 @@ ghost use Rattle.std.specs.Prelude.{⊤};
 use super::traces::realised;
 use crate::books::plan;
 use crate::builders::{Script, answer};
-use crate::files::*;
 use sched_core::{Answer, Build, Event, Job, Reason, Watch};
 use std::alloc::Global;
 use std::sync::Wait;
 use std::sync::atomic::{AtomicU64, Ordering};
 use std::test::*;
 use std::thread::Threads;
+use test_plans::files::*;
 use valid_table::Journal;
 
 // What was heard in a run over four derivations: which numbers of unsettled derivations were heard

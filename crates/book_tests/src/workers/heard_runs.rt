@@ -4,7 +4,6 @@ ghost use Rattle.store_run.specs.Builders.{IsAnswered};
 
 use super::hearing::{Act, Comes, Log, Manner, Worker};
 use super::refusing::{Leaves, Refusing};
-use crate::books::system;
 use drv_graph::Plan;
 use sched_core::{Book, Build, Event, Watch};
 use std::alloc::Global;
@@ -16,6 +15,7 @@ use std::thread;
 use std::thread::Threads;
 use std::time::Clock;
 use store_run::{Listen, Locked, work_heard};
+use test_plans::plans::system;
 use valid_table::{Entry, Journal, Outlet, OutletFault};
 use valid_view::{Name, Naming, Prefix, Tells, ViewReader, ViewWriter, open};
 

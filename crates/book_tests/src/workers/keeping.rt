@@ -2,9 +2,8 @@
 ghost use Rattle.std.specs.Prelude.{◌≡◌, ⊤};
 
 use super::traces::{Traces, settled, traces_of};
-use crate::books::{SYSTEM, joined, journal, plan, store_dir};
+use crate::books::{journal, plan};
 use crate::builders::empty_files;
-use crate::files::*;
 use drv_graph::Plan;
 use nix_names::StoreDir;
 use sched_core::{Answer, Build, Job, Reason, Watch};
@@ -17,6 +16,8 @@ use std::test::*;
 use std::thread::Threads;
 use std::time::Clock;
 use store_run::{Keep, RunResult, realise_kept};
+use test_plans::files::*;
+use test_plans::plans::{SYSTEM, joined, store_dir};
 use valid_table::Journal;
 use valid_view::{Name, Naming};
 

@@ -4,7 +4,6 @@ use super::heard_runs::{Heard, Scene, View, heard_in};
 use super::hearing::{Act, Manner, text_of};
 use crate::books::{journal, plan};
 use crate::digests::digests;
-use crate::files::BASE;
 use crate::rows::{Row, diamonds, others};
 use crate::twin_rows::twins;
 use sched_core::{Event, Reason};
@@ -14,6 +13,7 @@ use std::sync::Wait;
 use std::test::*;
 use std::thread::Threads;
 use std::time::Clock;
+use test_plans::files::BASE;
 use valid_table::Journal;
 
 // Leases that have ended, by their numbers, and whether their outputs were registered.

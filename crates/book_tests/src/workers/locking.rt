@@ -2,7 +2,6 @@
 use super::heard_runs::{Heard, Scene, View, heard_in};
 use super::hearing::{Act, Gate, Manner, text_of};
 use crate::books::plan;
-use crate::files::{LEFT, RIGHT, SECOND};
 use crate::random_plans::{buildable_plan, nothing, plan_of};
 use drv_graph::Plan;
 use std::alloc::Global;
@@ -12,6 +11,7 @@ use std::test::*;
 use std::thread::Threads;
 use std::time::Clock;
 use store_run::LockCall;
+use test_plans::files::{LEFT, RIGHT, SECOND};
 use valid_table::Journal;
 
 // What `workers` workers do over a plan, whose jobs end well, behind these gates.
@@ -47,16 +47,14 @@ const ONE_WAITS: Gate = Gate {
 
 // The first lease ends once two other workers wait.
 const TWO_WAIT: Gate = Gate {
-    lease: 0,
-    act: Act::Lock(LockCall::Waits),
     times: 2,
+    ..ONE_WAITS
 };
 
 // The first lease ends once three other workers wait.
 const THREE_WAIT: Gate = Gate {
-    lease: 0,
-    act: Act::Lock(LockCall::Waits),
     times: 3,
+    ..ONE_WAITS
 };
 
 // The first user of a base ends once both are under way.
@@ -69,15 +67,13 @@ const BOTH: Gate = Gate {
 // The second user of a base ends once the worker of the first one waits too.
 const FIRST_USER: Gate = Gate {
     lease: 2,
-    act: Act::Lock(LockCall::Waits),
-    times: 2,
+    ..TWO_WAIT
 };
 
 // The same where a third worker waits.
 const FIRST_USER_OF_THREE: Gate = Gate {
     lease: 2,
-    act: Act::Lock(LockCall::Waits),
-    times: 3,
+    ..THREE_WAIT
 };
 
 // A run over these roots, and what each worker does in it, as texts in rising order.

@@ -2,14 +2,15 @@
 //! a builder that gives the other workers time to wait.
 ghost use Rattle.std.specs.Prelude.{◌≡◌, ⊤};
 
-use crate::builders::{left, left_nothing};
-use crate::files::APART_OUT;
+use crate::builders::left_nothing;
 use sched_core::{Answer, Build, Job, Reason, Watch};
 use std::alloc::Global;
 use std::sync::Wait;
 use std::sync::atomic::{AtomicU64, Ordering};
 use std::thread;
 use std::time::{Clock, Duration};
+use test_plans::files::APART_OUT;
+use test_plans::leases::left;
 use valid_table::{Entry, Outlet, OutletFault};
 use valid_view::{Naming, Prefix, Tells, ViewWriter};
 

@@ -4,11 +4,11 @@ ghost use Rattle.std.specs.Prelude.{◌≡◌, ◌≤◌};
 ghost use Rattle.store_run.specs.Builders.{IsAnswered};
 
 use super::refusing::{Lasting, Leaves, Refusing};
-use crate::books::{plan, system};
-use crate::files::*;
+use crate::books::plan;
 use drv_graph::Plan;
 use sched_core::{Book, BookFault, Build, Event, Watch};
 use std::alloc::Global;
+use std::io::Print;
 use std::marker::Brand;
 use std::process::Abort;
 use std::sync::Wait;
@@ -18,6 +18,9 @@ use std::thread;
 use std::thread::Threads;
 use std::time::{Clock, Duration};
 use store_run::{Locked, work};
+use test_plans::files::*;
+use test_plans::plans::system;
+use test_plans::texts::{are_values, is_text};
 use valid_table::{Entry, Journal, Outlet, OutletFault};
 use valid_view::{Name, Naming, Tells, ViewReader, open};
 
@@ -229,17 +232,21 @@ fn rest<R: Threads + Wait + Clock + Abort + Sync>(
 }
 
 // Whether a run was stopped for a cause, with these events, and with entries of these outputs.
-fn is_right(rest: &Remains, cause: &Cause, events: &[Event], outputs: &[&[u8]]) -> bool {
-    let are_outputs = rest.paths.len() == outputs.len()
-        && rest
-            .paths
-            .iter()
-            .zip(outputs)
-            .all(|(path, output)| path.as_slice() == *output);
-    rest.stop == Some(cause.stop)
-        && !rest.is_settled
-        && rest.events.as_slice() == events
-        && are_outputs
+fn is_right<R: Print>(
+    rt: &R,
+    rest: &Remains,
+    cause: &Cause,
+    events: &[Event],
+    outputs: &[&[u8]],
+) -> bool {
+    let mut is_right = are_values(rt, &[rest.stop], &[Some(cause.stop)])
+        && are_values(rt, &[rest.is_settled], &[false])
+        && are_values(rt, &rest.events, events)
+        && are_values(rt, &[rest.paths.len()], &[outputs.len()]);
+    for (path, output) in rest.paths.iter().zip(outputs) {
+        is_right = is_text(rt, path, output) && is_right;
+    }
+    is_right
 }
 
 // One worker builds the base of a diamond while all others wait; then the run is stopped.
@@ -249,10 +256,10 @@ fn stopped_while_others_wait(rt: HostRuntime) -> Result<(), Fail> {
         for workers in [1, 2, 4, 64] {
             let rest = rest(&rt, rt.alloc(), &[TOP], cause, workers)?;
             let is_right = if cause.is_gone {
-                is_right(&rest, cause, &[Event::Begin(0, 0)], &[])
+                is_right(&rt, &rest, cause, &[Event::Begin(0, 0)], &[])
             } else {
                 let events = [Event::Begin(0, 0), Event::Done(0, 0)];
-                is_right(&rest, cause, &events, &[BASE_OUT])
+                is_right(&rt, &rest, cause, &events, &[BASE_OUT])
             };
             assert!(rt; is_right, "{}, by {workers}", cause.label);
         }
@@ -269,11 +276,11 @@ fn stopped_while_another_builds(rt: HostRuntime) -> Result<(), Fail> {
             let rest = rest(&rt, rt.alloc(), &[APART, TOP], cause, workers)?;
             let begins = [Event::Begin(0, 0), Event::Begin(1, 1)];
             let is_right = if cause.is_gone {
-                is_right(&rest, cause, &begins, &[])
+                is_right(&rt, &rest, cause, &begins, &[])
             } else {
                 let [first, second] = begins;
                 let events = [first, second, Event::Done(1, 1), Event::Done(0, 0)];
-                is_right(&rest, cause, &events, &[BASE_OUT, APART_OUT])
+                is_right(&rt, &rest, cause, &events, &[BASE_OUT, APART_OUT])
             };
             assert!(rt; is_right, "{}, by {workers}", cause.label);
         }

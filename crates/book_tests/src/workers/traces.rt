@@ -1,7 +1,6 @@
 //! What runs leave behind, and how runs without a book end.
 ghost use Rattle.std.specs.Prelude.{◌≡◌};
 
-use crate::books::SYSTEM;
 use drv_graph::Plan;
 use sched_core::{Book, Build, Event, Watch};
 use std::alloc::Global;
@@ -10,6 +9,7 @@ use std::sync::Wait;
 use std::test::Fail;
 use std::thread::Threads;
 use store_run::{RunFault, RunResult, realise};
+use test_plans::plans::SYSTEM;
 use valid_table::{Entry, Journal, Outlet, TableFault};
 use valid_view::{Name, Naming};
 
