@@ -244,6 +244,9 @@ const TWO_BUILT: &str = "mkdir <dir>/.build-0\nspawn cd \"<dir>/.build-0\" && en
     lstat <any.dev>\nlist <any.dev>\nread \nread \nlstat <any.dev>/a\nopen <any.dev>/a\nread \n\
     lstat <any.dev>/b\nlist <any.dev>/b\nread \nread \nlstat <any.out>\nopen <any.out>\nread \n";
 
+// The build folder is removed after its builder.
+const CLEARED: &str = "lstat <dir>/.build-0\nlist <dir>/.build-0\nrmdir <dir>/.build-0\n";
+
 static RUN: [Row; 4] = [
     // A builder that a runner starts has a log, which is made right before the start. Its folder
     // waits for the end of the lease. What can't be removed of a log stands in the way of the log.
@@ -259,7 +262,7 @@ static RUN: [Row; 4] = [
             TRIED,
             "mkdir <dir>/logs\nlstat <any.out>\nlstat <dir>/.build-0\n",
             BUILT_BY_A_RUNNER,
-            "lstat <dir>/.build-0\nlist <dir>/.build-0\nrmdir <dir>/.build-0\n",
+            CLEARED,
             WRITTEN,
         ],
         refusals: &[
@@ -281,7 +284,7 @@ static RUN: [Row; 4] = [
             TRIED,
             "lstat <any.dev>\nlstat <any.out>\nlstat <dir>/.build-0\n",
             TWO_BUILT,
-            "lstat <dir>/.build-0\nlist <dir>/.build-0\nrmdir <dir>/.build-0\n",
+            CLEARED,
             WRITTEN,
         ],
         refusals: &[
@@ -303,7 +306,7 @@ static RUN: [Row; 4] = [
             TRIED,
             "lstat <any.out>\nlstat <dir>/.build-0\n",
             BUILT,
-            "lstat <dir>/.build-0\nlist <dir>/.build-0\nrmdir <dir>/.build-0\n",
+            CLEARED,
             WRITTEN,
         ],
         refusals: &[

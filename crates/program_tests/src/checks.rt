@@ -62,21 +62,32 @@ fn folder_and_path<R: Env + Files + AllocGlobal>(
     Ok((folder, path))
 }
 
-// Whether a missing file is not counted as a failure of the device, and a folder in its place is.
-fn tells_failures<R: Files + AllocGlobal>(rt: &R, path: &StorePath) -> Result<bool, Fail> {
+// The fault of a new source for this path, and how many failures of the device it counts.
+fn fault_at<R: Files + AllocGlobal>(rt: &R, path: &StorePath) -> (Option<SourceFault>, u64) {
     let mut source = FolderSource::new(rt);
-    let missing = matches!(source.fetch(rt.alloc(), path), Err(SourceFault::Missing));
-    let none = source.failures() == 0;
-    fs::create_dir(rt, str::from_utf8(path.text())?)?;
-    let mut source = FolderSource::new(rt);
-    let failed = matches!(source.fetch(rt.alloc(), path), Err(SourceFault::Device));
-    Ok(missing && none && failed && source.failures() == 1)
+    let fault = source.fetch(rt.alloc(), path).err();
+    (fault, source.failures())
 }
 
+// The same for two sources, the second one when a folder stands there.
+fn faults_at<R: Files + AllocGlobal>(
+    rt: &R,
+    path: &StorePath,
+) -> Result<[(Option<SourceFault>, u64); 2], Fail> {
+    let missing = fault_at(rt, path);
+    fs::create_dir(rt, str::from_utf8(path.text())?)?;
+    Ok([missing, fault_at(rt, path)])
+}
+
+// A missing file is not counted as a failure of the device, and a folder in its place is.
 #[test]
 fn failures_of_the_device(rt: HostRuntime) -> Result<(), Fail> {
     let (folder, path) = folder_and_path(&rt, process::id(rt.process()))?;
-    assert!(rt; tells_failures(&rt, &path)?);
+    let wanted = [
+        (Some(SourceFault::Missing), 0),
+        (Some(SourceFault::Device), 1),
+    ];
+    assert_eq!(rt; faults_at(&rt, &path)?, wanted);
     fs::remove_dir_all(&rt, folder.as_str())?;
     Ok(())
 }

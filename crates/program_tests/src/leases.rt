@@ -150,16 +150,22 @@ pub fn fault_of(
     Ok(Some(fault))
 }
 
-// Whether the lease of this number is built, in the folder of its number, by what a double saw.
-fn is_in_its_folder<R: Plain, B: Build>(
+// The calls that a double saw of the lease of this number, unless it is built, in the folder of its
+// number.
+fn astray<R: Plain, B: Build>(
     double: &Double<R>,
     build: &B,
     (folder, job): (&str, &Job),
     number: u64,
-) -> Result<bool, Fail> {
+) -> Result<Option<String>, Fail> {
     let is_built = build.run(number, job).is_ok();
     let made = format!(in double.alloc(); "mkdir {folder}/.build-{number}\n")?;
-    Ok(is_built && double.calls()?.contains(made.as_str()))
+    let calls = double.calls()?;
+    if is_built && calls.contains(made.as_str()) {
+        Ok(None)
+    } else {
+        Ok(Some(calls))
+    }
 }
 
 // A lease builds in the folder of its own number, whatever leases came before it.
@@ -171,8 +177,8 @@ fn folders_of_later_leases(rt: HostRuntime) -> Result<(), Fail> {
     for number in [64, 256, 65_536, u64::MAX] {
         let double = Double::new(rt.clone()?, rt.clone()?, Event::Nothing)?;
         let build = scene.site.builder(rt.alloc(), &double, &double)?;
-        let is_right = is_in_its_folder(&double, &build, (folder, &job), number)?;
-        assert!(rt; is_right, "at {number}");
+        let astray = astray(&double, &build, (folder, &job), number)?;
+        assert_eq!(rt; astray, None, "at {number}");
     }
     scene.close(&rt)
 }
@@ -190,8 +196,8 @@ fn folders_behind_the_line_of_progress(rt: HostRuntime) -> Result<(), Fail> {
         let progress = ProgressLine::new(rt.alloc(), None, Vec::new(rt.alloc()));
         let make = Watching::new(&rt, &make, &progress);
         let build = make.builder(rt.alloc(), &scene.site.manner(&drvs))?;
-        let is_right = is_in_its_folder(&double, &build, (folder, &job), number)?;
-        assert!(rt; is_right, "at {number}");
+        let astray = astray(&double, &build, (folder, &job), number)?;
+        assert_eq!(rt; astray, None, "at {number}");
     }
     scene.close(&rt)
 }

@@ -14,10 +14,11 @@ const NOT_TEXT: &str = "error: invalid UTF-8 was detected in one or more argumen
 fn words_that_are_not_text(rt: HostRuntime) -> Result<(), Fail> {
     let mut out = Vec::new(rt.alloc());
     let mut err = Vec::new(rt.alloc());
-    assert!(rt; refuse_words(rt.alloc(), &mut out, &mut err) == Ending::Printed(Status::Refused));
+    let ending = refuse_words(rt.alloc(), &mut out, &mut err);
+    assert_eq!(rt; ending, Ending::Printed(Status::Refused));
     let told = text_of(rt.alloc(), &err)?;
     assert_eq!(rt; told.as_str(), NOT_TEXT);
-    assert!(rt; out.is_empty());
+    assert_eq!(rt; text_of(rt.alloc(), &out)?.as_str(), "");
     Ok(())
 }
 
@@ -28,6 +29,6 @@ fn refused_mistakes(rt: HostRuntime) {
         let words = ["nix_realise", "check", word];
         let mut out = Vec::new(rt.alloc());
         let ending = run(&rt, &Idle, &rt, &words, &mut out, &mut Narrow { room: 5 });
-        assert!(rt; ending == Ending::Unprinted && out.is_empty(), "at {word}");
+        assert_eq!(rt; (ending, out.len()), (Ending::Unprinted, 0), "at {word}");
     }
 }
