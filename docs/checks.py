@@ -6,9 +6,6 @@ import re
 from items import anchor
 from sources import CRATES, TOP, WORD, Definitions, body_lines, taken
 
-# The headings of a crate's specs/Lib.antt.
-PUBLIC = "-- What public contracts cite, and what that rests on."
-PRIVATE = "-- What only private contracts and proofs cite."
 # A row of the table of what is trusted by reading: its first two cells, and that of the lines.
 TRUSTED = re.compile(r"(?m)^(\| `(\w+)::(\w+)` \| `([\w:]+)` \| )([\w ]*) \|")
 
@@ -31,7 +28,7 @@ def entries(text):
     for section in re.split(r"(?m)^## ", text)[1:]:
         heading = re.match(rf"`({WORD})`", section)
         for entry in re.split(r"(?m)^- (?=\*\*)", section)[1:]:
-            files = re.findall(r"`(?:(\w+)/)?specs/(\w+)\.antt`", entry)
+            files = re.findall(r"`(?:(\w+)/)?specs/([\w/]+)\.antt`", entry)
             yield heading and heading[1], files, set(re.findall(rf"`({WORD})`", entry))
 
 
@@ -60,18 +57,14 @@ def relied_on(crates):
     return found
 
 
-def in_wrong_part(crates):
-    """The files of specs/ that stand in the wrong part of their crate's Lib.antt: the first is of those that a user of the crate relies
-    on, the second of the others."""
+def in_wrong_folder(crates):
+    """The files that stand in the wrong folder: specs/ has those that a user of the crate relies on, and specs/private/ the others."""
     public = relied_on(crates)
-    for path in sorted(CRATES.glob("*/specs/Lib.antt")):
-        crate = path.relative_to(CRATES).parts[0]
-        first, _, second = path.read_text().partition(PRIVATE)
-        if PUBLIC not in first:
-            yield f"{crate}/specs/Lib.antt has no heading {PUBLIC}"
-        for is_public, part in ((True, first), (False, second)):
-            wrong = [it for it in re.findall(rf"pub mod ({WORD})", part) if ((crate, it) in public) != is_public]
-            yield from (f"{crate}/specs/Lib.antt: {it} stands in the wrong part" for it in wrong)
+    for folder, is_public in (("", True), ("private/", False)):
+        for path in sorted(CRATES.glob(f"*/specs/{folder}*.antt")):
+            crate = path.relative_to(CRATES).parts[0]
+            if path.stem not in ("Lib", "private") and ((crate, folder + path.stem) in public) != is_public:
+                yield f"{path.relative_to(TOP)} stands in the wrong folder"
 
 
 def misplaced(name):

@@ -53,7 +53,8 @@ def one_line(text):
 
 def taken(text, how):
     """What a text takes from files of specs/: the name here, crate, file and own name."""
-    for crate, file, listed in re.findall(how + r" Rattle\.(\w+)\.specs\.(\w+)\.\{([^}]*)\}", text):
+    for crate, place, listed in re.findall(how + r" Rattle\.(\w+)\.specs\.((?:private\.)?\w+)\.\{([^}]*)\}", text):
+        file = place.replace(".", "/")
         for words in map(str.split, listed.split(",")):
             if words and (CRATES / crate / "specs" / f"{file}.antt").exists():
                 yield words[-1], crate, file, words[0]

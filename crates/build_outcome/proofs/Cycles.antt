@@ -10,9 +10,9 @@ use Rattle.std.proofs.lemmas.Option.{slice_get_within}
 use Rattle.drv_graph.specs.Plans.{LeadsBy}
 use Rattle.nix_names.proofs.RisingLists.{equal_from_eq, unequal_from_eq}
 use Rattle.valid_table.specs.PathInfos.{PathInfo}
-use Rattle.build_outcome.specs.Linking.{HaveLinks, MayLink}
+use Rattle.build_outcome.specs.private.Linking.{HaveLinks, MayLink}
 use Rattle.build_outcome.specs.Verdicts.{IsCyclic, OutputRefersTo}
-use Rattle.build_outcome.specs.Walking.{Goes, HaveRound, IsGrounded, IsLinked, TellsRound, goes_nowhere, goes_on, grounded}
+use Rattle.build_outcome.specs.private.Walking.{Goes, HaveRound, IsGrounded, IsLinked, TellsRound, goes_nowhere, goes_on, grounded}
 use Rattle.build_outcome.proofs.Linkages.{same_key}
 use Rattle.nix_names.proofs.Lists.{Contains-from_get, get_from_contains, same_element}
 

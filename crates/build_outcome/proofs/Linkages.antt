@@ -17,8 +17,8 @@ use Rattle.indexmap.specs.IndexSet.{insert_key}
 use Rattle.indexmap.proofs.CallerLemmas.{Contains-insert_key}
 use Rattle.nix_names.proofs.RisingLists.{equal_from_eq, unequal_from_eq}
 use Rattle.valid_table.specs.PathInfos.{PathInfo}
-use Rattle.build_outcome.specs.Linking.{AddsLinks, AreEachOnce, AreLinks, HaveLinks, HaveNoLinks, MayLink}
-use Rattle.build_outcome.specs.Walking.{AreInner, IsLinked}
+use Rattle.build_outcome.specs.private.Linking.{AddsLinks, AreEachOnce, AreLinks, HaveLinks, HaveNoLinks, MayLink}
+use Rattle.build_outcome.specs.private.Walking.{AreInner, IsLinked}
 use Rattle.build_outcome.proofs.Places.{set_cases, set_other, set_same}
 use Rattle.nix_names.proofs.Lists.{Contains-from_get, either_side, get_push_cases, same_element, taken_more}
 

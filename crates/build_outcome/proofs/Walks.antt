@@ -14,7 +14,7 @@ use Rattle.build_outcome.specs.declared.walk.Mark.{Mark}
 use Rattle.build_outcome.specs.declared.walk.Mark.TheVariants.{New, Open, Closed}
 use Rattle.build_outcome.specs.declared.walk.WalkNode.{WalkNode}
 use Rattle.build_outcome.specs.declared.walk.WalkStep.TheVariants.{Enter, Leave, Pass, Return}
-use Rattle.build_outcome.specs.Walking.{AreInner, Goes, HaveRound, IsAfter, IsGrounded, IsLinked, IsMet, IsNextLink, IsWalkStep, IsWalk, KeepsMet, fresh, goes_nowhere, goes_on, grounded, mark_weight, weight}
+use Rattle.build_outcome.specs.private.Walking.{AreInner, Goes, HaveRound, IsAfter, IsGrounded, IsLinked, IsMet, IsNextLink, IsWalkStep, IsWalk, KeepsMet, fresh, goes_nowhere, goes_on, grounded, mark_weight, weight}
 use Rattle.build_outcome.proofs.Places.{set_cases}
 use Rattle.nix_names.proofs.Lists.{Contains-first, Contains-from_get, element_at, get_from_contains, get_grows, get_push_cases, get_pushed, same_element}
 

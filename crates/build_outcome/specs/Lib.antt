@@ -2,6 +2,4 @@
 pub mod Jobs
 pub mod Numbers
 pub mod Verdicts
--- What only private contracts and proofs cite.
-pub mod Linking
-pub mod Walking
+pub mod private

@@ -2,7 +2,7 @@
 ghost use Rattle.std.specs.Prelude.{◌≡◌, IfOk, MatchOption, OnOk, Contains, Some, length, nat_eq, slice_get, take, vec_capacity};
 ghost use Rattle.std.specs.Cmp.Lexicographic.{pointwise};
 ghost use Rattle.std.specs.List.{IsDistinct};
-ghost use Rattle.build_outcome.specs.Linking.{AddsLinks, AreEachOnce, HaveLinks, HaveNoLinks};
+ghost use Rattle.build_outcome.specs.private.Linking.{AddsLinks, AreEachOnce, HaveLinks, HaveNoLinks};
 
 use indexmap::IndexSet;
 use nix_names::StorePath;

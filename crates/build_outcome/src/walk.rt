@@ -1,6 +1,6 @@
 //! A walk along links, depth first, for a round among numbers.
 ghost use Rattle.std.specs.Prelude.{◌≡◌, ◌<◌, ◌≤◌, [], IfOk, length, map};
-ghost use Rattle.build_outcome.specs.Walking.{AreInner, IsAfter, IsWalkStep, IsWalk, MayTell, TellsRound, fresh};
+ghost use Rattle.build_outcome.specs.private.Walking.{AreInner, IsAfter, IsWalkStep, IsWalk, MayTell, TellsRound, fresh};
 
 use std::alloc::{AllocError, Global};
 

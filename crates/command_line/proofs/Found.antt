@@ -19,7 +19,7 @@ use Rattle.clap.specs.declared.builder.value_parser.ValueParser.TheVariants.{Sig
 use Rattle.clap.specs.declared.error.kind.ErrorKind.{ErrorKind}
 use Rattle.command_line.proofs.Walks.{AtSome, Each, IsRead, Passes, at_found, level_passes, neither}
 use Rattle.command_line.specs.CommandLine.{command_line}
-use Rattle.command_line.specs.Found.{HasJobs, IsFound, IsJobsRow, IsSubcommand}
+use Rattle.command_line.specs.private.Found.{HasJobs, IsFound, IsJobsRow, IsSubcommand}
 use Rattle.command_line.specs.Usage.{faults_in}
 
 -- where a walk stopped is not at `help`

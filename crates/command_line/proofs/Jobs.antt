@@ -9,7 +9,7 @@ use Rattle.clap.specs.Values.{IsSignedIn, read_as}
 use Rattle.clap.specs.Matches.{ReadsOne}
 use Rattle.clap.specs.Walk.{Row, Text, one_of, row_text}
 use Rattle.clap.specs.declared.builder.value_parser.Reading.TheVariants.{WithoutMinus}
-use Rattle.command_line.specs.Found.{HasJobs, IsJobsRow}
+use Rattle.command_line.specs.private.Found.{HasJobs, IsJobsRow}
 use Rattle.command_line.specs.Requests.{AreJobs, jobs_in}
 
 without_minus-cond : (t : List ℕ) → without_minus t ≡ cond (starts_with_minus t) (drop 1 t) t

@@ -3,5 +3,4 @@ pub mod CommandLine
 pub mod Kinds
 pub mod Requests
 pub mod Usage
--- What only private contracts and proofs cite.
-pub mod Found
+pub mod private

@@ -1,7 +1,7 @@
 //! The words of a command line, read by `clap`.
 ghost use Rattle.std.specs.Prelude.{◌≡◌, ◌⊎◌, IfErr, IfOk, MatchOption, map, option_map};
 ghost use Rattle.clap.specs.Words.{first_of, found_of, kind_of, rows_of, subcommand_rows_of};
-ghost use Rattle.command_line.specs.Found.{HasJobs, IsFound, IsSubcommand};
+ghost use Rattle.command_line.specs.private.Found.{HasJobs, IsFound, IsSubcommand};
 ghost use Rattle.command_line.specs.Usage.{IsAsked, IsUsageFault};
 ghost use Rattle.command_line.specs.Kinds.{IsKindFault, IsKindFaultBy, IsKindFaultIn};
 ghost use Rattle.command_line.specs.Requests.{AreJobs, IsAddDrv, IsAddText, IsAskedBy};

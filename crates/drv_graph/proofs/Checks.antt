@@ -8,10 +8,10 @@ use Rattle.std.proofs.lemmas.Option.{get_or_from_slice_get, same_Some, slice_get
 use Rattle.nix_names.specs.Firsts.{IsFirstWhere}
 use Rattle.nix_names.proofs.FirstElements.{first_within}
 use Rattle.nix_drv.specs.Derivation.{Drv, EnvEntry, Input, Output}
-use Rattle.drv_graph.specs.Checking.{AreExpected, EntriesFit, FitBefore, FitsExpected, HasMisfit, IsEnvFault, IsEnvMismatch, IsFirstPair, IsKindFault, IsMismatch, IsNameFault, IsPathFault, IsSoundCheck, IsUnknownOutput, IsUseFault, IsValueFault, PathFits}
+use Rattle.drv_graph.specs.private.Checking.{AreExpected, EntriesFit, FitBefore, FitsExpected, HasMisfit, IsEnvFault, IsEnvMismatch, IsFirstPair, IsKindFault, IsMismatch, IsNameFault, IsPathFault, IsSoundCheck, IsUnknownOutput, IsUseFault, IsValueFault, PathFits}
 use Rattle.drv_graph.specs.Expected.{IsExpected}
-use Rattle.drv_graph.specs.ExpectedPaths.{IsMaskedDigest, output_path}
-use Rattle.drv_graph.specs.UsedInputs.{uses_of}
+use Rattle.drv_graph.specs.private.ExpectedPaths.{IsMaskedDigest, output_path}
+use Rattle.drv_graph.specs.private.UsedInputs.{uses_of}
 use Rattle.drv_graph.specs.declared.kinds.Kind.TheVariants.{Addressed}
 use Rattle.nix_names.specs.Rising.{IsRising}
 use Rattle.nix_names.proofs.RisingLists.{not_below_itself, sorted_from_rising}

@@ -2,7 +2,7 @@
 use Rattle.std.proofs.Common.{◌≤◌, ℕ, List, inl, inr, rules}
 use Rattle.nix_drv.specs.Derivation.{Drv}
 use Rattle.nix_drv.specs.Sources.{Answer, GivesSame}
-use Rattle.drv_graph.specs.FillSteps.{IsFillRefused, IsTargetRefused, IsTextRefused}
+use Rattle.drv_graph.specs.private.FillSteps.{IsFillRefused, IsTargetRefused, IsTextRefused}
 use Rattle.drv_graph.specs.Loading.{IsCountedFault}
 use Rattle.drv_graph.specs.Nodes.{Node}
 use Rattle.drv_graph.specs.declared.fault.GraphFault.{GraphFault}

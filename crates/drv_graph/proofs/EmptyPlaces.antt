@@ -18,7 +18,7 @@ use Rattle.nix_drv.specs.declared.derivation.Parts.{Parts}
 use Rattle.nix_drv.proofs.Rising.{order_means_rising}
 use Rattle.drv_graph.specs.Modulo.{names_of}
 use Rattle.drv_graph.specs.Nodes.{inputs_of}
-use Rattle.drv_graph.specs.Placing.{IsPlaced, IsPlacedEntry, placed, placed_output, placed_outputs}
+use Rattle.drv_graph.specs.private.Placing.{IsPlaced, IsPlacedEntry, placed, placed_output, placed_outputs}
 use Rattle.drv_graph.proofs.PathLists.{same_place}
 use Rattle.nix_names.proofs.Lists.{Contains-from_get}
 

@@ -19,14 +19,14 @@ use Rattle.nix_drv.specs.declared.derivation.Parts.{Parts}
 use Rattle.nix_drv.specs.declared.fault.DrvFault.{DrvFault}
 use Rattle.nix_drv.specs.declared.fault.DrvFault.TheVariants.{NoMemory as NoSpace, Syntax, Order, TooLong, TextPathMismatch, NotADrvName, NotSorted, BadReference}
 use Rattle.drv_graph.specs.Filling.{AreInStore, IsFilledText, IsFilling, MayFill, file_name}
-use Rattle.drv_graph.specs.FillSteps.{AreDraftPaths, AreUsed, IsFillRefused, IsFilledBehind, IsStrayRefused, IsTarget, IsTextPath, IsTextRefused}
+use Rattle.drv_graph.specs.private.FillSteps.{AreDraftPaths, AreUsed, IsFillRefused, IsFilledBehind, IsStrayRefused, IsTarget, IsTextPath, IsTextRefused}
 use Rattle.drv_graph.specs.Loading.{IsLoading}
 use Rattle.drv_graph.specs.Nodes.{AreHashes, Node, inputs_of}
-use Rattle.drv_graph.specs.Placing.{IsPlaced}
+use Rattle.drv_graph.specs.private.Placing.{IsPlaced}
 use Rattle.drv_graph.specs.PlanNodes.{AreKept, nodes_of}
 use Rattle.drv_graph.specs.Plans.{AreDrvsOf, AreNumbers, Graph, IsPlan, each_once}
-use Rattle.drv_graph.specs.UsedInputs.{drvs_of_uses, hashes_of}
-use Rattle.drv_graph.specs.Walks.{IsUsed}
+use Rattle.drv_graph.specs.private.UsedInputs.{drvs_of_uses, hashes_of}
+use Rattle.drv_graph.specs.private.Walks.{IsUsed}
 use Rattle.drv_graph.specs.declared.fault.GraphFault.{GraphFault}
 use Rattle.drv_graph.specs.declared.fault.GraphFault.TheVariants.{NoMemory, At, Draft, Name}
 use Rattle.drv_graph.specs.declared.fault.NodeFault.TheVariants.{Text}

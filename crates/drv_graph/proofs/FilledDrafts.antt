@@ -5,12 +5,12 @@ use Rattle.std.specs.List.{AllZip}
 use Rattle.std.proofs.lemmas.List.Elements.{All-contains}
 use Rattle.std.proofs.lemmas.Option.{none-some, same_Some}
 use Rattle.nix_drv.specs.Derivation.{Drv, EnvEntry, Output}
-use Rattle.drv_graph.specs.Checking.{AreExpected}
+use Rattle.drv_graph.specs.private.Checking.{AreExpected}
 use Rattle.drv_graph.specs.Expected.{IsExpected}
 use Rattle.drv_graph.specs.Filling.{IsFilled, IsFilledEntry, IsFilledOutput}
 use Rattle.drv_graph.specs.Modulo.{names_of}
 use Rattle.drv_graph.specs.Outputs.{HasOtherEntry, IsOutputsCheck, IsThePathOrEmpty}
-use Rattle.drv_graph.specs.Placing.{IsPlaced, IsPlacedEntry, placed, placed_output, placed_outputs}
+use Rattle.drv_graph.specs.private.Placing.{IsPlaced, IsPlacedEntry, placed, placed_output, placed_outputs}
 use Rattle.drv_graph.specs.declared.kinds.Kind.{Kind}
 use Rattle.drv_graph.proofs.EmptyPlaces.{same_names}
 use Rattle.drv_graph.proofs.Loops.{beside}

@@ -14,7 +14,7 @@ use Rattle.nix_names.proofs.Lists.{All-from_contains, Contains-cons_cases, Conta
 use Rattle.nix_names.proofs.RisingLists.{equal_from_eq}
 use Rattle.nix_drv.specs.Derivation.{Drv}
 use Rattle.drv_graph.specs.Nodes.{Node, output_paths_of}
-use Rattle.drv_graph.specs.Owners.{AreOwnedBy, AreOwners, outputs_of}
+use Rattle.drv_graph.specs.private.Owners.{AreOwnedBy, AreOwners, outputs_of}
 use Rattle.drv_graph.specs.PlanNodes.{node_of, nodes_of}
 use Rattle.drv_graph.specs.Plans.{AreTwins}
 use Rattle.drv_graph.specs.TwinLaws.{TwinsAreTold}

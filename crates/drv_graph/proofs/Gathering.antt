@@ -16,7 +16,7 @@ use Rattle.nix_names.proofs.Lists.{element}
 use Rattle.nix_drv.specs.Derivation.{Input}
 use Rattle.nix_drv.specs.Parts.{bytes_of, input_of, path_of}
 use Rattle.nix_drv.specs.declared.derivation.Input.{Input as InputStruct}
-use Rattle.drv_graph.specs.Uniting.{IsAdded, IsGathered}
+use Rattle.drv_graph.specs.private.Uniting.{IsAdded, IsGathered}
 use Rattle.drv_graph.proofs.Loops.{seen_twice, set_last, split_last}
 use Rattle.drv_graph.proofs.Uniting.{gathered_more}
 

@@ -2,7 +2,7 @@
 use Rattle.std.proofs.Common.{◌≡◌, ◌∙◌, ℕ, List, [], ◌∷◌, ◌++◌, refl, ap, inl, inr, Option, Some, None, Ok}
 use Rattle.std.specs.Prelude.{⊤}
 use Rattle.nix_drv.specs.Sources.{Answer}
-use Rattle.drv_graph.specs.Walks.{IsGoingOn, IsStepping, LeavesNone}
+use Rattle.drv_graph.specs.private.Walks.{IsGoingOn, IsStepping, LeavesNone}
 use Rattle.drv_graph.specs.declared.walk_state.WalkState.{WalkState}
 use Rattle.drv_graph.specs.declared.walk_state.Visit.{Visit}
 

@@ -15,10 +15,10 @@ use Rattle.nix_drv.specs.declared.derivation.Parts.{Parts}
 use Rattle.nix_names.specs.Rising.{IsRising}
 use Rattle.drv_graph.specs.Loading.{AreDistinct}
 use Rattle.drv_graph.specs.Nodes.{Node, inputs_of, output_paths_of, paths_of}
-use Rattle.drv_graph.specs.Owners.{AreOwnedBy, AreOwners, IsClash, IsOwning, outputs_of, owned}
+use Rattle.drv_graph.specs.private.Owners.{AreOwnedBy, AreOwners, IsClash, IsOwning, outputs_of, owned}
 use Rattle.drv_graph.specs.Plans.{AreLawful, AreNumbers, AreTwins, IsLawful, MayAnswer, ShareOutput}
 use Rattle.drv_graph.specs.PlanNodes.{AreKept, HasHash, IsPlanNode, node_of, nodes_of, text_path_of}
-use Rattle.drv_graph.specs.Walks.{HasAllNumbers, IsWalkSoFar, IsLeaving, IsLeavingFault, IsVisit, SetsEntry, kept_visit, marked, visited}
+use Rattle.drv_graph.specs.private.Walks.{HasAllNumbers, IsWalkSoFar, IsLeaving, IsLeavingFault, IsVisit, SetsEntry, kept_visit, marked, visited}
 use Rattle.indexmap.specs.IndexMap.{keys}
 use Rattle.drv_graph.specs.declared.fault.GraphFault.{GraphFault}
 use Rattle.drv_graph.specs.declared.fault.GraphFault.TheVariants.{NoMemory}

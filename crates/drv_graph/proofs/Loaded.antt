@@ -11,12 +11,12 @@ use Rattle.nix_names.proofs.Lists.{All-left}
 use Rattle.nix_drv.specs.Sources.{Answer, GivesSame}
 use Rattle.drv_graph.specs.Loading.{AreDistinct, max_nodes}
 use Rattle.drv_graph.specs.Nodes.{Node, output_paths_of, paths_of}
-use Rattle.drv_graph.specs.Owners.{AreOwners, outputs_of, owned}
+use Rattle.drv_graph.specs.private.Owners.{AreOwners, outputs_of, owned}
 use Rattle.drv_graph.specs.Plans.{AreLawful, AreLeft, AreNumbers, IsPlan, IsReachedBy, MayBeAt, MayUse, each_once}
 use Rattle.drv_graph.specs.Plans.AreLeft.{none_left}
 use Rattle.drv_graph.specs.PlanNodes.{AreKept, IsPlanNode, nodes_of}
 use Rattle.drv_graph.specs.SoundGraphs.{IsSound}
-use Rattle.drv_graph.specs.Walks.{AreMarks, IsEmptyWalk, IsReachedAll, IsVisited, IsWalked, marked}
+use Rattle.drv_graph.specs.private.Walks.{AreMarks, IsEmptyWalk, IsReachedAll, IsVisited, IsWalked, marked}
 use Rattle.drv_graph.specs.declared.walk_state.WalkState.{WalkState}
 use Rattle.drv_graph.proofs.Marks.{marks_none}
 use Rattle.drv_graph.proofs.Numbers.{numbers_grow, numbers_within}

@@ -4,7 +4,7 @@ use Rattle.std.specs.Prelude.{Contains, slice_get}
 use Rattle.std.specs.Cmp.Lexicographic.{pointwise}
 use Rattle.std.proofs.lemmas.Option.{same_Some, none-some}
 use Rattle.indexmap.specs.IndexMap.{IndexMap, Updates, get}
-use Rattle.drv_graph.specs.Walks.{AreMarks, SetsEntry}
+use Rattle.drv_graph.specs.private.Walks.{AreMarks, SetsEntry}
 use Rattle.drv_graph.proofs.PathLists.{other_path, path_cases}
 use Rattle.nix_names.proofs.Lists.{Contains-cons_cases, Contains-first, Contains-from_get, Contains-later, Contains-nothing, get_from_contains, get_grows, get_push_cases, get_pushed}
 

@@ -17,7 +17,7 @@ use Rattle.nix_drv.specs.declared.derivation.Input.{Input as InputStruct}
 use Rattle.nix_drv.specs.declared.derivation.EnvEntry.{EnvEntry as EntryStruct}
 use Rattle.nix_drv.specs.declared.derivation.Output.{Output as OutputStruct}
 use Rattle.nix_drv.specs.declared.derivation.Parts.{Parts}
-use Rattle.drv_graph.specs.Uniting.{masked_output}
+use Rattle.drv_graph.specs.private.Uniting.{masked_output}
 use Rattle.std.specs.Vec.{with_items}
 use Rattle.std.proofs.lemmas.List.{with_items_is}
 use Rattle.nix_drv.specs.Places.{IsPlaceOfKey}

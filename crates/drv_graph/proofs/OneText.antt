@@ -10,7 +10,7 @@ use Rattle.nix_drv.specs.Derivation.{Drv, Input, Output, drv_value}
 use Rattle.nix_drv.specs.Grammar.{text}
 use Rattle.drv_graph.specs.Expected.{IsExpected, path_name}
 use Rattle.drv_graph.specs.Modulo.{HasOneModuloText, IsNamed, IsUnited, masked, with_inputs}
-use Rattle.drv_graph.specs.Uniting.{input_paths}
+use Rattle.drv_graph.specs.private.Uniting.{input_paths}
 use Rattle.drv_graph.specs.declared.kinds.Kind.{Kind}
 use Rattle.drv_graph.specs.declared.kinds.Kind.TheVariants.{Addressed, Fixed}
 use Rattle.drv_graph.specs.declared.kinds.Method.TheVariants.{Flat, Recursive}

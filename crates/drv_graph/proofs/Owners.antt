@@ -8,10 +8,10 @@ use Rattle.std.proofs.lemmas.List.Elements.{All-contains, Contains-append_left, 
 use Rattle.std.proofs.lemmas.Option.{none-some, same_Some, slice_get_read, slice_get_within}
 use Rattle.drv_graph.specs.Loading.{AreDistinct}
 use Rattle.drv_graph.specs.Nodes.{Node, output_paths_of}
-use Rattle.drv_graph.specs.Owners.{AreEntered, AreOwnedBy, AreOwners, HasAsMany, IsClash, IsEntering, IsOwning, first_owner, outputs_of}
+use Rattle.drv_graph.specs.private.Owners.{AreEntered, AreOwnedBy, AreOwners, HasAsMany, IsClash, IsEntering, IsOwning, first_owner, outputs_of}
 use Rattle.drv_graph.specs.PlanNodes.{AreKept, IsPlanNode, node_of, nodes_of}
 use Rattle.drv_graph.specs.Plans.{HaveSamePaths}
-use Rattle.drv_graph.specs.Walks.{SetsEntry}
+use Rattle.drv_graph.specs.private.Walks.{SetsEntry}
 use Rattle.drv_graph.specs.declared.fault.GraphFault.{GraphFault}
 use Rattle.drv_graph.specs.declared.fault.GraphFault.TheVariants.{At}
 use Rattle.drv_graph.specs.declared.fault.NodeFault.TheVariants.{OutputClash}

@@ -12,7 +12,7 @@ use Rattle.nix_drv.specs.declared.fault.DrvFault.{DrvFault}
 use Rattle.drv_graph.specs.Nodes.{inputs_of}
 use Rattle.drv_graph.specs.Plans.{MayBeAt}
 use Rattle.drv_graph.specs.Loading.{max_nodes}
-use Rattle.drv_graph.specs.Walks.{Advances, Descends, IsMeeting, IsReadingFault, IsTextFaultAt, Opens, marked}
+use Rattle.drv_graph.specs.private.Walks.{Advances, Descends, IsMeeting, IsReadingFault, IsTextFaultAt, Opens, marked}
 use Rattle.drv_graph.specs.declared.fault.GraphFault.{GraphFault}
 use Rattle.drv_graph.specs.declared.fault.GraphFault.TheVariants.{NoMemory, At, Draft, Name}
 use Rattle.drv_graph.specs.declared.walk_state.Visit.{Visit}

@@ -7,7 +7,7 @@ use Rattle.nix_drv.specs.Sources.{Answer, GivesSame}
 use Rattle.drv_graph.specs.Loading.{IsLoading, MayCheck}
 use Rattle.drv_graph.specs.Nodes.{Node}
 use Rattle.drv_graph.specs.Plans.{IsReachedBy, LeadsBy, MayBeAt, MayUse}
-use Rattle.drv_graph.specs.Walks.{IsWalked}
+use Rattle.drv_graph.specs.private.Walks.{IsWalked}
 use Rattle.drv_graph.specs.declared.fault.GraphFault.{GraphFault}
 use Rattle.drv_graph.specs.declared.fault.GraphFault.TheVariants.{NoMemory, At, Draft, Name}
 use Rattle.drv_graph.specs.declared.fault.NodeFault.TheVariants.{Unreadable, TooMany, Text, Cycle, Outputs, OutputClash}

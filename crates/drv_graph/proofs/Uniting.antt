@@ -14,7 +14,7 @@ use Rattle.nix_names.specs.Rising.{IsRising}
 use Rattle.nix_names.proofs.RisingLists.{IsBelow, below_from_order, below_trans, earlier_below, rising_push}
 use Rattle.nix_drv.specs.Derivation.{Input}
 use Rattle.drv_graph.specs.Modulo.{IsNamed, IsUnited}
-use Rattle.drv_graph.specs.Uniting.{IsAdded, IsGathered, IsNameSorted, input_paths}
+use Rattle.drv_graph.specs.private.Uniting.{IsAdded, IsGathered, IsNameSorted, input_paths}
 use Rattle.drv_graph.proofs.Loops.{slice_get-take}
 use Rattle.drv_graph.proofs.OneText.{named_cases, named_first, named_later}
 use Rattle.nix_names.proofs.Lists.{Contains-nothing, get_from_contains}

@@ -11,8 +11,8 @@ use Rattle.drv_graph.specs.Nodes.AreHashes.{no_hashes, one_more_hash}
 use Rattle.drv_graph.specs.Outputs.{IsOutputsCheck, IsThePath}
 use Rattle.drv_graph.specs.Plans.{AreDrvsOf, AreNumbers, MayAnswer}
 use Rattle.drv_graph.specs.PlanNodes.{AreKept, HasHash, IsPlanNode, node_of, nodes_of}
-use Rattle.drv_graph.specs.UsedInputs.{drvs_of_uses, hashes_of, paths_of_uses as used_paths_of}
-use Rattle.drv_graph.specs.Walks.{IsLeavingFault, IsOutputFaultAt, IsUsed, visited}
+use Rattle.drv_graph.specs.private.UsedInputs.{drvs_of_uses, hashes_of, paths_of_uses as used_paths_of}
+use Rattle.drv_graph.specs.private.Walks.{IsLeavingFault, IsOutputFaultAt, IsUsed, visited}
 use Rattle.drv_graph.specs.declared.fault.GraphFault.{GraphFault}
 use Rattle.drv_graph.specs.declared.fault.GraphFault.TheVariants.{NoMemory, At, Draft, Name}
 use Rattle.drv_graph.specs.declared.fault.OutputFault.{OutputFault}

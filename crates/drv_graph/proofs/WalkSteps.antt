@@ -12,7 +12,7 @@ use Rattle.drv_graph.specs.Loading.{IsLoading}
 use Rattle.drv_graph.specs.Nodes.{Node, paths_of}
 use Rattle.drv_graph.specs.Plans.{MayBeAt}
 use Rattle.drv_graph.specs.PlanNodes.{nodes_of}
-use Rattle.drv_graph.specs.Walks.{IsGoingOn, IsMeetingFault, IsReadingFault, IsVisit, IsVisited, LeavesNone, Opens, marked}
+use Rattle.drv_graph.specs.private.Walks.{IsGoingOn, IsMeetingFault, IsReadingFault, IsVisit, IsVisited, LeavesNone, Opens, marked}
 use Rattle.drv_graph.specs.declared.fault.GraphFault.{GraphFault}
 use Rattle.drv_graph.specs.declared.fault.GraphFault.TheVariants.{NoMemory, At, Draft, Name}
 use Rattle.drv_graph.specs.declared.fault.NodeFault.TheVariants.{Unreadable, TooMany, Text, Cycle, Outputs, OutputClash}

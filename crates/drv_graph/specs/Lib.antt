@@ -14,12 +14,4 @@ pub mod Plans
 pub mod SoundGraphs
 pub mod TwinLaws
 pub mod Twins
--- What only private contracts and proofs cite.
-pub mod Checking
-pub mod ExpectedPaths
-pub mod FillSteps
-pub mod Owners
-pub mod Placing
-pub mod Uniting
-pub mod UsedInputs
-pub mod Walks
+pub mod private

@@ -4,10 +4,10 @@ ghost use Rattle.sha2.specs.Sha256.{sha256};
 ghost use Rattle.nix_names.specs.Names.{is_name};
 ghost use Rattle.nix_names.specs.StorePaths.{store_path};
 ghost use Rattle.nix_drv.specs.Parts.{output_of};
-ghost use Rattle.drv_graph.specs.Checking.{AreExpected};
+ghost use Rattle.drv_graph.specs.private.Checking.{AreExpected};
 ghost use Rattle.drv_graph.specs.Expected.{flat_text, path_name};
 ghost use Rattle.drv_graph.specs.Kinds.{HasKind, MayBeDeclared};
-ghost use Rattle.drv_graph.specs.ExpectedPaths.{IsFixedPath, IsMaskedDigest, output_path};
+ghost use Rattle.drv_graph.specs.private.ExpectedPaths.{IsFixedPath, IsMaskedDigest, output_path};
 ghost use Rattle.drv_graph.specs.Outputs.{IsWellNamed};
 
 use crate::kinds::{Kind, Method};

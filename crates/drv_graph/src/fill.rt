@@ -9,11 +9,11 @@ ghost use Rattle.nix_drv.specs.OwnPath.{referenced_paths};
 ghost use Rattle.nix_drv.specs.References.{IsReferencesOf};
 ghost use Rattle.nix_drv.specs.Sources.{GivesSame};
 ghost use Rattle.drv_graph.specs.Filling.{AreNames, IsFilling, file_name};
-ghost use Rattle.drv_graph.specs.FillSteps.{AreDraftPaths, AreOutputsRefused, IsFillRefused, IsFilledBehind, IsNameRefused, IsStrayRefused, IsTarget, IsTargetRefused, IsTextPath, IsTextRefused};
+ghost use Rattle.drv_graph.specs.private.FillSteps.{AreDraftPaths, AreOutputsRefused, IsFillRefused, IsFilledBehind, IsNameRefused, IsStrayRefused, IsTarget, IsTargetRefused, IsTextPath, IsTextRefused};
 ghost use Rattle.drv_graph.specs.Loading.{IsCountedFault, IsLoading};
 ghost use Rattle.drv_graph.specs.Nodes.{inputs_of};
 ghost use Rattle.drv_graph.specs.Plans.{AreNumbers};
-ghost use Rattle.drv_graph.specs.UsedInputs.{drvs_of_uses, hashes_of, paths_of_uses as used_paths_of};
+ghost use Rattle.drv_graph.specs.private.UsedInputs.{drvs_of_uses, hashes_of, paths_of_uses as used_paths_of};
 
 use crate::fault::{GraphFault, NodeFault, OutputFault};
 use crate::outputs::{UsedInput, expected_outputs};

@@ -3,7 +3,7 @@ ghost use Rattle.std.specs.Prelude.{◌≡◌, ◌∷◌, [], IfOk, IfErr, Match
 ghost use Rattle.std.specs.Bool.{MatchBool};
 ghost use Rattle.nix_drv.specs.Derivation.{Output as DrvOutput};
 ghost use Rattle.nix_drv.specs.Parts.{output_of};
-ghost use Rattle.drv_graph.specs.Checking.{IsFixedKind, IsKindFault, IsNotFixed, NamesUnknown, SaysSome};
+ghost use Rattle.drv_graph.specs.private.Checking.{IsFixedKind, IsKindFault, IsNotFixed, NamesUnknown, SaysSome};
 ghost use Rattle.drv_graph.specs.Kinds.{HasKind, IsAddressed, IsFixed};
 
 use crate::fault::OutputFault;

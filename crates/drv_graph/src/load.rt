@@ -2,7 +2,7 @@
 ghost use Rattle.std.specs.Prelude.{◌≡◌, ◌≤◌, IfErr};
 ghost use Rattle.nix_drv.specs.Sources.{GivesSame};
 ghost use Rattle.drv_graph.specs.Loading.{IsCountedFault};
-ghost use Rattle.drv_graph.specs.Walks.{IsEmptyWalk, IsWalkingAll};
+ghost use Rattle.drv_graph.specs.private.Walks.{IsEmptyWalk, IsWalkingAll};
 
 use crate::fault::GraphFault;
 use crate::walk::walk;

@@ -9,7 +9,7 @@ ghost use Rattle.hex.specs.Hex.{encode_lower};
 ghost use Rattle.nix_drv.specs.Derivation.{IsLooseText};
 ghost use Rattle.nix_drv.specs.Parts.{bytes_of, drv_of, entry_of, input_of, output_of, path_of};
 ghost use Rattle.drv_graph.specs.Modulo.{IsModuloText, IsUnited, masked, masked_entry, names_of, replaced, with_inputs};
-ghost use Rattle.drv_graph.specs.Uniting.{IsAdded, IsGathered, IsNameSorted, masked_output};
+ghost use Rattle.drv_graph.specs.private.Uniting.{IsAdded, IsGathered, IsNameSorted, masked_output};
 
 use crate::fault::GraphFault;
 use nix_drv::{Derivation, EnvEntry, Input, Output, Parts};

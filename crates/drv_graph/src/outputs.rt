@@ -3,12 +3,12 @@ ghost use Rattle.std.specs.Prelude.{◌≡◌, ◌↔◌, length, map, vec_capac
 ghost use Rattle.sha2.specs.Sha256.{sha256};
 ghost use Rattle.nix_names.specs.Names.{is_name};
 ghost use Rattle.nix_drv.specs.Parts.{bytes_of, input_of, output_of, path_of};
-ghost use Rattle.drv_graph.specs.Checking.{IsExpecting, IsNameFault, IsSoundCheck, IsUnknownOutput, IsUseFault};
+ghost use Rattle.drv_graph.specs.private.Checking.{IsExpecting, IsNameFault, IsSoundCheck, IsUnknownOutput, IsUseFault};
 ghost use Rattle.drv_graph.specs.Expected.{path_name};
 ghost use Rattle.drv_graph.specs.Kinds.{HasKind};
 ghost use Rattle.drv_graph.specs.Nodes.{IsHashBy, fixed_text, inputs_of};
 ghost use Rattle.drv_graph.specs.Outputs.{IsKnownUse, IsOutputsCheck, IsThePath, IsWellNamed, uses};
-ghost use Rattle.drv_graph.specs.UsedInputs.{drvs_of_uses, hashes_of, paths_of_uses, uses_of};
+ghost use Rattle.drv_graph.specs.private.UsedInputs.{drvs_of_uses, hashes_of, paths_of_uses, uses_of};
 
 use crate::expected::{expected_paths, path_name};
 use crate::fault::OutputFault;

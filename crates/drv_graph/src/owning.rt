@@ -2,7 +2,7 @@
 ghost use Rattle.std.specs.Prelude.{◌≡◌, ◌<◌, All, IfOk, IfSome, length, slice_get};
 ghost use Rattle.drv_graph.specs.Loading.{AreDistinct};
 ghost use Rattle.drv_graph.specs.Nodes.{Node, output_paths_of};
-ghost use Rattle.drv_graph.specs.Owners.{AreOwners, HasAsMany, IsEntering, IsOwning, first_owner, outputs_of, owned};
+ghost use Rattle.drv_graph.specs.private.Owners.{AreOwners, HasAsMany, IsEntering, IsOwning, first_owner, outputs_of, owned};
 ghost use Rattle.drv_graph.specs.PlanNodes.{AreKept, nodes_of};
 
 use crate::fault::{GraphFault, NodeFault};

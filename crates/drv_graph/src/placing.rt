@@ -3,7 +3,7 @@ ghost use Rattle.std.specs.Prelude.{◌≡◌, IfOk, OnOk, length, map};
 ghost use Rattle.std.specs.List.{AllZip};
 ghost use Rattle.nix_drv.specs.Parts.{entry_of, output_of};
 ghost use Rattle.drv_graph.specs.Modulo.{names_of};
-ghost use Rattle.drv_graph.specs.Placing.{IsPlaced, IsPlacedEntry, placed, placed_outputs};
+ghost use Rattle.drv_graph.specs.private.Placing.{IsPlaced, IsPlacedEntry, placed, placed_outputs};
 
 use nix_drv::{Derivation, EnvEntry, Output};
 use nix_names::StorePath;

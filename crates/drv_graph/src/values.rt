@@ -2,7 +2,7 @@
 ghost use Rattle.std.specs.Prelude.{◌≡◌, ◌↔◌, length, map, IsTrue, IfOk, IfErr, OnOk};
 ghost use Rattle.std.specs.Bool.{MatchBool};
 ghost use Rattle.nix_drv.specs.Parts.{output_of};
-ghost use Rattle.drv_graph.specs.Checking.{EntriesFit, FitBefore, FitsExpected, HasMisfit, IsEnvFault, IsEnvMismatch, IsMismatch, IsPathFault, IsValueFault, PathFits};
+ghost use Rattle.drv_graph.specs.private.Checking.{EntriesFit, FitBefore, FitsExpected, HasMisfit, IsEnvFault, IsEnvMismatch, IsMismatch, IsPathFault, IsValueFault, PathFits};
 
 use crate::fault::OutputFault;
 use nix_drv::{Derivation, Output};

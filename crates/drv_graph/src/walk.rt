@@ -7,7 +7,7 @@ ghost use Rattle.drv_graph.specs.Loading.{IsCountedFault};
 ghost use Rattle.drv_graph.specs.Nodes.{inputs_of, paths_of};
 ghost use Rattle.drv_graph.specs.Plans.{MayBeAt};
 ghost use Rattle.drv_graph.specs.PlanNodes.{nodes_of};
-ghost use Rattle.drv_graph.specs.Walks.{IsFetching, IsWalkSoFar, IsGoingOn, IsMeeting, IsOpening, IsReadingOf, IsStepping, IsTextFaultAt, IsVisit, IsWalked, IsWalking, marked};
+ghost use Rattle.drv_graph.specs.private.Walks.{IsFetching, IsWalkSoFar, IsGoingOn, IsMeeting, IsOpening, IsReadingOf, IsStepping, IsTextFaultAt, IsVisit, IsWalked, IsWalking, marked};
 
 use crate::fault::{GraphFault, NodeFault};
 use crate::paths::known_paths;

@@ -7,7 +7,7 @@ ghost use Rattle.drv_graph.specs.Expected.{drv_name_of};
 ghost use Rattle.drv_graph.specs.Nodes.{inputs_of, paths_of};
 ghost use Rattle.drv_graph.specs.Plans.{AreNumbers};
 ghost use Rattle.drv_graph.specs.PlanNodes.{AreKept, nodes_of};
-ghost use Rattle.drv_graph.specs.Walks.{HasAllNumbers, IsOutputsChecking, IsWalkSoFar, IsLeaving, IsOutputFaultAt, IsUsed, IsVisit, SetsEntry, kept_visit, marked};
+ghost use Rattle.drv_graph.specs.private.Walks.{HasAllNumbers, IsOutputsChecking, IsWalkSoFar, IsLeaving, IsOutputFaultAt, IsUsed, IsVisit, SetsEntry, kept_visit, marked};
 
 use crate::fault::{GraphFault, NodeFault, OutputFault};
 use crate::kinds::Kind;

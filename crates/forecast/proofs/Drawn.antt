@@ -24,7 +24,7 @@ use Rattle.run_states.proofs.Tests.{is_among, is_found, same_test}
 use Rattle.run_states.proofs.Wanting.{Marks, none_marked}
 use Rattle.forecast.specs.Forecasts.{foretold}
 use Rattle.forecast.specs.Holding.{IsHeld, state_at}
-use Rattle.forecast.specs.Marks.{AreRoots, is_marked}
+use Rattle.forecast.specs.private.Marks.{AreRoots, is_marked}
 use Rattle.forecast.specs.Pictures.{IsDrawing, IsPicture, awaits_inputs, drawing, edge_line, edge_lines, edges_at, listed_names, node_at, node_line}
 use Rattle.forecast.specs.declared.prospect.Prospect.{Prospect}
 use Rattle.forecast.proofs.Held.{held_state, same_at}

@@ -4,5 +4,4 @@ pub mod Holding
 pub mod Pictures
 pub mod Texts
 pub mod Truths
--- What only private contracts and proofs cite.
-pub mod Marks
+pub mod private

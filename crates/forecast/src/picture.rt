@@ -5,7 +5,7 @@ ghost use Rattle.run_report.specs.Listing.{AreWithin, IsMarked};
 ghost use Rattle.run_states.specs.declared.fault.BookFault.TheVariants.{NoMemory};
 ghost use Rattle.run_report.specs.declared.listing.Listed.{Listed};
 ghost use Rattle.forecast.specs.Holding.{state_at, state_of};
-ghost use Rattle.forecast.specs.Marks.{AreRoots, is_marked};
+ghost use Rattle.forecast.specs.private.Marks.{AreRoots, is_marked};
 ghost use Rattle.forecast.specs.Pictures.{IsDrawing, border_of, edges_at, fill_of, node_at, node_line};
 
 use crate::edges::{write_all_edges, write_quoted};

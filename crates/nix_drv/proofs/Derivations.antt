@@ -2,8 +2,8 @@
 use Rattle.std.proofs.Common.{◌≡◌, ℕ, ◌<◌, ◌≤◌, ◌^◌, List, [], ◌∷◌, length, map, Ok, Err, refl, sym, ap, subst, rules, arith}
 use Rattle.nix_drv.specs.Grammar.{text, IsClear}
 use Rattle.nix_drv.specs.Order.{InOrder, IsFirstViolation}
-use Rattle.nix_drv.specs.Reading.{read}
-use Rattle.nix_drv.specs.Passing.{pass}
+use Rattle.nix_drv.specs.private.Reading.{read}
+use Rattle.nix_drv.specs.private.Passing.{pass}
 use Rattle.nix_drv.specs.Derivation.{Drv, derivation_form, drv_value, output_value, input_value, entry_value, IsLooseText, IsDrvText}
 use Rattle.nix_drv.specs.declared.derivation.Input.{Input as InputStruct}
 use Rattle.nix_drv.specs.declared.derivation.Output.{Output as OutputStruct}

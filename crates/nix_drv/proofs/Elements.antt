@@ -3,7 +3,7 @@ use Rattle.std.proofs.Common.{◌≡◌, ℕ, zero, suc, ◌<◌, ◌≤◌, eqb
 use Rattle.std.proofs.lemmas.Bool.{eqb-true, cond_both}
 use Rattle.std.proofs.lemmas.List.{append-nil, length-append}
 use Rattle.nix_drv.specs.Grammar.{Begins, separated, each_with_comma}
-use Rattle.nix_drv.specs.Reading.{◌>>=◌, before, next_at, elements_at, elements_of, left_of}
+use Rattle.nix_drv.specs.private.Reading.{◌>>=◌, before, next_at, elements_at, elements_of, left_of}
 use Rattle.nix_drv.proofs.Steps.{StopsAt, Told, bind_shrinks, left-before}
 use Rattle.nix_drv.proofs.Strings.{prefixes_of_one}
 use Rattle.nix_drv.proofs.Readers.{IsReader, reader_shrinks}

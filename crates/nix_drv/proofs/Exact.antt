@@ -3,7 +3,7 @@ use Rattle.std.proofs.Common.{◌≡◌, ◌≢◌, ℕ, ◌-◌, ◌≤◌, Lis
 use Rattle.std.proofs.lemmas.Bool.{ne_eqb}
 use Rattle.std.proofs.lemmas.List.{append-nil, length-append, nil_from_length}
 use Rattle.nix_drv.specs.Grammar.{Grammar, Fixed, Str, Then, Many, Value, text, IsText, IsTextPrefix, IsPrefixOfBytes, IsPrefixOfElements, IsLongestPrefix, first_byte, IsNoBracket, IsClear}
-use Rattle.nix_drv.specs.Reading.{bytes_at, list_at, read, left_of}
+use Rattle.nix_drv.specs.private.Reading.{bytes_at, list_at, read, left_of}
 use Rattle.nix_drv.proofs.Steps.{StopsAt, Told}
 use Rattle.nix_drv.proofs.Strings.{bytes_text}
 use Rattle.nix_drv.proofs.Readers.{IsReader, reader_shrinks, fixed_reader, bytes_reader, behind_reader, both_reader}

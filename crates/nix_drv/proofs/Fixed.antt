@@ -2,7 +2,7 @@
 use Rattle.std.proofs.Common.{◌≡◌, ℕ, ◌≤◌, true, eqb, List, [], ◌∷◌, ◌++◌, length, Result, Ok, Err, refl, ap, rules}
 use Rattle.std.proofs.lemmas.Bool.{eqb-true, eq-eqb, cond_both}
 use Rattle.nix_drv.specs.Grammar.{Begins}
-use Rattle.nix_drv.specs.Reading.{fixed_at, left_of}
+use Rattle.nix_drv.specs.private.Reading.{fixed_at, left_of}
 use Rattle.nix_drv.proofs.Steps.{Told, Longest, told_shrinks}
 
 -- a byte equals itself

@@ -5,9 +5,9 @@ use Rattle.nix_drv.specs.declared.fault.ParseFault.TheVariants.{NoMemory, Left}
 use Rattle.std.specs.Prelude.{codes}
 use Rattle.nix_drv.specs.Derivation.{comma, entry_form, input_form, build_form}
 use Rattle.nix_drv.specs.Grammar.{ListOrder, Rising, Free, Grammar, Value, Fixed, Str, Then, Many}
-use Rattle.nix_drv.specs.Reading.{◌>>=◌, fixed_at, read}
-use Rattle.nix_drv.specs.Behind.{string_behind, strings_behind, list_behind}
-use Rattle.nix_drv.specs.ParseFaults.{Fails}
+use Rattle.nix_drv.specs.private.Reading.{◌>>=◌, fixed_at, read}
+use Rattle.nix_drv.specs.private.Behind.{string_behind, strings_behind, list_behind}
+use Rattle.nix_drv.specs.private.ParseFaults.{Fails}
 
 -- a value that was read, behind others
 abbrev with_one : {A B : Type 0} → A → B × List ℕ → Result ((A × B) × List ℕ) ℕ

@@ -3,7 +3,7 @@ use Rattle.std.proofs.Common.{◌≡◌, ◌∙◌, ℕ, List, ◌∷◌, ◌++�
 use Rattle.std.specs.Prelude.{codes, if◌then◌else◌, is_ok}
 use Rattle.nix_drv.specs.Strings.{string_text}
 use Rattle.nix_drv.specs.Grammar.{Value, Str, text}
-use Rattle.nix_drv.specs.Listings.{list_text}
+use Rattle.nix_drv.specs.private.Listings.{list_text}
 use Rattle.nix_drv.specs.Derivation.{EnvEntry, Input, Output, output_form, output_value, input_form, input_value, entry_form, entry_value, build_form, derivation_form}
 
 pub on_ok : {E : Type 0} (r : Result (Unit {0}) E) (P Q : Type 0) → (P → Q) → OnOk r P → OnOk r Q

@@ -7,9 +7,9 @@ use Rattle.nix_drv.specs.declared.fault.ParseFault.TheVariants.{NoMemory, Left}
 use Rattle.nix_drv.specs.declared.element.Next.{Next}
 use Rattle.nix_drv.specs.declared.element.Next.TheVariants.{Comma, End}
 use Rattle.nix_drv.specs.Grammar.{Grammar, Free, Many, IsClear}
-use Rattle.nix_drv.specs.Reading.{◌>>=◌, before, next_at, elements_of, read, left_of}
-use Rattle.nix_drv.specs.Listings.{sign_at}
-use Rattle.nix_drv.specs.ParseFaults.{Fails}
+use Rattle.nix_drv.specs.private.Reading.{◌>>=◌, before, next_at, elements_of, read, left_of}
+use Rattle.nix_drv.specs.private.Listings.{sign_at}
+use Rattle.nix_drv.specs.private.ParseFaults.{Fails}
 use Rattle.nix_drv.proofs.Steps.{before-before}
 use Rattle.nix_drv.proofs.Readers.{reader_shrinks}
 use Rattle.nix_drv.proofs.Elements.{elements_open}

@@ -2,7 +2,7 @@
 use Rattle.std.proofs.Common.{◌≡◌, ℕ, ◌-◌, ◌≤◌, List, [], ◌∷◌, ◌++◌, length, get_or, take, drop, map, sym, append_assoc, arith, rules}
 use Rattle.std.proofs.lemmas.List.{append-nil, take_all, drop_all}
 use Rattle.nix_drv.specs.Grammar.{Grammar, Value, text, separated}
-use Rattle.nix_drv.specs.Listings.{list_text, others_text}
+use Rattle.nix_drv.specs.private.Listings.{list_text, others_text}
 
 pub separated-others : {A : Type 0} (text_of : A → List ℕ) (v : A) (vs : List A)
     → separated text_of (v ∷ vs) ≡ text_of v ++ others_text text_of vs

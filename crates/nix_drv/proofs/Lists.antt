@@ -3,7 +3,7 @@
 use Rattle.std.proofs.Common.{◌≡◌, ℕ, suc, ◌≤◌, List, [], ◌∷◌, ◌++◌, length, Result, Ok, Err, refl, ap, arith, inl, inr, rules}
 use Rattle.std.proofs.lemmas.Bool.{eqb-true, cond_both}
 use Rattle.nix_drv.specs.Grammar.{IsPrefixOfElements}
-use Rattle.nix_drv.specs.Reading.{elements_of, list_at, left_of}
+use Rattle.nix_drv.specs.private.Reading.{elements_of, list_at, left_of}
 use Rattle.nix_drv.proofs.Steps.{Told}
 use Rattle.nix_drv.proofs.Strings.{prefixes_of_one}
 use Rattle.nix_drv.proofs.Readers.{IsReader, reader_shrinks}

@@ -4,8 +4,8 @@ use Rattle.std.proofs.lemmas.List.{length-append}
 use Rattle.std.proofs.lemmas.Bool.{cond_both}
 use Rattle.nix_drv.specs.Grammar.{ListOrder, Grammar, Fixed, Str, Then, Many, Value, text, separated, each_with_comma}
 use Rattle.nix_drv.specs.Order.{key, IsViolationAmong, IsViolation, InOrder, IsFirstViolation}
-use Rattle.nix_drv.specs.Reading.{◌>>=◌}
-use Rattle.nix_drv.specs.Passing.{behind, pass_among, pass_list, pass}
+use Rattle.nix_drv.specs.private.Reading.{◌>>=◌}
+use Rattle.nix_drv.specs.private.Passing.{behind, pass_among, pass_list, pass}
 
 -- the place as the machine has it
 abbrev pub capped : ℕ → ℕ

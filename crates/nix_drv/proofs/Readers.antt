@@ -2,7 +2,7 @@
 use Rattle.std.proofs.Common.{◌≡◌, ℕ, ◌≤◌, false, List, [], ◌∷◌, ◌++◌, length, Result, Ok, Err, refl, sym, ap, ◌∙◌, append_assoc, arith, inl, inr, ◌⊎◌, rules}
 use Rattle.std.proofs.lemmas.List.{append-nil}
 use Rattle.nix_drv.specs.Grammar.{Begins, IsPrefixOfBytes}
-use Rattle.nix_drv.specs.Reading.{◌>>=◌, fixed_at, bytes_at, left_of}
+use Rattle.nix_drv.specs.private.Reading.{◌>>=◌, fixed_at, bytes_at, left_of}
 use Rattle.nix_drv.proofs.Steps.{Told, told_shrinks, bind_shrinks}
 use Rattle.nix_drv.proofs.Fixed.{fixed-told, fixed-again, fixed-longest}
 use Rattle.nix_drv.proofs.Strings.{bytes_text, bytes-told, bytes-again, bytes-longest}

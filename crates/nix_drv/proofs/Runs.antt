@@ -9,8 +9,8 @@ use Rattle.std.proofs.lemmas.List.Sums.{fails_before_first}
 use Rattle.nix_drv.specs.declared.fault.ParseFault.{ParseFault}
 use Rattle.nix_drv.specs.declared.fault.ParseFault.TheVariants.{NoMemory, Left}
 use Rattle.nix_drv.specs.Strings.{is_plain}
-use Rattle.nix_drv.specs.Reading.{◌>>=◌, before, fixed_at, escape_at, byte_at, bytes_at}
-use Rattle.nix_drv.specs.ParseFaults.{Fails}
+use Rattle.nix_drv.specs.private.Reading.{◌>>=◌, before, fixed_at, escape_at, byte_at, bytes_at}
+use Rattle.nix_drv.specs.private.ParseFaults.{Fails}
 use Rattle.nix_drv.proofs.Steps.{before_none, before-before}
 use Rattle.nix_drv.proofs.Strings.{IsPlain, by_byte, by_letter, bytes_at-plain, bytes_at-refused}
 

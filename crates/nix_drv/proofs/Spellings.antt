@@ -5,7 +5,7 @@ use Rattle.std.specs.List.{flat_map}
 use Rattle.std.proofs.lemmas.List.{append-nil, length-append, nil_from_length, take_all}
 use Rattle.std.proofs.lemmas.List.Sums.{sum_by-cons}
 use Rattle.nix_drv.specs.Strings.{spelled, spelling, is_plain, letter, string_text}
-use Rattle.nix_drv.specs.Passing.{behind}
+use Rattle.nix_drv.specs.private.Passing.{behind}
 use Rattle.nix_drv.proofs.Strings.{spelling-plain}
 use Rattle.nix_drv.proofs.FormTexts.{added_last}
 use Rattle.nix_drv.proofs.Runs.{is_plain-true}

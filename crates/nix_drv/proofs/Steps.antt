@@ -1,7 +1,7 @@
 -- One reading after another: what is known of both.
 use Rattle.std.proofs.Common.{◌≡◌, ℕ, ◌≤◌, List, [], ◌++◌, length, Result, Ok, Err, refl, ap, append_assoc, arith, rules}
 use Rattle.std.proofs.lemmas.List.{length-append}
-use Rattle.nix_drv.specs.Reading.{◌>>=◌, before, left_of}
+use Rattle.nix_drv.specs.private.Reading.{◌>>=◌, before, left_of}
 
 -- a prefix of which so many bytes of s are left
 pub record StopsAt (Prefix : List ℕ → Type 0) (s : List ℕ) (left : ℕ) : Type 0 where

@@ -4,7 +4,7 @@ use Rattle.std.specs.List.{flat_map}
 use Rattle.std.proofs.lemmas.Bool.{cases_Bool, eqb-true}
 use Rattle.nix_drv.specs.Strings.{spelling, unescaped}
 use Rattle.nix_drv.specs.Grammar.{Begins, IsPrefixOfBytes}
-use Rattle.nix_drv.specs.Reading.{before, bytes_at, left_of}
+use Rattle.nix_drv.specs.private.Reading.{before, bytes_at, left_of}
 use Rattle.nix_drv.proofs.Steps.{StopsAt, Told, Longest, left-before, before_none, before-before}
 use Rattle.std.proofs.lemmas.List.{append-nil}
 

@@ -3,7 +3,7 @@ use Rattle.std.proofs.Common.{◌≡◌, ℕ, List, [], ◌++◌, Ok, sym, ap, �
 use Rattle.std.proofs.lemmas.List.{append-nil}
 use Rattle.nix_drv.specs.Grammar.{Grammar, IsClear}
 use Rattle.nix_drv.specs.Laws.{HasOneValueEach, HasNoTextWithin}
-use Rattle.nix_drv.specs.Reading.{read}
+use Rattle.nix_drv.specs.private.Reading.{read}
 use Rattle.nix_drv.proofs.Exact.{read-again, read-text, value_is, rest_is}
 
 pub one_value_each : (g : Grammar) → IsClear g → HasOneValueEach g

@@ -13,10 +13,4 @@ pub mod Places
 pub mod References
 pub mod Sources
 pub mod Strings
--- What only private contracts and proofs cite.
-pub mod Behind
-pub mod Listings
-pub mod Ordering
-pub mod Passing
-pub mod Reading
-pub mod ParseFaults
+pub mod private

@@ -8,7 +8,7 @@ ghost use Rattle.nix_drv.specs.Grammar.{text};
 ghost use Rattle.nix_drv.specs.Order.{InOrder};
 ghost use Rattle.nix_drv.specs.Derivation.{IsLooseText, derivation_form, drv_value};
 ghost use Rattle.nix_drv.specs.Parts.{bytes_of, output_of, input_of, entry_of, drv_of};
-ghost use Rattle.nix_drv.specs.Ordering.{IsOrdering};
+ghost use Rattle.nix_drv.specs.private.Ordering.{IsOrdering};
 ghost use Rattle.nix_drv.specs.Outcome.{IsCopying, IsMaking};
 ghost use Rattle.nix_drv.specs.Places.{IsPlaceOfKey, env_keys, output_names};
 

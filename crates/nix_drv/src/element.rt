@@ -3,10 +3,10 @@
 ghost use Rattle.std.specs.Prelude.{◌≡◌, ◌++◌, IfOk, OnOk, length, map, option_map, vec_capacity};
 ghost use Rattle.nix_drv.specs.Grammar.{Grammar, Value, Free, Many, text, IsClear};
 ghost use Rattle.nix_drv.specs.Order.{key as key_of, breaks as breaks_of};
-ghost use Rattle.nix_drv.specs.Listings.{sign_at, list_read, list_text, others_text, order_of};
-ghost use Rattle.nix_drv.specs.Reading.{elements_of, read as read_of};
-ghost use Rattle.nix_drv.specs.Passing.{pass as pass_of};
-ghost use Rattle.nix_drv.specs.ParseFaults.{Gives};
+ghost use Rattle.nix_drv.specs.private.Listings.{sign_at, list_read, list_text, others_text, order_of};
+ghost use Rattle.nix_drv.specs.private.Reading.{elements_of, read as read_of};
+ghost use Rattle.nix_drv.specs.private.Passing.{pass as pass_of};
+ghost use Rattle.nix_drv.specs.private.ParseFaults.{Gives};
 
 use crate::fault::ParseFault;
 use crate::reading::fixed_of;
@@ -119,7 +119,7 @@ fn breaks(order: KeyOrder, before: Option<&[u8]>, key: &[u8]) -> bool
 
 // The place behind the list's text, which begins at this place, or the place of the first element
 // that breaks the order of its list. A place above `usize::MAX` counts as `usize::MAX`.
-#[tactic(auto, unfolding(crate::specs::Passing::pass))]
+#[tactic(auto, unfolding(crate::specs::private::Passing::pass))]
 pub(crate) fn pass_list<T: Element>(
     order: KeyOrder,
     items: &[T],

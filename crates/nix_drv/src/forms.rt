@@ -4,11 +4,11 @@ ghost use Rattle.std.specs.Prelude.{◌≡◌, ◌++◌, ◌∷◌, IfOk, OnOk, 
 ghost use Rattle.std.proofs.Common.{rules};
 ghost use Rattle.nix_drv.specs.Grammar.{Str, Then, text};
 ghost use Rattle.nix_drv.specs.Derivation.{drv_value, output_form, output_value, input_form, input_value, entry_form, entry_value, build_form, derivation_form, comma};
-ghost use Rattle.nix_drv.specs.Reading.{read as read_of};
-ghost use Rattle.nix_drv.specs.Passing.{pass as pass_of};
-ghost use Rattle.nix_drv.specs.Behind.{string_behind, strings_behind, list_behind};
-ghost use Rattle.nix_drv.specs.Listings.{list_text};
-ghost use Rattle.nix_drv.specs.ParseFaults.{Gives};
+ghost use Rattle.nix_drv.specs.private.Reading.{read as read_of};
+ghost use Rattle.nix_drv.specs.private.Passing.{pass as pass_of};
+ghost use Rattle.nix_drv.specs.private.Behind.{string_behind, strings_behind, list_behind};
+ghost use Rattle.nix_drv.specs.private.Listings.{list_text};
+ghost use Rattle.nix_drv.specs.private.ParseFaults.{Gives};
 ghost use Rattle.nix_drv.specs.Strings.{string_text};
 ghost use Rattle.nix_drv.specs.Parts.{drv_of, bytes_of, output_of, input_of, entry_of, build_of, parts_build, parts_value};
 
@@ -20,7 +20,7 @@ use crate::writing::{pass_str, write_string};
 use std::alloc::{AllocError, Global};
 
 // The string behind the wanted bytes, and the bytes behind it.
-#[tactic(auto, unfolding(crate::specs::Behind::string_behind))]
+#[tactic(auto, unfolding(crate::specs::private::Behind::string_behind))]
 fn read_str<'a>(
     alloc: Global,
     wanted: &[u8],
@@ -33,7 +33,7 @@ fn read_str<'a>(
 }
 
 // Two strings, with a comma between them, behind the wanted bytes, and the bytes behind them.
-#[tactic(auto, unfolding(crate::specs::Behind::strings_behind))]
+#[tactic(auto, unfolding(crate::specs::private::Behind::strings_behind))]
 fn read_strs<'a>(
     alloc: Global,
     wanted: &[u8],
@@ -48,7 +48,7 @@ fn read_strs<'a>(
 }
 
 // The list behind the wanted bytes, and the bytes behind it.
-#[tactic(auto, unfolding(crate::specs::Behind::list_behind))]
+#[tactic(auto, unfolding(crate::specs::private::Behind::list_behind))]
 fn read_items<'a, T: Element + Drop>(
     alloc: Global,
     wanted: &[u8],
@@ -113,7 +113,7 @@ impl Element for Vec<u8> {
         str_of(alloc, bytes)
     }
 
-    #[tactic(auto, unfolding(crate::specs::Passing::pass))]
+    #[tactic(auto, unfolding(crate::specs::private::Passing::pass))]
     fn pass(&self, place: usize) -> Result<usize, usize> {
         Ok(pass_str(self, place))
     }
@@ -145,7 +145,7 @@ impl Element for EnvEntry {
         Ok((EnvEntry { key, value }, rest))
     }
 
-    #[tactic(auto, unfolding(crate::specs::Passing::pass))]
+    #[tactic(auto, unfolding(crate::specs::private::Passing::pass))]
     fn pass(&self, place: usize) -> Result<usize, usize> {
         let at = pass_str(&self.key, place.saturating_add(1));
         let at = pass_str(&self.value, at.saturating_add(1));
@@ -184,7 +184,7 @@ impl Element for Input {
         Ok((Input { path, names }, rest))
     }
 
-    #[tactic(auto, unfolding(crate::specs::Passing::pass))]
+    #[tactic(auto, unfolding(crate::specs::private::Passing::pass))]
     fn pass(&self, place: usize) -> Result<usize, usize> {
         let at = pass_str(&self.path, place.saturating_add(1));
         let at = pass_list(KeyOrder::Rising, &self.names, at.saturating_add(1))?;
@@ -232,7 +232,7 @@ impl Element for Output {
         ))
     }
 
-    #[tactic(auto, unfolding(crate::specs::Passing::pass))]
+    #[tactic(auto, unfolding(crate::specs::private::Passing::pass))]
     fn pass(&self, place: usize) -> Result<usize, usize> {
         let at = pass_str(&self.name, place.saturating_add(1));
         let at = pass_str(&self.path, at.saturating_add(1));
@@ -309,7 +309,7 @@ pub(crate) fn read_parts(alloc: Global, bytes: &[u8]) -> Result<(Parts, &[u8]), 
 
 // The place behind the text of the system, builder, arguments and environment, which begins at this
 // place, or the place in it of the first element that breaks the order of its list.
-#[tactic(auto, unfolding(crate::specs::Passing::pass))]
+#[tactic(auto, unfolding(crate::specs::private::Passing::pass))]
 fn pass_build(parts: &Parts, place: usize) -> Result<usize, usize>
     ensures { result ≡ pass_of build_form place (parts_build parts.now) }
 {
@@ -322,7 +322,7 @@ fn pass_build(parts: &Parts, place: usize) -> Result<usize, usize>
 
 // The place behind the parts' text, or the place in it of the first element that breaks the order
 // of its list.
-#[tactic(auto, unfolding(crate::specs::Passing::pass))]
+#[tactic(auto, unfolding(crate::specs::private::Passing::pass))]
 pub(crate) fn pass_parts(parts: &Parts) -> Result<usize, usize>
     ensures { result ≡ pass_of derivation_form 0 (parts_value parts.now) }
 {

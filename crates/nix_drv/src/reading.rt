@@ -2,8 +2,8 @@
 
 ghost use Rattle.std.specs.Prelude.{◌≡◌, false};
 ghost use Rattle.nix_drv.specs.Grammar.{Str};
-ghost use Rattle.nix_drv.specs.Reading.{bytes_at, escape_at, byte_at, fixed_at, read};
-ghost use Rattle.nix_drv.specs.ParseFaults.{Gives};
+ghost use Rattle.nix_drv.specs.private.Reading.{bytes_at, escape_at, byte_at, fixed_at, read};
+ghost use Rattle.nix_drv.specs.private.ParseFaults.{Gives};
 ghost use Rattle.nix_drv.specs.Outcome.{IsReading};
 
 use crate::derivation::Derivation;
@@ -61,7 +61,7 @@ fn byte_of(bytes: &[u8]) -> Result<(Option<u8>, &[u8]), ParseFault>
 }
 
 // The string at the head of the bytes, and the bytes behind it.
-#[tactic(auto, unfolding(crate::specs::Reading::read))]
+#[tactic(auto, unfolding(crate::specs::private::Reading::read))]
 pub(crate) fn str_of(alloc: Global, bytes: &[u8]) -> Result<(Vec<u8>, &[u8]), ParseFault>
     ensures { Gives (λ x. (x.0.items, x.1.now)) result (read Str bytes.now) }
 {

@@ -2,7 +2,7 @@
 
 ghost use Rattle.std.specs.Prelude.{◌≡◌, ◌++◌, OnOk, is_some, length, count_by};
 ghost use Rattle.nix_drv.specs.Strings.{spelling, string_text, letter};
-ghost use Rattle.nix_drv.specs.Passing.{behind};
+ghost use Rattle.nix_drv.specs.private.Passing.{behind};
 ghost use Rattle.nix_drv.specs.Outcome.{IsWriting};
 
 use crate::derivation::Derivation;

@@ -6,7 +6,7 @@ use Rattle.ref_scan.specs.Links.{targets}
 use Rattle.ref_scan.specs.declared.tree.Tree.{Dir}
 use Rattle.ref_scan.specs.declared.tree.Member.{Member}
 use Rattle.ref_scan.proofs.Folders.{targets_below, targets_dir}
-use Rattle.process_build.specs.Contents.{IsAllowed}
+use Rattle.process_build.specs.private.Contents.{IsAllowed}
 
 abbrev pub AreAllowed : Bool → List Member → Type 0
 AreAllowed links members = All (λ (m : Member). IsAllowed links m.tree) members

@@ -12,7 +12,7 @@ use Rattle.std.specs.Str.{bytes_eq}
 use Rattle.std.specs.declared.alloc.Global.{Global}
 use Rattle.std.specs.declared.process.command.Command.{Command}
 use Rattle.nix_drv.specs.Derivation.{EnvEntry}
-use Rattle.process_build.specs.BuilderCalls.{entry_of_setting, value_of}
+use Rattle.process_build.specs.private.BuilderCalls.{entry_of_setting, value_of}
 use Rattle.process_build.specs.declared.call.Setting.{Setting}
 
 -- what an entry makes of the value of a key

@@ -2,7 +2,7 @@
 use Rattle.std.proofs.Common.{◌≡◌, ◌⊎◌, ◌∙◌, ◌++◌, ◌∷◌, [], ◌+◌, ◌<◌, ℕ, List, ap, get_or, inl, inr}
 use Rattle.std.proofs.Common.{length, map, sym, take}
 use Rattle.std.proofs.lemmas.List.{map-append, map_more}
-use Rattle.process_build.specs.BuilderCalls.{IsCallable}
+use Rattle.process_build.specs.private.BuilderCalls.{IsCallable}
 use Rattle.build_outcome.specs.declared.job.Job.{Job}
 use Rattle.build_outcome.specs.declared.reason.Reason.{Reason}
 use Rattle.build_outcome.specs.declared.reason.Reason.TheVariants.{NoStart, OutOfMemory}

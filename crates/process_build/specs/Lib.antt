@@ -4,9 +4,4 @@ pub mod Leases
 pub mod Manners
 pub mod Progress
 pub mod Traces
--- What only private contracts and proofs cite.
-pub mod Answers
-pub mod BuilderCalls
-pub mod Contents
-pub mod Folders
-pub mod Preparations
+pub mod private

@@ -1,9 +1,9 @@
 //! The texts of a job that a process is started with.
 ghost use Rattle.std.specs.Prelude.{◌≡◌, ◌⊎◌, All, IfErr, IfOk, map};
 ghost use Rattle.nix_drv.specs.Parts.{entry_of};
-ghost use Rattle.process_build.specs.BuilderCalls.{entry, entry_of_setting, own_entries};
-ghost use Rattle.process_build.specs.BuilderCalls.{IsCallable, IsProcessEntry, IsProcessKey};
-ghost use Rattle.process_build.specs.BuilderCalls.{IsProcessText};
+ghost use Rattle.process_build.specs.private.BuilderCalls.{entry, entry_of_setting, own_entries};
+ghost use Rattle.process_build.specs.private.BuilderCalls.{IsCallable, IsProcessEntry, IsProcessKey};
+ghost use Rattle.process_build.specs.private.BuilderCalls.{IsProcessText};
 ghost use Rattle.build_outcome.specs.declared.reason.Reason.TheVariants.{NoStart, OutOfMemory};
 
 use build_outcome::{Job, Reason};

@@ -1,7 +1,7 @@
 //! How a builder ended, which nothing but waiting for it tells.
 ghost use Rattle.std.specs.Prelude.{◌≡◌, IfOk, Some};
 ghost use Rattle.std.specs.Process.{child_status, exit_code};
-ghost use Rattle.process_build.specs.Answers.{answer_of};
+ghost use Rattle.process_build.specs.private.Answers.{answer_of};
 
 use build_outcome::Answer;
 use ref_scan::Tree;

@@ -2,8 +2,8 @@
 ghost use Rattle.std.specs.Prelude.{◌≡◌, ℕ, List, IfOk, OnOk, Some, map, option_map, true};
 ghost use Rattle.std.specs.Process.{clears_env, command_var};
 ghost use Rattle.std.specs.Process.{SameDir, SameOtherVars, SameProgramAndArgs};
-ghost use Rattle.process_build.specs.BuilderCalls.{entries_after, entries_before};
-ghost use Rattle.process_build.specs.BuilderCalls.{entries_in_order, entry_of_setting, value_of};
+ghost use Rattle.process_build.specs.private.BuilderCalls.{entries_after, entries_before};
+ghost use Rattle.process_build.specs.private.BuilderCalls.{entries_in_order, entry_of_setting, value_of};
 
 use crate::call::Setting;
 use std::alloc::{AllocError, Global};

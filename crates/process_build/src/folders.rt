@@ -1,6 +1,6 @@
 //! The store folder, the build folder of a lease, and what is cleared for it.
 ghost use Rattle.std.specs.Prelude.{◌≡◌, IfOk, map, string_bytes};
-ghost use Rattle.process_build.specs.Folders.{build_folder_of, places_of};
+ghost use Rattle.process_build.specs.private.Folders.{build_folder_of, places_of};
 
 use build_outcome::Job;
 use std::alloc::{AllocError, Global};

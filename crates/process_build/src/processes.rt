@@ -1,9 +1,9 @@
 //! A builder that runs a job's program as a process.
 ghost use Rattle.std.specs.Prelude.{◌≡◌, ◌⊎◌, IfErr, IfOk, string_bytes};
-ghost use Rattle.process_build.specs.Answers.{answer_of, may_have_run, IsAnswerOf, IsReadingFault};
-ghost use Rattle.process_build.specs.Answers.{IsRoomFault, IsRunFault};
+ghost use Rattle.process_build.specs.private.Answers.{answer_of, may_have_run, IsAnswerOf, IsReadingFault};
+ghost use Rattle.process_build.specs.private.Answers.{IsRoomFault, IsRunFault};
 ghost use Rattle.process_build.specs.Manners.{IsMannerOf};
-ghost use Rattle.process_build.specs.Preparations.{IsLogOf, IsNoteOf, IsPlaceOf, IsPreparationOf};
+ghost use Rattle.process_build.specs.private.Preparations.{IsLogOf, IsNoteOf, IsPlaceOf, IsPreparationOf};
 
 use crate::builders::Builders;
 use crate::call::Call;
@@ -104,7 +104,7 @@ where
 }
 
 impl<R: Files + Logs + AllocGlobal, P: Processes> Build for ProcessBuild<'_, R, P> {
-    ghost use Rattle.process_build.specs.Answers.{MayEnd};
+    ghost use Rattle.process_build.specs.private.Answers.{MayEnd};
 
     // No more is promised of what a builder does.
     ghost may = { MayEnd };

@@ -3,11 +3,11 @@ ghost use Rattle.std.specs.Prelude.{◌≡◌, ◌≤◌, ◌+◌, ◌⊎◌, []
 ghost use Rattle.std.specs.Prelude.{IsUtf8, length, string_bytes};
 ghost use Rattle.std.specs.Fs.{file_type};
 ghost use Rattle.std.specs.Io.KnownBytes.{Consumes, IsAtEnd, ReadConsumes};
-ghost use Rattle.process_build.specs.Answers.{IsKindAt, IsKindOf, IsNoKind, IsReadAs};
-ghost use Rattle.process_build.specs.Answers.{IsReadingFault};
-ghost use Rattle.process_build.specs.Contents.{IsAllowed};
+ghost use Rattle.process_build.specs.private.Answers.{IsKindAt, IsKindOf, IsNoKind, IsReadAs};
+ghost use Rattle.process_build.specs.private.Answers.{IsReadingFault};
+ghost use Rattle.process_build.specs.private.Contents.{IsAllowed};
 ghost use Rattle.ref_scan.specs.declared.tree.Member.{Member};
-ghost use Rattle.process_build.specs.Contents.{child_of, IsMoreThan, IsWhole};
+ghost use Rattle.process_build.specs.private.Contents.{child_of, IsMoreThan, IsWhole};
 ghost use Rattle.ref_scan.specs.Trees.{joined};
 ghost use Rattle.build_outcome.specs.declared.reason.Reason.TheVariants.{OutOfMemory, ReadFault};
 ghost use Rattle.build_outcome.specs.declared.reason.Reason.TheVariants.{TooLarge};

@@ -1,6 +1,6 @@
 //! What a failure of the system means for a build.
 ghost use Rattle.std.specs.Prelude.{◌≡◌, ◌≢◌, ◌⊎◌};
-ghost use Rattle.process_build.specs.Answers.{IsRoomFault};
+ghost use Rattle.process_build.specs.private.Answers.{IsRoomFault};
 ghost use Rattle.process_build.specs.Errors.{IsNoMemory};
 ghost use Rattle.build_outcome.specs.declared.reason.Reason.TheVariants.{NoStart, OutOfMemory};
 ghost use Rattle.build_outcome.specs.declared.reason.Reason.TheVariants.{ReadFault};

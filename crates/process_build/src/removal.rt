@@ -1,6 +1,6 @@
 //! What lies at a path of the store folder, taken away.
 ghost use Rattle.std.specs.Prelude.{◌≡◌, [], IfErr, IfOk, Ok, OnErr, OnOk, string_bytes, true};
-ghost use Rattle.process_build.specs.Folders.{aside_of, gone_after, IsAside, IsThere, NotesAside};
+ghost use Rattle.process_build.specs.private.Folders.{aside_of, gone_after, IsAside, IsThere, NotesAside};
 
 use crate::failures::Failure;
 use std::alloc::{AllocError, Global};

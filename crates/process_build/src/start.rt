@@ -3,9 +3,9 @@ ghost use Rattle.std.specs.Prelude.{◌≡◌, ◌++◌, ◌∷◌, [], IfErr, I
 ghost use Rattle.std.specs.Prelude.{string_bytes};
 ghost use Rattle.std.specs.Process.{command_arg0, command_args, command_dir, command_program};
 ghost use Rattle.std.specs.Process.{SameDir, SameEnv, SameProgramAndArgs};
-ghost use Rattle.process_build.specs.Answers.{IsRunFault};
-ghost use Rattle.process_build.specs.BuilderCalls.{entries_in_order, entry_of_setting};
-ghost use Rattle.process_build.specs.BuilderCalls.{args_by, name_by, program_by, program_of, Runs};
+ghost use Rattle.process_build.specs.private.Answers.{IsRunFault};
+ghost use Rattle.process_build.specs.private.BuilderCalls.{entries_in_order, entry_of_setting};
+ghost use Rattle.process_build.specs.private.BuilderCalls.{args_by, name_by, program_by, program_of, Runs};
 
 use crate::call::Call;
 use crate::ended::ProcessEnd;

@@ -5,7 +5,7 @@ use Rattle.std.specs.List.{range_with_len}
 use Rattle.std.proofs.lemmas.Bool.{cases_lt}
 use Rattle.std.proofs.lemmas.List.FromFn.{get_or-map-range_with_len}
 use Rattle.nix_names.specs.Base32.{is_digit}
-use Rattle.ref_scan.specs.Places.{AreDigits}
+use Rattle.ref_scan.specs.private.Places.{AreDigits}
 use Rattle.ref_scan.specs.declared.alphabet.TheConstants.{IS_DIGIT}
 
 table_is : IS_DIGIT ≡ map is_digit (range_with_len 0 256)

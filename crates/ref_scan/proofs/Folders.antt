@@ -2,7 +2,7 @@
 use Rattle.std.proofs.Common.{◌≡◌, ◌∙◌, ℕ, ◌+◌, ◌≤◌, ◌<◌, max, List, [], ◌∷◌, ◌++◌, length, drop, get_or, refl, ap, arith, rules}
 use Rattle.std.proofs.lemmas.List.{drop_more}
 use Rattle.ref_scan.specs.Links.{targets, targets_among}
-use Rattle.ref_scan.specs.Walk.{count_below, pieces_below}
+use Rattle.ref_scan.specs.private.Walk.{count_below, pieces_below}
 use Rattle.ref_scan.specs.Trees.{pieces, pieces_among, depth_of, depth_among, entry_count, entry_count_among, file_bytes, file_bytes_among}
 use Rattle.ref_scan.specs.declared.tree.Tree.{Tree, File, Pieces, Link, Dir, Dir', Row_of-Member, end_of-Member, more_of-Member, items-the_row-Member}
 use Rattle.ref_scan.specs.declared.tree.Tree.TheBlock.{hidden-the_row-Member-0, items_hidden-the_row-Member-0}

@@ -18,8 +18,8 @@ use Rattle.nix_names.specs.Rising.{IsRising}
 use Rattle.nix_names.specs.StorePaths.{hash_part_of, is_hash_part}
 use Rattle.nix_names.proofs.Lists.{Contains-map}
 use Rattle.nix_names.proofs.RisingLists.{IsBelow, equal_from_eq, members_of_dedup, not_below_itself, rising_dedup, sorted_from_rising}
-use Rattle.ref_scan.specs.Places.{ArePartsOf, IsPlaceOfPart, IsSieve, LetsThrough, key_of_part, part_at, slot_of, tag_of}
-use Rattle.ref_scan.specs.Marks.{IsPartMet, Marked}
+use Rattle.ref_scan.specs.private.Places.{ArePartsOf, IsPlaceOfPart, IsSieve, LetsThrough, key_of_part, part_at, slot_of, tag_of}
+use Rattle.ref_scan.specs.private.Marks.{IsPartMet, Marked}
 
 -- what a call promised at Ok, where it was Ok
 pub on_ok : {T E : Type 0} (r : Result T E) (P : Type 0) → IsOk r → OnOk r P → P

@@ -15,7 +15,7 @@ use Rattle.nix_names.specs.Rising.{IsRising}
 use Rattle.nix_names.specs.StorePaths.{IsStorePath, hash_part_of, is_hash_part}
 use Rattle.nix_names.proofs.Keys.{lesser_hash_part}
 use Rattle.nix_names.proofs.PathTexts.{hash_part_of_is}
-use Rattle.ref_scan.specs.Places.{ArePartsOf, Indexed, IsIndex, NumbersRise, key_of_part, part_at, parts_told}
+use Rattle.ref_scan.specs.private.Places.{ArePartsOf, Indexed, IsIndex, NumbersRise, key_of_part, part_at, parts_told}
 use Rattle.ref_scan.proofs.Indexing.{parts_as_paths}
 
 -- ---- numbers that rise

@@ -1,11 +1,11 @@
 -- The room that is left while a folder's entries are taken up one after the other.
 use Rattle.std.proofs.Common.{◌≡◌, ◌∙◌, ℕ, ◌+◌, ◌<◌, max, List, ◌∷◌, length, ap, arith, rules}
-use Rattle.ref_scan.specs.Room.{FitsIn}
+use Rattle.ref_scan.specs.private.Room.{FitsIn}
 use Rattle.ref_scan.specs.Trees.{depth_of, entry_count, file_bytes}
 use Rattle.ref_scan.specs.declared.tree.Room.{Room}
 use Rattle.ref_scan.specs.declared.tree.Tree.{Tree, Dir}
 use Rattle.ref_scan.specs.declared.tree.Member.{Member}
-use Rattle.ref_scan.specs.Walk.{count_below}
+use Rattle.ref_scan.specs.private.Walk.{count_below}
 use Rattle.ref_scan.proofs.Folders.{depth_below, bytes_below, depth_dir, count_dir, bytes_dir, depth_some, members_counted}
 
 -- What is left beside a folder's entries but for these last ones; the room of all members was taken

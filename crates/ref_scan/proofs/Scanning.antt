@@ -4,11 +4,11 @@ use Rattle.std.specs.Prelude.{Any, Contains, IsTrue, IfOk, Result, Ok, Err}
 use Rattle.std.proofs.lemmas.Bool.{false≢true, cases_lt}
 use Rattle.std.proofs.lemmas.List.{get_or-replicate, length-map, length-replicate, get_or-map, get_or_past, take_at}
 use Rattle.nix_names.specs.StorePaths.{hash_part_of, is_hash_part}
-use Rattle.ref_scan.specs.Kept.{last_bytes}
-use Rattle.ref_scan.specs.Marks.{IsPartMet, Searched}
-use Rattle.ref_scan.specs.Places.{ArePartsOf, IsPlaceOfPart, part_at}
+use Rattle.ref_scan.specs.private.Kept.{last_bytes}
+use Rattle.ref_scan.specs.private.Marks.{IsPartMet, Searched}
+use Rattle.ref_scan.specs.private.Places.{ArePartsOf, IsPlaceOfPart, part_at}
 use Rattle.ref_scan.specs.Scan.{OccursIn, Within}
-use Rattle.ref_scan.specs.Scanned.{Scanned, Sought}
+use Rattle.ref_scan.specs.private.Scanned.{Scanned, Sought}
 use Rattle.ref_scan.proofs.Pieces.{Any-none, Any-left, Any-last, Any-last_cases, not_in_none, occurs_before_none}
 use Rattle.ref_scan.proofs.Seams.{within_joined, joined_within}
 

@@ -6,7 +6,7 @@ use Rattle.std.proofs.lemmas.Bool.{cases_lt}
 use Rattle.std.proofs.lemmas.List.{take-append-drop, take_min, take_all}
 use Rattle.std.proofs.Math.Seq.{drop-append-add}
 use Rattle.nix_names.specs.StorePaths.{is_hash_part}
-use Rattle.ref_scan.specs.Kept.{last_bytes}
+use Rattle.ref_scan.specs.private.Kept.{last_bytes}
 use Rattle.ref_scan.specs.Scan.{Within}
 use Rattle.ref_scan.proofs.HashParts.{hash_part_long}
 use Rattle.ref_scan.proofs.Windows.{cover, within_left, within_right}

@@ -4,8 +4,8 @@ use Rattle.std.specs.Prelude.{All, IsTrue}
 use Rattle.std.proofs.lemmas.List.{drop-drop, take_rest, get_or-take}
 use Rattle.nix_names.specs.Base32.{is_digit}
 use Rattle.nix_names.specs.StorePaths.{is_hash_part}
-use Rattle.ref_scan.specs.Marks.{IsPartMet, Marked, Searched}
-use Rattle.ref_scan.specs.Places.{part_at}
+use Rattle.ref_scan.specs.private.Marks.{IsPartMet, Marked, Searched}
+use Rattle.ref_scan.specs.private.Places.{part_at}
 use Rattle.ref_scan.specs.Scan.{Within}
 use Rattle.ref_scan.proofs.Windows.{within_past, within_next, within_window, within_few, within_of_drop}
 

@@ -2,7 +2,7 @@
 use Rattle.std.proofs.Common.{◌≡◌, ◌∙◌, ℕ, ◌+◌, ◌*◌, List, [], ◌∷◌, ◌++◌, length, refl, ap, sym, append_assoc, append-nil, arith, rules}
 use Rattle.std.specs.Borrow.{Bor}
 use Rattle.ref_scan.specs.Trees.{entry_count, pieces}
-use Rattle.ref_scan.specs.Walk.{IsFirstVisited, IsVisited, count_below, pieces_ahead, pieces_below, steps_ahead}
+use Rattle.ref_scan.specs.private.Walk.{IsFirstVisited, IsVisited, count_below, pieces_ahead, pieces_below, steps_ahead}
 use Rattle.ref_scan.specs.declared.tree.Tree.{Tree}
 use Rattle.ref_scan.specs.declared.tree.Member.{Member}
 

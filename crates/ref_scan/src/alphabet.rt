@@ -1,7 +1,7 @@
 //! The base-32 alphabet, as bytes are tested against it.
 ghost use Rattle.std.specs.Prelude.{◌≡◌, ◌<◌, ◌≤◌, ◌+◌, MatchOption, slice_index, false};
 ghost use Rattle.nix_names.specs.Base32.{is_digit};
-ghost use Rattle.ref_scan.specs.Places.{AreDigits};
+ghost use Rattle.ref_scan.specs.private.Places.{AreDigits};
 
 const N: bool = false;
 

@@ -2,7 +2,7 @@
 ghost use Rattle.std.specs.Prelude.{◌≡◌, ◌≢◌, ◌↔◌, ◌⊎◌, ◌<◌, [], ℕ, All, IfOk, IsTrue, false, length, map, take, vec_capacity};
 ghost use Rattle.nix_names.specs.Keys.{key_of};
 ghost use Rattle.nix_names.specs.StorePaths.{IsStorePath, hash_part_of, is_hash_part};
-ghost use Rattle.ref_scan.specs.Places.{ArePartsOf, IsPlaceOfPart, IsSieve, IsSlotCount, LetsThrough, NumbersRise, key_of_part, mix_bits, slot_of, tag_of, word_of};
+ghost use Rattle.ref_scan.specs.private.Places.{ArePartsOf, IsPlaceOfPart, IsSieve, IsSlotCount, LetsThrough, NumbersRise, key_of_part, mix_bits, slot_of, tag_of, word_of};
 
 use nix_names::StorePath;
 use std::alloc::{AllocError, Global};
@@ -32,7 +32,7 @@ pub(crate) struct Index {
 }
 
 impl Model for Index {
-    ghost use Rattle.ref_scan.specs.Places.{Indexed, IsIndex, parts_told};
+    ghost use Rattle.ref_scan.specs.private.Places.{Indexed, IsIndex, parts_told};
 
     ghost Value = { Indexed };
 
@@ -274,7 +274,7 @@ fn slot_count(parts: usize) -> usize
 
 // The last four of eight characters as one number.
 #[inline(always)]
-#[tactic(auto, unfolding(crate::specs::Places::word_of))]
+#[tactic(auto, unfolding(crate::specs::private::Places::word_of))]
 fn word_of(first: &[u8; 8]) -> u32
     ensures { result ≡ word_of first.now }
 {

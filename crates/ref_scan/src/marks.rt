@@ -24,7 +24,7 @@ pub(crate) struct Marks {
 }
 
 impl Model for Marks {
-    ghost use Rattle.ref_scan.specs.Scanned.{Scanned, Sought};
+    ghost use Rattle.ref_scan.specs.private.Scanned.{Scanned, Sought};
 
     ghost Value = { Sought };
 

@@ -3,7 +3,7 @@ ghost use Rattle.std.specs.Prelude.{◌≡◌, ◌++◌, ◌∷◌, [], IfOk, On
 ghost use Rattle.nix_names.specs.Rising.{IsRising};
 ghost use Rattle.ref_scan.specs.Scan.{IsFound};
 ghost use Rattle.ref_scan.specs.Trees.{joined, pieces};
-ghost use Rattle.ref_scan.specs.Walk.{IsFirstVisited, IsVisited};
+ghost use Rattle.ref_scan.specs.private.Walk.{IsFirstVisited, IsVisited};
 
 use crate::fault::ScanFault;
 use crate::marks::Marks;

@@ -1,6 +1,6 @@
 //! The bytes that a scanner keeps between pieces, and the seam of two pieces.
 ghost use Rattle.std.specs.Prelude.{◌≡◌, ◌≤◌, ◌++◌, List, ℕ, length, take};
-ghost use Rattle.ref_scan.specs.Kept.{last_bytes};
+ghost use Rattle.ref_scan.specs.private.Kept.{last_bytes};
 
 use arrayvec::ArrayVec;
 

@@ -1,7 +1,7 @@
 //! The search of some bytes for all hash parts at once.
 ghost use Rattle.std.specs.Prelude.{◌≡◌, ◌≤◌, length};
-ghost use Rattle.ref_scan.specs.Places.{AreHashParts};
-ghost use Rattle.ref_scan.specs.Marks.{Marked, Searched};
+ghost use Rattle.ref_scan.specs.private.Places.{AreHashParts};
+ghost use Rattle.ref_scan.specs.private.Marks.{Marked, Searched};
 
 use crate::alphabet::last_foreign;
 use crate::index::Index;

@@ -1,6 +1,6 @@
 //! Trees of files, symbolic links and folders, and the limits of an output.
 ghost use Rattle.std.specs.Prelude.{◌≡◌, ◌<◌, ◌+◌, ◌↔◌, length, IsTrue, MatchOption};
-ghost use Rattle.ref_scan.specs.Room.{FitsIn, Fills};
+ghost use Rattle.ref_scan.specs.private.Room.{FitsIn, Fills};
 ghost use Rattle.ref_scan.specs.Trees.{Fits, joined};
 
 /// The most levels of an output's tree: a file, a link and an empty folder have one.

@@ -15,7 +15,7 @@ use Rattle.drv_graph.specs.Plans.{Graph}
 use Rattle.drv_graph.specs.declared.kinds.Kind.{Kind}
 use Rattle.drv_graph.proofs.KindAnswers.{one_kind}
 use Rattle.build_outcome.specs.Jobs.{IsJob, seeds_of}
-use Rattle.sched_core.specs.SameJobs.{HasRecipe, MakesAt}
+use Rattle.sched_core.specs.private.SameJobs.{HasRecipe, MakesAt}
 use Rattle.build_outcome.specs.declared.job.Job.{Job}
 use Rattle.build_outcome.specs.declared.job.JobOutput.{JobOutput}
 use Rattle.run_states.proofs.OwnStandings.{drv_is}

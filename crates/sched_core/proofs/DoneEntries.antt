@@ -23,7 +23,7 @@ use Rattle.valid_table.specs.declared.entry.Entry.{Entry}
 use Rattle.valid_table.specs.declared.entry.Entry.TheVariants.{Done}
 use Rattle.valid_table.specs.declared.entry.Registration.{Registration}
 use Rattle.sched_core.specs.Books.{AreNewRecords, IsNotAllowed}
-use Rattle.sched_core.specs.Dones.{AreFitting, HaveDigest, IsDoneEntry, IsDoneFault, infos_of}
+use Rattle.sched_core.specs.private.Dones.{AreFitting, HaveDigest, IsDoneEntry, IsDoneFault, infos_of}
 use Rattle.run_states.specs.Legal.{AreNewOutputs, AreOutputRecords, IsEntryOf}
 use Rattle.build_outcome.specs.Verdicts.{IsCyclic}
 use Rattle.run_states.specs.declared.fault.BookFault.{BookFault}

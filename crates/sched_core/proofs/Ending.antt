@@ -7,7 +7,7 @@ use Rattle.valid_table.specs.PathInfos.{PathInfo}
 use Rattle.valid_table.specs.Valid.{HasDrvPath, IsJournal}
 use Rattle.valid_table.specs.declared.entry.Entry.{Entry}
 use Rattle.sched_core.specs.Books.{IsBooksLease, IsDone, IsFinishFault, IsFinishing, Ledger, MayAllRefer}
-use Rattle.sched_core.specs.Dones.{IsDoneEntry, IsDoneFault}
+use Rattle.sched_core.specs.private.Dones.{IsDoneEntry, IsDoneFault}
 use Rattle.run_states.specs.Legal.{ArePermittedTo, MayRefer, ended}
 use Rattle.run_states.specs.Runs.{History, Run}
 use Rattle.run_states.specs.declared.fault.BookFault.{BookFault}

@@ -15,7 +15,7 @@ use Rattle.drv_graph.specs.Nodes.{Node, inputs_of, paths_of}
 use Rattle.drv_graph.specs.Plans.{AreNumbers}
 use Rattle.drv_graph.specs.PlanNodes.{drvs_of, output_paths_of}
 use Rattle.drv_graph.proofs.Numbers.{numbers_length}
-use Rattle.sched_core.specs.Following.{IsBehind}
+use Rattle.sched_core.specs.private.Following.{IsBehind}
 use Rattle.build_outcome.specs.Jobs.{named_outputs, paths_named, seeds_of}
 use Rattle.sched_core.proofs.SeedParts.{at_input, first_more, first_named, first_seeds, input_added, output_at, outputs_count, path_at, read_at}
 use Rattle.nix_names.proofs.Lists.{element_at}

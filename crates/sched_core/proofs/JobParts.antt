@@ -12,7 +12,7 @@ use Rattle.drv_graph.specs.Nodes.{Node}
 use Rattle.drv_graph.specs.Plans.{Graph}
 use Rattle.drv_graph.specs.PlanNodes.{drvs_of, output_paths_of}
 use Rattle.build_outcome.specs.Jobs.{IsJob, seeds_of}
-use Rattle.sched_core.specs.Seeding.{named_texts, output_texts}
+use Rattle.sched_core.specs.private.Seeding.{named_texts, output_texts}
 use Rattle.build_outcome.specs.declared.job.Job.{Job}
 use Rattle.build_outcome.specs.declared.job.JobOutput.{JobOutput}
 use Rattle.run_states.proofs.OwnStandings.{drv_is}

@@ -14,7 +14,7 @@ use Rattle.drv_graph.specs.Plans.{Graph}
 use Rattle.valid_table.specs.PathInfos.{PathInfo}
 use Rattle.valid_table.specs.Valid.{IsJournal}
 use Rattle.valid_table.specs.declared.entry.Entry.{Entry}
-use Rattle.sched_core.specs.Booking.{IsRunKept, events_left, history_of, run_over}
+use Rattle.sched_core.specs.private.Booking.{IsRunKept, events_left, history_of, run_over}
 use Rattle.run_states.specs.Courses.{CanBegin}
 use Rattle.sched_core.specs.Books.{IsDone}
 use Rattle.run_states.specs.Courses.{AreNearest, AreStandings, AreWanted, Course, HasBegun}

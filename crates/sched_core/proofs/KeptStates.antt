@@ -8,7 +8,7 @@ use Rattle.std.proofs.lemmas.Bool.{cases_lt}
 use Rattle.std.proofs.lemmas.List.{get_or_past}
 use Rattle.std.proofs.lemmas.Option.{slice_get_past}
 use Rattle.nix_drv.proofs.Fixed.{eqb_same}
-use Rattle.sched_core.specs.Booking.{IsRunKept, run_over}
+use Rattle.sched_core.specs.private.Booking.{IsRunKept, run_over}
 use Rattle.run_states.specs.Courses.{CanBegin, IsRunSettled, IsUnsettled}
 use Rattle.run_states.specs.Runs.{opened}
 use Rattle.run_states.specs.Counts.{HasCount}

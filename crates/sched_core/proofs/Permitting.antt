@@ -4,7 +4,7 @@ use Rattle.std.specs.Prelude.{All, Contains, Err, if◌then◌else◌}
 use Rattle.std.proofs.Math.Dec.{eqb}
 use Rattle.std.proofs.Math.Facts.{eqb_yes}
 use Rattle.std.proofs.lemmas.List.Elements.{All-contains, Contains-append_right}
-use Rattle.valid_table.specs.Closing.{HaveSame}
+use Rattle.valid_table.specs.private.Closing.{HaveSame}
 use Rattle.valid_table.specs.Closure.{IsClosing, IsClosure}
 use Rattle.valid_table.specs.Entries.{registered}
 use Rattle.valid_table.specs.Unions.{IsUnion}

@@ -4,7 +4,7 @@ ghost use Rattle.valid_table.specs.Entries.{paths_registered, registered};
 ghost use Rattle.valid_table.specs.PathInfos.{PathInfo};
 ghost use Rattle.valid_table.specs.Valid.{HasDrvPath, IsNotValid};
 ghost use Rattle.valid_table.specs.declared.entry.Registration.{Registration};
-ghost use Rattle.sched_core.specs.Dones.{AreFitting, HaveDigest, IsDoneEntry, IsDoneFault, infos_of};
+ghost use Rattle.sched_core.specs.private.Dones.{AreFitting, HaveDigest, IsDoneEntry, IsDoneFault, infos_of};
 
 use build_outcome::{Checked, is_cyclic};
 use drv_graph::{Kind, Plan};

@@ -2,7 +2,7 @@
 ghost use Rattle.std.specs.Prelude.{◌≡◌, ◌<◌, ◌↔◌, [], ◌∷◌, IfSome, IsTrue, Some, length, slice_get};
 ghost use Rattle.nix_drv.specs.Derivation.{Input};
 ghost use Rattle.drv_graph.specs.PlanNodes.{output_paths_of};
-ghost use Rattle.sched_core.specs.Following.{IsBehind};
+ghost use Rattle.sched_core.specs.private.Following.{IsBehind};
 ghost use Rattle.build_outcome.specs.Jobs.{paths_named, seeds_of};
 
 use drv_graph::Plan;

@@ -2,7 +2,7 @@
 ghost use Rattle.std.specs.Prelude.{◌≡◌, ◌<◌, ◌↔◌, IfSome, IsTrue, length, map, slice_get};
 ghost use Rattle.nix_drv.specs.Parts.{bytes_of, entry_of};
 ghost use Rattle.build_outcome.specs.Jobs.{IsJob, seeds_of};
-ghost use Rattle.sched_core.specs.SameJobs.{HasRecipe, MakesAt};
+ghost use Rattle.sched_core.specs.private.SameJobs.{HasRecipe, MakesAt};
 
 use crate::has_seeds::has_seeds;
 use build_outcome::{Job, JobOutput};

@@ -1,7 +1,7 @@
 //! The job of a derivation of a plan.
 ghost use Rattle.std.specs.Prelude.{◌≡◌, ◌<◌, IfErr, IfOk, length, map, vec_capacity};
 ghost use Rattle.build_outcome.specs.Jobs.{IsJob};
-ghost use Rattle.sched_core.specs.Seeding.{named_texts, output_texts};
+ghost use Rattle.sched_core.specs.private.Seeding.{named_texts, output_texts};
 ghost use Rattle.build_outcome.specs.declared.job.JobOutput.{JobOutput};
 
 use crate::seeds_of::seeds_of;

@@ -1,7 +1,7 @@
 //! The paths to which outputs may refer.
 ghost use Rattle.std.specs.Prelude.{◌≡◌, All, IfErr, IfOk, length, vec_capacity};
 ghost use Rattle.nix_names.specs.Rising.{IsRising};
-ghost use Rattle.valid_table.specs.Closing.{HaveSame};
+ghost use Rattle.valid_table.specs.private.Closing.{HaveSame};
 ghost use Rattle.valid_table.specs.Closure.{IsClosure};
 ghost use Rattle.valid_table.specs.Entries.{registered};
 ghost use Rattle.valid_table.specs.Unions.{IsUnion};

@@ -7,7 +7,7 @@ ghost use Rattle.sched_core.specs.Books.{ArePermittedPaths, IsBooksLease, IsDone
 ghost use Rattle.run_states.specs.Courses.{CanBegin, IsRunSettled, IsUnsettled};
 ghost use Rattle.run_states.specs.Runs.{opened};
 ghost use Rattle.run_states.specs.Counts.{HasCount};
-ghost use Rattle.sched_core.specs.Dones.{IsDoneEntry, IsDoneFault};
+ghost use Rattle.sched_core.specs.private.Dones.{IsDoneEntry, IsDoneFault};
 ghost use Rattle.build_outcome.specs.Jobs.{IsJob};
 ghost use Rattle.run_states.specs.Legal.{IsLegal, begins, begun, ended, failed};
 ghost use Rattle.run_report.specs.Reports.{IsReportIn};
@@ -53,7 +53,7 @@ pub(crate) struct PreparedEntry {
 
 impl Model for Progress {
     ghost use Rattle.std.specs.Prelude.{◌≤◌, length, vec_capacity};
-    ghost use Rattle.sched_core.specs.Booking.{IsRunKept, Progress, history_of, run_over};
+    ghost use Rattle.sched_core.specs.private.Booking.{IsRunKept, Progress, history_of, run_over};
 
     ghost Value = { Progress };
 

@@ -13,7 +13,7 @@ use Rattle.build_outcome.specs.declared.reason.Reason.{Reason}
 use Rattle.build_outcome.specs.declared.reason.Reason.TheVariants.{OutOfMemory}
 use Rattle.sched_core.proofs.ExaminedRecords.{verdicts_may_refer}
 use Rattle.store_run.specs.Builders.{IsAnswered, IsOutcomeVerdict, IsVerdictBehind, MayComeTo, answered_begin, answered_done, answered_fail}
-use Rattle.store_run.specs.Finding.{IsFoundBy, IsToldOfSeeds, MayBeFound, StaysPermitted}
+use Rattle.store_run.specs.private.Finding.{IsFoundBy, IsToldOfSeeds, MayBeFound, StaysPermitted}
 use Rattle.store_run.specs.declared.finding.Finding.TheVariants.{Examined, Unanswered}
 
 pub after_beginning : (may : Job → Result Answer Reason → Type 0) (before after : Ledger)

@@ -14,7 +14,7 @@ use Rattle.drv_graph.specs.Plans.{Graph}
 use Rattle.sched_core.specs.Books.{Ledger}
 use Rattle.store_run.specs.Keeping.{IsKeptText, MayKeepEach}
 use Rattle.store_run.specs.Realising.{IsOverLent}
-use Rattle.store_run.specs.Looking.{IsLook, IsNews, Looked}
+use Rattle.store_run.specs.private.Looking.{IsLook, IsNews, Looked}
 
 -- the fresh lines after the text of what was shown are the text of what is shown
 pub shown_goes_on : (known entries : List Entry) (looked : Looked) (before after : Bytes)

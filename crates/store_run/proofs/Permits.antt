@@ -19,7 +19,7 @@ use Rattle.build_outcome.specs.Verdicts.{outputs_of}
 use Rattle.build_outcome.specs.declared.job.Job.{Job}
 use Rattle.sched_core.proofs.Permitting.{are_permitted}
 use Rattle.run_states.proofs.Seeds.{permitted_stays}
-use Rattle.store_run.specs.Finding.{StaysPermitted}
+use Rattle.store_run.specs.private.Finding.{StaysPermitted}
 
 -- what is valid stays so in each list that goes on
 pub seeds_stay : (before after : List Entry) (job : Job) → IsPrefix before after

@@ -13,9 +13,9 @@ use Rattle.build_outcome.specs.declared.job.Answer.{Answer}
 use Rattle.build_outcome.specs.declared.job.Job.{Job}
 use Rattle.build_outcome.specs.declared.reason.Reason.{Reason}
 use Rattle.store_run.specs.Builders.{IsAnswered}
-use Rattle.store_run.specs.Ending.{IsHandedOut, IsRunEnd, IsRunEndFault, IsUnfinished, fault_of_stop, handed_out}
+use Rattle.store_run.specs.private.Ending.{IsHandedOut, IsRunEnd, IsRunEndFault, IsUnfinished, fault_of_stop, handed_out}
 use Rattle.store_run.specs.Realising.{IsCutOff, IsLeft, IsOverLent, IsRealised, IsRunFault}
-use Rattle.store_run.specs.Sharing.{Share}
+use Rattle.store_run.specs.private.Sharing.{Share}
 use Rattle.store_run.specs.Workers.{AreWorkers}
 use Rattle.store_run.specs.declared.fault.RunFault.{RunFault}
 

@@ -4,7 +4,7 @@ use Rattle.valid_table.specs.PathInfos.{PathInfo}
 use Rattle.run_states.specs.declared.fault.BookFault.TheVariants.{NoMemory, NoView, ForeignLease, NotLawful}
 use Rattle.build_outcome.specs.declared.job.Job.{Job}
 use Rattle.build_outcome.specs.declared.reason.Reason.TheVariants.{OutOfMemory}
-use Rattle.store_run.specs.Sharing.{IsNoting, IsLeaseRegistering, IsWanting, Share}
+use Rattle.store_run.specs.private.Sharing.{IsNoting, IsLeaseRegistering, IsWanting, Share}
 use Rattle.store_run.specs.declared.finding.LeaseEnd.{LeaseEnd}
 use Rattle.store_run.specs.declared.finding.LeaseEnd.TheVariants.{Registered, Failed, Stopped}
 

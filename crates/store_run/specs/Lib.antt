@@ -12,8 +12,4 @@ pub mod ScheduleExample
 pub mod Scheduling
 pub mod TwinExample
 pub mod Workers
--- What only private contracts and proofs cite.
-pub mod Ending
-pub mod Finding
-pub mod Looking
-pub mod Sharing
+pub mod private

@@ -2,7 +2,7 @@
 ghost use Rattle.std.specs.Prelude.{◌≡◌, ◌++◌, IfErr, IfOk, IfSome, List, OnOk};
 ghost use Rattle.valid_table.specs.Written.{written_text};
 ghost use Rattle.valid_table.specs.declared.entry.Entry.{Entry};
-ghost use Rattle.store_run.specs.Looking.{IsNews};
+ghost use Rattle.store_run.specs.private.Looking.{IsNews};
 
 use sched_core::Book;
 use std::alloc::{AllocError, Global};
@@ -25,7 +25,7 @@ pub(crate) struct KeptText<J: Naming> {
 impl<J: Naming> Model for KeptText<J> {
     ghost use Rattle.std.specs.Prelude.{◌≡◌, take};
     ghost use Rattle.valid_table.specs.Written.{written_text};
-    ghost use Rattle.store_run.specs.Looking.{Keeping};
+    ghost use Rattle.store_run.specs.private.Looking.{Keeping};
 
     ghost Value = { Keeping };
 
@@ -45,7 +45,7 @@ pub(crate) struct NewLines<J: Naming> {
 }
 
 impl<J: Naming> Model for NewLines<J> {
-    ghost use Rattle.store_run.specs.Looking.{Looked};
+    ghost use Rattle.store_run.specs.private.Looking.{Looked};
 
     ghost Value = { Looked };
 

@@ -1,9 +1,9 @@
 //! A book behind a lock, on which workers wait.
 ghost use Rattle.std.specs.Prelude.{IfSome};
 ghost use Rattle.store_run.specs.Builders.{IsAnswered};
-ghost use Rattle.store_run.specs.Finding.{IsToldOfSeeds, MayBeFound};
-ghost use Rattle.store_run.specs.Looking.{IsLook};
-ghost use Rattle.store_run.specs.Sharing.{IfGiven};
+ghost use Rattle.store_run.specs.private.Finding.{IsToldOfSeeds, MayBeFound};
+ghost use Rattle.store_run.specs.private.Looking.{IsLook};
+ghost use Rattle.store_run.specs.private.Sharing.{IfGiven};
 
 use crate::basis::Basis;
 use crate::bell::Bell;

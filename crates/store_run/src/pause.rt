@@ -1,7 +1,7 @@
 //! How long a keeper pauses.
 ghost use Rattle.std.specs.Prelude.{◌≡◌, option_map};
 ghost use Rattle.std.specs.Duration.{as_nanos};
-ghost use Rattle.store_run.specs.Looking.{pause_nanos};
+ghost use Rattle.store_run.specs.private.Looking.{pause_nanos};
 
 use std::time::Duration;
 

@@ -12,7 +12,7 @@ ghost use Rattle.run_states.specs.declared.fault.BookFault.TheVariants.{ForeignL
 ghost use Rattle.valid_table.specs.Unions.{IsUnion};
 ghost use Rattle.nix_names.specs.Bytes.{Path};
 ghost use Rattle.nix_names.specs.Rising.{IsRising};
-ghost use Rattle.store_run.specs.Finding.{IsToldAs, IsUnseen};
+ghost use Rattle.store_run.specs.private.Finding.{IsToldAs, IsUnseen};
 
 use nix_names::StorePath;
 use sched_core::{Book, BookFault, Checked, Job, Lease, Reason};

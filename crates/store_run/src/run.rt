@@ -3,7 +3,7 @@ ghost use Rattle.std.specs.Prelude.{◌≡◌, ◌⊎◌, ◌++◌, Err, IfErr, 
 ghost use Rattle.run_states.specs.Runs.{opened};
 ghost use Rattle.run_states.specs.Legal.{IsLegal};
 ghost use Rattle.store_run.specs.Builders.{IsAnswered};
-ghost use Rattle.store_run.specs.Ending.{IsHandedOut, IsRunEnd, fault_of_stop};
+ghost use Rattle.store_run.specs.private.Ending.{IsHandedOut, IsRunEnd, fault_of_stop};
 ghost use Rattle.store_run.specs.Realising.{IsOverLent, IsRealised, IsRunFault, fault_of_opening};
 ghost use Rattle.store_run.specs.Workers.{AreWorkers};
 ghost use Rattle.store_run.specs.declared.fault.RunFault.TheVariants.{NoMemory, NoView};

@@ -7,9 +7,9 @@ ghost use Rattle.run_states.specs.Counts.{HasCount};
 ghost use Rattle.run_states.specs.declared.fault.BookFault.TheVariants.{NoView};
 ghost use Rattle.build_outcome.specs.declared.reason.Reason.TheVariants.{OutOfMemory};
 ghost use Rattle.store_run.specs.Builders.{IsAnswered, MayComeTo};
-ghost use Rattle.store_run.specs.Finding.{HasCaughtUp, IsToldOfSeeds, MayBeFound};
-ghost use Rattle.store_run.specs.Looking.{IsLook};
-ghost use Rattle.store_run.specs.Sharing.{IfGiven, IsEnding, IsNoting, IsNotingVerdict, IsLeaseRegistering, IsStep, IsStopping, IsWake};
+ghost use Rattle.store_run.specs.private.Finding.{HasCaughtUp, IsToldOfSeeds, MayBeFound};
+ghost use Rattle.store_run.specs.private.Looking.{IsLook};
+ghost use Rattle.store_run.specs.private.Sharing.{IfGiven, IsEnding, IsNoting, IsNotingVerdict, IsLeaseRegistering, IsStep, IsStopping, IsWake};
 ghost use Rattle.store_run.specs.declared.finding.LeaseEnd.TheVariants.{Stopped};
 
 use crate::basis::Basis;
@@ -33,8 +33,8 @@ pub(crate) struct Shared<O: Outlet, B: Build, S: Basis = Brand> {
 
 impl<O: Outlet, B: Build, S: Basis> Model for Shared<O, B, S> {
     ghost use Rattle.store_run.specs.Builders.{IsAnswered};
-    ghost use Rattle.store_run.specs.Looking.{IsLook};
-    ghost use Rattle.store_run.specs.Sharing.{Share};
+    ghost use Rattle.store_run.specs.private.Looking.{IsLook};
+    ghost use Rattle.store_run.specs.private.Sharing.{Share};
 
     ghost Value = { Share };
 

@@ -2,7 +2,7 @@
 ghost use Rattle.std.specs.Prelude.{◌≡◌, IfErr, IfOk, OnOk};
 ghost use Rattle.valid_view.specs.Shown.{IsShowable};
 ghost use Rattle.sched_core.specs.Books.{ArePermittedPaths, AreSeedsValid};
-ghost use Rattle.store_run.specs.Finding.{IsFoundBy, IsToldOfSeeds, IsUnseen};
+ghost use Rattle.store_run.specs.private.Finding.{IsFoundBy, IsToldOfSeeds, IsUnseen};
 
 use crate::finding::Finding;
 use crate::refusal::{RefusedCall, closure, permitted_beside};

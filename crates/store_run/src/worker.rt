@@ -1,6 +1,6 @@
 //! What one worker does.
 ghost use Rattle.std.specs.Prelude.{IfSome};
-ghost use Rattle.store_run.specs.Finding.{IsToldOfSeeds};
+ghost use Rattle.store_run.specs.private.Finding.{IsToldOfSeeds};
 
 use crate::basis::Basis;
 use crate::finding::LeaseEnd;

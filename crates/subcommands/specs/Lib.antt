@@ -24,5 +24,4 @@ pub mod Stops
 pub mod StoreDirs
 pub mod Tasks
 pub mod Tracing
--- What only private contracts and proofs cite.
-pub mod Waiting
+pub mod private

@@ -1,7 +1,7 @@
 //! The line that tells a terminal that a run waits for another one.
 ghost use Rattle.std.specs.Prelude.{◌≡◌, ◌++◌, OnOk, codes};
 ghost use Rattle.std.specs.Io.KnownBytes.{Appends};
-ghost use Rattle.subcommands.specs.Waiting.{waiting_line};
+ghost use Rattle.subcommands.specs.private.Waiting.{waiting_line};
 
 use crate::journal_keeper::Places;
 use crate::locks::Locks;

@@ -8,7 +8,7 @@ use Rattle.std.proofs.lemmas.List.Elements.{All-append, All-cons, All-map, All-n
 use Rattle.indexmap.specs.IndexSet.{insert_key}
 use Rattle.indexmap.proofs.CallerLemmas.{Contains-insert_key}
 use Rattle.nix_names.proofs.Lists.{Contains-map}
-use Rattle.valid_table.specs.Closing.{AddsRows, IsRowOf, path_at, paths_at}
+use Rattle.valid_table.specs.private.Closing.{AddsRows, IsRowOf, path_at, paths_at}
 use Rattle.valid_table.specs.Valid.{IsValid}
 use Rattle.valid_table.specs.declared.entry.Registration.{Registration}
 

@@ -11,10 +11,10 @@ use Rattle.memchr.proofs.lemmas.CallerLemmas.{length-places}
 use Rattle.nix_names.specs.Names.{IsStoreDir, is_dotted, is_name, is_name_char}
 use Rattle.nix_names.specs.StorePaths.{IsPathOf, is_hash_part, path_text}
 use Rattle.valid_table.specs.BadLines.{AreLines, BadLineIsOne, BeginsOutput, IsBadLine, Stands, TextsHaveNoBadLine}
-use Rattle.valid_table.specs.LineTexts.{lines_text}
-use Rattle.valid_table.specs.Readers.{BeginsNoVersion}
+use Rattle.valid_table.specs.private.LineTexts.{lines_text}
+use Rattle.valid_table.specs.private.Readers.{BeginsNoVersion}
 use Rattle.valid_table.specs.Reading.{BeginsVersion}
-use Rattle.valid_table.specs.Steps.{Place, Start, Begun, Opened, Within, Ahead, IsStuck, LeadsTo, Stops}
+use Rattle.valid_table.specs.private.Steps.{Place, Start, Begun, Opened, Within, Ahead, IsStuck, LeadsTo, Stops}
 use Rattle.valid_table.specs.Texts.{IsTextIn, Line, First, Output, line_text, lines, text, version_line}
 use Rattle.valid_table.specs.declared.entry.Entry.{Entry}
 use Rattle.valid_table.specs.declared.version.Version.{Version}

@@ -3,8 +3,8 @@ use Rattle.std.proofs.Common.{◌≡◌, ℕ, ◌<◌, List, ◌++◌, length, t
 use Rattle.std.specs.Prelude.{All, Contains, Err, MatchOption, Option, Result, Some, None, ⊤, slice_get}
 use Rattle.std.proofs.lemmas.Option.{slice_get-get_or}
 use Rattle.valid_table.specs.Adding.{AreClosed, AreNew, IsTakingIn}
-use Rattle.valid_table.specs.Blames.{IsBlamed, IsBlamedFor, IsFaultOf, IsUnclosedAt}
-use Rattle.valid_table.specs.Entering.{IsFirstUnknownAt}
+use Rattle.valid_table.specs.private.Blames.{IsBlamed, IsBlamedFor, IsFaultOf, IsUnclosedAt}
+use Rattle.valid_table.specs.private.Entering.{IsFirstUnknownAt}
 use Rattle.valid_table.specs.Entries.{paths_registered}
 use Rattle.valid_table.specs.Valid.{references_of}
 use Rattle.valid_table.specs.declared.entry.Registration.{Registration}

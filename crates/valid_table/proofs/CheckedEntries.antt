@@ -6,8 +6,8 @@ use Rattle.std.proofs.lemmas.List.Concat.{flat_map-append, length-flat_map}
 use Rattle.std.proofs.lemmas.List.Elements.{All-append, All-cons, All-head, All-map, All-nil, All-tail, All-take}
 use Rattle.std.proofs.lemmas.Option.{MatchOption-at_some}
 use Rattle.nix_names.specs.declared.digest.Digest.{Digest}
-use Rattle.valid_table.specs.Checking.{IsEntryCheck, IsLineCheck, IsRight, RegistersKnown, header}
-use Rattle.valid_table.specs.Entering.{AreUnknown, IsNewPrefix, IsNotKnown}
+use Rattle.valid_table.specs.private.Checking.{IsEntryCheck, IsLineCheck, IsRight, RegistersKnown, header}
+use Rattle.valid_table.specs.private.Entering.{AreUnknown, IsNewPrefix, IsNotKnown}
 use Rattle.valid_table.specs.Entries.{paths_registered, registered_by}
 use Rattle.valid_table.specs.Texts.{Line, Added, Output, Reference, entry_lines}
 use Rattle.valid_table.specs.Valid.{references_of}

@@ -4,7 +4,7 @@ use Rattle.std.specs.Prelude.{All, Contains, Err, Result}
 use Rattle.std.proofs.lemmas.List.{append-nil, append_assoc, flat_map_more, take_all}
 use Rattle.std.proofs.lemmas.List.Concat.{flat_map-append}
 use Rattle.std.proofs.lemmas.List.Elements.{All-append, All-contains, All-cons, All-head, All-nil, All-tail}
-use Rattle.valid_table.specs.Checking.{IsEntryCheck, IsRight, IsRightUpTo, RefersToOther, RegistersKnown, header}
+use Rattle.valid_table.specs.private.Checking.{IsEntryCheck, IsRight, IsRightUpTo, RefersToOther, RegistersKnown, header}
 use Rattle.valid_table.specs.Entries.{paths_registered, registered, registered_by}
 use Rattle.valid_table.specs.LineFaults.{IsLeastFault, IsNotClosedAt, IsTwiceAt, StandsAt}
 use Rattle.valid_table.specs.Reading.{IsEntriesChecking}

@@ -5,8 +5,8 @@ use Rattle.std.specs.Prelude.{All, Contains, Err, Ok}
 use Rattle.std.proofs.lemmas.List.{append-nil, length-map, length-take-le, take_all, take_more}
 use Rattle.std.proofs.lemmas.List.Concat.{flat_map-append}
 use Rattle.std.proofs.lemmas.List.Folds.{length-flat_map-take}
-use Rattle.valid_table.specs.Checking.{IsLineCheck}
-use Rattle.valid_table.specs.Entering.{IsFirstUnknownAt}
+use Rattle.valid_table.specs.private.Checking.{IsLineCheck}
+use Rattle.valid_table.specs.private.Entering.{IsFirstUnknownAt}
 use Rattle.valid_table.specs.Texts.{Reference, output_lines}
 use Rattle.valid_table.specs.Valid.{references_of}
 use Rattle.valid_table.specs.declared.entry.Registration.{Registration}

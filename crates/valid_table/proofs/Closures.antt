@@ -4,7 +4,7 @@ use Rattle.std.specs.Global.{Vec}
 use Rattle.std.proofs.Math.Seq.{take-length}
 use Rattle.std.proofs.lemmas.List.Elements.{All-contains}
 use Rattle.nix_names.specs.Rising.{IsRising}
-use Rattle.valid_table.specs.Closing.{AddsRows, HasReferences, HaveSame, IsFollowed, IsReachedFrom, paths_at}
+use Rattle.valid_table.specs.private.Closing.{AddsRows, HasReferences, HaveSame, IsFollowed, IsReachedFrom, paths_at}
 use Rattle.valid_table.specs.Closure.{IsClosing, IsClosure}
 use Rattle.valid_table.specs.Valid.{IsValid}
 use Rattle.valid_table.specs.declared.entry.Registration.{Registration}

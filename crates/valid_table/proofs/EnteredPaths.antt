@@ -5,7 +5,7 @@ use Rattle.std.proofs.lemmas.List.{get_or_at, length-append, length-take-le, tak
 use Rattle.std.proofs.lemmas.List.Elements.{All-append, All-more}
 use Rattle.std.proofs.lemmas.Option.{MatchOption-at_some, slice_get-get_or, slice_get_past}
 use Rattle.nix_names.proofs.FirstElements.{first_at, first_within}
-use Rattle.valid_table.specs.Entering.{AreUnknown, IsFirstUnknownAt, IsNewPrefix, IsNotKnown}
+use Rattle.valid_table.specs.private.Entering.{AreUnknown, IsFirstUnknownAt, IsNewPrefix, IsNotKnown}
 use Rattle.valid_table.specs.Entries.{paths_registered}
 use Rattle.valid_table.specs.Valid.{references_of}
 use Rattle.valid_table.specs.declared.entry.Registration.{Registration}

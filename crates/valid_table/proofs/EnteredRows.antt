@@ -13,9 +13,9 @@ use Rattle.indexmap.specs.IndexMap.{IndexMap, get_by, insert_entry}
 use Rattle.nix_names.specs.Rising.{IsRising}
 use Rattle.nix_names.proofs.Lists.{parts_at, taken_more}
 use Rattle.nix_names.proofs.RisingLists.{distinct_from_rising}
-use Rattle.valid_table.specs.Checking.{IsLineCheck}
-use Rattle.valid_table.specs.Closing.{HaveSame}
-use Rattle.valid_table.specs.Entering.{AreUnknown, IsNewPrefix, IsPut, IsNotKnown}
+use Rattle.valid_table.specs.private.Checking.{IsLineCheck}
+use Rattle.valid_table.specs.private.Closing.{HaveSame}
+use Rattle.valid_table.specs.private.Entering.{AreUnknown, IsNewPrefix, IsPut, IsNotKnown}
 use Rattle.valid_table.specs.Entries.{paths_registered}
 use Rattle.valid_table.specs.PathInfos.{PathInfo}
 use Rattle.valid_table.specs.Tables.{registrations_of}

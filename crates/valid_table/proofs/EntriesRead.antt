@@ -4,10 +4,10 @@ use Rattle.std.proofs.lemmas.Bool.{eqb-true}
 use Rattle.std.proofs.lemmas.List.{append-nil, append_assoc, nil_from_length}
 use Rattle.std.proofs.lemmas.List.Concat.{flat_map-append}
 use Rattle.std.proofs.lemmas.List.Elements.{All-nil, All-push}
-use Rattle.valid_table.specs.LineTexts.{lines_text}
-use Rattle.valid_table.specs.Readers.{HasEntry, HasToBegin, SoFarEntries, StopsInText}
+use Rattle.valid_table.specs.private.LineTexts.{lines_text}
+use Rattle.valid_table.specs.private.Readers.{HasEntry, HasToBegin, SoFarEntries, StopsInText}
 use Rattle.valid_table.specs.Reading.{BeginsVersion}
-use Rattle.valid_table.specs.Steps.{Place, Begun, Stops}
+use Rattle.valid_table.specs.private.Steps.{Place, Begun, Stops}
 use Rattle.valid_table.specs.Texts.{IsEntryIn, IsJournalText, First, entry_lines, lines, text, version_line}
 use Rattle.valid_table.specs.declared.entry.Entry.{Entry}
 use Rattle.valid_table.specs.declared.version.Version.{Version}

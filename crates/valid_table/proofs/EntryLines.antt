@@ -1,8 +1,8 @@
 -- The lines of entries: where they lead, where they stop, and what they are.
 use Rattle.std.proofs.Common.{◌≡◌, ◌≢◌, ℕ, List, [], ◌∷◌, ◌++◌, length, Some, None, inl, inr, refl, ap, ◌∙◌, rules}
 use Rattle.std.proofs.lemmas.List.{append_assoc}
-use Rattle.valid_table.specs.Readers.{HasEntry, HasOutputs, HasToBegin, IsBadFields, IsDeriverLine, IsEnd, IsNoLine, StopsInRegistration}
-use Rattle.valid_table.specs.Steps.{Place, Start, Begun, Opened, Within, Ahead, GoesOnWith, MayBegin, MayBeLine, Stops}
+use Rattle.valid_table.specs.private.Readers.{HasEntry, HasOutputs, HasToBegin, IsBadFields, IsDeriverLine, IsEnd, IsNoLine, StopsInRegistration}
+use Rattle.valid_table.specs.private.Steps.{Place, Start, Begun, Opened, Within, Ahead, GoesOnWith, MayBegin, MayBeLine, Stops}
 use Rattle.valid_table.specs.Texts.{Line, Added, Deriver, Output, Reference, entry_lines, line_text}
 use Rattle.valid_table.specs.declared.entry.Entry.{Entry}
 use Rattle.valid_table.specs.declared.entry.Entry.TheVariants.{Add, Done}

@@ -12,11 +12,11 @@ use Rattle.std.proofs.lemmas.List.Folds.{list_any-append}
 use Rattle.std.proofs.lemmas.List.Sorted.{IsPermutation-map, length_permutation, list_any-IsPermutation}
 use Rattle.std.proofs.lemmas.Map.Keys.{IsDistinct-IsPermutation, IsDistinct-push}
 use Rattle.std.proofs.lemmas.Map.Views.{Contains-from_any, any-filter_same, list_any-from_Contains}
-use Rattle.valid_table.specs.Closing.{AreRows, HaveSame, path_at, paths_at}
+use Rattle.valid_table.specs.private.Closing.{AreRows, HaveSame, path_at, paths_at}
 use Rattle.valid_table.specs.PathInfos.{PathInfo}
 use Rattle.valid_table.specs.Tables.{registrations_of}
 use Rattle.valid_table.proofs.RowNumbers.{row_count}
-use Rattle.valid_table.specs.FirstRows.{AreFirst, rows_behind}
+use Rattle.valid_table.specs.private.FirstRows.{AreFirst, rows_behind}
 use Rattle.valid_table.specs.declared.entry.Registration.{Registration}
 
 -- ---- lists of numbers none of which stands twice

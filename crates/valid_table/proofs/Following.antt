@@ -9,7 +9,7 @@ use Rattle.std.proofs.lemmas.List.Elements.{All-append, All-contains, All-contai
 use Rattle.std.proofs.lemmas.Map.Steps.{length-le_from_distinct_below}
 use Rattle.std.proofs.lemmas.Map.Views.{Contains-from_any}
 use Rattle.std.proofs.lemmas.Option.{get_or_from_slice_get}
-use Rattle.valid_table.specs.Closing.{AddsRows, AreRows, HasReferences, IsFollowed, IsReachedFrom, path_at, paths_at}
+use Rattle.valid_table.specs.private.Closing.{AddsRows, AreRows, HasReferences, IsFollowed, IsReachedFrom, path_at, paths_at}
 use Rattle.valid_table.specs.Entries.{paths_registered}
 use Rattle.valid_table.specs.PathInfos.{PathInfo}
 use Rattle.valid_table.specs.Tables.{registrations_of}

@@ -15,9 +15,9 @@ use Rattle.std.proofs.lemmas.Option.{get_or_from_slice_get}
 use Rattle.nix_names.specs.Rising.{IsRising}
 use Rattle.nix_names.proofs.Keys.{bytes_less, eight_spelt, same_front}
 use Rattle.nix_names.proofs.RisingLists.{equal_from_eq}
-use Rattle.valid_table.specs.Closing.{path_at, paths_at}
-use Rattle.valid_table.specs.FirstRows.{AreFirst, rows_behind}
-use Rattle.valid_table.specs.Keys.{AreKeyed, IsKey, KeysRiseAbove, folder_of, folder_part}
+use Rattle.valid_table.specs.private.Closing.{path_at, paths_at}
+use Rattle.valid_table.specs.private.FirstRows.{AreFirst, rows_behind}
+use Rattle.valid_table.specs.private.Keys.{AreKeyed, IsKey, KeysRiseAbove, folder_of, folder_part}
 use Rattle.valid_table.specs.PathInfos.{PathInfo}
 use Rattle.valid_table.specs.Tables.{registrations_of}
 use Rattle.valid_table.specs.declared.entry.Registration.{Registration}

@@ -3,8 +3,8 @@ use Rattle.std.proofs.Common.{◌≡◌, ℕ, suc, List, [], ◌∷◌, ◌++◌
 use Rattle.std.proofs.lemmas.List.{append-nil, append_assoc, length-append}
 use Rattle.std.proofs.lemmas.List.Concat.{flat_map-append}
 use Rattle.std.proofs.lemmas.List.Elements.{All-cons, All-nil, All-head, All-tail}
-use Rattle.valid_table.specs.LineTexts.{lines_text}
-use Rattle.valid_table.specs.Steps.{Place, Start, Begun, Opened, Within, Ahead, GoesOnWith, LeadsTo, MayBeLine, behind}
+use Rattle.valid_table.specs.private.LineTexts.{lines_text}
+use Rattle.valid_table.specs.private.Steps.{Place, Start, Begun, Opened, Within, Ahead, GoesOnWith, LeadsTo, MayBeLine, behind}
 use Rattle.valid_table.specs.Texts.{Line, First, Added, Deriver, Output, Reference, line_text}
 use Rattle.valid_table.specs.declared.version.Version.{Version}
 use Rattle.valid_table.proofs.LineTexts.{IsLineOf, same_lines}

@@ -6,8 +6,8 @@ use Rattle.std.proofs.lemmas.List.Elements.{All-cons, All-nil, All-head, All-tai
 use Rattle.nix_names.specs.StorePaths.{IsPathOf}
 use Rattle.nix_names.specs.declared.digest.Digest.{Digest}
 use Rattle.valid_table.specs.Entries.{paths_registered}
-use Rattle.valid_table.specs.LineTexts.{lines_text}
-use Rattle.valid_table.specs.Steps.{Place, Start, Begun, Opened, Within, Ahead, LeadsTo, MayBegin, MayBeOutputAfter, MayBeLine, behind}
+use Rattle.valid_table.specs.private.LineTexts.{lines_text}
+use Rattle.valid_table.specs.private.Steps.{Place, Start, Begun, Opened, Within, Ahead, LeadsTo, MayBegin, MayBeOutputAfter, MayBeLine, behind}
 use Rattle.valid_table.specs.Texts.{IsDigestOf, IsEntryIn, IsOf, IsJournalText, Line, First, Added, Deriver, Output, Reference, entry_lines, lines, output_lines, text}
 use Rattle.valid_table.specs.declared.entry.Entry.{Entry}
 use Rattle.valid_table.specs.declared.entry.Entry.TheVariants.{Add, Done}

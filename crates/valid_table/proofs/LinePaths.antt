@@ -7,8 +7,8 @@ use Rattle.nix_names.specs.declared.digest.Digest.{Digest}
 use Rattle.nix_names.specs.declared.fault.NameFault.{NameFault}
 use Rattle.nix_names.specs.declared.fault.NameFault.TheVariants.{NoMemory}
 use Rattle.nix_names.proofs.PathFaults.{no_fault_of_path}
-use Rattle.valid_table.specs.Readers.{HasNoFields, IsDeriverLine, IsFieldsLine, IsNoLine, IsPathLine}
-use Rattle.valid_table.specs.Steps.{IsAbove}
+use Rattle.valid_table.specs.private.Readers.{HasNoFields, IsDeriverLine, IsFieldsLine, IsNoLine, IsPathLine}
+use Rattle.valid_table.specs.private.Steps.{IsAbove}
 use Rattle.valid_table.specs.Texts.{IsDigestOf, digest_text}
 use Rattle.valid_table.specs.declared.version.Version.{Version}
 use Rattle.valid_table.proofs.LineTexts.{fields_apart, two_fields, two_path_lines}

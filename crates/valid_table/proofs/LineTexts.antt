@@ -12,8 +12,8 @@ use Rattle.nix_names.specs.declared.digest.Algorithm.{Algorithm}
 use Rattle.nix_names.specs.declared.digest.Algorithm.TheVariants.{Md5, Sha1, Sha256, Sha512}
 use Rattle.nix_names.specs.declared.digest.Digest.{Digest}
 use Rattle.valid_table.specs.BadLines.{AreLines}
-use Rattle.valid_table.specs.LineTexts.{fields_text, lines_text, references_text}
-use Rattle.valid_table.specs.Readers.{IsFieldsLine, IsPathLine}
+use Rattle.valid_table.specs.private.LineTexts.{fields_text, lines_text, references_text}
+use Rattle.valid_table.specs.private.Readers.{IsFieldsLine, IsPathLine}
 use Rattle.valid_table.specs.Texts.{IsDigestOf, Line, First, Added, Deriver, Output, Reference, digest_text, line_text, version_line}
 use Rattle.valid_table.specs.declared.version.Version.{Version}
 use Rattle.valid_table.specs.declared.version.Version.TheVariants.{One, Two}

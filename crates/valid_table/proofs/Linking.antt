@@ -7,8 +7,8 @@ use Rattle.std.proofs.lemmas.Bool.{cases_lt}
 use Rattle.std.proofs.lemmas.List.{drop-append-le, get_or_append_left, length-append, length-drop, take-append-le, take_all}
 use Rattle.std.proofs.lemmas.Option.{none-some, same_Some}
 use Rattle.std.proofs.lemmas.List.Elements.{All-head, All-tail, All-weaker, Contains-append_left}
-use Rattle.valid_table.specs.Closing.{path_at, paths_at}
-use Rattle.valid_table.specs.Linking.{AreLinked, AreRowsOf, IsLinkedRow, numbers_of, start_of}
+use Rattle.valid_table.specs.private.Closing.{path_at, paths_at}
+use Rattle.valid_table.specs.private.Linking.{AreLinked, AreRowsOf, IsLinkedRow, numbers_of, start_of}
 use Rattle.valid_table.specs.PathInfos.{PathInfo}
 use Rattle.valid_table.specs.Valid.{Registers}
 use Rattle.valid_table.specs.declared.entry.Registration.{Registration}

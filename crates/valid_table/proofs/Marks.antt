@@ -12,7 +12,7 @@ use Rattle.std.proofs.lemmas.Map.Keys.{IsDistinct-push}
 use Rattle.std.proofs.lemmas.Nat.{one_shl, pow_pos}
 use Rattle.std.proofs.lemmas.Nat.Bits.{and_pow, bit_at-lt, bit_at-zero, bit_at_set_other, bit_at_set_same}
 use Rattle.indexmap.specs.IndexSet.{insert_key}
-use Rattle.valid_table.specs.Marking.{AreMarked, mark_of}
+use Rattle.valid_table.specs.private.Marking.{AreMarked, mark_of}
 
 zero_at : (n i : ℕ) → get_or {A = ℕ} (replicate n 0) i 0 ≡ 0
 zero_at n i = search (rules, cases_lt, get_or-replicate, get_or_past, length-replicate)

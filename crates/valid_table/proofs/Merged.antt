@@ -9,7 +9,7 @@ use Rattle.std.proofs.lemmas.List.{take_all}
 use Rattle.std.proofs.lemmas.List.Elements.{Contains-append_cases, Contains-append_left, Contains-append_right}
 use Rattle.nix_names.specs.Rising.{IsRising}
 use Rattle.nix_names.proofs.RisingLists.{equal_from_eq, rising_back}
-use Rattle.valid_table.specs.Merging.{IsLeastHead}
+use Rattle.valid_table.specs.private.Merging.{IsLeastHead}
 use Rattle.valid_table.specs.Unions.{IsInEither, IsUnion}
 use Rattle.nix_names.proofs.Lists.{Contains-later}
 

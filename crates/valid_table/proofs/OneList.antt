@@ -3,10 +3,10 @@ use Rattle.std.proofs.Common.{◌≡◌, ℕ, List, [], ◌∷◌, ◌++◌, inl
 use Rattle.std.specs.List.{flat_map}
 use Rattle.std.proofs.lemmas.List.{append-nil, append_assoc, length-append}
 use Rattle.nix_names.specs.declared.digest.Digest.{Digest}
-use Rattle.valid_table.specs.LineTexts.{lines_text}
+use Rattle.valid_table.specs.private.LineTexts.{lines_text}
 use Rattle.valid_table.specs.Reading.{BeginsVersion}
 use Rattle.valid_table.specs.ReadingLaws.{TextHasOneList}
-use Rattle.valid_table.specs.Steps.{Place, Start}
+use Rattle.valid_table.specs.private.Steps.{Place, Start}
 use Rattle.valid_table.specs.Texts.{IsTextIn, Line, First, Added, Deriver, Output, Reference, entry_lines, lines, output_lines, text}
 use Rattle.valid_table.specs.declared.entry.Entry.{Entry}
 use Rattle.valid_table.specs.declared.entry.Entry.TheVariants.{Add, Done}

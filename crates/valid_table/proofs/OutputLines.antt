@@ -7,9 +7,9 @@ use Rattle.std.proofs.lemmas.List.Elements.{All-push}
 use Rattle.nix_names.specs.Rising.{IsRising}
 use Rattle.nix_names.specs.declared.digest.Digest.{Digest}
 use Rattle.valid_table.specs.Entries.{paths_registered}
-use Rattle.valid_table.specs.LineTexts.{lines_text, registration_text}
-use Rattle.valid_table.specs.Readers.{HasRegistration, IsBadFields, SoFarOutputs, StopsInRegistration}
-use Rattle.valid_table.specs.Steps.{Ahead, IsAbove, Opened, GoesOnWith, MayBeOutputAfter, MayBeLine, Stops}
+use Rattle.valid_table.specs.private.LineTexts.{lines_text, registration_text}
+use Rattle.valid_table.specs.private.Readers.{HasRegistration, IsBadFields, SoFarOutputs, StopsInRegistration}
+use Rattle.valid_table.specs.private.Steps.{Ahead, IsAbove, Opened, GoesOnWith, MayBeOutputAfter, MayBeLine, Stops}
 use Rattle.valid_table.specs.Texts.{IsOf, Line, Output, output_lines}
 use Rattle.valid_table.specs.declared.entry.Registration.{Registration}
 use Rattle.valid_table.specs.declared.version.Version.{Version}

@@ -5,7 +5,7 @@ use Rattle.std.specs.List.{IsDistinct}
 use Rattle.std.proofs.lemmas.Bool.{cases_lt, false≢true}
 use Rattle.std.proofs.lemmas.List.Elements.{All-contains}
 use Rattle.std.proofs.lemmas.Map.Keys.{apart_from_distinct}
-use Rattle.valid_table.specs.Closing.{HasReferences, IsReachedFrom}
+use Rattle.valid_table.specs.private.Closing.{HasReferences, IsReachedFrom}
 use Rattle.valid_table.specs.Closure.{LeadsByReferences}
 use Rattle.valid_table.specs.PathInfos.{PathInfo}
 use Rattle.valid_table.specs.Valid.{IsValid, RefersTo, Registers}

@@ -6,8 +6,8 @@ use Rattle.memchr.specs.Find.{is_byte, places}
 use Rattle.memchr.proofs.lemmas.CallerLemmas.{length-places-le}
 use Rattle.nix_names.specs.Names.{IsStoreDir}
 use Rattle.valid_table.specs.BadLines.{IsBadLine, IsOtherVersion}
-use Rattle.valid_table.specs.LineTexts.{lines_text}
-use Rattle.valid_table.specs.Readers.{StopsInText}
+use Rattle.valid_table.specs.private.LineTexts.{lines_text}
+use Rattle.valid_table.specs.private.Readers.{StopsInText}
 use Rattle.valid_table.specs.Reading.{BeginsVersion, IsEntriesChecking, IsJournalReading, IsTooLong, max_len}
 use Rattle.valid_table.specs.Texts.{IsJournalText, Line, line_text, lines, text}
 use Rattle.valid_table.specs.declared.entry.Entry.{Entry}

@@ -6,10 +6,10 @@ use Rattle.std.proofs.lemmas.List.Concat.{flat_map-append}
 use Rattle.std.proofs.lemmas.List.Elements.{All-push}
 use Rattle.nix_names.specs.StorePaths.{IsPathOf}
 use Rattle.nix_names.specs.declared.digest.Digest.{Digest}
-use Rattle.valid_table.specs.LineTexts.{fields_text, lines_text, references_text}
+use Rattle.valid_table.specs.private.LineTexts.{fields_text, lines_text, references_text}
 use Rattle.valid_table.specs.PathInfos.{PathInfo}
-use Rattle.valid_table.specs.Readers.{ReadsReferences, HasRegistration, IsFieldsLine, IsPathLine, SoFarReferences}
-use Rattle.valid_table.specs.Steps.{IsAbove, GoesOnWith, Stops, Within}
+use Rattle.valid_table.specs.private.Readers.{ReadsReferences, HasRegistration, IsFieldsLine, IsPathLine, SoFarReferences}
+use Rattle.valid_table.specs.private.Steps.{IsAbove, GoesOnWith, Stops, Within}
 use Rattle.valid_table.specs.Texts.{IsDigestOf, Line, Reference}
 use Rattle.valid_table.specs.declared.version.Version.{Version}
 use Rattle.valid_table.proofs.LineTexts.{references_are, two_path_lines}

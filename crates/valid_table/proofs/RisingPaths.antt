@@ -4,7 +4,7 @@ use Rattle.std.specs.List.{last_or, slice_get}
 use Rattle.std.specs.Option.{option_map}
 use Rattle.nix_names.specs.Rising.{IsRising}
 use Rattle.valid_table.specs.Entries.{paths_registered}
-use Rattle.valid_table.specs.Steps.{IsAbove}
+use Rattle.valid_table.specs.private.Steps.{IsAbove}
 use Rattle.valid_table.specs.declared.entry.Registration.{Registration}
 
 -- each path is greater than the one before it, the first than this one

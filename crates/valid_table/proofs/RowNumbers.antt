@@ -9,7 +9,7 @@ use Rattle.std.proofs.lemmas.Map.Views.{hash_map_contains_key_iff}
 use Rattle.std.proofs.lemmas.Simd.{map-map}
 use Rattle.indexmap.specs.IndexMap.{IndexMap, get_by, index_of_by, keys}
 use Rattle.nix_names.proofs.RisingLists.{equal_from_eq}
-use Rattle.valid_table.specs.Closing.{IsRowOf}
+use Rattle.valid_table.specs.private.Closing.{IsRowOf}
 use Rattle.valid_table.specs.Entries.{paths_registered}
 use Rattle.valid_table.specs.PathInfos.{PathInfo}
 use Rattle.valid_table.specs.Tables.{registrations_of}

@@ -17,7 +17,7 @@ use Rattle.std.proofs.lemmas.Map.Views.{All-map-IsPermutation}
 use Rattle.std.proofs.lemmas.Option.{get_or_from_slice_get}
 use Rattle.nix_names.specs.Rising.{IsRising}
 use Rattle.nix_names.proofs.RisingLists.{equal_from_eq, rising_sorted}
-use Rattle.valid_table.specs.Closing.{AreRows, HaveSame, path_at, paths_at}
+use Rattle.valid_table.specs.private.Closing.{AreRows, HaveSame, path_at, paths_at}
 use Rattle.valid_table.specs.Entries.{paths_registered}
 use Rattle.valid_table.specs.Valid.{IsOnce}
 use Rattle.valid_table.specs.declared.entry.Registration.{Registration}

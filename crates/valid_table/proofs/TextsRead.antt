@@ -6,7 +6,7 @@ use Rattle.std.specs.List.{IsDistinct}
 use Rattle.std.proofs.lemmas.List.{append_assoc, get_or_default}
 use Rattle.std.proofs.lemmas.List.Elements.{Contains-append_left}
 use Rattle.valid_table.specs.BadLines.{IsOtherVersion}
-use Rattle.valid_table.specs.Entering.{AreUnknown}
+use Rattle.valid_table.specs.private.Entering.{AreUnknown}
 use Rattle.valid_table.specs.Entries.{registered, registered_by}
 use Rattle.valid_table.specs.LineFaults.{IsNotClosedAt, IsTwiceAt}
 use Rattle.valid_table.specs.Texts.{IsJournalText}

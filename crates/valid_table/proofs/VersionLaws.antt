@@ -7,10 +7,10 @@ use Rattle.hex.specs.Hex.{lower_digits}
 use Rattle.hex.proofs.HexLemmas.{length-encode_with}
 use Rattle.nix_names.specs.Digests.{algorithm_of, bytes_of, digits_of, name_of, size_of}
 use Rattle.nix_names.specs.declared.digest.Digest.{Digest}
-use Rattle.valid_table.specs.LineTexts.{lines_text}
+use Rattle.valid_table.specs.private.LineTexts.{lines_text}
 use Rattle.valid_table.specs.Reading.{IsTooLong, max_len}
 use Rattle.valid_table.specs.ReadingLaws.{VersionsHaveTheSameEntries, WrittenJournalsAreReadAgain}
-use Rattle.valid_table.specs.Steps.{Start}
+use Rattle.valid_table.specs.private.Steps.{Start}
 use Rattle.valid_table.specs.Texts.{IsDigestOf, IsEntryIn, IsOf, IsTextIn, Line, First, Added, Deriver, Output, Reference, digest_text, line_text, lines, text}
 use Rattle.valid_table.specs.Valid.{IsJournal}
 use Rattle.valid_table.specs.declared.entry.Entry.{Entry}

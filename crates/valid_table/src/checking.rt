@@ -1,7 +1,7 @@
 //! Entries whose text was read, checked line by line.
 ghost use Rattle.std.specs.Prelude.{◌≡◌, ◌++◌, ◌+◌, ◌<◌, ◌≤◌, ◌^◌, IfOk, IfErr, OnOk, flat_map, length};
 ghost use Rattle.nix_names.specs.Rising.{IsRising};
-ghost use Rattle.valid_table.specs.Checking.{IsEntryCheck, IsLineCheck, header};
+ghost use Rattle.valid_table.specs.private.Checking.{IsEntryCheck, IsLineCheck, header};
 ghost use Rattle.valid_table.specs.Entries.{paths_registered, registered, registered_by};
 ghost use Rattle.valid_table.specs.Reading.{IsEntriesChecking};
 ghost use Rattle.valid_table.specs.Tables.{registrations_of};

@@ -1,10 +1,10 @@
 //! How a closure is found: from the rows of the roots to the rows of their references, and on.
 ghost use Rattle.std.specs.Prelude.{◌≡◌, ◌≤◌, ◌<◌, [], All, IfErr, IfOk, OnOk, length};
-ghost use Rattle.valid_table.specs.Closing.{AddsReferences, AddsRows, AreRows, IsFollowed, paths_at};
+ghost use Rattle.valid_table.specs.private.Closing.{AddsReferences, AddsRows, AreRows, IsFollowed, paths_at};
 ghost use Rattle.valid_table.specs.Closure.{IsClosing};
-ghost use Rattle.valid_table.specs.FirstRows.{AreFirst, rows_behind};
-ghost use Rattle.valid_table.specs.Keys.{AreKeyed};
-ghost use Rattle.valid_table.specs.Linking.{AreLinked};
+ghost use Rattle.valid_table.specs.private.FirstRows.{AreFirst, rows_behind};
+ghost use Rattle.valid_table.specs.private.Keys.{AreKeyed};
+ghost use Rattle.valid_table.specs.private.Linking.{AreLinked};
 ghost use Rattle.valid_table.specs.Tables.{registrations_of};
 ghost use Rattle.valid_table.specs.Valid.{IsOnce, IsValid};
 

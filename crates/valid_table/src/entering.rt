@@ -2,8 +2,8 @@
 ghost use Rattle.std.specs.Prelude.{◌++◌, ◌↔◌, All, IsTrue, MatchOption};
 ghost use Rattle.nix_names.specs.Rising.{IsRising};
 ghost use Rattle.valid_table.specs.Adding.{AreClosed, AreNew};
-ghost use Rattle.valid_table.specs.Blames.{IsBlamed, IsUnclosedAt};
-ghost use Rattle.valid_table.specs.Entering.{IsFirstUnknownAt, IsNewPrefix};
+ghost use Rattle.valid_table.specs.private.Blames.{IsBlamed, IsUnclosedAt};
+ghost use Rattle.valid_table.specs.private.Entering.{IsFirstUnknownAt, IsNewPrefix};
 ghost use Rattle.valid_table.specs.Entries.{paths_registered};
 ghost use Rattle.valid_table.specs.Tables.{registrations_of};
 ghost use Rattle.valid_table.specs.Valid.{IsValid};

@@ -2,7 +2,7 @@
 ghost use Rattle.std.specs.Prelude.{◌≡◌, ◌≢◌, ◌<◌, ◌↔◌, [], List, IfOk, IfErr, IsOk, IsTrue, MatchOption, None, Some, length, slice_get, vec_capacity};
 ghost use Rattle.nix_names.specs.Rising.{IsRising};
 ghost use Rattle.valid_table.specs.Entries.{IsSortedOf, paths_registered, registered_by};
-ghost use Rattle.valid_table.specs.RecordContents.{digest_known, references_known};
+ghost use Rattle.valid_table.specs.private.RecordContents.{digest_known, references_known};
 ghost use Rattle.valid_table.specs.Valid.{IsOnce};
 
 use crate::stored_digest::StoredDigest;
@@ -38,7 +38,7 @@ struct Both {
 
 impl Model for Record {
     ghost use Rattle.nix_names.specs.Rising.{IsRising};
-    ghost use Rattle.valid_table.specs.RecordContents.{digest_known, references_known};
+    ghost use Rattle.valid_table.specs.private.RecordContents.{digest_known, references_known};
     ghost use Rattle.valid_table.specs.PathInfos.{PathInfo};
 
     ghost Value = { PathInfo };

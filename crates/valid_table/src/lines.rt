@@ -6,7 +6,7 @@ ghost use Rattle.nix_names.specs.StorePaths.{IsPathOf};
 ghost use Rattle.nix_names.specs.Names.{IsStoreDir};
 ghost use Rattle.nix_names.specs.declared.digest.Digest.{Digest as ADigest};
 ghost use Rattle.valid_table.specs.BadLines.{IsOtherVersion};
-ghost use Rattle.valid_table.specs.Readers.{IsDeriverLine, IsFieldsLine, IsNoLine, IsPathLine};
+ghost use Rattle.valid_table.specs.private.Readers.{IsDeriverLine, IsFieldsLine, IsNoLine, IsPathLine};
 ghost use Rattle.valid_table.specs.Texts.{IsDigestOf, digest_text};
 
 use crate::version::Version;

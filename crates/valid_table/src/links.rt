@@ -1,7 +1,7 @@
 //! The references of a table's rows by the numbers of their rows.
 ghost use Rattle.std.specs.Prelude.{◌≡◌, ◌≤◌, ◌<◌, ◌+◌, [], IfSome, length, vec_capacity};
-ghost use Rattle.valid_table.specs.Closing.{path_at};
-ghost use Rattle.valid_table.specs.Linking.{AreLinked, AreRowsOf, start_of};
+ghost use Rattle.valid_table.specs.private.Closing.{path_at};
+ghost use Rattle.valid_table.specs.private.Linking.{AreLinked, AreRowsOf, start_of};
 ghost use Rattle.valid_table.specs.PathInfos.{PathInfo};
 ghost use Rattle.valid_table.specs.Tables.{registrations_of};
 ghost use Rattle.valid_table.specs.Valid.{Registers};

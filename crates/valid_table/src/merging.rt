@@ -1,7 +1,7 @@
 //! Rising lists of paths, put together.
 ghost use Rattle.std.specs.Prelude.{◌≡◌, ◌+◌, [], IfOk, MatchOption, length, vec_capacity};
 ghost use Rattle.nix_names.specs.Rising.{IsRising};
-ghost use Rattle.valid_table.specs.Merging.{IsLeastHead};
+ghost use Rattle.valid_table.specs.private.Merging.{IsLeastHead};
 ghost use Rattle.valid_table.specs.Unions.{IsUnion};
 
 use nix_names::StorePath;

@@ -1,6 +1,6 @@
 //! Why an entry can't be taken in, and the fault that says so.
 ghost use Rattle.std.specs.Prelude.{◌<◌, IfSome, length};
-ghost use Rattle.valid_table.specs.Blames.{IsFaultOf, IsObstacleOf};
+ghost use Rattle.valid_table.specs.private.Blames.{IsFaultOf, IsObstacleOf};
 
 use crate::entry::Registration;
 use crate::fault::TableFault;

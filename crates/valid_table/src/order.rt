@@ -2,8 +2,8 @@
 ghost use Rattle.std.specs.Prelude.{◌≡◌, ◌⊎◌, ◌≤◌, ◌+◌, ◌-◌, ◌<◌, [], All, length};
 ghost use Rattle.std.specs.Int.{from_be_bytes, w64};
 ghost use Rattle.nix_names.specs.StorePaths.{hash_part_of, name_of};
-ghost use Rattle.valid_table.specs.FirstRows.{AreFirst, rows_behind};
-ghost use Rattle.valid_table.specs.Keys.{AreKeyed, IsKey, folder_of, folder_part};
+ghost use Rattle.valid_table.specs.private.FirstRows.{AreFirst, rows_behind};
+ghost use Rattle.valid_table.specs.private.Keys.{AreKeyed, IsKey, folder_of, folder_part};
 ghost use Rattle.valid_table.specs.Tables.{registrations_of};
 
 use crate::entry::Record;

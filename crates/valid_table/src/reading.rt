@@ -5,9 +5,9 @@ ghost use Rattle.std.specs.Option.{option_copied};
 ghost use Rattle.nix_names.specs.Names.{IsStoreDir};
 ghost use Rattle.valid_table.specs.BadLines.{BeginsOutput};
 ghost use Rattle.valid_table.specs.Entries.{paths_registered};
-ghost use Rattle.valid_table.specs.Readers.{HasEntry, HasNoFields, HasOutputs, ReadsReferences, HasRegistration, HasToBegin, IsFieldsLine, IsNoLine, StopsInReferences, StopsInRegistration, StopsInText, StopsWhere};
+ghost use Rattle.valid_table.specs.private.Readers.{HasEntry, HasNoFields, HasOutputs, ReadsReferences, HasRegistration, HasToBegin, IsFieldsLine, IsNoLine, StopsInReferences, StopsInRegistration, StopsInText, StopsWhere};
 ghost use Rattle.valid_table.specs.Reading.{BeginsVersion, IsJournalReading, answered};
-ghost use Rattle.valid_table.specs.Steps.{IsAbove, Place, Opened, Stops};
+ghost use Rattle.valid_table.specs.private.Steps.{IsAbove, Place, Opened, Stops};
 ghost use Rattle.valid_table.specs.Texts.{IsJournalText};
 ghost use Rattle.valid_table.specs.declared.version.Version.{Version as AVersion};
 

@@ -5,9 +5,9 @@ ghost use Rattle.std.specs.List.{filter, list_any};
 ghost use Rattle.std.specs.List.Sorted.{IsPermutation, IsSorted};
 ghost use Rattle.std.specs.Ordering.{nat_cmp};
 ghost use Rattle.nix_names.specs.Rising.{IsRising};
-ghost use Rattle.valid_table.specs.Closing.{AreRows, HaveSame, paths_at};
-ghost use Rattle.valid_table.specs.FirstRows.{AreFirst, rows_behind};
-ghost use Rattle.valid_table.specs.Keys.{AreKeyed, KeysRiseAbove, folder_of};
+ghost use Rattle.valid_table.specs.private.Closing.{AreRows, HaveSame, paths_at};
+ghost use Rattle.valid_table.specs.private.FirstRows.{AreFirst, rows_behind};
+ghost use Rattle.valid_table.specs.private.Keys.{AreKeyed, KeysRiseAbove, folder_of};
 ghost use Rattle.valid_table.specs.Tables.{registrations_of};
 ghost use Rattle.valid_table.specs.Valid.{IsOnce};
 

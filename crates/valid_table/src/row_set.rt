@@ -15,7 +15,7 @@ pub(crate) struct RowSet {
 
 impl Model for RowSet {
     ghost use Rattle.std.specs.Prelude.{◌*◌, length};
-    ghost use Rattle.valid_table.specs.Marking.{AreMarked, RowSetValue};
+    ghost use Rattle.valid_table.specs.private.Marking.{AreMarked, RowSetValue};
 
     ghost Value = { RowSetValue };
 

@@ -1,9 +1,9 @@
 //! The rows of a table: how they are looked up, copied in and moved in.
 ghost use Rattle.std.specs.Prelude.{◌≡◌, ◌≤◌, ◌<◌, ◌+◌, ◌++◌, ◌↔◌, [], ◌∷◌, IfErr, IfOk, IsTrue, MatchOption, OnOk, length, take};
 ghost use Rattle.indexmap.specs.IndexMap.{spare};
-ghost use Rattle.valid_table.specs.Closing.{IsRowOf};
+ghost use Rattle.valid_table.specs.private.Closing.{IsRowOf};
 ghost use Rattle.nix_names.specs.Rising.{IsRising};
-ghost use Rattle.valid_table.specs.Entering.{IsNewPrefix, IsPut};
+ghost use Rattle.valid_table.specs.private.Entering.{IsNewPrefix, IsPut};
 ghost use Rattle.valid_table.specs.Entries.{paths_registered, registered_by};
 ghost use Rattle.valid_table.specs.Tables.{registrations_of};
 ghost use Rattle.valid_table.specs.Valid.{IsNotValid, IsOnce, IsValid};

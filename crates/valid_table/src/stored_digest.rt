@@ -1,6 +1,6 @@
 //! How a record keeps a digest.
 ghost use Rattle.std.specs.Prelude.{◌≡◌, IfOk};
-ghost use Rattle.valid_table.specs.RecordContents.{digest_stored};
+ghost use Rattle.valid_table.specs.private.RecordContents.{digest_stored};
 
 use nix_names::Digest;
 use std::alloc::{AllocError, Global};

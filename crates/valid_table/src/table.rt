@@ -1,7 +1,7 @@
 //! The table of valid paths.
 ghost use Rattle.std.specs.Prelude.{◌≡◌, ◌≤◌, ◌+◌, ◌++◌, ◌↔◌, [], IfErr, IfOk, IsOk, IsTrue, MatchOption, OnErr, OnOk, length};
 ghost use Rattle.valid_table.specs.Adding.{AreClosed, AreNew, IsObstacle, IsRegistering};
-ghost use Rattle.valid_table.specs.Blames.{IsBlamed};
+ghost use Rattle.valid_table.specs.private.Blames.{IsBlamed};
 ghost use Rattle.valid_table.specs.Closure.{IsClosing};
 ghost use Rattle.valid_table.specs.Entries.{registered, registered_by};
 ghost use Rattle.valid_table.specs.Tables.{registrations_of};
@@ -36,9 +36,9 @@ pub struct Table {
 impl Model for Table {
     ghost use Rattle.indexmap.specs.IndexMap.{spare};
     ghost use Rattle.std.specs.Prelude.{length};
-    ghost use Rattle.valid_table.specs.FirstRows.{AreFirst, rows_behind};
-    ghost use Rattle.valid_table.specs.Keys.{AreKeyed};
-    ghost use Rattle.valid_table.specs.Linking.{AreLinked};
+    ghost use Rattle.valid_table.specs.private.FirstRows.{AreFirst, rows_behind};
+    ghost use Rattle.valid_table.specs.private.Keys.{AreKeyed};
+    ghost use Rattle.valid_table.specs.private.Linking.{AreLinked};
     ghost use Rattle.valid_table.specs.Tables.{TableValue, registrations_of};
     ghost use Rattle.valid_table.specs.Valid.{AreReferencesValid, IsOnce};
 

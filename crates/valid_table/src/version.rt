@@ -1,6 +1,6 @@
 //! The versions of a journal's text.
 ghost use Rattle.std.specs.Prelude.{◌≡◌, ◌≢◌, ◌++◌, ◌↔◌, IsTrue, List, MatchOption, ℕ};
-ghost use Rattle.valid_table.specs.Readers.{BeginsNoVersion};
+ghost use Rattle.valid_table.specs.private.Readers.{BeginsNoVersion};
 ghost use Rattle.valid_table.specs.Reading.{IsTooLong, max_len};
 ghost use Rattle.valid_table.specs.Texts.{version_line};
 

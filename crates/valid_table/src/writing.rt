@@ -1,6 +1,6 @@
 //! Writing a journal's text.
 ghost use Rattle.std.specs.Prelude.{◌≡◌, ◌++◌, ◌∷◌, IfOk, IfErr, OnOk};
-ghost use Rattle.valid_table.specs.LineTexts.{fields_text, lines_text, path_line, registration_text};
+ghost use Rattle.valid_table.specs.private.LineTexts.{fields_text, lines_text, path_line, registration_text};
 ghost use Rattle.valid_table.specs.Texts.{digest_text, entry_lines, text};
 ghost use Rattle.valid_table.specs.Written.{written_lines, written_text};
 

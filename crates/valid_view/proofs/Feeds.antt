@@ -7,7 +7,7 @@ use Rattle.valid_table.specs.Adding.{IsNew, IsValidWith}
 use Rattle.valid_table.specs.Entries.{paths_registered, registered_by}
 use Rattle.valid_table.specs.Valid.{references_of}
 use Rattle.valid_table.specs.declared.entry.Entry.{Entry}
-use Rattle.valid_view.specs.Feeding.{IsFeed, Takes, entries_of}
+use Rattle.valid_view.specs.private.Feeding.{IsFeed, Takes, entries_of}
 use Rattle.valid_view.specs.Shown.{IsShowable, MayFollow}
 use Rattle.valid_view.specs.declared.refusal.FeedFault.{FeedFault}
 use Rattle.valid_view.specs.declared.shown_table.Op.{Op}

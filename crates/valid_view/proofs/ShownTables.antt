@@ -10,8 +10,8 @@ use Rattle.logbook.specs.Pages.{Book}
 use Rattle.valid_table.proofs.AddedEntries.{registered_push}
 use Rattle.valid_table.specs.Entries.{registered, registered_by}
 use Rattle.valid_table.specs.declared.entry.Entry.{Entry}
-use Rattle.valid_view.specs.Feeding.{Follows, entries_of, with_op}
-use Rattle.valid_view.specs.ShownTables.{Holds, IsShownTable, SeesAll, ShownState}
+use Rattle.valid_view.specs.private.Feeding.{Follows, entries_of, with_op}
+use Rattle.valid_view.specs.private.ShownTables.{Holds, IsShownTable, SeesAll, ShownState}
 use Rattle.valid_view.specs.declared.shown_table.Op.{Op}
 use Rattle.valid_view.proofs.Prefixes.{prefix_self, prefix_trans}
 

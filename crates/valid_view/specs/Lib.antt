@@ -4,7 +4,4 @@ pub mod Prefixes
 pub mod Faults
 pub mod SharedClosures
 pub mod Shown
--- What only private contracts and proofs cite.
-pub mod Feeding
-pub mod Refusals
-pub mod ShownTables
+pub mod private

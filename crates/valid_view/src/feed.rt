@@ -3,8 +3,8 @@ ghost use Rattle.std.specs.Prelude.{◌≡◌, ◌++◌, [], ◌∷◌, All, IfE
 ghost use Rattle.valid_table.specs.Adding.{IsNew, IsValidWith};
 ghost use Rattle.valid_table.specs.Entries.{registered_by};
 ghost use Rattle.valid_table.specs.Valid.{references_of};
-ghost use Rattle.valid_view.specs.Feeding.{Takes, known_of, pending_of};
-ghost use Rattle.valid_view.specs.Refusals.{IsShowRefused};
+ghost use Rattle.valid_view.specs.private.Feeding.{Takes, known_of, pending_of};
+ghost use Rattle.valid_view.specs.private.Refusals.{IsShowRefused};
 
 use crate::name::Naming;
 use crate::prefix::{Head, NamedPrefix, Prefix};
@@ -31,7 +31,7 @@ pub(crate) struct Feed<J: Naming> {
 }
 
 impl<J: Naming> Model for Feed<J> {
-    ghost use Rattle.valid_view.specs.Feeding.{FeedValue, IsFeed, entries_of, ops_of};
+    ghost use Rattle.valid_view.specs.private.Feeding.{FeedValue, IsFeed, entries_of, ops_of};
 
     ghost Value = { FeedValue };
 

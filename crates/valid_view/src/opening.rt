@@ -3,7 +3,7 @@ ghost use Rattle.std.specs.Prelude.{◌≡◌, ◌≤◌, [], All, IfOk, MatchRe
 ghost use Rattle.valid_table.specs.Entries.{registered};
 ghost use Rattle.valid_table.specs.Valid.{IsJournal};
 ghost use Rattle.valid_view.specs.Prefixes.{Hinders};
-ghost use Rattle.valid_view.specs.Feeding.{pending_of};
+ghost use Rattle.valid_view.specs.private.Feeding.{pending_of};
 
 use crate::feed::Feed;
 use crate::name::{Name, Naming};

@@ -1,7 +1,7 @@
 //! Why a view could not be opened, or could not show what waits.
 ghost use Rattle.std.specs.Prelude.{◌≡◌};
 ghost use Rattle.valid_view.specs.Faults.{open_number_of};
-ghost use Rattle.valid_view.specs.Refusals.{opened_as, told_as};
+ghost use Rattle.valid_view.specs.private.Refusals.{opened_as, told_as};
 
 use crate::prefix::BarePrefix;
 use crate::writer_end::NoPlace;

@@ -15,7 +15,7 @@ pub struct Published<J: Naming> {
 
 impl<J: Naming> Protocol<ShownTable, SeenEntries> for Published<J> {
     ghost use Rattle.std.specs.Prelude.{[]};
-    ghost use Rattle.valid_view.specs.ShownTables.{Holds};
+    ghost use Rattle.valid_view.specs.private.ShownTables.{Holds};
 
     ghost holds = { Holds J.book };
 
@@ -28,7 +28,7 @@ pub struct Sees<J: Naming> {
 }
 
 impl<J: Naming> Outcome<ShownTable, SeenEntries> for Sees<J> {
-    ghost use Rattle.valid_view.specs.ShownTables.{SeesAll};
+    ghost use Rattle.valid_view.specs.private.ShownTables.{SeesAll};
 
     ghost then = { SeesAll J.book };
 }

@@ -20,7 +20,7 @@ pub(crate) struct ShownTable {
 }
 
 impl Model for ShownTable {
-    ghost use Rattle.valid_view.specs.ShownTables.{ShownState};
+    ghost use Rattle.valid_view.specs.private.ShownTables.{ShownState};
 
     ghost Value = { ShownState };
 
@@ -28,7 +28,7 @@ impl Model for ShownTable {
 }
 
 impl Absorb<Op> for ShownTable {
-    ghost use Rattle.valid_view.specs.Feeding.{with_op};
+    ghost use Rattle.valid_view.specs.private.Feeding.{with_op};
 
     type State = ShownTable;
 

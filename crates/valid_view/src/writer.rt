@@ -3,7 +3,7 @@ ghost use Rattle.std.specs.Prelude.{◌≡◌, ◌++◌, [], ◌∷◌, All, IfE
 ghost use Rattle.valid_table.specs.Adding.{IsNew, IsValidWith};
 ghost use Rattle.valid_table.specs.Entries.{registered_by};
 ghost use Rattle.valid_table.specs.Valid.{references_of};
-ghost use Rattle.valid_view.specs.Feeding.{pending_of};
+ghost use Rattle.valid_view.specs.private.Feeding.{pending_of};
 
 use crate::feed::Feed;
 use crate::name::Naming;
@@ -22,7 +22,7 @@ pub struct ViewWriter<J: Naming, R> {
 
 impl<J: Naming, R> Model for ViewWriter<J, R> {
     ghost use Rattle.valid_table.specs.Outlets.{Outgoing};
-    ghost use Rattle.valid_view.specs.Feeding.{pending_of};
+    ghost use Rattle.valid_view.specs.private.Feeding.{pending_of};
 
     ghost Value = { Outgoing };
 

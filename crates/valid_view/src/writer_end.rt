@@ -1,6 +1,6 @@
 //! The writer's end of a view, under the rule.
 ghost use Rattle.std.specs.Prelude.{◌≡◌, ◌<◌, ◌≤◌, ◌++◌, ◌↔◌, [], ◌∷◌, MatchResult, IfOk, IsTrue, OnErr, OnOk};
-ghost use Rattle.valid_view.specs.ShownTables.{IsShownTable};
+ghost use Rattle.valid_view.specs.private.ShownTables.{IsShownTable};
 
 use crate::display::DisplayedList;
 use crate::name::Naming;
@@ -33,8 +33,8 @@ pub(crate) struct WriterEnd<J: Naming> {
 
 impl<J: Naming> Model for WriterEnd<J> {
     ghost use Rattle.std.specs.Prelude.{drop};
-    ghost use Rattle.valid_view.specs.Feeding.{Follows, WriterEndValue, entries_of};
-    ghost use Rattle.valid_view.specs.ShownTables.{IsShownTable};
+    ghost use Rattle.valid_view.specs.private.Feeding.{Follows, WriterEndValue, entries_of};
+    ghost use Rattle.valid_view.specs.private.ShownTables.{IsShownTable};
 
     ghost Value = { WriterEndValue };
 

@@ -1,7 +1,7 @@
 use Rattle.std.proofs.Common.{subst, rules}
 use Rattle.std.proofs.lemmas.List.{take_all}
 use Rattle.nix_names.proofs.Lists.{taken_more}
-use Rattle.build_outcome.specs.Linking.{AddsLinks}
+use Rattle.build_outcome.specs.private.Linking.{AddsLinks}
 use Rattle.build_outcome.proofs.Linkages.{adds_no_place, adds_none, adds_place}
 use Rattle.build_outcome.proofs.links.add_links.Goals as goal
 use Rattle.build_outcome.proofs.links.add_links.Goals.{in-Some+in_ok-push, in_default}

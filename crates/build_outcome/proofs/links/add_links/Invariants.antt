@@ -1,6 +1,6 @@
 -- The places of the references so far are added.
 use Rattle.std.proofs.Common.{take}
-use Rattle.build_outcome.specs.Linking.{AddsLinks}
+use Rattle.build_outcome.specs.private.Linking.{AddsLinks}
 use Rattle.build_outcome.proofs.links.add_links.Given as goal
 
 abbrev pub invariant-loop-reference : goal.invariant-loop-reference

@@ -2,7 +2,7 @@
 -- leaves a number.
 use Rattle.std.proofs.Common.{◌+◌, length}
 use Rattle.std.specs.List.{sum_by}
-use Rattle.build_outcome.specs.Walking.{IsMet, IsWalk, KeepsMet, weight}
+use Rattle.build_outcome.specs.private.Walking.{IsMet, IsWalk, KeepsMet, weight}
 use Rattle.build_outcome.proofs.walk.walk_from.Given as goal
 
 abbrev pub invariant-loop-top : goal.invariant-loop-top

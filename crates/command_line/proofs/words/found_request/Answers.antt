@@ -1,6 +1,6 @@
 use Rattle.std.proofs.Common.{subst}
 use Rattle.command_line.proofs.Rows.{met, none_met}
-use Rattle.command_line.specs.Found.{IsFound}
+use Rattle.command_line.specs.private.Found.{IsFound}
 use Rattle.command_line.proofs.words.found_request.Goals as goal
 
 pub subcommand_request-requires-clause-name : goal.subcommand_request-requires-clause-name

@@ -6,7 +6,7 @@ use Rattle.clap.proofs.OnLiterals.{clap_on_literals}
 use Rattle.command_line.proofs.Found.{found_rows}
 use Rattle.command_line.proofs.Usage.{fault_found, is_free, none_found}
 use Rattle.command_line.specs.CommandLine.{command_line}
-use Rattle.command_line.specs.Found.{IsFound}
+use Rattle.command_line.specs.private.Found.{IsFound}
 use Rattle.command_line.specs.Kinds.{IsKindFaultIn}
 use Rattle.command_line.specs.Requests.{IsAskedIn}
 use Rattle.command_line.proofs.words.request.Goals as goal

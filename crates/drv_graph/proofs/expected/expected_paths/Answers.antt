@@ -1,6 +1,6 @@
 use Rattle.std.proofs.Common.{sym, subst}
 use Rattle.std.specs.Prelude.{IfOk}
-use Rattle.drv_graph.specs.Checking.{AreExpected}
+use Rattle.drv_graph.specs.private.Checking.{AreExpected}
 use Rattle.drv_graph.specs.declared.kinds.Kind.{Kind}
 use Rattle.drv_graph.proofs.Checks.{addressed_from}
 use Rattle.drv_graph.proofs.expected.expected_paths.Goals as goal

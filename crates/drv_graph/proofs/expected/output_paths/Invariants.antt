@@ -1,6 +1,6 @@
 use Rattle.std.proofs.Common.{◌≡◌, map, take, length, vec_capacity, vec_len}
 use Rattle.nix_drv.specs.Parts.{output_of}
-use Rattle.drv_graph.specs.ExpectedPaths.{output_path}
+use Rattle.drv_graph.specs.private.ExpectedPaths.{output_path}
 use Rattle.drv_graph.proofs.expected.output_paths.Given as goal
 
 abbrev pub invariant-loop-output : goal.invariant-loop-output

@@ -2,11 +2,11 @@ use Rattle.std.proofs.Common.{◌≡◌, ℕ, List, subst, inr, rules}
 use Rattle.std.specs.List.{AllZip}
 use Rattle.nix_drv.specs.Derivation.{Drv}
 use Rattle.drv_graph.specs.Nodes.{Node, inputs_of}
-use Rattle.drv_graph.specs.FillSteps.{AreUsed}
+use Rattle.drv_graph.specs.private.FillSteps.{AreUsed}
 use Rattle.drv_graph.specs.Plans.{AreNumbers}
 use Rattle.drv_graph.specs.PlanNodes.{AreKept, nodes_of}
-use Rattle.drv_graph.specs.UsedInputs.{drvs_of_uses, hashes_of}
-use Rattle.drv_graph.specs.Walks.{IsUsed}
+use Rattle.drv_graph.specs.private.UsedInputs.{drvs_of_uses, hashes_of}
+use Rattle.drv_graph.specs.private.Walks.{IsUsed}
 use Rattle.drv_graph.specs.declared.node.PlanNode.{PlanNode}
 use Rattle.drv_graph.specs.declared.outputs.UsedInput.{UsedInput}
 use Rattle.drv_graph.proofs.Ends.{err_is}

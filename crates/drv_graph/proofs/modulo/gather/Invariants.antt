@@ -1,6 +1,6 @@
 use Rattle.std.proofs.Common.{◌≡◌, ◌≤◌, length, map, vec_capacity, vec_len}
 use Rattle.nix_drv.specs.Parts.{input_of}
-use Rattle.drv_graph.specs.Uniting.{IsGathered}
+use Rattle.drv_graph.specs.private.Uniting.{IsGathered}
 use Rattle.drv_graph.proofs.modulo.gather.Given as goal
 
 abbrev pub invariant-loop-input : goal.invariant-loop-input

@@ -1,6 +1,6 @@
 use Rattle.std.proofs.Common.{◌≡◌, ◌++◌, map, take, drop}
 use Rattle.nix_drv.specs.Parts.{output_of}
-use Rattle.drv_graph.specs.Uniting.{masked_output}
+use Rattle.drv_graph.specs.private.Uniting.{masked_output}
 use Rattle.drv_graph.proofs.modulo.mask_outputs.Given as goal
 
 abbrev pub invariant-loop-output : goal.invariant-loop-output

@@ -4,7 +4,7 @@ use Rattle.std.specs.Cmp.Lexicographic.{pointwise}
 use Rattle.std.proofs.lemmas.List.{length-map}
 use Rattle.std.proofs.lemmas.List.Filters.{dedup_is}
 use Rattle.nix_drv.specs.Parts.{input_of}
-use Rattle.drv_graph.specs.Uniting.{IsNameSorted}
+use Rattle.drv_graph.specs.private.Uniting.{IsNameSorted}
 use Rattle.drv_graph.proofs.Gathering.{names_sorted}
 use Rattle.drv_graph.proofs.Loops.{zipped_all, zipped_in_place}
 use Rattle.drv_graph.proofs.modulo.sort_names.Goals as goal

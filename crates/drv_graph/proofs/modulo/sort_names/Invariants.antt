@@ -1,7 +1,7 @@
 use Rattle.std.proofs.Common.{◌≡◌, map, take, drop}
 use Rattle.std.specs.List.{AllZip}
 use Rattle.nix_drv.specs.Parts.{input_of}
-use Rattle.drv_graph.specs.Uniting.{IsNameSorted}
+use Rattle.drv_graph.specs.private.Uniting.{IsNameSorted}
 use Rattle.drv_graph.proofs.modulo.sort_names.Given as goal
 
 abbrev pub invariant-loop-input : goal.invariant-loop-input

@@ -7,7 +7,7 @@ use Rattle.std.proofs.lemmas.Cmp.{nat_list_cmp_total}
 use Rattle.std.proofs.lemmas.List.Sorted.{IsPermutation-map, answers_always, ranks_by}
 use Rattle.nix_drv.specs.Parts.{input_of, path_of}
 use Rattle.nix_drv.specs.declared.derivation.Input.{Input}
-use Rattle.drv_graph.specs.Uniting.{IsNameSorted}
+use Rattle.drv_graph.specs.private.Uniting.{IsNameSorted}
 use Rattle.drv_graph.proofs.Gathering.{sorted_map}
 use Rattle.drv_graph.proofs.Uniting.{gathered_moved, united_from}
 use Rattle.drv_graph.proofs.modulo.unite_inputs.Goals as goal

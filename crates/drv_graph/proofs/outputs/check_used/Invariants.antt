@@ -2,7 +2,7 @@ use Rattle.std.proofs.Common.{map, take}
 use Rattle.std.specs.Prelude.{All}
 use Rattle.nix_drv.specs.Parts.{bytes_of}
 use Rattle.drv_graph.specs.Outputs.{IsKnownUse}
-use Rattle.drv_graph.specs.UsedInputs.{uses_of}
+use Rattle.drv_graph.specs.private.UsedInputs.{uses_of}
 use Rattle.drv_graph.proofs.outputs.check_used.Given as goal
 
 abbrev pub invariant-loop-name : goal.invariant-loop-name

@@ -7,9 +7,9 @@ use Rattle.std.proofs.lemmas.Option.{same_Some}
 use Rattle.nix_drv.specs.Derivation.{Drv, Input}
 use Rattle.nix_drv.specs.Parts.{bytes_of, input_of, path_of}
 use Rattle.nix_drv.specs.declared.derivation.Input.{Input as InputStruct}
-use Rattle.drv_graph.specs.Checking.{IsUseFault}
+use Rattle.drv_graph.specs.private.Checking.{IsUseFault}
 use Rattle.drv_graph.specs.Outputs.{IsKnownUse, Use, uses}
-use Rattle.drv_graph.specs.UsedInputs.{drvs_of_uses, paths_of_uses, uses_of}
+use Rattle.drv_graph.specs.private.UsedInputs.{drvs_of_uses, paths_of_uses, uses_of}
 use Rattle.drv_graph.specs.declared.outputs.UsedInput.{UsedInput}
 use Rattle.drv_graph.proofs.Checks.{known_more, use_fault_at}
 use Rattle.drv_graph.proofs.Loops.{seen_at}

@@ -2,7 +2,7 @@ use Rattle.std.proofs.Common.{map, take}
 use Rattle.std.specs.Prelude.{All}
 use Rattle.nix_drv.specs.Parts.{input_of}
 use Rattle.drv_graph.specs.Outputs.{IsKnownUse, uses}
-use Rattle.drv_graph.specs.UsedInputs.{drvs_of_uses}
+use Rattle.drv_graph.specs.private.UsedInputs.{drvs_of_uses}
 use Rattle.drv_graph.proofs.outputs.check_uses.Given as goal
 
 abbrev pub invariant-loop-place : goal.invariant-loop-place

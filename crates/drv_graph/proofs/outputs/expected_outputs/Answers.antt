@@ -1,9 +1,9 @@
 use Rattle.std.proofs.Common.{◌∙◌, List, ℕ, length, ap, sym, subst, rules}
 use Rattle.std.proofs.lemmas.Result.{err_from_is_err_and}
 use Rattle.std.proofs.lemmas.Slice.Zip.{AllZip-long}
-use Rattle.drv_graph.specs.Checking.{AreExpected}
+use Rattle.drv_graph.specs.private.Checking.{AreExpected}
 use Rattle.drv_graph.specs.Expected.{IsExpected}
-use Rattle.drv_graph.specs.UsedInputs.{drvs_of_uses, hashes_of}
+use Rattle.drv_graph.specs.private.UsedInputs.{drvs_of_uses, hashes_of}
 use Rattle.drv_graph.proofs.Checks.{all_right, value_is_checked}
 use Rattle.drv_graph.proofs.KindAnswers.{kind_not_mixed}
 use Rattle.drv_graph.proofs.Ends.{err_is}

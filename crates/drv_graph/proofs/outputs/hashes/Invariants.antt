@@ -1,5 +1,5 @@
 use Rattle.std.proofs.Common.{◌≡◌, take, length, vec_capacity, vec_len}
-use Rattle.drv_graph.specs.UsedInputs.{hashes_of}
+use Rattle.drv_graph.specs.private.UsedInputs.{hashes_of}
 use Rattle.drv_graph.proofs.outputs.hashes.Given as goal
 
 abbrev pub invariant-loop-input : goal.invariant-loop-input

@@ -1,4 +1,4 @@
-use Rattle.drv_graph.specs.Owners.{owned}
+use Rattle.drv_graph.specs.private.Owners.{owned}
 use Rattle.drv_graph.proofs.Marks.{sets_entry}
 use Rattle.drv_graph.proofs.Owners.{enter_step, enter_stops, other_owner, same_owner}
 use Rattle.drv_graph.proofs.owning.enter.Goals as goal

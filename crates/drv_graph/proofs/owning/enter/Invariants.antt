@@ -1,7 +1,7 @@
 -- The first paths had this owner, and are entered.
 use Rattle.std.proofs.Common.{◌≡◌, ℕ, List, take}
 use Rattle.std.specs.Prelude.{Contains}
-use Rattle.drv_graph.specs.Owners.{AreEntered, owned}
+use Rattle.drv_graph.specs.private.Owners.{AreEntered, owned}
 use Rattle.drv_graph.proofs.owning.enter.Given as goal
 
 abbrev pub invariant-loop-path : goal.invariant-loop-path

@@ -1,5 +1,5 @@
 use Rattle.std.proofs.Common.{rules}
-use Rattle.drv_graph.specs.Owners.{owned}
+use Rattle.drv_graph.specs.private.Owners.{owned}
 use Rattle.drv_graph.proofs.Owners.{clash_entered, clash_many, owner_within, owning_all, owning_clash}
 use Rattle.drv_graph.proofs.owning.own.Goals as goal
 

@@ -7,7 +7,7 @@ use Rattle.nix_drv.specs.declared.derivation.EnvEntry.{EnvEntry}
 use Rattle.nix_drv.specs.declared.derivation.Output.{Output}
 use Rattle.nix_drv.specs.declared.derivation.Parts.{Parts}
 use Rattle.drv_graph.specs.Modulo.{names_of}
-use Rattle.drv_graph.specs.Placing.{IsPlaced, IsPlacedEntry, placed_outputs}
+use Rattle.drv_graph.specs.private.Placing.{IsPlaced, IsPlacedEntry, placed_outputs}
 use Rattle.drv_graph.proofs.EmptyPlaces.{placed_order, placed_parts}
 use Rattle.drv_graph.proofs.placing.place.Goals as goal
 

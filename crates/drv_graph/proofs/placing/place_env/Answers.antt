@@ -6,7 +6,7 @@ use Rattle.std.proofs.lemmas.Option.{slice_get_read, slice_get_within}
 use Rattle.nix_drv.specs.Derivation.{Output}
 use Rattle.nix_drv.specs.Parts.{entry_of}
 use Rattle.drv_graph.specs.Modulo.{names_of}
-use Rattle.drv_graph.specs.Placing.{IsPlacedEntry}
+use Rattle.drv_graph.specs.private.Placing.{IsPlacedEntry}
 use Rattle.drv_graph.proofs.EmptyPlaces.{entry_other, entry_under}
 use Rattle.drv_graph.proofs.Loops.{zipped_all, zipped_in_place}
 use Rattle.drv_graph.proofs.placing.place_env.Goals as goal

@@ -2,7 +2,7 @@ use Rattle.std.proofs.Common.{◌≡◌, map, take, drop}
 use Rattle.std.specs.List.{AllZip}
 use Rattle.nix_drv.specs.Parts.{entry_of}
 use Rattle.drv_graph.specs.Modulo.{names_of}
-use Rattle.drv_graph.specs.Placing.{IsPlacedEntry}
+use Rattle.drv_graph.specs.private.Placing.{IsPlacedEntry}
 use Rattle.drv_graph.proofs.placing.place_env.Given as goal
 
 abbrev pub invariant-loop-entry : goal.invariant-loop-entry

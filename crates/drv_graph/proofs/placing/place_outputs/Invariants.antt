@@ -1,6 +1,6 @@
 use Rattle.std.proofs.Common.{◌≡◌, map, take}
 use Rattle.nix_drv.specs.Parts.{output_of}
-use Rattle.drv_graph.specs.Placing.{placed_outputs}
+use Rattle.drv_graph.specs.private.Placing.{placed_outputs}
 use Rattle.drv_graph.proofs.placing.place_outputs.Given as goal
 
 abbrev pub invariant-loop-place : goal.invariant-loop-place

@@ -4,7 +4,7 @@ use Rattle.std.proofs.lemmas.List.{length-map}
 use Rattle.std.proofs.lemmas.Option.{slice_get_read}
 use Rattle.nix_drv.specs.Derivation.{Output}
 use Rattle.nix_drv.specs.Parts.{output_of}
-use Rattle.drv_graph.specs.Checking.{EntriesFit}
+use Rattle.drv_graph.specs.private.Checking.{EntriesFit}
 use Rattle.drv_graph.proofs.Checks.{env_mismatch, fit_more}
 use Rattle.drv_graph.proofs.Loops.{seen_at}
 use Rattle.drv_graph.proofs.values.check_env.Goals as goal

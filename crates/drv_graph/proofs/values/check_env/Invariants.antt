@@ -1,4 +1,4 @@
-use Rattle.drv_graph.specs.Checking.{EntriesFit, FitBefore}
+use Rattle.drv_graph.specs.private.Checking.{EntriesFit, FitBefore}
 use Rattle.drv_graph.proofs.values.check_env.Given as goal
 
 abbrev pub invariant-loop-place : goal.invariant-loop-place

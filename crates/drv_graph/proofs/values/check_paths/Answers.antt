@@ -1,7 +1,7 @@
 use Rattle.std.proofs.Common.{◌<◌, ℕ, List, length, refl, subst, arith, rules}
 use Rattle.std.proofs.lemmas.Option.{slice_get_read}
 use Rattle.nix_drv.specs.Parts.{output_of}
-use Rattle.drv_graph.specs.Checking.{FitsExpected}
+use Rattle.drv_graph.specs.private.Checking.{FitsExpected}
 use Rattle.drv_graph.proofs.Checks.{fit_more, mismatch}
 use Rattle.drv_graph.proofs.Loops.{seen_at}
 use Rattle.drv_graph.proofs.values.check_paths.Goals as goal

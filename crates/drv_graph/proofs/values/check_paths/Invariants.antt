@@ -1,6 +1,6 @@
 use Rattle.std.proofs.Common.{map}
 use Rattle.nix_drv.specs.Parts.{output_of}
-use Rattle.drv_graph.specs.Checking.{FitBefore, PathFits}
+use Rattle.drv_graph.specs.private.Checking.{FitBefore, PathFits}
 use Rattle.drv_graph.proofs.values.check_paths.Given as goal
 
 abbrev pub invariant-loop-place : goal.invariant-loop-place

@@ -2,7 +2,7 @@ use Rattle.std.proofs.Common.{◌∙◌, ap, length, sym, rules}
 use Rattle.std.proofs.lemmas.Result.{IfErr-weaker}
 use Rattle.std.proofs.lemmas.List.{length-map}
 use Rattle.nix_drv.specs.Parts.{output_of}
-use Rattle.drv_graph.specs.Checking.{PathFits}
+use Rattle.drv_graph.specs.private.Checking.{PathFits}
 use Rattle.drv_graph.proofs.Checks.{env_is_value, fit_moved, on_ok, path_is_value}
 use Rattle.drv_graph.proofs.Ends.{err_is}
 use Rattle.drv_graph.proofs.values.check_values.Goals as goal

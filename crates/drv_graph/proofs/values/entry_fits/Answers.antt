@@ -6,7 +6,7 @@ use Rattle.std.proofs.lemmas.Option.{slice_get_within}
 use Rattle.nix_drv.specs.Derivation.{EnvEntry}
 use Rattle.nix_drv.specs.Parts.{entry_of}
 use Rattle.nix_drv.specs.Places.{env_keys}
-use Rattle.drv_graph.specs.Checking.{FitsExpected}
+use Rattle.drv_graph.specs.private.Checking.{FitsExpected}
 use Rattle.drv_graph.proofs.Checks.{entry_answer, no_misfit}
 use Rattle.drv_graph.proofs.Loops.{seen_at}
 use Rattle.drv_graph.proofs.values.entry_fits.Goals as goal

@@ -1,5 +1,5 @@
 use Rattle.std.proofs.Common.{◌≡◌, ◌∙◌, ap, refl, subst, None, Ok, rules}
-use Rattle.drv_graph.specs.Walks.{IsStepping}
+use Rattle.drv_graph.specs.private.Walks.{IsStepping}
 use Rattle.drv_graph.proofs.Going.{went_along, went_down}
 use Rattle.drv_graph.proofs.Ends.{err_is}
 use Rattle.drv_graph.proofs.walk.go_on.Goals as goal

@@ -1,5 +1,5 @@
 use Rattle.std.proofs.Common.{arith, subst}
-use Rattle.drv_graph.specs.Walks.{IsTextFaultAt}
+use Rattle.drv_graph.specs.private.Walks.{IsTextFaultAt}
 use Rattle.drv_graph.proofs.Reading.{reading_wrong}
 use Rattle.drv_graph.proofs.walk.read_drv.Goals as goal
 

@@ -1,6 +1,6 @@
 use Rattle.std.proofs.Common.{◌≡◌, arith, length, refl, subst, sym, rules}
 use Rattle.drv_graph.specs.PlanNodes.{nodes_of}
-use Rattle.drv_graph.specs.Walks.{IsVisited}
+use Rattle.drv_graph.specs.private.Walks.{IsVisited}
 use Rattle.drv_graph.proofs.Counting.{counted_before}
 use Rattle.drv_graph.proofs.Owners.{contains_item}
 use Rattle.drv_graph.proofs.Walking.{IsWalk}

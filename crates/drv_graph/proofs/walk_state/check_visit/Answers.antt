@@ -1,6 +1,6 @@
 use Rattle.std.proofs.Common.{subst, rules}
 use Rattle.std.specs.List.{AllZip}
-use Rattle.drv_graph.specs.Walks.{IsUsed}
+use Rattle.drv_graph.specs.private.Walks.{IsUsed}
 use Rattle.drv_graph.proofs.UsedNodes.{check_right, check_wrong, kept_within, used_paths}
 use Rattle.drv_graph.proofs.walk_state.check_visit.Goals as goal
 

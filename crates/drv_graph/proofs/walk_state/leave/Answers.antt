@@ -3,7 +3,7 @@ use Rattle.std.specs.Prelude.{All}
 use Rattle.nix_names.specs.StorePaths.{IsPathOf}
 use Rattle.nix_drv.proofs.Places.{outputs_rise}
 use Rattle.drv_graph.specs.PlanNodes.{AreKept}
-use Rattle.drv_graph.specs.Owners.{owned}
+use Rattle.drv_graph.specs.private.Owners.{owned}
 use Rattle.drv_graph.proofs.InStore.{outputs_in_store}
 use Rattle.drv_graph.proofs.Leaving.{checking_right, leaving_clash, leaving_kept, outputs_are, parts_outputs, parts_sources}
 use Rattle.drv_graph.proofs.OwnOutputs.{own_outputs}

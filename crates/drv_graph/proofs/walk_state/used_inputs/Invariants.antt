@@ -1,7 +1,7 @@
 -- The first inputs are used.
 use Rattle.std.proofs.Common.{take, ◌≡◌, length, vec_capacity, vec_len}
 use Rattle.std.specs.List.{AllZip}
-use Rattle.drv_graph.specs.Walks.{IsUsed}
+use Rattle.drv_graph.specs.private.Walks.{IsUsed}
 use Rattle.drv_graph.proofs.walk_state.used_inputs.Given as goal
 
 abbrev pub invariant-loop-number : goal.invariant-loop-number

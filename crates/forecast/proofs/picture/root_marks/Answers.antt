@@ -1,6 +1,6 @@
 use Rattle.std.proofs.Common.{◌≡◌, ◌∙◌, ap, false, length, replicate, subst, sym}
 use Rattle.run_states.proofs.Wanting.{Marks, written}
-use Rattle.forecast.specs.Marks.{AreRoots}
+use Rattle.forecast.specs.private.Marks.{AreRoots}
 use Rattle.forecast.proofs.Drawn.{roots_are}
 use Rattle.forecast.proofs.picture.root_marks.Goals as goal
 

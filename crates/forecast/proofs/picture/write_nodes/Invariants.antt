@@ -1,5 +1,5 @@
 use Rattle.forecast.specs.Holding.{state_at}
-use Rattle.forecast.specs.Marks.{is_marked}
+use Rattle.forecast.specs.private.Marks.{is_marked}
 use Rattle.forecast.specs.Pictures.{node_at}
 use Rattle.forecast.proofs.Writing.{AreWritten}
 use Rattle.forecast.proofs.picture.write_nodes.Given as goal

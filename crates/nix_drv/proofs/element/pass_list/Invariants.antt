@@ -1,8 +1,8 @@
 use Rattle.std.proofs.Common.{◌≡◌, map, drop, option_map, Bor, List, ℕ}
 use Rattle.nix_drv.specs.Grammar.{Many}
 use Rattle.nix_drv.specs.Order.{key}
-use Rattle.nix_drv.specs.Listings.{order_of}
-use Rattle.nix_drv.specs.Passing.{pass, pass_among}
+use Rattle.nix_drv.specs.private.Listings.{order_of}
+use Rattle.nix_drv.specs.private.Passing.{pass, pass_among}
 use Rattle.nix_drv.proofs.element.pass_list.Given as goal
 
 -- the elements that are left decide what the list does

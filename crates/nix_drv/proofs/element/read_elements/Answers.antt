@@ -1,6 +1,6 @@
 use Rattle.std.proofs.Common.{◌∙◌, ap, Ok, rules}
 use Rattle.nix_drv.specs.declared.element.Next.{Next}
-use Rattle.nix_drv.specs.Reading.{read}
+use Rattle.nix_drv.specs.private.Reading.{read}
 use Rattle.nix_drv.proofs.ListReadings.{form_shrinks, element_fails, sign_fails, element_more, element_last, element_shorter, more_values}
 use Rattle.nix_drv.proofs.Stopping.{gives_stop}
 use Rattle.nix_drv.proofs.element.read_elements.Goals as goal

@@ -1,5 +1,5 @@
 use Rattle.std.proofs.Common.{◌≡◌, map, length}
-use Rattle.nix_drv.specs.Reading.{before, elements_of, read}
+use Rattle.nix_drv.specs.private.Reading.{before, elements_of, read}
 use Rattle.nix_drv.proofs.element.read_elements.Given as goal
 
 -- the elements so far and those of the rest are those of the list

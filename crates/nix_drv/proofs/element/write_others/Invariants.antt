@@ -1,6 +1,6 @@
 use Rattle.std.proofs.Common.{◌≡◌, ◌++◌, map, drop}
 use Rattle.nix_drv.specs.Grammar.{text}
-use Rattle.nix_drv.specs.Listings.{others_text}
+use Rattle.nix_drv.specs.private.Listings.{others_text}
 use Rattle.nix_drv.proofs.element.write_others.Given as goal
 
 -- what is written, and the texts of the elements that are left

@@ -1,5 +1,5 @@
 use Rattle.std.proofs.Common.{◌≡◌, drop}
-use Rattle.nix_drv.specs.Reading.{fixed_at}
+use Rattle.nix_drv.specs.private.Reading.{fixed_at}
 use Rattle.nix_drv.proofs.reading.fixed_of.Given as goal
 
 -- what is left of the bytes that are wanted is to be read from the rest

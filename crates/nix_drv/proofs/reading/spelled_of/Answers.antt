@@ -1,5 +1,5 @@
 use Rattle.std.proofs.Common.{◌≡◌, ℕ, ◌<◌, ◌≤◌, true, false, List, ◌++◌, length, get_or, take, drop, Option, Result, Ok, ap, ◌∙◌, rules}
-use Rattle.nix_drv.specs.Reading.{before, bytes_at}
+use Rattle.nix_drv.specs.private.Reading.{before, bytes_at}
 use Rattle.nix_drv.specs.Strings.{is_plain}
 use Rattle.nix_drv.proofs.Runs.{run_read, byte_fails, byte_more, byte_none}
 use Rattle.nix_drv.proofs.Stopping.{gives_stop}

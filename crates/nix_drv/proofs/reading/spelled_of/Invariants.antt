@@ -1,5 +1,5 @@
 use Rattle.std.proofs.Common.{◌≡◌, false, length}
-use Rattle.nix_drv.specs.Reading.{before, bytes_at}
+use Rattle.nix_drv.specs.private.Reading.{before, bytes_at}
 use Rattle.nix_drv.proofs.reading.spelled_of.Given as goal
 
 -- the bytes so far and those of the rest are those of the string

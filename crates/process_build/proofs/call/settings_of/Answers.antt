@@ -2,7 +2,7 @@ use Rattle.std.proofs.Common.{All, subst}
 use Rattle.std.proofs.lemmas.List.{take_all}
 use Rattle.std.proofs.lemmas.List.Elements.{All-more}
 use Rattle.nix_drv.specs.Parts.{entry_of}
-use Rattle.process_build.specs.BuilderCalls.{IsProcessEntry, entry_of_setting}
+use Rattle.process_build.specs.private.BuilderCalls.{IsProcessEntry, entry_of_setting}
 use Rattle.process_build.proofs.Callable.{mapped_more}
 use Rattle.process_build.proofs.call.settings_of.Goals as goal
 

@@ -1,6 +1,6 @@
 use Rattle.std.proofs.Common.{◌≡◌, All, map, take}
 use Rattle.nix_drv.specs.Parts.{entry_of}
-use Rattle.process_build.specs.BuilderCalls.{IsProcessEntry, entry_of_setting}
+use Rattle.process_build.specs.private.BuilderCalls.{IsProcessEntry, entry_of_setting}
 use Rattle.process_build.proofs.call.settings_of.Given as goal
 
 -- the entries so far are texts

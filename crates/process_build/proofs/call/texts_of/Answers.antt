@@ -1,7 +1,7 @@
 use Rattle.std.proofs.Common.{◌∙◌, All, subst}
 use Rattle.std.proofs.lemmas.List.{take_all}
 use Rattle.std.proofs.lemmas.List.Elements.{All-more}
-use Rattle.process_build.specs.BuilderCalls.{IsProcessText}
+use Rattle.process_build.specs.private.BuilderCalls.{IsProcessText}
 use Rattle.process_build.proofs.Callable.{mapped_more}
 use Rattle.process_build.proofs.call.texts_of.Goals as goal
 

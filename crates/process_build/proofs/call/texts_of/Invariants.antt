@@ -1,5 +1,5 @@
 use Rattle.std.proofs.Common.{◌≡◌, All, map, take}
-use Rattle.process_build.specs.BuilderCalls.{IsProcessText}
+use Rattle.process_build.specs.private.BuilderCalls.{IsProcessText}
 use Rattle.process_build.proofs.call.texts_of.Given as goal
 
 -- the bytes so far are texts

@@ -1,6 +1,6 @@
 use Rattle.std.proofs.Common.{◌≡◌, ℕ, List, Some, true, map, option_map, take}
 use Rattle.std.specs.Process.{clears_env, command_var, SameDir, SameProgramAndArgs}
-use Rattle.process_build.specs.BuilderCalls.{entry_of_setting, value_of}
+use Rattle.process_build.specs.private.BuilderCalls.{entry_of_setting, value_of}
 use Rattle.process_build.proofs.environment.set_environment.Given as goal
 
 -- the settings so far are set

@@ -1,6 +1,6 @@
 use Rattle.std.proofs.Common.{◌≡◌, All, length}
 use Rattle.std.specs.Prelude.{IfSome}
-use Rattle.process_build.specs.Contents.{IsAllowed}
+use Rattle.process_build.specs.private.Contents.{IsAllowed}
 use Rattle.process_build.proofs.reading.read_outputs.Given as goal
 
 -- a tree or none for each output so far

@@ -1,5 +1,5 @@
 use Rattle.std.proofs.Common.{◌≤◌}
-use Rattle.ref_scan.specs.Places.{AreDigits}
+use Rattle.ref_scan.specs.private.Places.{AreDigits}
 use Rattle.ref_scan.proofs.alphabet.last_foreign.Given as goal
 
 abbrev pub invariant-loop-place : goal.invariant-loop-place

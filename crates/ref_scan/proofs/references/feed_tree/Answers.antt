@@ -1,5 +1,5 @@
 use Rattle.std.proofs.Common.{◌∙◌, ◌++◌, arith, ap, sym}
-use Rattle.ref_scan.specs.Walk.{pieces_ahead, steps_ahead}
+use Rattle.ref_scan.specs.private.Walk.{pieces_ahead, steps_ahead}
 use Rattle.ref_scan.proofs.Walking.{pieces_last, steps_last}
 use Rattle.ref_scan.proofs.references.feed_tree.Goals as goal
 

@@ -1,6 +1,6 @@
 use Rattle.std.proofs.Common.{◌≡◌, ◌++◌, []}
 use Rattle.ref_scan.specs.Trees.{pieces}
-use Rattle.ref_scan.specs.Walk.{pieces_ahead, steps_ahead}
+use Rattle.ref_scan.specs.private.Walk.{pieces_ahead, steps_ahead}
 use Rattle.ref_scan.proofs.references.feed_tree.Given as goal
 
 abbrev pub invariant-loop-members : goal.invariant-loop-members

@@ -1,6 +1,6 @@
 use Rattle.std.proofs.Common.{◌∙◌, ap, sym}
 use Rattle.ref_scan.specs.Trees.{entry_count, pieces}
-use Rattle.ref_scan.specs.Walk.{count_below, pieces_below}
+use Rattle.ref_scan.specs.private.Walk.{count_below, pieces_below}
 use Rattle.ref_scan.proofs.Folders.{count_dir, pieces_dir}
 use Rattle.ref_scan.proofs.Walking.{folder_visited}
 use Rattle.ref_scan.proofs.references.visit.Goals as goal

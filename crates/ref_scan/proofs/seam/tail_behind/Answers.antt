@@ -1,5 +1,5 @@
 use Rattle.std.proofs.Common.{◌∙◌, ap, sym}
-use Rattle.ref_scan.specs.Kept.{last_bytes}
+use Rattle.ref_scan.specs.private.Kept.{last_bytes}
 use Rattle.ref_scan.proofs.Seams.{kept_of_short, kept_of_long}
 use Rattle.ref_scan.proofs.seam.tail_behind.Goals as goal
 

@@ -1,5 +1,5 @@
 use Rattle.std.proofs.Common.{subst, arith}
-use Rattle.ref_scan.specs.Places.{IsPlaceOfPart}
+use Rattle.ref_scan.specs.private.Places.{IsPlaceOfPart}
 use Rattle.ref_scan.proofs.Indexing.{marked_one}
 use Rattle.ref_scan.proofs.search.mark.Goals as goal
 

@@ -1,6 +1,6 @@
 use Rattle.std.proofs.Common.{subst, arith, length-drop, ap, length}
 use Rattle.std.proofs.lemmas.List.{take_rest}
-use Rattle.ref_scan.specs.Marks.{Marked}
+use Rattle.ref_scan.specs.private.Marks.{Marked}
 use Rattle.ref_scan.proofs.Searching.{searching_past, searching_next, searching_end, window_is, foreign_at}
 use Rattle.ref_scan.proofs.search.search.Goals as goal
 

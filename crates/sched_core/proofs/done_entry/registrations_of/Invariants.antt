@@ -1,7 +1,7 @@
 -- The first n paths stand there with their records, and there is room for all.
 use Rattle.std.proofs.Common.{◌≡◌, length, take, vec_capacity}
 use Rattle.valid_table.specs.Entries.{paths_registered}
-use Rattle.sched_core.specs.Dones.{infos_of}
+use Rattle.sched_core.specs.private.Dones.{infos_of}
 use Rattle.sched_core.proofs.done_entry.registrations_of.Given as goal
 
 abbrev pub invariant-loop-n : goal.invariant-loop-n

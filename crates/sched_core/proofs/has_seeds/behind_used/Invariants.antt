@@ -1,7 +1,7 @@
 use Rattle.std.proofs.Common.{◌≡◌, Some}
 use Rattle.std.specs.Prelude.{slice_get}
 use Rattle.nix_drv.specs.Derivation.{Input}
-use Rattle.sched_core.specs.Following.{IsBehind}
+use Rattle.sched_core.specs.private.Following.{IsBehind}
 use Rattle.sched_core.proofs.SeedParts.{first_named}
 use Rattle.sched_core.proofs.has_seeds.behind_used.Given as goal
 

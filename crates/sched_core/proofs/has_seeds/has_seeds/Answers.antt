@@ -2,7 +2,7 @@ use Rattle.std.proofs.Common.{subst}
 use Rattle.std.specs.Prelude.{IfSome, slice_get}
 use Rattle.std.proofs.lemmas.Option.{slice_get-get_or}
 use Rattle.drv_graph.specs.Nodes.{Node}
-use Rattle.sched_core.specs.Following.{IsBehind}
+use Rattle.sched_core.specs.private.Following.{IsBehind}
 use Rattle.build_outcome.specs.Jobs.{seeds_of}
 use Rattle.sched_core.proofs.Followed.{input_none, input_some, input_step, nothing_told, seeds_left, seeds_told, seeds_untold}
 use Rattle.sched_core.proofs.SeedParts.{input_within}

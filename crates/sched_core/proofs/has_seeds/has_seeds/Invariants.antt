@@ -1,7 +1,7 @@
 use Rattle.std.proofs.Common.{◌≡◌, Some}
 use Rattle.std.specs.Prelude.{slice_get}
 use Rattle.drv_graph.specs.Nodes.{Node}
-use Rattle.sched_core.specs.Following.{IsBehind}
+use Rattle.sched_core.specs.private.Following.{IsBehind}
 use Rattle.sched_core.proofs.SeedParts.{first_seeds}
 use Rattle.sched_core.proofs.has_seeds.has_seeds.Given as goal
 

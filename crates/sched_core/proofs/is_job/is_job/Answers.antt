@@ -1,6 +1,6 @@
 use Rattle.std.proofs.Common.{◌∙◌, subst, sym, rules}
 use Rattle.std.proofs.lemmas.Bool.{false≢true}
-use Rattle.sched_core.specs.SameJobs.{MakesAt}
+use Rattle.sched_core.specs.private.SameJobs.{MakesAt}
 use Rattle.sched_core.proofs.Comparing.{as_many_paths, job_by_parts, kind_of_job, makes_of, recipe_of}
 use Rattle.sched_core.proofs.is_job.is_job.Goals as goal
 

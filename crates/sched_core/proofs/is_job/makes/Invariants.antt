@@ -1,6 +1,6 @@
 -- The first outputs are to be made.
 use Rattle.std.proofs.Common.{◌≡◌, length, take}
-use Rattle.sched_core.specs.SameJobs.{MakesAt}
+use Rattle.sched_core.specs.private.SameJobs.{MakesAt}
 use Rattle.sched_core.proofs.is_job.makes.Given as goal
 
 abbrev pub invariant-loop-n : goal.invariant-loop-n

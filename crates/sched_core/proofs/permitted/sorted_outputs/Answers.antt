@@ -3,7 +3,7 @@ use Rattle.std.proofs.lemmas.List.{take_all}
 use Rattle.std.proofs.lemmas.List.Filters.{dedup_is}
 use Rattle.nix_names.specs.Rising.{IsRising}
 use Rattle.nix_names.proofs.RisingLists.{members_of_dedup, rising_dedup}
-use Rattle.valid_table.specs.Closing.{HaveSame}
+use Rattle.valid_table.specs.private.Closing.{HaveSame}
 use Rattle.build_outcome.specs.Verdicts.{outputs_of}
 use Rattle.build_outcome.specs.declared.job.JobOutput.{JobOutput}
 use Rattle.sched_core.proofs.permitted.sorted_outputs.Goals as goal

@@ -1,5 +1,5 @@
 use Rattle.std.proofs.Common.{◌∙◌, ap, inr, subst, sym, true≢false}
-use Rattle.store_run.specs.Ending.{IsUnfinished, fault_of_stop}
+use Rattle.store_run.specs.private.Ending.{IsUnfinished, fault_of_stop}
 use Rattle.store_run.proofs.run.ending.Goals as goal
 
 pub returns-clause-end : goal.returns-clause-end

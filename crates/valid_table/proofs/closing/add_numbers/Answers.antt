@@ -1,6 +1,6 @@
 use Rattle.std.proofs.Common.{subst, rules}
 use Rattle.std.proofs.lemmas.List.{take_all}
-use Rattle.valid_table.specs.Closing.{AddsRows, paths_at}
+use Rattle.valid_table.specs.private.Closing.{AddsRows, paths_at}
 use Rattle.valid_table.specs.Tables.{registrations_of}
 use Rattle.valid_table.proofs.AddedRows.{adds_this_row}
 use Rattle.valid_table.proofs.closing.add_numbers.Goals as goal

@@ -1,6 +1,6 @@
 -- The first rows are added.
 use Rattle.std.proofs.Common.{◌≡◌, take}
-use Rattle.valid_table.specs.Closing.{AddsRows, paths_at}
+use Rattle.valid_table.specs.private.Closing.{AddsRows, paths_at}
 use Rattle.valid_table.specs.Tables.{registrations_of}
 use Rattle.valid_table.proofs.closing.add_numbers.Given as goal
 

@@ -1,6 +1,6 @@
 -- The rows of the paths so far are added.
 use Rattle.std.proofs.Common.{◌≡◌, take}
-use Rattle.valid_table.specs.Closing.{AddsRows}
+use Rattle.valid_table.specs.private.Closing.{AddsRows}
 use Rattle.valid_table.specs.Tables.{registrations_of}
 use Rattle.valid_table.proofs.closing.add_rows.Given as goal
 

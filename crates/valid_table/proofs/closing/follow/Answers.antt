@@ -1,5 +1,5 @@
 use Rattle.std.proofs.Common.{◌≡◌, Err, List, Ok, OnOk, Result, ℕ, rules}
-use Rattle.valid_table.specs.Closing.{AddsReferences, AddsRows, path_at}
+use Rattle.valid_table.specs.private.Closing.{AddsReferences, AddsRows, path_at}
 use Rattle.valid_table.specs.PathInfos.{PathInfo}
 use Rattle.valid_table.specs.Valid.{Registers}
 use Rattle.valid_table.specs.declared.entry.Registration.{Registration}

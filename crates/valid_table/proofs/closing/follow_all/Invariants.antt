@@ -1,6 +1,6 @@
 -- The first rows are followed; there are at most as many rows as the table has.
 use Rattle.std.proofs.Common.{◌≤◌, ◌-◌, length}
-use Rattle.valid_table.specs.Closing.{IsFollowed}
+use Rattle.valid_table.specs.private.Closing.{IsFollowed}
 use Rattle.valid_table.specs.Tables.{registrations_of}
 use Rattle.valid_table.proofs.closing.follow_all.Given as goal
 

@@ -1,6 +1,6 @@
 -- The roots so far are valid, and their rows are found.
 use Rattle.std.proofs.Common.{◌≤◌, All, [], length, take}
-use Rattle.valid_table.specs.Closing.{AddsRows}
+use Rattle.valid_table.specs.private.Closing.{AddsRows}
 use Rattle.valid_table.specs.Tables.{registrations_of}
 use Rattle.valid_table.specs.Valid.{IsValid}
 use Rattle.valid_table.proofs.closing.root_rows.Given as goal

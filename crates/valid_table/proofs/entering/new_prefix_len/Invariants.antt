@@ -1,6 +1,6 @@
 -- The first paths have no row.
 use Rattle.std.proofs.Common.{take}
-use Rattle.valid_table.specs.Entering.{AreUnknown}
+use Rattle.valid_table.specs.private.Entering.{AreUnknown}
 use Rattle.valid_table.specs.Entries.{paths_registered}
 use Rattle.valid_table.specs.Tables.{registrations_of}
 use Rattle.valid_table.proofs.entering.new_prefix_len.Given as goal

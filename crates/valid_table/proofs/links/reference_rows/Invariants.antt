@@ -1,6 +1,6 @@
 -- The numbers so far are those of the first paths.
 use Rattle.std.proofs.Common.{◌≡◌, length, take, vec_capacity}
-use Rattle.valid_table.specs.Linking.{AreRowsOf}
+use Rattle.valid_table.specs.private.Linking.{AreRowsOf}
 use Rattle.valid_table.specs.Tables.{registrations_of}
 use Rattle.valid_table.proofs.links.reference_rows.Given as goal
 

@@ -1,5 +1,5 @@
 use Rattle.std.proofs.Common.{length}
-use Rattle.valid_table.specs.Readers.{SoFarEntries}
+use Rattle.valid_table.specs.private.Readers.{SoFarEntries}
 use Rattle.valid_table.proofs.reading.entries_of.Given as goal
 
 -- the entries so far, and what is after their lines

@@ -1,5 +1,5 @@
 use Rattle.std.proofs.Common.{length}
-use Rattle.valid_table.specs.Readers.{SoFarOutputs}
+use Rattle.valid_table.specs.private.Readers.{SoFarOutputs}
 use Rattle.valid_table.proofs.reading.outputs_of.Given as goal
 
 -- the outputs so far, and what is after their lines

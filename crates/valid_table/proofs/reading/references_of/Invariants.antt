@@ -1,5 +1,5 @@
 use Rattle.std.proofs.Common.{length}
-use Rattle.valid_table.specs.Readers.{SoFarReferences}
+use Rattle.valid_table.specs.private.Readers.{SoFarReferences}
 use Rattle.valid_table.proofs.reading.references_of.Given as goal
 
 -- the references so far, and what is after their lines

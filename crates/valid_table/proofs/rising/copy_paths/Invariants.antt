@@ -1,6 +1,6 @@
 -- The paths so far are those of the first rows.
 use Rattle.std.proofs.Common.{◌≡◌, length, map, take, vec_capacity, ℕ}
-use Rattle.valid_table.specs.Closing.{paths_at}
+use Rattle.valid_table.specs.private.Closing.{paths_at}
 use Rattle.valid_table.specs.Tables.{registrations_of}
 use Rattle.valid_table.proofs.rising.copy_paths.Given as goal
 

@@ -1,7 +1,7 @@
 use Rattle.std.proofs.Common.{◌≡◌, ◌⊎◌, ℕ, nat_eq}
 use Rattle.std.specs.List.{list_any}
-use Rattle.valid_table.specs.Closing.{path_at}
-use Rattle.valid_table.specs.Keys.{IsKey, folder_of}
+use Rattle.valid_table.specs.private.Closing.{path_at}
+use Rattle.valid_table.specs.private.Keys.{IsKey, folder_of}
 use Rattle.valid_table.specs.Tables.{registrations_of}
 use Rattle.valid_table.proofs.FirstRows.{behind_added, chosen_rows, chosen_same, keys_swept, regrouped_is, swept_first}
 use Rattle.valid_table.proofs.rising.keyed_rows.Goals as goal

@@ -1,6 +1,6 @@
 -- If the keys from here on rise above the last, all of them do.
 use Rattle.std.proofs.Common.{drop}
-use Rattle.valid_table.specs.Keys.{KeysRiseAbove}
+use Rattle.valid_table.specs.private.Keys.{KeysRiseAbove}
 use Rattle.valid_table.proofs.rising.keys_rise.Given as goal
 
 abbrev pub invariant-loop-item : goal.invariant-loop-item

@@ -1,8 +1,8 @@
 use Rattle.std.proofs.Common.{◌≡◌, ◌∙◌, ◌+◌, ◌++◌, ◌∷◌, [], List, ap, get_or, nat_lt, not, subst, sym, take, ℕ}
 use Rattle.std.proofs.lemmas.Bool.{le-ltb, lt-ltb}
 use Rattle.std.proofs.lemmas.List.{take_more}
-use Rattle.valid_table.specs.FirstRows.{rows_behind}
-use Rattle.valid_table.specs.Keys.{AreKeyed}
+use Rattle.valid_table.specs.private.FirstRows.{rows_behind}
+use Rattle.valid_table.specs.private.Keys.{AreKeyed}
 use Rattle.valid_table.specs.Tables.{registrations_of}
 use Rattle.valid_table.proofs.FirstRows.{behind_pushed, kept, left_out}
 use Rattle.valid_table.proofs.Keys.{one_more_keyed, path_looked_up}

@@ -1,8 +1,8 @@
 -- Those of the rows so far that are late are added, each after its key.
 use Rattle.std.proofs.Common.{◌≡◌, ◌++◌, nat_lt, not, take}
 use Rattle.std.specs.List.{filter}
-use Rattle.valid_table.specs.FirstRows.{rows_behind}
-use Rattle.valid_table.specs.Keys.{AreKeyed}
+use Rattle.valid_table.specs.private.FirstRows.{rows_behind}
+use Rattle.valid_table.specs.private.Keys.{AreKeyed}
 use Rattle.valid_table.specs.Tables.{registrations_of}
 use Rattle.valid_table.proofs.rising.push_late.Given as goal
 

@@ -1,6 +1,6 @@
 use Rattle.std.proofs.Common.{refl}
 use Rattle.std.proofs.lemmas.List.Sorted.{IsPermutation-trans}
-use Rattle.valid_table.specs.FirstRows.{rows_behind}
+use Rattle.valid_table.specs.private.FirstRows.{rows_behind}
 use Rattle.valid_table.specs.Tables.{registrations_of}
 use Rattle.valid_table.proofs.FirstRows.{same_paths}
 use Rattle.valid_table.proofs.Keys.{keyed_moved, paths_rise}

@@ -1,5 +1,5 @@
 use Rattle.std.proofs.Common.{arith, false, true, rules}
-use Rattle.valid_table.specs.Entering.{IsPut}
+use Rattle.valid_table.specs.private.Entering.{IsPut}
 use Rattle.valid_table.specs.Tables.{registrations_of}
 use Rattle.valid_table.proofs.EnteredPaths.{prefix_all}
 use Rattle.valid_table.proofs.EnteredRows.{put_all, put_more, put_paths, put_twice}

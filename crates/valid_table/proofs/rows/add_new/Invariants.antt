@@ -1,6 +1,6 @@
 -- After the rows that were there stand the first registrations, whose paths had none.
 use Rattle.std.proofs.Common.{◌≡◌, ◌++◌, take}
-use Rattle.valid_table.specs.Entering.{AreUnknown}
+use Rattle.valid_table.specs.private.Entering.{AreUnknown}
 use Rattle.valid_table.specs.Entries.{paths_registered}
 use Rattle.valid_table.specs.Tables.{registrations_of}
 use Rattle.valid_table.proofs.rows.add_new.Given as goal

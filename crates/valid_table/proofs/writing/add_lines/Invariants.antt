@@ -1,6 +1,6 @@
 use Rattle.std.proofs.Common.{◌≡◌, ◌++◌, drop}
 use Rattle.std.specs.List.{flat_map}
-use Rattle.valid_table.specs.LineTexts.{lines_text}
+use Rattle.valid_table.specs.private.LineTexts.{lines_text}
 use Rattle.valid_table.specs.Texts.{entry_lines}
 use Rattle.valid_table.specs.declared.version.Version.TheVariants.{Two}
 use Rattle.valid_table.proofs.writing.add_lines.Given as goal

@@ -1,5 +1,5 @@
 use Rattle.std.proofs.Common.{◌≡◌, ◌++◌, drop, map}
-use Rattle.valid_table.specs.LineTexts.{lines_text}
+use Rattle.valid_table.specs.private.LineTexts.{lines_text}
 use Rattle.valid_table.specs.Texts.{Reference}
 use Rattle.valid_table.specs.declared.version.Version.TheVariants.{Two}
 use Rattle.valid_table.proofs.writing.write_registration.Given as goal

@@ -4,7 +4,7 @@ use Rattle.std.specs.Global.{Vec}
 use Rattle.nix_names.specs.Names.{same_bytes}
 use Rattle.ref_scan.specs.declared.tree.Tree.{Dir}
 use Rattle.ref_scan.specs.declared.tree.Member.{Member}
-use Rattle.ref_scan.specs.Walk.{pieces_below}
+use Rattle.ref_scan.specs.private.Walk.{pieces_below}
 use Rattle.ref_scan.proofs.Folders.{pieces_dir}
 use Rattle.build_outcome.specs.declared.job.Answer.{Answer}
 use Rattle.store_run.specs.ScheduleExample.{IsEmptyFolder, Leaves}

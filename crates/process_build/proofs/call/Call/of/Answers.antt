@@ -1,7 +1,7 @@
 use Rattle.std.proofs.Common.{All, subst, sym}
 use Rattle.std.proofs.lemmas.Result.{err_from_is_err_and}
 use Rattle.nix_drv.specs.Parts.{entry_of}
-use Rattle.process_build.specs.BuilderCalls.{IsProcessEntry, IsProcessText}
+use Rattle.process_build.specs.private.BuilderCalls.{IsProcessEntry, IsProcessText}
 use Rattle.process_build.proofs.Callable.{refused_part}
 use Rattle.process_build.proofs.call.Call.of.Goals as goal
 

@@ -1,5 +1,5 @@
 use Rattle.std.proofs.Common.{◌∙◌, ap, subst, sym}
-use Rattle.ref_scan.specs.Places.{IsPlaceOfPart, parts_told}
+use Rattle.ref_scan.specs.private.Places.{IsPlaceOfPart, parts_told}
 use Rattle.ref_scan.proofs.Indexing.{place_told}
 use Rattle.ref_scan.proofs.index.Index.place_behind.Goals as goal
 

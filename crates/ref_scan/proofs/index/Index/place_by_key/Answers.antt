@@ -4,7 +4,7 @@ use Rattle.std.specs.List.Sorted.{IsBinarySearchResult}
 use Rattle.std.specs.Ordering.{nat_cmp}
 use Rattle.std.proofs.lemmas.Bool.{false≢true}
 use Rattle.nix_names.proofs.RisingLists.{equal_from_eq}
-use Rattle.ref_scan.specs.Places.{key_of_part}
+use Rattle.ref_scan.specs.private.Places.{key_of_part}
 use Rattle.ref_scan.proofs.RisingKeys.{none_found, part_found}
 use Rattle.ref_scan.proofs.index.Index.place_by_key.Goals as goal
 

@@ -1,6 +1,6 @@
 use Rattle.std.proofs.Common.{◌∙◌, ap, arith, length, map, sym, ⊎_elim, ◌≡◌, ◌<◌, get_or}
 use Rattle.std.proofs.lemmas.List.{get_or_default}
-use Rattle.ref_scan.specs.Places.{key_of_part, slot_of}
+use Rattle.ref_scan.specs.private.Places.{key_of_part, slot_of}
 use Rattle.ref_scan.proofs.Indexing.{stopped}
 use Rattle.ref_scan.proofs.index.Index.place_of.Goals as goal
 

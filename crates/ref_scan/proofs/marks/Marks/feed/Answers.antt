@@ -1,5 +1,5 @@
 use Rattle.std.proofs.Common.{◌≡◌, ◌∙◌, ◌++◌, take, drop, length, arith, ap, subst}
-use Rattle.ref_scan.specs.Marks.{Searched}
+use Rattle.ref_scan.specs.private.Marks.{Searched}
 use Rattle.ref_scan.proofs.Scanning.{scanned_fed, written}
 use Rattle.ref_scan.proofs.marks.Marks.feed.Goals as goal
 

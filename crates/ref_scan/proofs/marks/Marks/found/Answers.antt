@@ -1,5 +1,5 @@
 use Rattle.std.proofs.Common.{subst}
-use Rattle.ref_scan.specs.Scanned.{Scanned}
+use Rattle.ref_scan.specs.private.Scanned.{Scanned}
 use Rattle.ref_scan.proofs.Scanning.{are_hash_parts}
 use Rattle.ref_scan.proofs.marks.Marks.found.Goals as goal
 

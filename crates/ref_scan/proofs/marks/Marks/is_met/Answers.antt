@@ -3,9 +3,9 @@ use Rattle.std.specs.Prelude.{Contains, IsTrue, Some}
 use Rattle.std.proofs.lemmas.List.{get_or_default}
 use Rattle.std.proofs.lemmas.List.Elements.{Contains-get_or}
 use Rattle.nix_names.specs.StorePaths.{hash_part_of}
-use Rattle.ref_scan.specs.Places.{ArePartsOf, IsPlaceOfPart}
+use Rattle.ref_scan.specs.private.Places.{ArePartsOf, IsPlaceOfPart}
 use Rattle.ref_scan.specs.Scan.{OccursIn}
-use Rattle.ref_scan.specs.Scanned.{Scanned}
+use Rattle.ref_scan.specs.private.Scanned.{Scanned}
 use Rattle.ref_scan.proofs.Scanning.{met_at, place_in_order}
 use Rattle.ref_scan.proofs.marks.Marks.is_met.Goals as goal
 

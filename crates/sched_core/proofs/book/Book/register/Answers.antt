@@ -4,7 +4,7 @@ use Rattle.valid_table.specs.PathInfos.{PathInfo}
 use Rattle.valid_table.specs.declared.entry.Entry.{Entry}
 use Rattle.sched_core.specs.Books.{IsBooksLease, IsDone, Ledger, MayAllRefer}
 use Rattle.run_states.specs.Numbers.{fault_of}
-use Rattle.sched_core.specs.Dones.{IsDoneEntry}
+use Rattle.sched_core.specs.private.Dones.{IsDoneEntry}
 use Rattle.run_states.specs.Runs.{History, Run}
 use Rattle.build_outcome.specs.declared.job.Job.{Job}
 use Rattle.sched_core.proofs.Building.{builds_behind_done, builds_still}

@@ -1,5 +1,5 @@
 use Rattle.std.proofs.Common.{◌≡◌, sym, subst}
-use Rattle.sched_core.specs.Booking.{Progress}
+use Rattle.sched_core.specs.private.Booking.{Progress}
 use Rattle.run_states.specs.States.{Begun, phase_of}
 use Rattle.sched_core.proofs.Keeping.{fail_kept}
 use Rattle.sched_core.proofs.progress.Progress.fail.Goals as goal

@@ -2,7 +2,7 @@ use Rattle.std.proofs.Common.{◌≡◌, ℕ, List, refl, arith, rules}
 use Rattle.std.proofs.lemmas.List.{length_push}
 use Rattle.valid_table.specs.PathInfos.{PathInfo}
 use Rattle.valid_table.specs.declared.entry.Entry.{Entry}
-use Rattle.sched_core.specs.Booking.{Progress}
+use Rattle.sched_core.specs.private.Booking.{Progress}
 use Rattle.sched_core.specs.Books.{IsDone}
 use Rattle.run_states.specs.Runs.{History, Run}
 use Rattle.run_states.specs.States.{Begun, phase_of}

@@ -3,7 +3,7 @@ use Rattle.std.specs.Prelude.{All}
 use Rattle.std.proofs.lemmas.Result.{IfOk-weaker}
 use Rattle.valid_table.specs.Entries.{registered}
 use Rattle.valid_table.specs.Valid.{IsValid}
-use Rattle.sched_core.specs.Booking.{Progress}
+use Rattle.sched_core.specs.private.Booking.{Progress}
 use Rattle.sched_core.specs.Books.{IsBooksLease}
 use Rattle.sched_core.proofs.Building.{builds_over_all}
 use Rattle.sched_core.proofs.Permitting.{are_permitted}

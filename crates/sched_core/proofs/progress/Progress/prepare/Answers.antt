@@ -3,8 +3,8 @@ use Rattle.std.proofs.lemmas.Result.{err_from_is_err_and}
 use Rattle.drv_graph.specs.Plans.{Graph}
 use Rattle.valid_table.specs.PathInfos.{PathInfo}
 use Rattle.valid_table.specs.declared.entry.Entry.{Entry}
-use Rattle.sched_core.specs.Booking.{Progress}
-use Rattle.sched_core.specs.Dones.{IsDoneEntry, IsDoneFault}
+use Rattle.sched_core.specs.private.Booking.{Progress}
+use Rattle.sched_core.specs.private.Dones.{IsDoneEntry, IsDoneFault}
 use Rattle.run_states.specs.Runs.{History, Run}
 use Rattle.run_states.specs.declared.fault.BookFault.{BookFault}
 use Rattle.run_states.specs.declared.fault.BookFault.TheVariants.{NoMemory}

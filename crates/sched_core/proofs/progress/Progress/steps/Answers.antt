@@ -1,6 +1,6 @@
 use Rattle.std.proofs.Common.{◌≡◌, ◌∙◌, ◌+◌, ◌*◌, ◌%◌, ◌^◌, ap, arith, length}
 use Rattle.std.proofs.Math.Nat.{add-mod-mod}
-use Rattle.sched_core.specs.Booking.{history_of, run_over}
+use Rattle.sched_core.specs.private.Booking.{history_of, run_over}
 use Rattle.run_states.specs.Steps.{followed_in}
 use Rattle.sched_core.proofs.KeptStates.{followed_kept}
 use Rattle.sched_core.proofs.progress.Progress.steps.Goals as goal

@@ -1,7 +1,7 @@
 use Rattle.std.proofs.Common.{◌≡◌, ◌∙◌, ◌++◌, List, ap, length, rules, subst, sym}
 use Rattle.valid_table.specs.Written.{written_text}
 use Rattle.valid_table.specs.declared.entry.Entry.{Entry}
-use Rattle.store_run.specs.Looking.{IsNews, Keeping, Looked}
+use Rattle.store_run.specs.private.Looking.{IsNews, Keeping, Looked}
 use Rattle.store_run.proofs.KeptTexts.{added, all_goes_on, shown_goes_on, still_begins}
 use Rattle.store_run.proofs.kept_text.KeptText.go_on.Given.{Over}
 use Rattle.store_run.proofs.kept_text.KeptText.go_on.Goals as goal

@@ -2,7 +2,7 @@ use Rattle.std.proofs.Common.{◌≡◌, ◌⊎◌, Err, subst, sym}
 use Rattle.sched_core.specs.Books.{IsBooksLease}
 use Rattle.build_outcome.specs.declared.reason.Reason.TheVariants.{OutOfMemory}
 use Rattle.store_run.specs.Builders.{MayComeTo}
-use Rattle.store_run.specs.Sharing.{Share}
+use Rattle.store_run.specs.private.Sharing.{Share}
 use Rattle.store_run.proofs.Answered.{after_failing}
 use Rattle.store_run.proofs.Bases.{over_failing}
 use Rattle.store_run.proofs.shared.Shared.fail.Goals as goal

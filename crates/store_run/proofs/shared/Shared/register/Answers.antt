@@ -2,7 +2,7 @@ use Rattle.std.proofs.Common.{◌∙◌, Ok, subst, sym}
 use Rattle.sched_core.specs.Books.{IsBooksLease, Leased, Ledger}
 use Rattle.build_outcome.specs.declared.reason.Reason.TheVariants.{OutOfMemory}
 use Rattle.store_run.specs.Builders.{MayComeTo}
-use Rattle.store_run.specs.Sharing.{IsNoting, IsLeaseRegistering, IsWanting, Share}
+use Rattle.store_run.specs.private.Sharing.{IsNoting, IsLeaseRegistering, IsWanting, Share}
 use Rattle.store_run.proofs.Answered.{after_finishing, came_may_refer}
 use Rattle.store_run.proofs.Bases.{over_finishing}
 use Rattle.store_run.proofs.Wanting.{wanting_registers}

@@ -1,6 +1,6 @@
 use Rattle.std.proofs.Common.{◌≡◌, ◌⊎◌, Bool, false, inr, refl, subst, Option, None, Some, rules}
 use Rattle.std.specs.Option.{is_some}
-use Rattle.store_run.specs.Sharing.{IsOver, IsRefused, Share}
+use Rattle.store_run.specs.private.Sharing.{IsOver, IsRefused, Share}
 use Rattle.store_run.proofs.Answered.{after_beginning, told_at}
 use Rattle.store_run.proofs.Bases.{over_beginning}
 use Rattle.store_run.proofs.shared.Shared.step.Goals as goal

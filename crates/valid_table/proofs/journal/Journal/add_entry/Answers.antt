@@ -1,6 +1,6 @@
 use Rattle.std.proofs.lemmas.Result.{err_from_is_err_and}
 use Rattle.std.proofs.Common.{◌≡◌, ◌∙◌, ◌++◌, ◌∷◌, [], Err, ap, refl}
-use Rattle.valid_table.specs.Blames.{IsBlamed}
+use Rattle.valid_table.specs.private.Blames.{IsBlamed}
 use Rattle.valid_table.specs.Entries.{registered, registered_by}
 use Rattle.valid_table.proofs.Blamed.{blamed_read, taking_no_memory, taking_refused}
 use Rattle.valid_table.proofs.journal.Journal.add_entry.Goals as goal

@@ -1,6 +1,6 @@
 use Rattle.std.proofs.Common.{◌∙◌, subst, sym}
 use Rattle.std.proofs.lemmas.Bool.{false≢true}
-use Rattle.valid_table.specs.Readers.{StopsInText, StopsWhere}
+use Rattle.valid_table.specs.private.Readers.{StopsInText, StopsWhere}
 use Rattle.valid_table.proofs.ReadAnswers.{bad_line_number, few_lines, read_as}
 use Rattle.valid_table.proofs.journal.Journal.read.Goals as goal
 

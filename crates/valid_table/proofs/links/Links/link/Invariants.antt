@@ -1,6 +1,6 @@
 -- The rows so far are linked.
 use Rattle.std.proofs.Common.{◌≡◌, length}
-use Rattle.valid_table.specs.Linking.{AreLinked}
+use Rattle.valid_table.specs.private.Linking.{AreLinked}
 use Rattle.valid_table.specs.Tables.{registrations_of}
 use Rattle.valid_table.proofs.links.Links.link.Given as goal
 

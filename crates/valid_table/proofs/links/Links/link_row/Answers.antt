@@ -1,7 +1,7 @@
 use Rattle.std.proofs.Common.{◌≡◌, ◌+◌, ◌++◌, ◌∷◌, [], ◌∙◌, ap, arith, subst, sym, true, List, ℕ}
 use Rattle.std.specs.Prelude.{is_ok}
-use Rattle.valid_table.specs.Closing.{path_at}
-use Rattle.valid_table.specs.Linking.{AreRowsOf}
+use Rattle.valid_table.specs.private.Closing.{path_at}
+use Rattle.valid_table.specs.private.Linking.{AreRowsOf}
 use Rattle.valid_table.specs.Tables.{registrations_of}
 use Rattle.valid_table.specs.Valid.{Registers}
 use Rattle.valid_table.proofs.Following.{row_registers}

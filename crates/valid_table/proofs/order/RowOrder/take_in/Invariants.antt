@@ -1,7 +1,7 @@
 -- The rows so far are the first ones, each after its key.
 use Rattle.std.proofs.Common.{◌≡◌, length}
-use Rattle.valid_table.specs.FirstRows.{AreFirst, rows_behind}
-use Rattle.valid_table.specs.Keys.{AreKeyed}
+use Rattle.valid_table.specs.private.FirstRows.{AreFirst, rows_behind}
+use Rattle.valid_table.specs.private.Keys.{AreKeyed}
 use Rattle.valid_table.specs.Tables.{registrations_of}
 use Rattle.valid_table.proofs.order.RowOrder.take_in.Given as goal
 

@@ -1,7 +1,7 @@
 use Rattle.std.proofs.Common.{◌≡◌, ◌%◌, ◌/◌, ap, arith, false, get_or, nat_eq, subst, true}
 use Rattle.std.specs.Int.{bit_at}
 use Rattle.std.proofs.lemmas.List.{get_or_read}
-use Rattle.valid_table.specs.Marking.{RowSetValue, mark_of}
+use Rattle.valid_table.specs.private.Marking.{RowSetValue, mark_of}
 use Rattle.valid_table.proofs.Marks.{bit_is_clear, bit_is_set, insert_marked, insert_unmarked, marked_more}
 use Rattle.valid_table.proofs.row_set.RowSet.insert.Goals as goal
 

@@ -1,4 +1,4 @@
-use Rattle.valid_view.specs.Feeding.{ops_of}
+use Rattle.valid_view.specs.private.Feeding.{ops_of}
 use Rattle.valid_view.proofs.Feeds.{feed_push}
 use Rattle.valid_view.proofs.feed.Feed.append.Goals as goal
 

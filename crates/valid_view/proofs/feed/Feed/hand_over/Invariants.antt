@@ -1,6 +1,6 @@
 -- What is shown and what waits stays; nothing is held. The queue gets shorter.
 use Rattle.std.proofs.Common.{◌≡◌, [], length}
-use Rattle.valid_view.specs.Feeding.{pending_of}
+use Rattle.valid_view.specs.private.Feeding.{pending_of}
 use Rattle.valid_view.proofs.feed.Feed.hand_over.Given as goal
 
 abbrev pub invariant-loop-self : goal.invariant-loop-self

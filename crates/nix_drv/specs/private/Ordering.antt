@@ -1,7 +1,7 @@
 -- What the function answers that tests the order of parts.
 use Rattle.std.specs.Prelude.{◌≡◌, ℕ, Result, Ok, Err}
 use Rattle.nix_drv.specs.Order.{InOrder}
-use Rattle.nix_drv.specs.Passing.{pass}
+use Rattle.nix_drv.specs.private.Passing.{pass}
 use Rattle.nix_drv.specs.Derivation.{Drv, derivation_form, drv_value}
 
 -- the derivation of the parts, which keep the order rules, or the place where passing over the

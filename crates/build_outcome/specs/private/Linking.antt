@@ -6,7 +6,7 @@ use Rattle.std.specs.Global.{Vec}
 use Rattle.std.specs.List.{IsDistinct}
 use Rattle.nix_names.specs.Bytes.{Path}
 use Rattle.valid_table.specs.PathInfos.{PathInfo}
-use Rattle.build_outcome.specs.Walking.{IsLinked}
+use Rattle.build_outcome.specs.private.Walking.{IsLinked}
 
 -- The keys are exactly these paths, each once.
 pub record AreEachOnce (paths keys : List Path) : Type 0 where

@@ -8,7 +8,7 @@ use Rattle.nix_names.specs.Bytes.{Bytes, Dir, Path}
 use Rattle.nix_names.specs.StorePaths.{IsDrvPath, IsPathOf}
 use Rattle.nix_names.specs.declared.digest.Digest.{Digest}
 use Rattle.valid_table.specs.BadLines.{BeginsOutput}
-use Rattle.valid_table.specs.LineTexts.{lines_text}
+use Rattle.valid_table.specs.private.LineTexts.{lines_text}
 use Rattle.valid_table.specs.Texts.{IsDigestOf, Line, First, Added, Deriver, Output, Reference, line_text}
 use Rattle.valid_table.specs.declared.version.Version.{Version}
 

@@ -8,7 +8,7 @@ use Rattle.sched_core.specs.Books.{Ledger}
 use Rattle.run_states.specs.declared.fault.BookFault.{BookFault}
 use Rattle.run_states.specs.declared.fault.BookFault.TheVariants.{NoMemory as RefusedMemory}
 use Rattle.store_run.specs.Realising.{IsOverLent}
-use Rattle.store_run.specs.Sharing.{Share}
+use Rattle.store_run.specs.private.Sharing.{Share}
 use Rattle.store_run.specs.declared.fault.RunFault.{RunFault}
 use Rattle.store_run.specs.declared.fault.RunFault.TheVariants.{ThreadFault, NoMemory, ForeignPlan}
 

@@ -6,7 +6,7 @@ use Rattle.nix_names.specs.Bytes.{Bytes}
 use Rattle.nix_drv.specs.Strings.{string_text}
 use Rattle.nix_drv.specs.Grammar.{ListOrder, Grammar, Fixed, Str, Then, Many, Value}
 use Rattle.nix_drv.specs.Order.{key, breaks}
-use Rattle.nix_drv.specs.Reading.{◌>>=◌}
+use Rattle.nix_drv.specs.private.Reading.{◌>>=◌}
 
 -- the place that is `count` bytes behind a place
 abbrev pub behind : (place count : ℕ) → ℕ

@@ -6,7 +6,7 @@ use Rattle.nix_drv.specs.declared.element.Next.TheVariants.{Comma, End}
 use Rattle.nix_drv.specs.declared.element.KeyOrder.{KeyOrder}
 use Rattle.nix_drv.specs.declared.element.KeyOrder.TheVariants as order
 use Rattle.nix_drv.specs.Grammar.{ListOrder, Rising, Free, separated}
-use Rattle.nix_drv.specs.Reading.{◌>>=◌, fixed_at, list_at}
+use Rattle.nix_drv.specs.private.Reading.{◌>>=◌, fixed_at, list_at}
 
 -- the text of a list
 abbrev pub list_text : {A : Type 0} → (A → Bytes) → List A → Bytes

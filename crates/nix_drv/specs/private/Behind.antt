@@ -2,8 +2,8 @@
 use Rattle.std.specs.Prelude.{ℕ, List, [], ◌∷◌, Result, Ok}
 use Rattle.nix_names.specs.Bytes.{Bytes}
 use Rattle.nix_drv.specs.Grammar.{Str}
-use Rattle.nix_drv.specs.Reading.{◌>>=◌, fixed_at, read}
-use Rattle.nix_drv.specs.Listings.{list_read}
+use Rattle.nix_drv.specs.private.Reading.{◌>>=◌, fixed_at, read}
+use Rattle.nix_drv.specs.private.Listings.{list_read}
 
 -- reads a string behind fixed bytes
 unfoldable pub string_behind : (bytes s : Bytes) → Result (Bytes × Bytes) ℕ

@@ -3,8 +3,8 @@
 use Rattle.std.specs.Prelude.{◌≡◌, ◌⊎◌, ℕ, Option, Some, None, false, is_some, map, option_map}
 use Rattle.std.specs.Prelude.{slice_get, string_bytes, true}
 use Rattle.nix_names.specs.Bytes.{Bytes, Path}
-use Rattle.process_build.specs.BuilderCalls.{entry_of_setting, own_entries}
-use Rattle.process_build.specs.Folders.{build_folder_of}
+use Rattle.process_build.specs.private.BuilderCalls.{entry_of_setting, own_entries}
+use Rattle.process_build.specs.private.Folders.{build_folder_of}
 use Rattle.process_build.specs.Manners.{log_path_of}
 use Rattle.process_build.specs.declared.folders.BuildFolder.{BuildFolder}
 use Rattle.process_build.specs.declared.kept_folders.KeptFolder.{KeptFolder}

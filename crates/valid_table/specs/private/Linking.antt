@@ -2,7 +2,7 @@
 -- rows: those of a row end where those of the next one begin.
 use Rattle.std.specs.Prelude.{◌≡◌, ◌+◌, ◌<◌, ◌≤◌, ℕ, List, ◌∷◌, All, length, slice_index_or, slice_range}
 use Rattle.nix_names.specs.Bytes.{Path}
-use Rattle.valid_table.specs.Closing.{path_at, paths_at}
+use Rattle.valid_table.specs.private.Closing.{path_at, paths_at}
 use Rattle.valid_table.specs.PathInfos.{PathInfo}
 use Rattle.valid_table.specs.Valid.{Registers}
 use Rattle.valid_table.specs.declared.entry.Registration.{Registration}

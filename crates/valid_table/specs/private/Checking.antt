@@ -2,7 +2,7 @@
 -- register.
 use Rattle.std.specs.Prelude.{◌≡◌, ◌+◌, ◌<◌, ◌≤◌, ℕ, List, [], ◌∷◌, ◌++◌, All, Contains, Result, Ok, Err, flat_map, length, take}
 use Rattle.nix_names.specs.Bytes.{Path}
-use Rattle.valid_table.specs.Entering.{IsFirstUnknownAt}
+use Rattle.valid_table.specs.private.Entering.{IsFirstUnknownAt}
 use Rattle.valid_table.specs.Texts.{Line, Added, Deriver, Output, Reference, output_lines}
 use Rattle.valid_table.specs.Valid.{references_of}
 use Rattle.valid_table.specs.declared.entry.Entry.{Entry}

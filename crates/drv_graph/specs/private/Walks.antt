@@ -14,7 +14,7 @@ use Rattle.nix_drv.specs.declared.source.SourceFault.TheVariants.{Missing, Devic
 use Rattle.drv_graph.specs.Loading.{AreDistinct, IsLoading, max_nodes}
 use Rattle.drv_graph.specs.Nodes.{Node, inputs_of, output_paths_of, paths_of}
 use Rattle.drv_graph.specs.Plans.{AreLawful, AreLeft, AreNumbers, AreTwins, IsReachedBy, MayAnswer, MayBeAt, MayUse, ShareOutput, each_once}
-use Rattle.drv_graph.specs.Owners.{AreOwners, outputs_of, owned}
+use Rattle.drv_graph.specs.private.Owners.{AreOwners, outputs_of, owned}
 use Rattle.drv_graph.specs.PlanNodes.{AreKept, HasHash, nodes_of}
 use Rattle.drv_graph.specs.declared.kinds.Kind.{Kind}
 use Rattle.drv_graph.specs.declared.outputs.UsedInput.{UsedInput}

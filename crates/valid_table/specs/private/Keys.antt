@@ -3,7 +3,7 @@ use Rattle.std.specs.Prelude.{◌≡◌, ◌⊎◌, ◌<◌, ◌+◌, ◌-◌, �
 use Rattle.std.specs.Int.{from_be_bytes, w64}
 use Rattle.nix_names.specs.Bytes.{Bytes, Path}
 use Rattle.nix_names.specs.StorePaths.{hash_part_of, name_of}
-use Rattle.valid_table.specs.Closing.{path_at}
+use Rattle.valid_table.specs.private.Closing.{path_at}
 use Rattle.valid_table.specs.Entries.{paths_registered}
 use Rattle.valid_table.specs.declared.entry.Registration.{Registration}
 

@@ -5,7 +5,7 @@ use Rattle.std.specs.Prelude.{◌≡◌, Bool, true, false, List, [], ◌∷◌,
 use Rattle.logbook.specs.Pages.{Book}
 use Rattle.valid_table.specs.Entries.{registered_by}
 use Rattle.valid_table.specs.declared.entry.Entry.{Entry}
-use Rattle.valid_view.specs.ShownTables.{ShownState}
+use Rattle.valid_view.specs.private.ShownTables.{ShownState}
 use Rattle.valid_view.specs.Shown.{IsShowable}
 use Rattle.valid_view.specs.declared.shown_table.Op.{Op}
 

@@ -6,9 +6,9 @@ use Rattle.nix_names.specs.StorePaths.{IsDrvPath, IsPathOf}
 use Rattle.nix_names.specs.declared.digest.Digest.{Digest}
 use Rattle.valid_table.specs.BadLines.{BeginsOutput}
 use Rattle.valid_table.specs.Entries.{paths_registered}
-use Rattle.valid_table.specs.LineTexts.{fields_text, lines_text, references_text, registration_text}
+use Rattle.valid_table.specs.private.LineTexts.{fields_text, lines_text, references_text, registration_text}
 use Rattle.valid_table.specs.Reading.{BeginsVersion}
-use Rattle.valid_table.specs.Steps.{IsAbove, Place, Start, Begun, Within, Stops}
+use Rattle.valid_table.specs.private.Steps.{IsAbove, Place, Start, Begun, Within, Stops}
 use Rattle.valid_table.specs.Texts.{IsDigestOf, IsEntryIn, IsOf, entry_lines, lines, output_lines}
 use Rattle.valid_table.specs.declared.entry.Entry.{Entry}
 use Rattle.valid_table.specs.declared.entry.Entry.TheVariants.{Add, Done}

@@ -2,7 +2,7 @@
 use Rattle.std.specs.Prelude.{◌≡◌, ◌↔◌, ◌⊎◌, ◌<◌, ℕ, Bool, true, false, List, length}
 use Rattle.std.specs.List.{slice_index_or}
 use Rattle.nix_names.specs.Bytes.{Bytes}
-use Rattle.ref_scan.specs.Places.{part_at}
+use Rattle.ref_scan.specs.private.Places.{part_at}
 use Rattle.ref_scan.specs.Scan.{Within}
 
 -- the hash part at a place has its mark

@@ -10,7 +10,7 @@ use Rattle.nix_drv.specs.Outcome.{max_len}
 use Rattle.nix_drv.specs.OwnPath.{referenced_paths, text_path}
 use Rattle.nix_drv.specs.References.{IsReferencesOf}
 use Rattle.nix_drv.specs.declared.fault.DrvFault.TheVariants.{TooLong, BadReference}
-use Rattle.drv_graph.specs.Checking.{AreExpected}
+use Rattle.drv_graph.specs.private.Checking.{AreExpected}
 use Rattle.drv_graph.specs.Expected.{IsExpected}
 use Rattle.drv_graph.specs.Filling.{AreNames, IsFilled, file_name}
 use Rattle.drv_graph.specs.Nodes.{AreHashes, Node, inputs_of}

@@ -1,9 +1,9 @@
 -- What a scanner keeps of the bytes that it was fed.
 use Rattle.std.specs.Prelude.{◌≡◌, ◌↔◌, ◌<◌, ℕ, Bool, List, [], ◌∷◌, ◌++◌, length}
 use Rattle.nix_names.specs.Bytes.{Bytes, Path}
-use Rattle.ref_scan.specs.Kept.{last_bytes}
-use Rattle.ref_scan.specs.Marks.{IsPartMet}
-use Rattle.ref_scan.specs.Places.{ArePartsOf, part_at}
+use Rattle.ref_scan.specs.private.Kept.{last_bytes}
+use Rattle.ref_scan.specs.private.Marks.{IsPartMet}
+use Rattle.ref_scan.specs.private.Places.{ArePartsOf, part_at}
 use Rattle.ref_scan.specs.Scan.{OccursIn}
 
 -- The permitted paths, the hash parts that are sought, whether these are in the order of the paths,

@@ -1,0 +1,7 @@
+-- What only private contracts and proofs cite.
+pub mod Behind
+pub mod Listings
+pub mod Ordering
+pub mod Passing
+pub mod Reading
+pub mod ParseFaults

@@ -1,0 +1,6 @@
+-- What only private contracts and proofs cite.
+pub mod Answers
+pub mod BuilderCalls
+pub mod Contents
+pub mod Folders
+pub mod Preparations

@@ -1,0 +1,7 @@
+-- What only private contracts and proofs cite.
+pub mod Kept
+pub mod Marks
+pub mod Places
+pub mod Room
+pub mod Scanned
+pub mod Walk

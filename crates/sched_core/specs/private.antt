@@ -1,0 +1,6 @@
+-- What only private contracts and proofs cite.
+pub mod Booking
+pub mod Dones
+pub mod Following
+pub mod SameJobs
+pub mod Seeding
