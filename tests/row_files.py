@@ -14,6 +14,7 @@ SETTING = re.compile(r"    ([a-z]+) ([0-9]+)")
 # The kinds of step, and how many words may follow each.
 STEPS = {
     "$": range(1, 100),
+    "lab": [0],
     "put": [1],
     "twins": [1],
     "text-path": [2],
@@ -84,6 +85,8 @@ class Step:
         labels, numbers = set(self.texts), set(self.numbers)
         if self.kind == "$":
             known = labels <= RUN_TEXTS and {"status"} <= numbers <= RUN_NUMBERS
+        elif self.kind == "lab":
+            known = numbers <= {"status"}
         elif self.kind == "twins":
             known = len(labels) == 2 and "" not in labels and not numbers
         elif self.kind == "journal":

@@ -32,6 +32,7 @@ import subprocess
 
 from reading import own_path
 from row_faults import Fault, expect, told
+from row_lab import take_lab
 from row_texts import TEXTS
 from scenes import outputs_in
 from store_paths import make_path, text_path
@@ -94,6 +95,8 @@ class Scene:
         """Takes a step. Fails where something else comes of it than it says."""
         if step.kind == "$":
             self.take_run(step)
+        elif step.kind == "lab":
+            take_lab(self, step)
         elif step.kind in NAMING:
             NAMING[step.kind](self, step)
         elif step.kind in TEXTS:

@@ -14,6 +14,7 @@ sys.path.insert(0, str(HERE.parent / "bench"))
 from store_paths import text_path  # noqa: E402,F401
 
 BUILT = HERE.parent / "crates/nix_realise/out/nix_realise"
+LAB = HERE.parent / "crates/lab/out/lab"
 PATH = ("PATH", "/usr/sbin:/usr/bin:/sbin:/bin")
 MEMORY = "/dev/shm"
 
@@ -24,6 +25,15 @@ def program_of(words):
     program = pathlib.Path(given[0] if given else BUILT).resolve()
     if not os.access(program, os.X_OK):
         sys.exit(f"{program} is not there: build it by (cd crates/nix_realise && rt run -- --help)")
+    return str(program)
+
+
+def lab_program():
+    """The path of the program that calls the libraries: that of the variable LAB, or the one that
+    was built here."""
+    program = pathlib.Path(os.environ.get("LAB", LAB)).resolve()
+    if not os.access(program, os.X_OK):
+        sys.exit(f"{program} is not there: build it by (cd crates/lab && rt run)")
     return str(program)
 
 

@@ -1,0 +1,69 @@
+//! Calls of the libraries, each by a line of the standard input. It prints what each call answers.
+//!
+//! A line is a call and its arguments, with one space between each two words: `parse_path TEXT`.
+//! Behind `NAME =` stands a call whose answer is kept, and `$NAME` is an argument that was kept.
+//! Any other argument stands for its own bytes. What is kept has a kind, and each kind has its own
+//! names: texts, derivations, plans, journals, tables.
+//!
+//! Round each call two lines are printed, `begins N CALL` and `ends N CALL`, where N counts the
+//! calls. Then comes the answer, or the name of the fault with its values. Where a call answers want
+//! of memory, a line says so and whether what was lent to it is as it was, and the call is made
+//! again. A call that may not be made with its arguments is answered `not allowed`, and a line that
+//! means nothing ends the program with status 1.
+//!
+//! | Module | What is in it |
+//! |---|---|
+//! | `line` | a line: the name, the call and the arguments |
+//! | `shelf`, `world` | what is kept under names |
+//! | `teller` | what is printed of calls and their answers |
+//! | `faults` | faults in words |
+//! | `words` | the calls, by the library |
+#![tactic(auto)]
+
+mod faults;
+mod line;
+mod shelf;
+mod teller;
+mod words;
+mod world;
+
+use crate::line::{Line, Lines};
+use crate::teller::Teller;
+use crate::words::take;
+use crate::world::World;
+use std::alloc::Global;
+use std::io::{self, Read};
+use std::process::ExitCode;
+
+// All bytes of the standard input.
+fn input(rt: &HostRuntime) -> io::Result<Vec<u8>> {
+    let mut bytes = Vec::new(rt.alloc());
+    rt.reader().read_to_end(&mut bytes)?;
+    Ok(bytes)
+}
+
+// Takes each line of a text, up to one that means nothing.
+fn run(rt: &HostRuntime, text: &[u8]) -> io::Result<bool> {
+    let mut world = World::new(rt.alloc())?;
+    let mut teller = Teller::new(rt);
+    let mut lines = Lines { rest: text };
+    for _ in 0..text.len() {
+        let Some(words) = lines.next() else { break };
+        take(&mut teller, &mut world, &mut lines, words)?;
+        if !teller.goes_on() {
+            break;
+        }
+    }
+    Ok(teller.goes_on())
+}
+
+fn main(rt: HostRuntime) -> ExitCode {
+    let text = input(&rt);
+    match text {
+        Ok(text) => match run(&rt, &text) {
+            Ok(true) => ExitCode::from(0),
+            _ => ExitCode::from(1),
+        },
+        Err(_) => ExitCode::from(1),
+    }
+}

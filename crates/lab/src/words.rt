@@ -1,0 +1,69 @@
+//! The calls, by the library.
+
+mod books;
+mod drvs;
+mod faults;
+mod forecasts;
+mod journals;
+mod lines;
+mod names;
+mod plans;
+mod scans;
+mod tables;
+mod views;
+
+use crate::line::{Line, Lines};
+use crate::teller::Teller;
+use crate::world::World;
+use std::alloc::AllocError;
+
+/// Takes a line. Where a call of it was answered by want of memory, it is taken again.
+pub(crate) fn take(
+    teller: &mut Teller<'_>,
+    world: &mut World,
+    lines: &mut Lines<'_>,
+    text: &[u8],
+) -> Result<(), AllocError> {
+    let line = Line::of(world.alloc, text)?;
+    let before = lent(world, &line)?;
+    take_once(teller, world, lines, &line)?;
+    if teller.wants() {
+        let is_as_it_was = lent(world, &line)? == before;
+        teller.takes_again(is_as_it_was);
+        take_once(teller, world, lines, &line)?;
+    }
+    if teller.wants() {
+        teller.lost("memory was refused twice");
+    }
+    Ok(())
+}
+
+// The text of what a line lends to be changed; no bytes where there is nothing.
+fn lent(world: &World, line: &Line<'_>) -> Result<Vec<u8>, AllocError> {
+    let mut text = journals::lent(world, line)?;
+    text.extend_from_slice(&tables::lent(world, line)?)?;
+    Ok(text)
+}
+
+fn take_once(
+    teller: &mut Teller<'_>,
+    world: &mut World,
+    lines: &mut Lines<'_>,
+    line: &Line<'_>,
+) -> Result<(), AllocError> {
+    let is_taken = names::take(teller, world, lines, line)?
+        || drvs::take(teller, world, lines, line)?
+        || plans::take(teller, world, lines, line)?
+        || scans::take(teller, world, lines, line)?
+        || journals::take(teller, world, lines, line)?
+        || tables::take(teller, world, lines, line)?
+        || books::take(teller, world, lines, line)?
+        || lines::take(teller, world, lines, line)?
+        || forecasts::take(teller, world, lines, line)?
+        || views::take(teller, world, lines, line)?
+        || faults::take(teller, world, lines, line)?;
+    if !is_taken {
+        teller.lost("there is no such call");
+    }
+    Ok(())
+}

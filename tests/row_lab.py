@@ -1,0 +1,38 @@
+"""Takes the step `lab` of a row: calls of the libraries, by the program `crates/lab`.
+
+Each text with a label is kept under that name first. The lines of the text without a label are
+given to the program, and what it prints is compared with `out`, but for the lines that say where a
+call begins and ends.
+"""
+
+import re
+import subprocess
+
+from row_faults import expect, told
+from scenes import lab_program
+
+# The seconds that the program may take.
+MOST_SECONDS = 60
+# A line that says where a call begins or ends.
+MARK = re.compile(r"(begins|ends) \d+ .*\n")
+
+
+def script_of(scene, step):
+    """The lines that a step gives to the program."""
+    kept = [label for label in step.texts if label not in ("", "out")]
+    texts = [f"{label} = bytes {scene.text(step, label).encode().hex()}\n" for label in kept]
+    return "".join(texts) + scene.text(step)
+
+
+def answers_of(script):
+    """What the program prints of these lines, without the marks, and its status."""
+    ran = subprocess.run(
+        [lab_program()], input=script.encode(), capture_output=True, timeout=MOST_SECONDS
+    )
+    return MARK.sub("", ran.stdout.decode()), ran.stderr.decode(), ran.returncode
+
+
+def take_lab(scene, step):
+    """Gives the lines of a step to the program, and compares its answers."""
+    wanted = told(scene.text(step, "out"), "", step.numbers.get("status", 0))
+    expect(wanted, told(*answers_of(script_of(scene, step))))
