@@ -1,4 +1,5 @@
-"""What can be wrong with the documents, beside the texts that `make` writes: each check gives the faults that it finds."""
+"""What can be wrong with the documents, beside the texts that `make` writes: each check gives the
+faults that it finds."""
 
 import functools
 import re
@@ -11,8 +12,8 @@ TRUSTED = re.compile(r"(?m)^(\| `(\w+)::(\w+)` \| `([\w:]+)` \| )([\w ]*) \|")
 
 
 def undocumented(crates):
-    """The types and functions that are not found or have no documentation, and the definitions that are not where they are cited
-    from."""
+    """The types and functions that are not found or have no documentation, and the definitions that
+    are not where they are cited from."""
     for crate in crates:
         yield from (f"{crate.name}: {it} is exported and not found" for it in sorted(crate.lost))
         for item in crate.calls():
@@ -33,8 +34,14 @@ def entries(text):
 
 
 def listed(crates):
-    """What is wrong with the list of files in DEFINITIONS.md: a file that public contracts cite and that it lacks, or its order."""
-    order = [(crate, file) for crate, files, _ in entries((TOP / "docs/DEFINITIONS.md").read_text()) if crate for _, file in files]
+    """What is wrong with the list of files in DEFINITIONS.md: a file that public contracts cite and
+    that it lacks, or its order."""
+    order = [
+        (crate, file)
+        for crate, files, _ in entries((TOP / "docs/DEFINITIONS.md").read_text())
+        if crate
+        for _, file in files
+    ]
     for crate, file in sorted({it[:2] for crate in crates for it in crate.cited} - {*order}):
         yield f"DEFINITIONS.md does not list {crate}/specs/{file}.antt"
     places = {it: order.index(it) for it in order}
@@ -46,7 +53,8 @@ def listed(crates):
 
 
 def relied_on(crates):
-    """The files of specs/ that public contracts cite, and those on which these rest: crate and file."""
+    """The files of specs/ that public contracts cite, and those on which these rest: crate and
+    file."""
     found, left = set(), [it[:2] for crate in crates for it in crate.cited]
     while left:
         crate, file = left.pop()
@@ -58,24 +66,33 @@ def relied_on(crates):
 
 
 def in_wrong_folder(crates):
-    """The files that stand in the wrong folder: specs/ has those that a user of the crate relies on, and specs/private/ the others."""
+    """The files that stand in the wrong folder: specs/ has those that a user of the crate relies
+    on, and specs/private/ the others."""
     public = relied_on(crates)
     for folder, is_public in (("", True), ("private/", False)):
         for path in sorted(CRATES.glob(f"*/specs/{folder}*.antt")):
             crate = path.relative_to(CRATES).parts[0]
-            if path.stem not in ("Lib", "private") and ((crate, folder + path.stem) in public) != is_public:
+            if (
+                path.stem not in ("Lib", "private")
+                and ((crate, folder + path.stem) in public) != is_public
+            ):
                 yield f"{path.relative_to(TOP)} stands in the wrong folder"
 
 
 def misplaced(name):
-    """The files that a document gives and that are not there, and the names of an entry that none of its files has."""
+    """The files that a document gives and that are not there, and the names of an entry that none
+    of its files has."""
     for crate, files, names in entries((TOP / "docs" / name).read_text()):
         given = [(own or crate, file) for own, file in files]
         texts = [CRATES / str(owner) / "specs" / f"{file}.antt" for owner, file in given]
         yield from (f"{name}: there is no {it.relative_to(TOP)}" for it in texts if not it.exists())
         text = "\n".join(re.sub(r"--[^\n]*", "", it.read_text()) for it in texts if it.exists())
         for it in sorted(names):
-            if given and re.match(r"Is[A-Z]|Are[A-Z]|Has[A-Z]", it) and not re.search(rf"\b{it}\b", text):
+            if (
+                given
+                and re.match(r"Is[A-Z]|Are[A-Z]|Has[A-Z]", it)
+                and not re.search(rf"\b{it}\b", text)
+            ):
                 yield f"{name}: {it} is in none of the files {given}"
 
 
@@ -91,7 +108,10 @@ def lost():
 @functools.cache
 def anchors(path):
     """The places in a document that a link can name, as often as they stand there."""
-    return [anchor(it) for it in re.findall(r"(?m)^#+ (.*)$", re.sub(r"(?ms)^```.*?^```", "", path.read_text()))]
+    return [
+        anchor(it)
+        for it in re.findall(r"(?m)^#+ (.*)$", re.sub(r"(?ms)^```.*?^```", "", path.read_text()))
+    ]
 
 
 @functools.cache
@@ -101,7 +121,12 @@ def is_there(path):
 
 def broken_links():
     """The links of documents that lead nowhere, or to one of several headings."""
-    for path in [*TOP.glob("*.md"), *TOP.glob("docs/*.md"), *TOP.glob("docs/calls/*.md"), *TOP.glob("*/README.md")]:
+    for path in [
+        *TOP.glob("*.md"),
+        *TOP.glob("docs/*.md"),
+        *TOP.glob("docs/calls/*.md"),
+        *TOP.glob("*/README.md"),
+    ]:
         for link in {*re.findall(r"\]\((?!https?:)([^)\s]*)\)", path.read_text())}:
             file, _, place = link.partition("#")
             to = path.parent / file if file else path

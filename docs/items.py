@@ -22,16 +22,25 @@ def place_of(here, crate, file, name):
 
 
 class Item:
-    """A public item, as it is written to a page: its heading, the text in its code block, and what is said of it."""
+    """A public item, as it is written to a page: its heading, the text in its code block, and what
+    is said of it."""
 
     def __init__(self, module, place, text, cites=(), is_short=False):
-        self.crate, self.text, self.doc, self.cites, self.is_short = module.crate, text, module.doc(place), list(cites), is_short
+        self.crate, self.text, self.doc, self.cites, self.is_short = (
+            module.crate,
+            text,
+            module.doc(place),
+            list(cites),
+            is_short,
+        )
         self.title, self.code, self.note, self.parts, self.traits = text, text, "", [], []
 
     def lines(self):
         """The item's lines, with those of its parts."""
         if self.is_short:
-            yield filled(f"- `{self.text}`: {' '.join(self.doc)}" if self.doc else f"- `{self.text}`", "  ")
+            yield filled(
+                f"- `{self.text}`: {' '.join(self.doc)}" if self.doc else f"- `{self.text}`", "  "
+            )
             return
         yield from [f"#### `{self.title}`", "", "```rust", *self.code.split("\n"), "```"]
         yield from ["", *self.doc] if self.doc else []
@@ -45,17 +54,25 @@ class Item:
         """What is said beside the documentation."""
         by = ", ".join(f"[`{it[2]}`]({place_of(self.crate, *it)})" for it in self.cites)
         told = [("By", by), ("Is", coded(self.traits))]
-        return " ".join([*[f"{word} {found}." for word, found in told if found], *[self.note] * bool(self.note)])
+        return " ".join(
+            [*[f"{word} {found}." for word, found in told if found], *[self.note] * bool(self.note)]
+        )
 
     def all_cites(self):
         return [*self.cites, *[it for part in self.parts for it in part.all_cites()]]
 
 
 def function(module, owner, start, at):
-    """The item of a function: owner is its type, start is where its line begins, at is where its name does."""
+    """The item of a function: owner is its type, start is where its line begins, at is where its
+    name does."""
     clauses, end, last = module.clauses(at)
     name = re.sub(r"\bmut (?=\w+:)", "", one_line(module.code[at:end]))
-    item = Item(module, start, f"{owner}::{name}" if owner else name, module.cites(text for _, text in clauses))
+    item = Item(
+        module,
+        start,
+        f"{owner}::{name}" if owner else name,
+        module.cites(text for _, text in clauses),
+    )
     item.title = "::".join([owner] * bool(owner) + [re.match(WORD, name)[0]])
     item.code = textwrap.dedent(module.raw[start:last].rstrip())
     item.note = "" if clauses else "No clause of its own."
@@ -72,7 +89,9 @@ def functions(module, start, end, is_public):
 def parts(module, start, end, pattern):
     """The public fields or the variants of a type."""
     for found in re.finditer(pattern, module.code[start:end]):
-        yield Item(module, start + found.start(1), one_line(found[1]).removeprefix("pub "), is_short=True)
+        yield Item(
+            module, start + found.start(1), one_line(found[1]).removeprefix("pub "), is_short=True
+        )
 
 
 def type_item(module, found):
@@ -81,13 +100,21 @@ def type_item(module, found):
     # What stands after `=` is a value, or the default of a type parameter.
     ends = "{;(" if kind in ("struct", "enum", "trait") else "{;(="
     end = next(it for it in range(found.end(), len(module.code)) if module.code[it] in ends)
-    text = module.raw[start:end] if kind != "const" and kind != "type" else module.raw[start : module.code.index(";", start)]
+    text = (
+        module.raw[start:end]
+        if kind != "const" and kind != "type"
+        else module.raw[start : module.code.index(";", start)]
+    )
     item = Item(module, start, one_line(text.removeprefix("pub ")).replace(" {", ""))
     item.title, item.code = f"{kind} {found[2]}", text.rstrip().removesuffix("{").rstrip()
     item.traits += derived(module, start)
     if kind in ("struct", "enum") and module.code[end] == "{":
         last = block_end(module.code, start)
-        pattern = rf"(?m)^    (pub {WORD}: [^\n]*)" if kind == "struct" else rf"(?m)^    ({WORD}(?:\([^\n]*\)|,| \{{[^}}]*\}}))"
+        pattern = (
+            rf"(?m)^    (pub {WORD}: [^\n]*)"
+            if kind == "struct"
+            else rf"(?m)^    ({WORD}(?:\([^\n]*\)|,| \{{[^}}]*\}}))"
+        )
         item.parts += parts(module, end, last, pattern)
     return item
 
@@ -124,7 +151,11 @@ def model(module, start, end):
 def implemented(module, of, name, start, end):
     """The items of a type's impl of a trait: what is documented there."""
     block = Item(module, start, f"impl {of} for {name}")
-    block.parts += [function(module, f"<{name} as {of}>", *at) for at in functions(module, start, end, True) if module.doc(at[0])]
+    block.parts += [
+        function(module, f"<{name} as {of}>", *at)
+        for at in functions(module, start, end, True)
+        if module.doc(at[0])
+    ]
     for it in block.parts:
         # Without a clause of its own it has those of the trait.
         it.note = ""
@@ -134,7 +165,9 @@ def implemented(module, of, name, start, end):
 def types(module):
     """The items of a module's public types, constants and traits, by name."""
     found = re.finditer(rf"(?m)^pub (struct|enum|trait|const|type) ({WORD})", module.code)
-    return {it[2]: type_item(module, it) for it in found if it[2] in module.names or module.is_public}
+    return {
+        it[2]: type_item(module, it) for it in found if it[2] in module.names or module.is_public
+    }
 
 
 def add_block(module, made, of, name, is_trait, start, end):
@@ -148,7 +181,9 @@ def add_block(module, made, of, name, is_trait, start, end):
         item.parts += implemented(module, one_line(of), name, start, end)
     else:
         item.parts += ghosts(module, name, start, end) if is_trait else []
-        item.parts += [function(module, name, *at) for at in functions(module, start, end, is_trait)]
+        item.parts += [
+            function(module, name, *at) for at in functions(module, start, end, is_trait)
+        ]
 
 
 def free_functions(module):
@@ -176,7 +211,9 @@ class Crate:
 
     def __init__(self, name):
         self.name, self.root = name, (CRATES / name / "src/lib.rt").read_text()
-        self.about = [re.sub(r"^//! ?", "", it) for it in self.root.split("\n") if re.match(r"//!(?! \|)", it)]
+        self.about = [
+            re.sub(r"^//! ?", "", it) for it in self.root.split("\n") if re.match(r"//!(?! \|)", it)
+        ]
         exported, public = self.exported()
         files = {it.stem: it for it in sorted((CRATES / name / "src").glob("**/*.rt"))}
         table = re.findall(r"(?m)^//! \| (`[^|]*) \|", self.root)
@@ -205,6 +242,11 @@ class Crate:
 
 
 def all_crates():
-    """The crates of crates.txt in their order, less those of tests, what these share, and the programs."""
+    """The crates of crates.txt in their order, less those of tests, what these share, and the
+    programs."""
     listed = re.findall(r"(?m)^(\w+):", (TOP / "crates.txt").read_text())
-    return [Crate(it) for it in listed if not it.endswith(("_tests", "test_plans")) and (CRATES / it / "src/lib.rt").exists()]
+    return [
+        Crate(it)
+        for it in listed
+        if not it.endswith(("_tests", "test_plans")) and (CRATES / it / "src/lib.rt").exists()
+    ]

@@ -1,4 +1,5 @@
-"""Reads the sources for the pages that `make` writes: modules with their contracts, and files of definitions."""
+"""Reads the sources for the pages that `make` writes: modules with their contracts, and files of
+definitions."""
 
 import pathlib
 import re
@@ -27,7 +28,9 @@ def block_end(source, start, pair="{}"):
 
 def above(lines, number, mark):
     """The comment with this mark that stands above a line and its attributes."""
-    while number and re.match(r"\s*(#\[.*|\)?\]?)$", lines[number - 1]) and lines[number - 1].strip():
+    while (
+        number and re.match(r"\s*(#\[.*|\)?\]?)$", lines[number - 1]) and lines[number - 1].strip()
+    ):
         number -= 1
     end = number
     while number and re.match(rf"\s*{mark}(?: |$)", lines[number - 1]):
@@ -41,7 +44,9 @@ def coded(names):
 
 def filled(text, indent=""):
     """A text in lines of at most 98 columns."""
-    return textwrap.fill(text, 98, subsequent_indent=indent, break_long_words=False, break_on_hyphens=False)
+    return textwrap.fill(
+        text, 98, subsequent_indent=indent, break_long_words=False, break_on_hyphens=False
+    )
 
 
 def one_line(text):
@@ -53,7 +58,9 @@ def one_line(text):
 
 def taken(text, how):
     """What a text takes from files of specs/: the name here, crate, file and own name."""
-    for crate, place, listed in re.findall(how + r" Rattle\.(\w+)\.specs\.((?:private\.)?\w+)\.\{([^}]*)\}", text):
+    for crate, place, listed in re.findall(
+        how + r" Rattle\.(\w+)\.specs\.((?:private\.)?\w+)\.\{([^}]*)\}", text
+    ):
         file = place.replace(".", "/")
         for words in map(str.split, listed.split(",")):
             if words and (CRATES / crate / "specs" / f"{file}.antt").exists():
@@ -63,25 +70,37 @@ def taken(text, how):
 def source(crate, file, name):
     """Where a definition stands: a file can hand on one of another file."""
     text = (CRATES / crate / "specs" / f"{file}.antt").read_text()
-    return next((tuple(place) for here, *place in taken(text, "pub use") if here == name), (crate, file, name))
+    return next(
+        (tuple(place) for here, *place in taken(text, "pub use") if here == name),
+        (crate, file, name),
+    )
 
 
 class Module:
     """A module of a crate: its text, and what of it is public."""
 
     def __init__(self, path, names, is_public):
-        self.name, self.crate, self.raw = path.stem, path.relative_to(CRATES).parts[0], path.read_text()
+        self.name, self.crate, self.raw = (
+            path.stem,
+            path.relative_to(CRATES).parts[0],
+            path.read_text(),
+        )
         self.code, self.lines = blanked(self.raw), self.raw.split("\n")
         self.names, self.is_public = names, is_public
         self.taken = self.imports()
 
     def imports(self):
-        """What the module calls the definitions that it takes from specs/: crate, file and own name, by the name here."""
+        """What the module calls the definitions that it takes from specs/: crate, file and own
+        name, by the name here."""
         return {here: source(*place) for here, *place in taken(self.code, "ghost use")}
 
     def cites(self, clauses):
         """The definitions that clauses cite, in their order."""
-        return list(dict.fromkeys(self.taken[it] for it in re.findall(WORD, " ".join(clauses)) if it in self.taken))
+        return list(
+            dict.fromkeys(
+                self.taken[it] for it in re.findall(WORD, " ".join(clauses)) if it in self.taken
+            )
+        )
 
     def doc(self, place, mark="///"):
         return above(self.lines, self.raw.count("\n", 0, place), mark)
@@ -92,8 +111,13 @@ class Module:
         return [it for it in found if not it.startswith("|")]
 
     def clauses(self, start):
-        """The clauses of the function whose signature begins here, each with its word, and where the signature and the contract end."""
-        found, end, token = [], None, re.compile(r"\b(?:ensures|requires)\b|\[[^\[\]]*;[^\[\]]*\]|[{;]")
+        """The clauses of the function whose signature begins here, each with its word, and where
+        the signature and the contract end."""
+        found, end, token = (
+            [],
+            None,
+            re.compile(r"\b(?:ensures|requires)\b|\[[^\[\]]*;[^\[\]]*\]|[{;]"),
+        )
         while at := token.search(self.code, start):
             start = at.end()
             if at[0][0] == "[":
@@ -105,14 +129,17 @@ class Module:
             found.append((at[0], self.code[self.code.index("{", at.end()) + 1 : start - 1]))
 
     def blocks(self):
-        """The impl and trait blocks: the trait that is implemented, the type or trait, whether it is a trait, start and end."""
+        """The impl and trait blocks: the trait that is implemented, the type or trait, whether it
+        is a trait, start and end."""
         head = rf"(?m)^(pub trait|impl)\b([^{{;]*)\{{"
         for found in re.finditer(head, self.code):
             words = re.sub(r"\bwhere\b.*", "", found[2], flags=re.S)
             if words.lstrip().startswith("<"):
                 words = words[block_end(words, 0, "<>") :]
             of, _, name = words.rpartition(" for ")
-            yield of.strip(), re.match(WORD, name.strip())[0], found[1] == "pub trait", found.start(), block_end(self.code, found.start())
+            yield of.strip(), re.match(WORD, name.strip())[0], found[
+                1
+            ] == "pub trait", found.start(), block_end(self.code, found.start())
 
 
 def body_lines(crate, module, name):
@@ -125,7 +152,9 @@ def body_lines(crate, module, name):
     spans = [(start, end) for _, of, _, start, end in found.blocks() if of == owner]
     for it in re.finditer(rf"(?m)^ *(?:pub(?:\(crate\))? )?fn {own}\b", found.code):
         opens = found.clauses(it.end())[2]
-        if found.code[opens] == "{" and (not owner or any(start <= it.start() < end for start, end in spans)):
+        if found.code[opens] == "{" and (
+            not owner or any(start <= it.start() < end for start, end in spans)
+        ):
             body = found.raw[opens + 1 : block_end(found.code, opens) - 1].split("\n")
             return sum(bool(line.strip()) and not line.lstrip().startswith("//") for line in body)
     raise LookupError(f"{crate}::{module} has no function {name}")
@@ -137,18 +166,28 @@ class Definitions:
     def __init__(self, crate, file):
         self.path = CRATES / crate / "specs" / f"{file}.antt"
         self.lines = self.path.read_text().split("\n")
-        end = next((at for at, it in enumerate(self.lines) if not it.startswith("--")), len(self.lines))
+        end = next(
+            (at for at, it in enumerate(self.lines) if not it.startswith("--")), len(self.lines)
+        )
         self.about = " ".join(it[2:].strip() for it in self.lines[:end])
 
     def place(self, name):
         """The number of the line at which a definition begins, or None."""
-        heads = rf"(?:abbrev |unfoldable )?pub (?:record |data )?{re.escape(name)}(?![\w'])", rf"  (?:pub )?{re.escape(name)} :"
-        return next((at for head in heads for at, it in enumerate(self.lines) if re.match(head, it)), None)
+        heads = (
+            rf"(?:abbrev |unfoldable )?pub (?:record |data )?{re.escape(name)}(?![\w'])",
+            rf"  (?:pub )?{re.escape(name)} :",
+        )
+        return next(
+            (at for head in heads for at, it in enumerate(self.lines) if re.match(head, it)), None
+        )
 
     def text(self, name):
-        """The lines of a definition, without the comment above it: those of its block, which a blank line ends."""
+        """The lines of a definition, without the comment above it: those of its block, which a
+        blank line ends."""
         first = last = self.place(name)
-        while first and self.lines[first - 1].strip() and not self.lines[first - 1].startswith("--"):
+        while (
+            first and self.lines[first - 1].strip() and not self.lines[first - 1].startswith("--")
+        ):
             first -= 1
         while last < len(self.lines) and self.lines[last].strip():
             last += 1

@@ -12,6 +12,8 @@ def completions():
     """The script as a module. Nothing is kept of it beside the script."""
     sys.dont_write_bytecode = True
     loader = importlib.machinery.SourceFileLoader("completions_of", str(SCRIPT))
-    module = importlib.util.module_from_spec(importlib.util.spec_from_loader("completions_of", loader))
+    module = importlib.util.module_from_spec(
+        importlib.util.spec_from_loader("completions_of", loader)
+    )
     loader.exec_module(module)
     return module

@@ -4,7 +4,7 @@ import re
 
 TOKEN = re.compile(rb'"(?:[^"\\]|\\.)*"|[A-Za-z]+|.', re.S)
 FIELD = re.compile(rb"[^ \n]+|[ \n]")
-BYTES = b"\0\n\r\t\"\\,()[]0129aefgtuz-./ \x7f\x80\xff"
+BYTES = b'\0\n\r\t"\\,()[]0129aefgtuz-./ \x7f\x80\xff'
 PIECES = [
     *(b"\0", b"\\", b"\\n", b"\\x", b'\\"', b'"', b"\n", b"\r", b"\r\n", b"\t", b",", b"()", b"[]"),
     *(b"[", b")", b'""', b"Derive(", b" ", b"  ", b"e", b"A ", b"D ", b"O ", b"R ", b"-", b"00"),

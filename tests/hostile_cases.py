@@ -131,7 +131,7 @@ def limits():
     yield Case("a path of 5,000 bytes", longer, READ_FAULT, stands="folder", traced=False)
     stray = "mkdir $out; : > $out/$(printf 'a\\377')"
     yield Case("a name that is not UTF-8", stray, READ_FAULT, stands="folder")
-    odd = "mkdir $out; : > \"$out/a b\"; : > \"$out/$(printf 'c\\nd\\\\')\"; : > $out/-rf"
+    odd = 'mkdir $out; : > "$out/a b"; : > "$out/$(printf \'c\\nd\\\\\')"; : > $out/-rf'
     yield Case("names with spaces, newlines and dashes", odd, stands="folder")
     yield Case("nothing", "exit 0", failed('MissingOutput("out")'))
     yield Case("a file without permissions", "echo x > $out; chmod 0 $out", also=(READ_FAULT,))

@@ -14,9 +14,11 @@ PLACES = {
         "absorb_first",
         "Err ( AllocFailed { value : fault } . into ( ) )",
     ): "never reached, since the entry may follow the shown ones; Absorb cannot say so",
-    ("valid_view/src/writer_end.rt", "reader", "match self . writer . factory ( ) . reader ( ) {"): (
-        "answers AllocError where each place is in use, which is told as NoView"
-    ),
+    (
+        "valid_view/src/writer_end.rt",
+        "reader",
+        "match self . writer . factory ( ) . reader ( ) {",
+    ): ("answers AllocError where each place is in use, which is told as NoView"),
     (
         "process_build/src/failures.rt",
         "from",

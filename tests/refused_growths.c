@@ -1,32 +1,40 @@
-/* A malloc that refuses, for tests/refused-growths, which compiles it with the kit's clang. It is preloaded into a test or the program. */
+/* A malloc that refuses, for tests/refused-growths, which compiles it with the kit's clang. It is
+ * preloaded into a test or the program. */
 
-/* The kit's clang has no headers: what is used of the C library, and the numbers of Linux on x86-64. */
+/* The kit's clang has no headers: what is used of the C library, and the numbers of Linux on
+ * x86-64. */
 typedef unsigned long size_t;
 typedef long ssize_t;
-extern int *__errno_location(void), memcmp(const void *, const void *, size_t), snprintf(char *, size_t, const char *, ...);
+extern int *__errno_location(void), strcmp(const char *, const char *),
+    memcmp(const void *, const void *, size_t), snprintf(char *, size_t, const char *, ...);
 extern char *getenv(const char *);
 extern long atol(const char *), syscall(long, ...);
-extern void *memmem(const void *, size_t, const void *, size_t);
 extern size_t strlen(const char *);
 extern void *__libc_malloc(size_t), *__libc_calloc(size_t, size_t), *__libc_realloc(void *, size_t);
 extern void *__libc_memalign(size_t, size_t);
-typedef struct { const char *file; void *base; const char *name; void *at; } Place;
+typedef struct {
+    const char *file;
+    void *base;
+    const char *name;
+    void *at;
+} Place;
 extern int dladdr(const void *, Place *);
 extern unsigned long getauxval(unsigned long), strtoul(const char *, char **, int);
 enum { SYS_write = 1, SYS_open = 2, SYS_close = 3, SYS_getpid = 39, SYS_gettid = 186 };
 enum { O_WRONLY = 01, O_CREAT = 0100, O_APPEND = 02000, ENOMEM = 12, AT_ENTRY = 9 };
 
-/* With CALL the growths of that call alone are counted, the first time that it is made; with BETWEEN all growths between two lines are
-   refused; else those of the whole run are counted. That with the number REFUSE is refused. */
+/* A program that prints `begins CALL` and `ends CALL` round its calls tells with EACH how many
+   growths each of them met. With CALL the growths of that call alone are counted, the first time
+   that it is made; else those of the whole run. That with the number REFUSE is refused. */
 enum { UNSET, BEFORE, WITHIN, BEHIND };
 static int state = UNSET;
 static long met, number;
-static int all;
-static char line[200];
+static char line[400];
 static size_t length;
 
-/* The functions by which the program asks for memory: OWN has where each of the two begins and ends, from the program's base. The system
-   asks by others: the C library and the kit, while they start a thread or a process. */
+/* The functions by which the program asks for memory: OWN has where each of the two begins and
+   ends, from the program's base. The system asks by others: the C library and the kit, while they
+   start a thread or a process. */
 static unsigned long base, own[4];
 static long of_system;
 
@@ -43,30 +51,37 @@ static void read_own(void) {
 __attribute__((constructor)) static void start(void) {
     read_own();
     number = getenv("REFUSE") ? atol(getenv("REFUSE")) : 0;
-    state = getenv("CALL") || getenv("BETWEEN") ? BEFORE : WITHIN;
+    state = getenv("CALL") || getenv("EACH") ? BEFORE : WITHIN;
 }
 
 /* To the file TELL, or else to the standard error. */
 static void say(const char *text) {
-    int to = getenv("TELL") ? syscall(SYS_open, getenv("TELL"), O_WRONLY | O_CREAT | O_APPEND, 0600) : 2;
+    int to =
+        getenv("TELL") ? syscall(SYS_open, getenv("TELL"), O_WRONLY | O_CREAT | O_APPEND, 0600) : 2;
     syscall(SYS_write, to, text, strlen(text));
     if (to != 2)
         syscall(SYS_close, to);
 }
 
-static int is_line(const char *word) {
-    const char *call = getenv("CALL");
+/* What stands in the line behind a word, if it begins with that. */
+static const char *behind(const char *word) {
     size_t head = strlen(word);
-    return length == head + strlen(call) && !memcmp(line, word, head) && !memcmp(line + head, call, length - head);
+    return length > head && !memcmp(line, word, head) ? line + head : 0;
+}
+
+static int is_chosen(const char *call) {
+    return call && (getenv("EACH") || !strcmp(call, getenv("CALL")));
 }
 
 static void end_line(void) {
-    char text[80];
-    if (state == BEFORE && is_line("begins "))
+    char text[sizeof line + 80];
+    line[length] = 0;
+    if (state == BEFORE && is_chosen(behind("begins "))) {
+        met = of_system = 0;
         __atomic_store_n(&state, WITHIN, __ATOMIC_SEQ_CST);
-    else if (state == WITHIN && is_line("ends ")) {
-        __atomic_store_n(&state, BEHIND, __ATOMIC_SEQ_CST);
-        snprintf(text, sizeof text, "met %ld\nsystem %ld\n", met, of_system);
+    } else if (state == WITHIN && is_chosen(behind("ends "))) {
+        __atomic_store_n(&state, getenv("EACH") ? BEFORE : BEHIND, __ATOMIC_SEQ_CST);
+        snprintf(text, sizeof text, "met %ld %ld %s\n", met, of_system, behind("ends "));
         say(text);
     }
     length = 0;
@@ -76,21 +91,13 @@ static void read_lines(const char *bytes, size_t count) {
     for (size_t i = 0; i < count; i++)
         if (bytes[i] == '\n')
             end_line();
-        else if (length < sizeof line)
+        else if (length + 1 < sizeof line)
             line[length++] = bytes[i];
 }
 
 ssize_t write(int to, const void *bytes, size_t count) {
-    if (to == 1 && getenv("CALL"))
+    if (to == 1 && (getenv("CALL") || getenv("EACH")))
         read_lines(bytes, count);
-    if (getenv("BETWEEN") && memmem(bytes, count, "memory is refused from here", 27))
-        all = 1;
-    if (all && memmem(bytes, count, "up to here", 10)) {
-        char text[40];
-        all = 0;
-        snprintf(text, sizeof text, "met %ld\n", met);
-        say(text);
-    }
     return syscall(SYS_write, to, bytes, count);
 }
 
@@ -99,8 +106,8 @@ static int is_own(const void *caller) {
     return (own[0] <= at && at < own[1]) || (own[2] <= at && at < own[3]);
 }
 
-/* Who asked: the program in its first thread, a worker, or the system, which starts a thread from the first one and a process from
-   another one. */
+/* Who asked: the program in its first thread, a worker, or the system, which starts a thread from
+   the first one and a process from another one. */
 static const char *asker(const void *caller) {
     int is_first = syscall(SYS_gettid) == syscall(SYS_getpid);
     if (is_own(caller))
@@ -109,8 +116,6 @@ static const char *asker(const void *caller) {
 }
 
 static int is_refused(const void *caller) {
-    if (all)
-        return ++met;
     if (__atomic_load_n(&state, __ATOMIC_SEQ_CST) != WITHIN)
         return 0;
     if (!is_own(caller))
@@ -130,9 +135,15 @@ static int gives_none(const void *caller) {
 
 #define CALLER __builtin_return_address(0)
 void *malloc(size_t size) { return gives_none(CALLER) ? 0 : __libc_malloc(size); }
-void *calloc(size_t count, size_t size) { return gives_none(CALLER) ? 0 : __libc_calloc(count, size); }
-void *realloc(void *block, size_t size) { return gives_none(CALLER) ? 0 : __libc_realloc(block, size); }
-void *aligned_alloc(size_t align, size_t size) { return gives_none(CALLER) ? 0 : __libc_memalign(align, size); }
+void *calloc(size_t count, size_t size) {
+    return gives_none(CALLER) ? 0 : __libc_calloc(count, size);
+}
+void *realloc(void *block, size_t size) {
+    return gives_none(CALLER) ? 0 : __libc_realloc(block, size);
+}
+void *aligned_alloc(size_t align, size_t size) {
+    return gives_none(CALLER) ? 0 : __libc_memalign(align, size);
+}
 
 int posix_memalign(void **block, size_t align, size_t size) {
     *block = is_refused(CALLER) ? 0 : __libc_memalign(align, size);

@@ -71,7 +71,7 @@ def cases(scene, port, seen):
     )
     yield Case(
         "a setting of the kernel",
-        "f=/proc/sys/kernel/core_pattern; read -r old < $f; echo \"$old\" > $f || exit 5",
+        'f=/proc/sys/kernel/core_pattern; read -r old < $f; echo "$old" > $f || exit 5',
         boxed=refused,
         is_tried_plain=False,
     )

@@ -94,9 +94,7 @@ class Cluster:
         key.write_bytes(os.urandom(1024))
         host = socket.gethostname()
         port, *ports = free_ports(1 + len(NODES))
-        text = CONFIGURATION.format(
-            host=host, port=port, folder=self.folder, nodes=",".join(NODES)
-        )
+        text = CONFIGURATION.format(host=host, port=port, folder=self.folder, nodes=",".join(NODES))
         for name, port in zip(NODES, ports):
             text += NODE.format(name=name, host=host, port=port, cpus=self.cpus)
         self.configuration.write_text(text)
