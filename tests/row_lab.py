@@ -2,14 +2,14 @@
 
 Each text with a label is kept under that name first. The lines of the text without a label are
 given to the program, and what it prints is compared with `out`, but for the lines that say where a
-call begins and ends.
+call begins and ends. It runs in the folder of the tests, and `<xff>` stands for a byte of all ones.
 """
 
 import re
 import subprocess
 
 from row_faults import expect, told
-from scenes import lab_program
+from scenes import HERE, lab_program
 
 # The seconds that the program may take.
 MOST_SECONDS = 60
@@ -17,17 +17,26 @@ MOST_SECONDS = 60
 MARK = re.compile(r"(begins|ends) \d+ .*\n")
 
 
+def bytes_of(text):
+    """The bytes of a text."""
+    return text.encode(errors="surrogateescape")
+
+
 def script_of(scene, step):
     """The lines that a step gives to the program."""
     kept = [label for label in step.texts if label not in ("", "out")]
-    texts = [f"{label} = bytes {scene.text(step, label).encode().hex()}\n" for label in kept]
+    texts = [f"{label} = bytes {bytes_of(scene.text(step, label)).hex()}\n" for label in kept]
     return "".join(texts) + scene.text(step)
 
 
 def answers_of(script):
     """What the program prints of these lines, without the marks, and its status."""
     ran = subprocess.run(
-        [lab_program()], input=script.encode(), capture_output=True, timeout=MOST_SECONDS
+        [lab_program()],
+        input=bytes_of(script),
+        capture_output=True,
+        timeout=MOST_SECONDS,
+        cwd=HERE,
     )
     return MARK.sub("", ran.stdout.decode()), ran.stderr.decode(), ran.returncode
 

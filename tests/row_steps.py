@@ -68,6 +68,7 @@ class Scene:
         self.dir = folder / "store"
         self.dir.mkdir()
         self.names = {"<dir>": str(self.dir), "<bom>": "\ufeff", "<tab>": "\t", "<cr>": "\r"}
+        self.names["<xff>"] = "\udcff"
 
     def said(self, text):
         """A text in which each word is replaced by its text."""

@@ -34,6 +34,11 @@ impl<'a> Teller<'a> {
         }
     }
 
+    /// What the program stands on.
+    pub(crate) fn rt(&self) -> &'a HostRuntime {
+        self.rt
+    }
+
     /// Prints a line.
     pub(crate) fn say<D: Display + Drop>(&mut self, line: D) {
         if self.rt.println(line).is_err() {

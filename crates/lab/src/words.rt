@@ -42,6 +42,7 @@ pub(crate) fn take(
 fn lent(world: &World, line: &Line<'_>) -> Result<Vec<u8>, AllocError> {
     let mut text = journals::lent(world, line)?;
     text.extend_from_slice(&tables::lent(world, line)?)?;
+    text.extend_from_slice(&drvs::lent(world, line)?)?;
     Ok(text)
 }
 
