@@ -2,12 +2,14 @@
 
 A row begins with `== NAME`, and a comment with `#`. Each other line begins a step, whose texts
 stand below it: `|` begins a line of a text, and `+` a piece of a line. Before these marks stands
-the text's label, if the step has more than one text. Before the first row `text <WORD>` lets a word
+the text's label, if the step has more than one text. A text of one line may stand behind its step,
+with its mark. The status that is wanted of a run is 0 where no other is given. Before the first row `text <WORD>` lets a word
 stand for a text, and `for <WORD> in VALUES` has each row taken once with each of these values.
 """
 
 import re
 
+INLINE = re.compile(r"(.*?) ([|+]) (.*)")
 PIECE = re.compile(r"    ([a-z ]*)([|+])(?: (.*))?")
 SETTING = re.compile(r"    ([a-z]+) ([0-9]+)")
 
@@ -64,8 +66,12 @@ class Step:
 
     def __init__(self, number, line):
         self.number, self.line = number, line
-        self.kind, *self.words = line.split(" ")
         self.texts, self.numbers = {}, {}
+        inline = None if line.startswith("$") else INLINE.fullmatch(line)
+        if inline:
+            line = inline[1]
+            self.add(f"    {inline[2]} {inline[3]}")
+        self.kind, *self.words = line.split(" ")
 
     def add(self, line):
         """Adds a line that stands below the step."""
@@ -84,7 +90,7 @@ class Step:
             raise Mistake("nothing is known of such a step")
         labels, numbers = set(self.texts), set(self.numbers)
         if self.kind == "$":
-            known = labels <= RUN_TEXTS and {"status"} <= numbers <= RUN_NUMBERS
+            known = labels <= RUN_TEXTS and numbers <= RUN_NUMBERS
         elif self.kind == "lab":
             known = numbers <= {"status"}
         elif self.kind == "twins":

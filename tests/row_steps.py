@@ -138,7 +138,7 @@ class Scene:
             self.compare_narrow(step, words, step.numbers["room"])
         else:
             ran = self.run(words)
-            wanted = told(self.report(step), self.text(step, "err"), step.numbers["status"])
+            wanted = told(self.report(step), self.text(step, "err"), step.numbers.get("status", 0))
             expect(wanted, told(ran.out, ran.err, ran.status))
 
     def report(self, step):
@@ -150,7 +150,7 @@ class Scene:
         """Runs with room for so many bytes, and compares the line of the fault and the status."""
         ran = self.run(words, room)
         head = f"with room for {room} bytes on standard output:\n"
-        wanted = told("", self.text(step, "err"), step.numbers["status"])
+        wanted = told("", self.text(step, "err"), step.numbers.get("status", 0))
         expect(head + wanted, head + told("", ran.err, ran.status))
 
     # Words for paths.
