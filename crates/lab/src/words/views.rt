@@ -1,16 +1,379 @@
 //! Views, their writers and their readers.
+ghost use Rattle.std.specs.Prelude.{◌≡◌, ◌≤◌, ◌++◌, IfOk, IfSome, length};
+ghost use Rattle.valid_table.specs.Entries.{registered_by};
+ghost use Rattle.valid_table.specs.Valid.{HasDrvPath};
 
 use crate::line::{Line, Lines};
 use crate::teller::Teller;
 use crate::world::World;
-use std::alloc::AllocError;
+use std::alloc::{AllocError, Global};
+use std::marker::Brand;
+use valid_table::{Entry, Journal, Outlet};
+use valid_view::{Name, Naming, Seen, Tells, ViewReader, ViewWriter, open};
 
 /// Takes a line, if its call is one of these.
+///
+/// `view $JOURNAL READERS` opens a view of a journal. The lines behind it, up to `close`, are calls
+/// of its writer and of its readers, which have numbers. Those up to `end` are calls of readers
+/// whose writer is gone.
 pub(crate) fn take(
-    _teller: &mut Teller<'_>,
-    _world: &mut World,
-    _lines: &mut Lines<'_>,
-    _line: &Line<'_>,
+    teller: &mut Teller<'_>,
+    world: &mut World,
+    lines: &mut Lines<'_>,
+    line: &Line<'_>,
 ) -> Result<bool, AllocError> {
-    Ok(false)
+    if line.call() != b"view" {
+        return Ok(false);
+    }
+    let readers = line.number(1).unwrap_or(0);
+    let Some(journal) = world.journals.get(line.argument(0)) else {
+        teller.lost("no journal");
+        return Ok(true);
+    };
+    if readers == 0 || readers > 64 {
+        teller.not_allowed();
+        return Ok(true);
+    }
+    teller.begins("Name::new");
+    let name = Name::new();
+    teller.ends("Name::new");
+    let opening = Opening { journal, readers };
+    opened::<Brand>(teller, world, lines, opening, name)?;
+    Ok(true)
+}
+
+// What a view opens with.
+#[derive(Clone, Copy, Drop)]
+struct Opening<'a> {
+    journal: &'a Journal,
+    readers: usize,
+}
+
+// Opens a view with this name, and takes the lines of its calls.
+fn opened<J: Naming + Send>(
+    teller: &mut Teller<'_>,
+    world: &World,
+    lines: &mut Lines<'_>,
+    opening: Opening<'_>,
+    name: Name,
+) -> Result<(), AllocError>
+    requires name { name ≡ J.book }
+    requires readers { (1 ≤ opening.readers) × (opening.readers ≤ 64) }
+{
+    let Ok(journal) = opening.journal.copy(world.alloc) else {
+        return Err(AllocError);
+    };
+    let rt = teller.rt();
+    teller.begins("open");
+    let view = open::<J, &HostRuntime>(world.alloc, rt, name, &journal, opening.readers);
+    teller.ends("open");
+    match view {
+        Ok((writer, readers)) => {
+            let view = View {
+                journal,
+                writer,
+                readers,
+            };
+            view.talk(teller, world, lines)
+        }
+        Err(fault) => {
+            teller.tell_fault(world.alloc, &fault);
+            Ok(())
+        }
+    }
+}
+
+// A writer beside the journal of all its entries, and its readers.
+struct View<'a, J: Naming> {
+    journal: Journal,
+    writer: ViewWriter<J, &'a HostRuntime>,
+    readers: Vec<ViewReader<J>>,
+    ghost same: { writer.shown ++ writer.pending ≡ journal.entries },
+}
+
+impl<J: Naming + Send> View<'_, J> {
+    // Takes the lines of the calls of the writer and the readers, and closes the writer. Then takes
+    // those of the calls of readers whose writer is gone.
+    fn talk(
+        mut self,
+        teller: &mut Teller<'_>,
+        world: &World,
+        lines: &mut Lines<'_>,
+    ) -> Result<(), AllocError> {
+        teller.say(format_args!("{} readers", self.readers.len()));
+        let taken = self.take_lines(teller, world, lines);
+        let View {
+            journal: _,
+            writer,
+            mut readers,
+        } = self;
+        teller.begins("ViewWriter::close");
+        let shown = writer.close();
+        teller.ends("ViewWriter::close");
+        teller.say(format_args!("closed with {} entries", shown.len()));
+        taken?;
+        take_last_lines(teller, world, lines, &mut readers)
+    }
+
+    // Takes each line up to `close`.
+    fn take_lines(
+        &mut self,
+        teller: &mut Teller<'_>,
+        world: &World,
+        lines: &mut Lines<'_>,
+    ) -> Result<(), AllocError> {
+        for _ in 0..lines.rest.len() {
+            let Some(text) = lines.next() else { break };
+            let line = Line::of(world.alloc, text)?;
+            if line.call() == b"close" {
+                break;
+            }
+            self.take_line(teller, world, &line)?;
+            if !teller.goes_on() {
+                break;
+            }
+        }
+        Ok(())
+    }
+
+    // Takes a line. Where a call of it was answered by want of memory, it is taken again.
+    fn take_line(
+        &mut self,
+        teller: &mut Teller<'_>,
+        world: &World,
+        line: &Line<'_>,
+    ) -> Result<(), AllocError> {
+        let shown = self.writer.tell().len();
+        self.take_once(teller, world, line)?;
+        if teller.wants() {
+            let is_as_it_was = self.writer.tell().len() == shown && self.shows(shown);
+            teller.takes_again(is_as_it_was);
+            self.take_once(teller, world, line)?;
+        }
+        if teller.wants() {
+            teller.lost("memory was refused twice");
+        }
+        Ok(())
+    }
+
+    // Whether the first reader finds what so many entries register, and none of what the others do.
+    fn shows(&mut self, shown: u64) -> bool {
+        let Some(reader) = self.readers.get_mut(0) else {
+            return false;
+        };
+        let mut number = 0u64;
+        let mut is_so = true;
+        for entry in self.journal.entries() {
+            let seen = entry.registrations().first().map(|one| reader.look(&one.path));
+            let is_shown = matches!(seen, Some(Ok(Seen::Valid(_))));
+            is_so = is_so && is_shown == (number < shown);
+            number = number.wrapping_add(1);
+        }
+        is_so
+    }
+
+    fn take_once(
+        &mut self,
+        teller: &mut Teller<'_>,
+        world: &World,
+        line: &Line<'_>,
+    ) -> Result<(), AllocError> {
+        match line.call() {
+            b"append" => self.append(teller, world, line)?,
+            b"publish" => self.publish(teller, world.alloc),
+            b"tell" => self.tell(teller),
+            b"learn" => self.learn(teller, line),
+            b"longer" => self.longer(teller, line),
+            _ => ask(teller, world, line, &mut self.readers)?,
+        }
+        Ok(())
+    }
+
+    // Appends the entry with a number of a kept journal.
+    fn append(
+        &mut self,
+        teller: &mut Teller<'_>,
+        world: &World,
+        line: &Line<'_>,
+    ) -> Result<(), AllocError> {
+        let Some(entry) = kept_entry(world, line) else {
+            teller.lost("no entry");
+            return Ok(());
+        };
+        let copies = thrice(world.alloc, entry)?;
+        self.journal.reserve(entry.registrations().len())?;
+        self.append_copies(teller, world.alloc, copies);
+        Ok(())
+    }
+
+    fn append_copies(
+        &mut self,
+        teller: &mut Teller<'_>,
+        alloc: Global,
+        copies: (Entry, Entry, Entry),
+    )
+        requires alike { (copies.1 ≡ copies.0) × (copies.2 ≡ copies.0) }
+        requires derived { HasDrvPath copies.0 }
+        requires room { length (registered_by copies.0) ≤ self.old.journal.room }
+    {
+        let (entry, copy, shown) = copies;
+        if let Some(_) = self.journal.table().obstacle(&entry) {
+            return teller.not_allowed();
+        }
+        teller.begins("ViewWriter::append");
+        let answer = self.writer.append(shown);
+        teller.ends("ViewWriter::append");
+        match answer {
+            Ok(()) => {
+                self.journal.push_reserved(entry, copy);
+                teller.say("appended");
+            }
+            Err(fault) => teller.tell_fault(alloc, &fault),
+        }
+    }
+
+    fn publish(&mut self, teller: &mut Teller<'_>, alloc: Global) {
+        teller.begins("ViewWriter::publish");
+        let answer = self.writer.publish();
+        teller.ends("ViewWriter::publish");
+        if let Some(()) = teller.answered(alloc, answer) {
+            teller.say("published");
+        }
+    }
+
+    fn tell(&self, teller: &mut Teller<'_>) {
+        teller.begins("ViewWriter::tell");
+        let told = self.writer.tell();
+        teller.ends("ViewWriter::tell");
+        teller.begins("Prefix::len");
+        let length = told.len();
+        teller.ends("Prefix::len");
+        teller.say(format_args!("{length} entries are shown"));
+    }
+
+    // Has a reader learn of the list that is shown.
+    fn learn(&mut self, teller: &mut Teller<'_>, line: &Line<'_>) {
+        let told = self.writer.tell();
+        let Some(reader) = reader_of(line, &mut self.readers) else {
+            return teller.lost("no reader");
+        };
+        teller.begins("ViewWriter::prefix");
+        let prefix = <ViewWriter<J, &HostRuntime> as Tells<J>>::prefix(told);
+        teller.ends("ViewWriter::prefix");
+        teller.begins("ViewReader::learn");
+        reader.learn(prefix);
+        teller.ends("ViewReader::learn");
+    }
+
+    // The longer of the list that is shown and the one that a reader saw.
+    fn longer(&mut self, teller: &mut Teller<'_>, line: &Line<'_>) {
+        let told = self.writer.tell();
+        let Some(reader) = reader_of(line, &mut self.readers) else {
+            return teller.lost("no reader");
+        };
+        teller.begins("Prefix::again");
+        let again = told.again();
+        teller.ends("Prefix::again");
+        teller.begins("Prefix::longer");
+        let longer = reader.seen().longer(&again);
+        teller.ends("Prefix::longer");
+        teller.say(format_args!("{} and {} entries", again.len(), longer.len()));
+    }
+}
+
+// Takes each line up to `end`.
+fn take_last_lines<J: Naming>(
+    teller: &mut Teller<'_>,
+    world: &World,
+    lines: &mut Lines<'_>,
+    readers: &mut [ViewReader<J>],
+) -> Result<(), AllocError> {
+    for _ in 0..lines.rest.len() {
+        let Some(text) = lines.next() else { break };
+        let line = Line::of(world.alloc, text)?;
+        if line.call() == b"end" || !teller.goes_on() {
+            break;
+        }
+        ask(teller, world, &line, readers)?;
+    }
+    Ok(())
+}
+
+// Entry N of a journal, which a line `append $JOURNAL N` names.
+fn kept_entry<'a>(world: &'a World, line: &Line<'_>) -> Option<&'a Entry>
+    ensures { IfSome result (λ entry. HasDrvPath entry.now) }
+{
+    let journal = world.journals.get(line.argument(0))?;
+    let number = line.number(1)?;
+    journal.entries().get(number)
+}
+
+// Three copies of an entry.
+fn thrice(alloc: Global, entry: &Entry) -> Result<(Entry, Entry, Entry), AllocError>
+    ensures first { IfOk result (λ copies. copies.0 ≡ entry.now) }
+    ensures alike { IfOk result (λ copies. (copies.1 ≡ copies.0) × (copies.2 ≡ copies.0)) }
+{
+    Ok((entry.copy(alloc)?, entry.copy(alloc)?, entry.copy(alloc)?))
+}
+
+// The reader whose number is the first argument of a line.
+fn reader_of<'a, J: Naming>(
+    line: &Line<'_>,
+    readers: &'a mut [ViewReader<J>],
+) -> Option<&'a mut ViewReader<J>> {
+    let number = line.number(0)?;
+    readers.get_mut(number)
+}
+
+// Takes the line of a call of a reader.
+fn ask<J: Naming>(
+    teller: &mut Teller<'_>,
+    world: &World,
+    line: &Line<'_>,
+    readers: &mut [ViewReader<J>],
+) -> Result<(), AllocError> {
+    let (Some(reader), Ok(paths)) = (reader_of(line, readers), world.paths(line.arguments(1)))
+    else {
+        teller.lost("no reader, or no path");
+        return Ok(());
+    };
+    match (line.call(), paths.first()) {
+        (b"look", Some(path)) => {
+            teller.begins("ViewReader::look");
+            let answer = reader.look(path);
+            teller.ends("ViewReader::look");
+            if let Some(seen) = teller.answered(world.alloc, answer) {
+                tell_seen(teller, world.alloc, seen)?;
+            }
+        }
+        (b"closure", _) => {
+            teller.begins("ViewReader::closure");
+            let answer = reader.closure(world.alloc, &paths);
+            teller.ends("ViewReader::closure");
+            if let Some(all) = teller.answered(world.alloc, answer) {
+                teller.paths(&all);
+            }
+        }
+        (b"seen", _) => {
+            teller.begins("ViewReader::seen");
+            let seen = reader.seen();
+            teller.ends("ViewReader::seen");
+            teller.say(format_args!("{} entries were seen", seen.len()));
+        }
+        _ => teller.lost("there is no such call of a view"),
+    }
+    Ok(())
+}
+
+fn tell_seen(teller: &mut Teller<'_>, alloc: Global, seen: Seen) -> Result<(), AllocError> {
+    match seen {
+        Seen::Absent => teller.say("absent"),
+        Seen::Valid(None) => teller.say("valid"),
+        Seen::Valid(Some(digest)) => {
+            let mut text = Vec::from_slice(alloc, b"valid, ")?;
+            digest.push_text(&mut text)?;
+            teller.text(&text);
+        }
+    }
+    Ok(())
 }
