@@ -6,6 +6,7 @@ use nix_names::NameFault;
 use ref_scan::ScanFault;
 use std::alloc::{AllocError, Global};
 use valid_table::{OutletFault, TableFault};
+use valid_view::{OpenFault, ViewFault};
 
 /// A fault of a call.
 pub(crate) trait Fault {
@@ -14,6 +15,40 @@ pub(crate) trait Fault {
 
     /// The name of the variant, with its values.
     fn words(&self, alloc: Global) -> Result<String, AllocError>;
+}
+
+impl Fault for OutletFault {
+    fn is_want(&self) -> bool {
+        matches!(self, OutletFault::NoMemory)
+    }
+
+    fn words(&self, alloc: Global) -> Result<String, AllocError> {
+        format!(in alloc; "{self:?}")
+    }
+}
+
+impl Fault for ViewFault {
+    fn is_want(&self) -> bool {
+        matches!(self, ViewFault::NoMemory)
+    }
+
+    fn words(&self, alloc: Global) -> Result<String, AllocError> {
+        match self {
+            ViewFault::NotValid(path) => format!(in alloc; "NotValid({})", path.as_str()),
+            ViewFault::NoView(_) => format!(in alloc; "NoView"),
+            fault => format!(in alloc; "{fault:?}"),
+        }
+    }
+}
+
+impl Fault for OpenFault {
+    fn is_want(&self) -> bool {
+        matches!(self, OpenFault::NoMemory)
+    }
+
+    fn words(&self, alloc: Global) -> Result<String, AllocError> {
+        format!(in alloc; "{self:?}")
+    }
 }
 
 impl Fault for AllocError {

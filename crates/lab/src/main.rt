@@ -9,7 +9,8 @@
 //! calls. Then comes the answer, or the name of the fault with its values. Where a call answers want
 //! of memory, a line says so and whether what was lent to it is as it was, and the call is made
 //! again. A call that may not be made with its arguments is answered `not allowed`, and a line that
-//! means nothing ends the program with status 1.
+//! means nothing ends the program with status 1. With the argument `--times` a line behind the second
+//! one says how long the call took: `took N ns`.
 //!
 //! | Module | What is in it |
 //! |---|---|
@@ -32,8 +33,10 @@ use crate::teller::Teller;
 use crate::words::take;
 use crate::world::World;
 use std::alloc::Global;
+use std::env;
 use std::io::{self, Read};
 use std::process::ExitCode;
+use std::sync::Wait;
 
 // All bytes of the standard input.
 fn input(rt: &HostRuntime) -> io::Result<Vec<u8>> {
@@ -42,14 +45,25 @@ fn input(rt: &HostRuntime) -> io::Result<Vec<u8>> {
     Ok(bytes)
 }
 
-// Takes each line of a text, up to one that means nothing.
-fn run(rt: &HostRuntime, text: &[u8]) -> io::Result<bool> {
+// Whether the program was asked to print times.
+fn tells_times(rt: &HostRuntime) -> io::Result<bool> {
+    let words = env::args(rt)?;
+    Ok(
+        words
+            .skip(1)
+            .next()
+            .is_some_and(|word| word.as_str() == "--times"),
+    )
+}
+
+// Takes each line of a text, up to one that means nothing. By `wait` a line may wait.
+fn run<W: Wait>(rt: &HostRuntime, wait: &W, text: &[u8]) -> io::Result<bool> {
     let mut world = World::new(rt.alloc())?;
-    let mut teller = Teller::new(rt);
+    let mut teller = Teller::new(rt, tells_times(rt)?);
     let mut lines = Lines { rest: text };
     for _ in 0..text.len() {
         let Some(words) = lines.next() else { break };
-        take(&mut teller, &mut world, &mut lines, words)?;
+        take(wait, &mut teller, &mut world, &mut lines, words)?;
         if !teller.goes_on() {
             break;
         }
@@ -60,7 +74,7 @@ fn run(rt: &HostRuntime, text: &[u8]) -> io::Result<bool> {
 fn main(rt: HostRuntime) -> ExitCode {
     let text = input(&rt);
     match text {
-        Ok(text) => match run(&rt, &text) {
+        Ok(text) => match run(&rt, &rt, &text) {
             Ok(true) => ExitCode::from(0),
             _ => ExitCode::from(1),
         },

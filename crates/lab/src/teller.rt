@@ -5,6 +5,7 @@ use nix_names::StorePath;
 use std::alloc::Global;
 use std::fmt::Display;
 use std::io::Print;
+use std::time::Instant;
 
 /// How it stands with the line that is taken.
 #[derive(Clone, Copy, PartialEq, Eq)]
@@ -23,14 +24,19 @@ pub(crate) struct Teller<'a> {
     rt: &'a HostRuntime,
     number: u64,
     stand: Stand,
+    tells_times: bool,
+    start: Option<Instant>,
 }
 
 impl<'a> Teller<'a> {
-    pub(crate) fn new(rt: &'a HostRuntime) -> Teller<'a> {
+    /// Of a new program. `tells_times` says whether the time of each call is printed.
+    pub(crate) fn new(rt: &'a HostRuntime, tells_times: bool) -> Teller<'a> {
         Teller {
             rt,
             number: 0,
             stand: Stand::Answered,
+            tells_times,
+            start: None,
         }
     }
 
@@ -50,13 +56,23 @@ impl<'a> Teller<'a> {
     pub(crate) fn begins(&mut self, call: &str) {
         let number = self.number;
         self.say(format_args!("begins {number} {call}"));
+        if self.tells_times {
+            self.start = Instant::now(self.rt).ok();
+        }
     }
 
     /// Prints that it ended.
     pub(crate) fn ends(&mut self, call: &str) {
+        let passed = match &self.start {
+            Some(start) => start.elapsed(self.rt).ok(),
+            None => None,
+        };
         let number = self.number;
         self.say(format_args!("ends {number} {call}"));
         self.number = self.number.wrapping_add(1);
+        if let Some(passed) = passed {
+            self.say(format_args!("took {} ns", passed.as_nanos()));
+        }
     }
 
     /// Says that a call may not be made with its arguments.

@@ -16,9 +16,11 @@ use crate::line::{Line, Lines};
 use crate::teller::Teller;
 use crate::world::World;
 use std::alloc::AllocError;
+use std::sync::Wait;
 
 /// Takes a line. Where a call of it was answered by want of memory, it is taken again.
-pub(crate) fn take(
+pub(crate) fn take<W: Wait>(
+    wait: &W,
     teller: &mut Teller<'_>,
     world: &mut World,
     lines: &mut Lines<'_>,
@@ -26,11 +28,11 @@ pub(crate) fn take(
 ) -> Result<(), AllocError> {
     let line = Line::of(world.alloc, text)?;
     let before = lent(world, &line)?;
-    take_once(teller, world, lines, &line)?;
+    take_once(wait, teller, world, lines, &line)?;
     if teller.wants() {
         let is_as_it_was = lent(world, &line)? == before;
         teller.takes_again(is_as_it_was);
-        take_once(teller, world, lines, &line)?;
+        take_once(wait, teller, world, lines, &line)?;
     }
     if teller.wants() {
         teller.lost("memory was refused twice");
@@ -46,7 +48,8 @@ fn lent(world: &World, line: &Line<'_>) -> Result<Vec<u8>, AllocError> {
     Ok(text)
 }
 
-fn take_once(
+fn take_once<W: Wait>(
+    wait: &W,
     teller: &mut Teller<'_>,
     world: &mut World,
     lines: &mut Lines<'_>,
@@ -61,7 +64,7 @@ fn take_once(
         || books::take(teller, world, lines, line)?
         || lines::take(teller, world, lines, line)?
         || forecasts::take(teller, world, lines, line)?
-        || views::take(teller, world, lines, line)?
+        || views::take(wait, teller, world, lines, line)?
         || faults::take(teller, world, lines, line)?;
     if !is_taken {
         teller.lost("there is no such call");

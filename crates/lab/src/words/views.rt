@@ -8,6 +8,7 @@ use crate::teller::Teller;
 use crate::world::World;
 use std::alloc::{AllocError, Global};
 use std::marker::Brand;
+use std::sync::Wait;
 use valid_table::{Entry, Journal, Outlet};
 use valid_view::{Name, Naming, Seen, Tells, ViewReader, ViewWriter, open};
 
@@ -16,13 +17,14 @@ use valid_view::{Name, Naming, Seen, Tells, ViewReader, ViewWriter, open};
 /// `view $JOURNAL READERS` opens a view of a journal. The lines behind it, up to `close`, are calls
 /// of its writer and of its readers, which have numbers. Those up to `end` are calls of readers
 /// whose writer is gone.
-pub(crate) fn take(
+pub(crate) fn take<W: Wait>(
+    wait: &W,
     teller: &mut Teller<'_>,
-    world: &mut World,
+    world: &World,
     lines: &mut Lines<'_>,
     line: &Line<'_>,
 ) -> Result<bool, AllocError> {
-    if line.call() != b"view" {
+    if line.call() != b"view".as_slice() {
         return Ok(false);
     }
     let readers = line.number(1).unwrap_or(0);
@@ -37,35 +39,43 @@ pub(crate) fn take(
     teller.begins("Name::new");
     let name = Name::new();
     teller.ends("Name::new");
-    let opening = Opening { journal, readers };
-    opened::<Brand>(teller, world, lines, opening, name)?;
+    let opening = Opening {
+        journal,
+        readers,
+        name,
+    };
+    opened::<Brand, W>(wait, teller, world, lines, opening)?;
     Ok(true)
 }
 
 // What a view opens with.
-#[derive(Clone, Copy, Drop)]
 struct Opening<'a> {
     journal: &'a Journal,
     readers: usize,
+    name: Name,
 }
 
 // Opens a view with this name, and takes the lines of its calls.
-fn opened<J: Naming + Send>(
+fn opened<J: Naming + Send, W: Wait>(
+    wait: &W,
     teller: &mut Teller<'_>,
     world: &World,
     lines: &mut Lines<'_>,
     opening: Opening<'_>,
-    name: Name,
 ) -> Result<(), AllocError>
-    requires name { name ≡ J.book }
+    requires name { opening.name ≡ J.book }
     requires readers { (1 ≤ opening.readers) × (opening.readers ≤ 64) }
 {
-    let Ok(journal) = opening.journal.copy(world.alloc) else {
+    let Opening {
+        journal,
+        readers,
+        name,
+    } = opening;
+    let Ok(journal) = journal.copy(world.alloc) else {
         return Err(AllocError);
     };
-    let rt = teller.rt();
     teller.begins("open");
-    let view = open::<J, &HostRuntime>(world.alloc, rt, name, &journal, opening.readers);
+    let view = open::<J, &W>(world.alloc, wait, name, &journal, readers);
     teller.ends("open");
     match view {
         Ok((writer, readers)) => {
@@ -84,14 +94,14 @@ fn opened<J: Naming + Send>(
 }
 
 // A writer beside the journal of all its entries, and its readers.
-struct View<'a, J: Naming> {
+struct View<'a, J: Naming, W> {
     journal: Journal,
-    writer: ViewWriter<J, &'a HostRuntime>,
+    writer: ViewWriter<J, &'a W>,
     readers: Vec<ViewReader<J>>,
     ghost same: { writer.shown ++ writer.pending ≡ journal.entries },
 }
 
-impl<J: Naming + Send> View<'_, J> {
+impl<J: Naming + Send, W: Wait> View<'_, J, W> {
     // Takes the lines of the calls of the writer and the readers, and closes the writer. Then takes
     // those of the calls of readers whose writer is gone.
     fn talk(
@@ -125,7 +135,7 @@ impl<J: Naming + Send> View<'_, J> {
         for _ in 0..lines.rest.len() {
             let Some(text) = lines.next() else { break };
             let line = Line::of(world.alloc, text)?;
-            if line.call() == b"close" {
+            if line.call() == b"close".as_slice() {
                 break;
             }
             self.take_line(teller, world, &line)?;
@@ -164,7 +174,10 @@ impl<J: Naming + Send> View<'_, J> {
         let mut number = 0u64;
         let mut is_so = true;
         for entry in self.journal.entries() {
-            let seen = entry.registrations().first().map(|one| reader.look(&one.path));
+            let seen = entry
+                .registrations()
+                .first()
+                .map(|one| reader.look(&one.path));
             let is_shown = matches!(seen, Some(Ok(Seen::Valid(_))));
             is_so = is_so && is_shown == (number < shown);
             number = number.wrapping_add(1);
@@ -258,7 +271,7 @@ impl<J: Naming + Send> View<'_, J> {
             return teller.lost("no reader");
         };
         teller.begins("ViewWriter::prefix");
-        let prefix = <ViewWriter<J, &HostRuntime> as Tells<J>>::prefix(told);
+        let prefix = <ViewWriter<J, &W> as Tells<J>>::prefix(told);
         teller.ends("ViewWriter::prefix");
         teller.begins("ViewReader::learn");
         reader.learn(prefix);
@@ -291,7 +304,7 @@ fn take_last_lines<J: Naming>(
     for _ in 0..lines.rest.len() {
         let Some(text) = lines.next() else { break };
         let line = Line::of(world.alloc, text)?;
-        if line.call() == b"end" || !teller.goes_on() {
+        if line.call() == b"end".as_slice() || !teller.goes_on() {
             break;
         }
         ask(teller, world, &line, readers)?;
