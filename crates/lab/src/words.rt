@@ -6,6 +6,7 @@ mod faults;
 mod forecasts;
 mod journals;
 mod lines;
+mod measures;
 mod names;
 mod plans;
 mod scans;
@@ -65,7 +66,8 @@ fn take_once<W: Wait>(
         || lines::take(teller, world, lines, line)?
         || forecasts::take(teller, world, lines, line)?
         || views::take(wait, teller, world, lines, line)?
-        || faults::take(teller, world, lines, line)?;
+        || faults::take(teller, world, lines, line)?
+        || measures::take(teller, world, line)?;
     if !is_taken {
         teller.lost("there is no such call");
     }

@@ -202,47 +202,54 @@ impl<J: Naming + Send, W: Wait> View<'_, J, W> {
         Ok(())
     }
 
-    // Appends the entry with a number of a kept journal.
+    // Appends the entries of a kept journal up to a number, from the number of entries on that the
+    // view has.
     fn append(
         &mut self,
         teller: &mut Teller<'_>,
         world: &World,
         line: &Line<'_>,
     ) -> Result<(), AllocError> {
-        let Some(entry) = kept_entry(world, line) else {
-            teller.lost("no entry");
-            return Ok(());
-        };
-        let copies = thrice(world.alloc, entry)?;
-        self.journal.reserve(entry.registrations().len())?;
-        self.append_copies(teller, world.alloc, copies);
+        let first = self.journal.entries().len();
+        for number in first..line.number(1).unwrap_or(first) {
+            let Some(entry) = kept_entry(world, line.argument(0), number) else {
+                teller.lost("no entry");
+                break;
+            };
+            let copies = thrice(world.alloc, entry)?;
+            self.journal.reserve(entry.registrations().len())?;
+            if !self.is_appended(teller, world.alloc, copies) {
+                return Ok(());
+            }
+        }
+        teller.say(format_args!("{} entries", self.journal.entries().len()));
         Ok(())
     }
 
-    fn append_copies(
+    // Appends an entry, if it may come next.
+    fn is_appended(
         &mut self,
         teller: &mut Teller<'_>,
         alloc: Global,
         copies: (Entry, Entry, Entry),
-    )
+    ) -> bool
         requires alike { (copies.1 ≡ copies.0) × (copies.2 ≡ copies.0) }
         requires derived { HasDrvPath copies.0 }
         requires room { length (registered_by copies.0) ≤ self.old.journal.room }
     {
         let (entry, copy, shown) = copies;
         if let Some(_) = self.journal.table().obstacle(&entry) {
-            return teller.not_allowed();
+            teller.not_allowed();
+            return false;
         }
         teller.begins("ViewWriter::append");
         let answer = self.writer.append(shown);
         teller.ends("ViewWriter::append");
-        match answer {
-            Ok(()) => {
-                self.journal.push_reserved(entry, copy);
-                teller.say("appended");
-            }
-            Err(fault) => teller.tell_fault(alloc, &fault),
+        let answer = teller.answered(alloc, answer);
+        if answer.is_some() {
+            self.journal.push_reserved(entry, copy);
         }
+        answer.is_some()
     }
 
     fn publish(&mut self, teller: &mut Teller<'_>, alloc: Global) {
@@ -312,13 +319,11 @@ fn take_last_lines<J: Naming>(
     Ok(())
 }
 
-// Entry N of a journal, which a line `append $JOURNAL N` names.
-fn kept_entry<'a>(world: &'a World, line: &Line<'_>) -> Option<&'a Entry>
+// The entry with this number of a kept journal.
+fn kept_entry<'a>(world: &'a World, journal: &[u8], number: usize) -> Option<&'a Entry>
     ensures { IfSome result (λ entry. HasDrvPath entry.now) }
 {
-    let journal = world.journals.get(line.argument(0))?;
-    let number = line.number(1)?;
-    journal.entries().get(number)
+    world.journals.get(journal)?.entries().get(number)
 }
 
 // Three copies of an entry.
@@ -359,12 +364,14 @@ fn ask<J: Naming>(
                 tell_seen(teller, world.alloc, seen)?;
             }
         }
-        (b"closure", _) => {
+        (b"closure" | b"closure_len", _) => {
             teller.begins("ViewReader::closure");
             let answer = reader.closure(world.alloc, &paths);
             teller.ends("ViewReader::closure");
-            if let Some(all) = teller.answered(world.alloc, answer) {
-                teller.paths(&all);
+            match teller.answered(world.alloc, answer) {
+                Some(all) if line.call() == b"closure".as_slice() => teller.paths(&all),
+                Some(all) => teller.say(format_args!("{} paths", all.len())),
+                None => {}
             }
         }
         (b"seen", _) => {
