@@ -1,9 +1,12 @@
 // Counts the calls of the C library by which a program reaches the system, and refuses those that
-// it is told to refuse. It is loaded before the program by LD_PRELOAD; `tests/refused-calls`
-// compiles and uses it.
+// it is told to refuse. It is loaded before the program by LD_PRELOAD; `tests/refused-calls` and
+// `tests/program-rows` compile and use it.
 // CALLS_LOG names a file to which each call is added as a line: `done` or `refused`, the kind, the
 // thread, and the path. REFUSE is KIND:FIRST:LAST:ERRNO: the calls of that kind from the FIRST to
-// the LAST, counted from 1, fail with that error, and are not done.
+// the LAST, counted from 1, fail with that error, and are not done. BEFORE has lines `N KIND PATH:
+// COMMAND`: right before the Nth call of that kind at that path a shell runs the command, and a
+// line `before` is added; a rename is at the path that it gives. Where the command's status is not
+// 0 the call fails with that error. MOST is how many bytes each read and each write takes at most.
 #define _GNU_SOURCE
 #include <dlfcn.h>
 #include <errno.h>
@@ -11,6 +14,7 @@
 #include <pthread.h>
 #include <spawn.h>
 #include <stdarg.h>
+#include <stdint.h>
 #include <stdio.h>
 #include <stdlib.h>
 #include <string.h>
@@ -21,7 +25,7 @@
 #include <sys/wait.h>
 #include <unistd.h>
 
-enum { KINDS = 20, LONG = 8192 };
+enum { KINDS = 20, EVENTS = 8, LONG = 8192 };
 
 struct rule {
     char kind[32];
@@ -29,9 +33,22 @@ struct rule {
     int error;
 };
 
+struct event {
+    char kind[32], path[4000];
+    long number, count;
+    const char *command;
+};
+
+typedef int spawning(pid_t *, const char *, const posix_spawn_file_actions_t *,
+                     const posix_spawnattr_t *, char *const[], char *const[]);
+
+#define NEXT(function, name) function next = (function)dlsym(RTLD_NEXT, name)
+
 static const char *names[KINDS];
 static long counts[KINDS];
 static struct rule rule;
+static struct event events[EVENTS];
+static size_t most = -1;
 static int log_file = -2;
 static pthread_mutex_t lock = PTHREAD_MUTEX_INITIALIZER;
 
@@ -39,6 +56,54 @@ static void read_rule(const char *text) {
     const char *form = "%31[^:]:%ld:%ld:%d";
     if (!text || sscanf(text, form, rule.kind, &rule.first, &rule.last, &rule.error) != 4)
         rule.kind[0] = 0;
+}
+
+static void read_events(const char *text) {
+    char *rest = strdup(text ? text : ""), *line;
+    for (int i = 0; (line = strtok_r(rest, "\n", &rest)); i++) {
+        struct event *it = &events[i];
+        int at = 0;
+        if (i < EVENTS)
+            sscanf(line, "%ld %31s %3999[^:]: %n", &it->number, it->kind, it->path, &at);
+        if (!at)
+            abort();
+        it->command = line + at;
+    }
+}
+
+// The status of a command, which runs without this library.
+static int status_of(const char *command) {
+    NEXT(spawning *, "posix_spawn");
+    char *words[] = {"sh", "-c", (char *)command, 0}, *settings[] = {"PATH=/usr/bin:/bin", 0};
+    pid_t pid;
+    int status;
+    if (next(&pid, "/bin/sh", 0, 0, words, settings))
+        abort();
+    while (syscall(SYS_wait4, pid, &status, 0, 0) != pid)
+        ;
+    return WIFEXITED(status) ? WEXITSTATUS(status) : EIO;
+}
+
+static void add_line(const char *done, const char *kind, const char *path) {
+    char line[LONG];
+    long thread = syscall(SYS_gettid);
+    int length = snprintf(line, sizeof line, "%s %s %ld %.4000s\n", done, kind, thread, path);
+    if (log_file >= 0)
+        syscall(SYS_write, log_file, line, length);
+}
+
+// Lets happen what is to happen before a call, and gives the error with which it is refused, or 0.
+static int happened(const char *kind, const char *path) {
+    const char *to = strstr(path, " > ");
+    int error = 0;
+    for (struct event *it = events; it < events + EVENTS && it->command; it++) {
+        int is_at = strcmp(it->kind, kind) == 0 && strcmp(it->path, to ? to + 3 : path) == 0;
+        if (is_at && ++it->count == it->number) {
+            error = status_of(it->command);
+            add_line("before", kind, path);
+        }
+    }
+    return error;
 }
 
 static void begin(void) {
@@ -52,6 +117,9 @@ static void begin(void) {
         log_file = far;
     }
     read_rule(getenv("REFUSE"));
+    read_events(getenv("BEFORE"));
+    if (getenv("MOST"))
+        most = atol(getenv("MOST"));
 }
 
 static long *count_of(const char *kind) {
@@ -66,20 +134,14 @@ static long *count_of(const char *kind) {
 
 // Counts a call, adds its line, and gives the error with which it is refused, or 0.
 static int refused(const char *kind, const char *path) {
-    char line[LONG];
-    int error = 0;
     pthread_mutex_lock(&lock);
     if (log_file == -2)
         begin();
+    int error = happened(kind, path);
     long number = ++*count_of(kind);
     if (strcmp(rule.kind, kind) == 0 && rule.first <= number && number <= rule.last)
         error = rule.error;
-    if (log_file >= 0) {
-        const char *done = error ? "refused" : "done";
-        long thread = syscall(SYS_gettid);
-        int length = snprintf(line, sizeof line, "%s %s %ld %.4000s\n", done, kind, thread, path);
-        syscall(SYS_write, log_file, line, length);
-    }
+    add_line(error ? "refused" : "done", kind, path);
     pthread_mutex_unlock(&lock);
     return error;
 }
@@ -108,7 +170,7 @@ static const char *path_of(int fd, const char *name, char *room) {
         }                                       \
     } while (0)
 
-#define NEXT(function, name) function next = (function)dlsym(RTLD_NEXT, name)
+static size_t least(size_t count) { return count < most ? count : most; }
 
 static int open_at(int dir, const char *path, int flags, mode_t mode) {
     char room[LONG];
@@ -140,7 +202,7 @@ int openat(int dir, const char *path, int flags, ...) {
 ssize_t read(int fd, void *bytes, size_t count) {
     char room[LONG];
     REFUSE("read", path_of(fd, 0, room), -1);
-    return syscall(SYS_read, fd, bytes, count);
+    return syscall(SYS_read, fd, bytes, least(count));
 }
 
 static const char *write_kind(int fd) { return fd == 1 ? "print" : fd == 2 ? "tell" : "write"; }
@@ -148,12 +210,14 @@ static const char *write_kind(int fd) { return fd == 1 ? "print" : fd == 2 ? "te
 ssize_t write(int fd, const void *bytes, size_t count) {
     char room[LONG];
     REFUSE(write_kind(fd), path_of(fd, 0, room), -1);
-    return syscall(SYS_write, fd, bytes, count);
+    return syscall(SYS_write, fd, bytes, least(count));
 }
 
 ssize_t writev(int fd, const struct iovec *parts, int count) {
     char room[LONG];
     REFUSE(write_kind(fd), path_of(fd, 0, room), -1);
+    if (most < SIZE_MAX)
+        return syscall(SYS_write, fd, parts->iov_base, least(parts->iov_len));
     return syscall(SYS_writev, fd, parts, count);
 }
 
@@ -191,6 +255,11 @@ int rename(const char *from, const char *to) {
     snprintf(both, sizeof both, "%.3900s > %.3900s", from, to);
     REFUSE("rename", both, -1);
     return (int)syscall(SYS_rename, from, to);
+}
+
+ssize_t readlink(const char *path, char *bytes, size_t count) {
+    REFUSE("read-link", path, -1);
+    return syscall(SYS_readlinkat, AT_FDCWD, path, bytes, count);
 }
 
 int unlink(const char *path) {
@@ -236,9 +305,6 @@ int fcntl(int fd, int command, ...) {
         REFUSE("duplicate", path_of(fd, 0, room), -1);
     return (int)syscall(SYS_fcntl, fd, command, value);
 }
-
-typedef int spawning(pid_t *, const char *, const posix_spawn_file_actions_t *,
-                     const posix_spawnattr_t *, char *const[], char *const[]);
 
 int posix_spawn(pid_t *pid, const char *path, const posix_spawn_file_actions_t *actions,
                 const posix_spawnattr_t *attributes, char *const words[], char *const settings[]) {

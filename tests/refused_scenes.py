@@ -151,7 +151,8 @@ class Scene:
 
     def passes(self, call, name):
         """Whether a run goes on as ever where a call is refused with an error."""
-        return name == "EINTR" or (name == "EACCES" and self.is_of_lock(call))
+        is_passed = name in ("EINTR", "EEXIST", "EOPNOTSUPP")
+        return is_passed or (name == "EACCES" and self.is_of_lock(call))
 
     def told_of(self, told, calls, at):
         """What is told: status, standard output, standard error."""

@@ -53,8 +53,8 @@ STEPS = {
 # What may stand before the first row.
 FRONT = {"text": [1], "for": range(3, 100)}
 # The texts and numbers of a run.
-RUN_TEXTS = {"out", "err", "by path", "too much"}
-RUN_NUMBERS = {"status", "room"}
+RUN_TEXTS = {"out", "err", "by path", "too much", "before", "calls", "calls by path"}
+RUN_NUMBERS = {"status", "room", "most"}
 
 
 class Mistake(Exception):

@@ -18,7 +18,8 @@ Steps of one line give a text to the program, and say what it tells of that (`ro
 Below a run stand what it writes to standard output (`out`) and to standard error (`err`), and its
 status. Lines of `by path` come before those of `out`, in the order of the paths in them.
 With `room N` standard output takes N bytes and refuses the next; with `too much` the run is made
-with room for each number of bytes that is less than this text's.
+with room for each number of bytes that is less than this text's. What happens between two calls of
+the system is said by `before` (`row_calls.py`).
 """
 
 import hashlib
@@ -31,6 +32,7 @@ import stat
 import subprocess
 
 from reading import own_path
+from row_calls import compare_calls, settings
 from row_faults import Fault, expect, told
 from row_lab import take_lab
 from row_texts import TEXTS
@@ -63,8 +65,9 @@ class Ran:
 class Scene:
     """A store folder below a folder, in which the program runs."""
 
-    def __init__(self, program, folder, texts):
+    def __init__(self, program, folder, texts, library=None):
         self.program, self.folder, self.texts = program, folder, texts
+        self.library = library
         self.dir = folder / "store"
         self.dir.mkdir()
         self.names = {"<dir>": str(self.dir), "<bom>": "\ufeff", "<tab>": "\t", "<cr>": "\r"}
@@ -107,7 +110,7 @@ class Scene:
 
     # Runs.
 
-    def run(self, words, room=None):
+    def run(self, words, room=None, env=None):
         """Runs the program, and gives how that ended. Standard output takes `room` bytes."""
         start = GREATEST_FILE - room if room is not None else 0
         with open(self.folder / "out", "w+b") as out, open(self.folder / "err", "w+b") as err:
@@ -118,6 +121,7 @@ class Scene:
                 ["nix_realise", *words],
                 executable=self.program,
                 cwd=self.folder,
+                env=env,
                 preexec_fn=before,
                 start_new_session=True,
                 **streams,
@@ -137,9 +141,10 @@ class Scene:
         elif "room" in step.numbers:
             self.compare_narrow(step, words, step.numbers["room"])
         else:
-            ran = self.run(words)
+            ran = self.run(words, env=settings(self, step))
             wanted = told(self.report(step), self.text(step, "err"), step.numbers.get("status", 0))
             expect(wanted, told(ran.out, ran.err, ran.status))
+            compare_calls(self, step)
 
     def report(self, step):
         """What a run has to print: lines in the order of the paths in them, then a text."""

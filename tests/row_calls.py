@@ -1,0 +1,79 @@
+"""Runs of a row with the library of `refused_calls.c`, which lets something happen between two
+calls of the system, and keeps a log of them.
+
+A line of `before` is `N KIND PATH: COMMAND`: right before the Nth call of a kind at a path the
+shell runs the command. Where that fails the call is refused with its status as the error; `refuse
+EIO` stands for such an end. With `most N` each read and each write takes N bytes at most. `calls`
+are all calls of the run, and `calls by path` those at the paths that it names, in the order at each
+path.
+"""
+
+import errno
+import os
+import re
+import shutil
+import subprocess
+
+from row_faults import expect
+from scenes import HERE
+
+LABELS = {"before", "calls", "calls by path"}
+NUMBERS = {"most"}
+REFUSE = re.compile(r"\brefuse (E[A-Z]+)\b")
+
+
+def compiled(folder):
+    """The library, or none where there is no compiler."""
+    compiler = next(filter(shutil.which, ["cc", "clang", "gcc"]), None)
+    if compiler is None:
+        return None
+    library = os.path.join(folder, "refused_calls.so")
+    source = str(HERE / "refused_calls.c")
+    words = [compiler, "-O1", "-shared", "-fPIC", "-o", library, source, "-ldl"]
+    subprocess.run(words, check=True)
+    return library
+
+
+def needs_library(step):
+    """Whether a step is a run with the library."""
+    return bool(LABELS & set(step.texts) or NUMBERS & set(step.numbers))
+
+
+def settings(scene, step):
+    """The environment of a run; none other than this process's if it has no library."""
+    if not needs_library(step):
+        return None
+    log = scene.folder / "calls"
+    log.unlink(missing_ok=True)
+    number_of = lambda found: f"exit {getattr(errno, found[1])}"
+    more = {"LD_PRELOAD": scene.library, "CALLS_LOG": str(log)}
+    more["BEFORE"] = REFUSE.sub(number_of, scene.text(step, "before"))
+    if "most" in step.numbers:
+        more["MOST"] = str(step.numbers["most"])
+    return {**os.environ, **more}
+
+
+def path_of(call):
+    """The path of a call."""
+    return call.partition(" ")[2]
+
+
+def compare_calls(scene, step):
+    """Compares the calls that a run made."""
+    if not needs_library(step):
+        return
+    text = (scene.folder / "calls").read_text(errors="surrogateescape")
+    calls = [line.split(" ", 3) for line in text.splitlines()]
+    happened = [call for call in calls if call[0] == "before"]
+    expect(str(scene.text(step, "before").count("\n")), str(len(happened)))
+    # What is printed goes to a file of the script.
+    calls = [
+        (kind, path if kind != "print" else "") for done, kind, _, path in calls if done != "before"
+    ]
+    made = [f"{kind} {path}".rstrip() for kind, path in calls]
+    if "calls" in step.texts:
+        expect(scene.text(step, "calls"), "".join(f"{call}\n" for call in made))
+    wanted = scene.text(step, "calls by path").splitlines()
+    paths = set(map(path_of, wanted))
+    found = [call for call in made if path_of(call) in paths]
+    expect(*["\n".join(sorted(calls, key=path_of)) for calls in (wanted, found)])
