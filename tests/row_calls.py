@@ -3,9 +3,10 @@ calls of the system, and keeps a log of them.
 
 A line of `before` is `N KIND PATH: COMMAND`: right before the Nth call of a kind at a path the
 shell runs the command. Where that fails the call is refused with its status as the error; `refuse
-EIO` stands for such an end. With `most N` each read and each write takes N bytes at most. `calls`
-are all calls of the run, and `calls by path` those at the paths that it names, in the order at each
-path.
+EIO` stands for such an end. With `most N` each read and each write takes N bytes at most.
+
+`calls` are all calls of the run, `first calls` and `last calls` those with which it begins and
+ends, and `calls by path` those at the paths that it names, in the order at each path.
 """
 
 import errno
@@ -17,7 +18,13 @@ import subprocess
 from row_faults import expect
 from scenes import HERE
 
-LABELS = {"before", "calls", "calls by path"}
+# The labels of texts that are parts of the calls, with those parts of as many calls.
+PARTS = {
+    "calls": lambda calls, _: calls,
+    "first calls": lambda calls, count: calls[:count],
+    "last calls": lambda calls, count: calls[-count:],
+}
+LABELS = {"before", "calls by path", *PARTS}
 NUMBERS = {"most"}
 REFUSE = re.compile(r"\brefuse (E[A-Z]+)\b")
 
@@ -71,8 +78,9 @@ def compare_calls(scene, step):
         (kind, path if kind != "print" else "") for done, kind, _, path in calls if done != "before"
     ]
     made = [f"{kind} {path}".rstrip() for kind, path in calls]
-    if "calls" in step.texts:
-        expect(scene.text(step, "calls"), "".join(f"{call}\n" for call in made))
+    for label in PARTS.keys() & step.texts.keys():
+        wanted = scene.text(step, label).splitlines()
+        expect("\n".join(wanted), "\n".join(PARTS[label](made, len(wanted))))
     wanted = scene.text(step, "calls by path").splitlines()
     paths = set(map(path_of, wanted))
     found = [call for call in made if path_of(call) in paths]

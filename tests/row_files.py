@@ -9,6 +9,8 @@ stand for a text, and `for <WORD> in VALUES` has each row taken once with each o
 
 import re
 
+from row_calls import LABELS, NUMBERS
+
 INLINE = re.compile(r"(.*?) ([|+]) (.*)")
 PIECE = re.compile(r"    ([a-z ]*)([|+])(?: (.*))?")
 SETTING = re.compile(r"    ([a-z]+) ([0-9]+)")
@@ -53,8 +55,8 @@ STEPS = {
 # What may stand before the first row.
 FRONT = {"text": [1], "for": range(3, 100)}
 # The texts and numbers of a run.
-RUN_TEXTS = {"out", "err", "by path", "too much", "before", "calls", "calls by path"}
-RUN_NUMBERS = {"status", "room", "most"}
+RUN_TEXTS = {"out", "err", "by path", "too much", *LABELS}
+RUN_NUMBERS = {"status", "room", *NUMBERS}
 
 
 class Mistake(Exception):

@@ -1,7 +1,7 @@
 """Takes the steps of a row in a store folder of its own.
 
-A word in angle brackets stands for a text: `<dir>` for the store folder, `<bom>` for a byte order
-mark, `<tab>` and `<cr>` for a tab and a carriage return, and other words for what earlier steps
+A word in angle brackets stands for a text: `<dir>` for the store folder, `<above>` for the folder
+above it, in which the program runs, `<bom>` for a byte order mark, `<tab>` and `<cr>` for a tab and a carriage return, and other words for what earlier steps
 name. `put any` writes a draft to `<dir>/file` and lets `add-drv` add it under the name `any`: then
 `<any>` stands for the derivation's path, `<any.out>` for the path of its output `out`, and
 `<any.file>` for the name of its file. `twins`
@@ -71,6 +71,7 @@ class Scene:
         self.dir = folder / "store"
         self.dir.mkdir()
         self.names = {"<dir>": str(self.dir), "<bom>": "\ufeff", "<tab>": "\t", "<cr>": "\r"}
+        self.names["<above>"] = str(folder)
         self.names["<xff>"] = "\udcff"
 
     def said(self, text):
