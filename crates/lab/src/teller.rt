@@ -26,6 +26,7 @@ pub(crate) struct Teller<'a> {
     stand: Stand,
     tells_times: bool,
     start: Option<Instant>,
+    is_hushed: bool,
 }
 
 impl<'a> Teller<'a> {
@@ -37,7 +38,13 @@ impl<'a> Teller<'a> {
             stand: Stand::Answered,
             tells_times,
             start: None,
+            is_hushed: false,
         }
+    }
+
+    /// Prints nothing from now on, or prints again.
+    pub(crate) fn hush(&mut self, is_hushed: bool) {
+        self.is_hushed = is_hushed;
     }
 
     /// What the program stands on.
@@ -47,7 +54,7 @@ impl<'a> Teller<'a> {
 
     /// Prints a line.
     pub(crate) fn say<D: Display + Drop>(&mut self, line: D) {
-        if self.rt.println(line).is_err() {
+        if !self.is_hushed && self.rt.println(line).is_err() {
             self.stand = Stand::Lost;
         }
     }

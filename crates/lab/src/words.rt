@@ -1,5 +1,15 @@
 //! The calls, by the library.
 
+// What a call answers, between the lines that say where it begins and ends.
+macro_rules! called {
+    ($teller:expr, $name:expr, $call:expr) => {{
+        $teller.begins($name);
+        let answer = $call;
+        $teller.ends($name);
+        answer
+    }};
+}
+
 mod books;
 mod drvs;
 mod faults;
