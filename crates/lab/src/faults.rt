@@ -179,3 +179,23 @@ impl Fault for GraphFault {
         }
     }
 }
+
+impl Fault for ScanFault {
+    fn is_want(&self) -> bool {
+        matches!(self, ScanFault::NoMemory)
+    }
+
+    fn words(&self, alloc: Global) -> Result<String, AllocError> {
+        format!(in alloc; "{self:?}")
+    }
+}
+
+impl Fault for OutletFault {
+    fn is_want(&self) -> bool {
+        matches!(self, OutletFault::NoMemory)
+    }
+
+    fn words(&self, alloc: Global) -> Result<String, AllocError> {
+        format!(in alloc; "{self:?}")
+    }
+}

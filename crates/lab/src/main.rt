@@ -18,11 +18,13 @@
 //! | `shelf`, `world` | what is kept under names |
 //! | `teller` | what is printed of calls and their answers |
 //! | `faults` | faults in words |
+//! | `rising` | lists of paths that rise |
 //! | `words` | the calls, by the library |
 #![tactic(auto)]
 
 mod faults;
 mod line;
+mod rising;
 mod shelf;
 mod teller;
 mod words;

@@ -7,6 +7,7 @@ use nix_drv::{Derivation, ListSource};
 use nix_names::{NameFault, StoreDir, StorePath, parse_path};
 use ref_scan::{Scanner, Tree};
 use std::alloc::{AllocError, Global};
+use std::slice;
 use valid_table::{Journal, Table};
 
 /// The store folder of all paths, until a line names another.
@@ -73,16 +74,31 @@ impl World {
         parse_path(self.alloc, &self.dir()?, self.text(word))
     }
 
-    /// The paths that words stand for.
+    /// The paths that words stand for, each a path or a list under its name.
     pub(crate) fn paths(&self, words: &[&[u8]]) -> Result<Vec<StorePath>, NameFault> {
         let dir = self.dir()?;
         let mut paths = Vec::new(self.alloc);
         for word in words {
-            let path = parse_path(self.alloc, &dir, self.text(word))?;
-            if paths.push(path).is_err() {
-                return Err(NameFault::NoMemory);
+            match self.lists.get(word) {
+                Some(list) => push_copies(self.alloc, &mut paths, list)?,
+                None => {
+                    let path = parse_path(self.alloc, &dir, self.text(word))?;
+                    push_copies(self.alloc, &mut paths, slice::from_ref(&path))?;
+                }
             }
         }
         Ok(paths)
     }
+}
+
+/// Adds copies of some paths to a list.
+pub(crate) fn push_copies(
+    alloc: Global,
+    list: &mut Vec<StorePath>,
+    paths: &[StorePath],
+) -> Result<(), AllocError> {
+    for path in paths {
+        list.push(path.copy(alloc)?)?;
+    }
+    Ok(())
 }
