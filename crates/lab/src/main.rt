@@ -19,6 +19,7 @@
 //! | `teller` | what is printed of calls and their answers |
 //! | `faults` | faults in words |
 //! | `rising` | lists of paths that rise |
+//! | `stop` | why a line is over before its end |
 //! | `words` | the calls, by the library |
 #![tactic(auto)]
 
@@ -26,6 +27,7 @@ mod faults;
 mod line;
 mod rising;
 mod shelf;
+mod stop;
 mod teller;
 mod words;
 mod world;

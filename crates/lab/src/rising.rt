@@ -1,33 +1,22 @@
 //! Lists of paths that rise, as some calls require.
-ghost use Rattle.std.specs.Prelude.{◌++◌, ◌∷◌, [], IfOk, IfSome, IsTrue};
+ghost use Rattle.std.specs.Prelude.{◌++◌, ◌∷◌, [], IfOk, IsTrue};
 ghost use Rattle.nix_names.specs.Rising.{IsRising};
 
-use crate::teller::Teller;
+use crate::stop::Stop;
 use crate::world::World;
 use nix_names::StorePath;
 use std::alloc::{AllocError, Global};
 
-/// The paths that words stand for, where they rise strictly. Where they don't, that is told.
-pub(crate) fn rising(
-    teller: &mut Teller<'_>,
-    world: &World,
-    words: &[&[u8]],
-) -> Option<Vec<StorePath>>
-    ensures { IfSome result (λ paths. IsRising paths.items) }
+/// The paths that words stand for, where they rise strictly.
+pub(crate) fn rising(world: &World, words: &[&[u8]]) -> Result<Vec<StorePath>, Stop>
+    ensures { IfOk result (λ paths. IsRising paths.items) }
 {
-    let Ok(paths) = world.paths(words) else {
-        teller.lost("no paths");
-        return None;
-    };
-    let Ok(first) = first_rising(world.alloc, &paths) else {
-        teller.lost("no memory");
-        return None;
-    };
+    let paths = world.paths(words)?;
+    let first = first_rising(world.alloc, &paths)?;
     if first.len() < paths.len() {
-        teller.not_allowed();
-        return None;
+        return Err(Stop::NotAllowed);
     }
-    Some(first)
+    Ok(first)
 }
 
 // The paths without those that are not greater than each one before them.

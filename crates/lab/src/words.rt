@@ -12,6 +12,7 @@ macro_rules! called {
 
 mod books;
 mod drvs;
+mod entries;
 mod faults;
 mod forecasts;
 mod journals;
@@ -70,6 +71,7 @@ fn take_once<W: Wait>(
         || drvs::take(teller, world, lines, line)?
         || plans::take(teller, world, lines, line)?
         || scans::take(teller, world, lines, line)?
+        || entries::take(teller, world, lines, line)?
         || journals::take(teller, world, lines, line)?
         || tables::take(teller, world, lines, line)?
         || books::take(teller, world, lines, line)?
