@@ -1,8 +1,13 @@
-//! Large texts, and how much memory is held.
+//! What `bench/` measures by: plans of files on disk, large texts, and the memory that is held.
 
-use crate::line::Line;
+use crate::line::{Line, number_of};
 use crate::teller::Teller;
+use crate::words::names::{Done, file_bytes, lost};
 use crate::world::World;
+use drv_graph::Plan;
+use memchr::memmem;
+use nix_drv::{DrvSource, SourceFault};
+use nix_names::StorePath;
 use std::alloc::{AllocError, Global};
 use std::fs;
 
@@ -13,12 +18,9 @@ pub(crate) fn take(
     line: &Line<'_>,
 ) -> Result<bool, AllocError> {
     match line.call() {
-        b"chain" => {
-            let text = chain(world.alloc, line.number(0).unwrap_or(0))?;
-            world
-                .texts
-                .keep(world.alloc, line.name(), text.into_bytes())?;
-        }
+        b"chain" => chain(world, line)?,
+        b"load_files" => load(teller, world, line)?,
+        b"memmem" => find(teller, world, line),
         b"memory" => memory(teller),
         _ => return Ok(false),
     }
@@ -26,28 +28,72 @@ pub(crate) fn take(
 }
 
 // The text of a journal of so many paths, each of which but the first refers to the one before it.
-fn chain(alloc: Global, length: usize) -> Result<String, AllocError> {
-    let mut text = String::new(alloc);
+fn chain(world: &mut World, line: &Line<'_>) -> Done {
+    let mut text = String::new(world.alloc);
     text.push_str("realiser-journal 2\n")?;
-    for n in 0..length {
-        let path = format!(in alloc; "A /nix/store/{n:032}-x -\n")?;
+    for n in 0..line.number(0).unwrap_or(0) {
+        let path = format!(in world.alloc; "A /nix/store/{n:032}-x -\n")?;
         text.push_str(&path)?;
         if let Some(before) = n.checked_sub(1) {
-            let reference = format!(in alloc; "R /nix/store/{before:032}-x\n")?;
+            let reference = format!(in world.alloc; "R /nix/store/{before:032}-x\n")?;
             text.push_str(&reference)?;
         }
     }
-    Ok(text)
+    world.texts.keep(world.alloc, line.name(), text.into_bytes())
+}
+
+// Derivations' files on disk, each under the text of its path.
+#[derive(Drop)]
+struct Folder<'a> {
+    files: &'a HostRuntime,
+}
+
+impl DrvSource for Folder<'_> {
+    ghost use Rattle.std.specs.Prelude.{⊤};
+
+    ghost gives = { λ _ _ _. ⊤ };
+
+    ghost failures = { λ _. 0 };
+
+    fn fetch(&mut self, _: Global, path: &StorePath) -> Result<Vec<u8>, SourceFault> {
+        fs::read(self.files, path.as_str()).map_err(|_| SourceFault::Missing)
+    }
+}
+
+// `load_files ROOT..`: the plan of some roots, from the files of the store folder.
+fn load(teller: &mut Teller<'_>, world: &mut World, line: &Line<'_>) -> Done {
+    let (Ok(dir), Ok(roots)) = (world.dir(), world.paths(line.arguments(0))) else {
+        return lost(teller, "no path");
+    };
+    let mut source = Folder { files: teller.rt() };
+    teller.begins("Plan::load");
+    let answer = Plan::load(world.alloc, &mut source, &dir, &roots);
+    teller.ends("Plan::load");
+    match teller.answered(world.alloc, answer) {
+        Some(plan) => {
+            teller.say(format_args!("{} derivations", plan.len()));
+            world.plans.keep(world.alloc, line.name(), plan)
+        }
+        None => Ok(()),
+    }
+}
+
+// One pass over a text, which `scan` is compared with.
+fn find(teller: &mut Teller<'_>, world: &World, line: &Line<'_>) {
+    let (text, wanted) = (world.text(line.argument(0)), world.text(line.argument(1)));
+    teller.begins("memmem");
+    let place = memmem::find(text, wanted);
+    teller.ends("memmem");
+    teller.say(format_args!("{place:?}"));
 }
 
 // Says how many bytes of memory the program holds.
 fn memory(teller: &mut Teller<'_>) {
-    let pages = fs::read_to_string(teller.rt(), "/proc/self/statm");
+    let pages = file_bytes(teller, b"/proc/self/statm");
     let held = match &pages {
-        Ok(pages) => pages.as_str().split_whitespace().nth(1),
-        Err(_) => None,
+        Some(pages) => pages.split(|byte| *byte == b' ').nth(1).and_then(number_of),
+        None => None,
     };
-    let held = held.and_then(|count| count.parse::<u64>().ok());
     match held {
         Some(pages) => teller.say(format_args!("holds {} bytes", pages.saturating_mul(4096))),
         None => teller.lost("the system does not tell how much memory is held"),

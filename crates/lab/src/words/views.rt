@@ -5,6 +5,7 @@ ghost use Rattle.valid_table.specs.Valid.{HasDrvPath};
 
 use crate::line::{Line, Lines};
 use crate::teller::Teller;
+use crate::words::faults::tell_all;
 use crate::world::World;
 use std::alloc::{AllocError, Global};
 use std::marker::Brand;
@@ -372,6 +373,12 @@ fn ask<J: Naming>(
                 Some(all) if line.call() == b"closure".as_slice() => teller.paths(&all),
                 Some(all) => teller.say(format_args!("{} paths", all.len())),
                 None => {}
+            }
+        }
+        (b"fault", Some(path)) => {
+            if let Err(fault) = reader.look(path) {
+                let faults = [fault];
+                tell_all(teller, world.alloc, "ViewFault::number", &faults, |it| it.number())?;
             }
         }
         (b"seen", _) => {
