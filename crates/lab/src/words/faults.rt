@@ -87,13 +87,21 @@ const SOURCE_FAULTS: [SourceFault; 3] = [
     SourceFault::Device,
 ];
 
-fn of_derivations(
-    teller: &mut Teller<'_>,
-    alloc: Global,
-    x: &StorePath,
-) -> Result<(), AllocError> {
-    tell_all(teller, alloc, "NameFault::number", &NAME_FAULTS, |it| it.number())?;
-    tell_all(teller, alloc, "SourceFault::number", &SOURCE_FAULTS, |it| it.number())?;
+fn of_derivations(teller: &mut Teller<'_>, alloc: Global, x: &StorePath) -> Result<(), AllocError> {
+    tell_all(
+        teller,
+        alloc,
+        "NameFault::number",
+        &NAME_FAULTS,
+        |it| it.number(),
+    )?;
+    tell_all(
+        teller,
+        alloc,
+        "SourceFault::number",
+        &SOURCE_FAULTS,
+        |it| it.number(),
+    )?;
     let faults = [
         DrvFault::NoMemory,
         DrvFault::Syntax(7),
@@ -121,7 +129,13 @@ fn of_plans(teller: &mut Teller<'_>, alloc: Global, x: &StorePath) -> Result<(),
         OutputFault::OutputMismatch(out(alloc)?, x.copy(alloc)?),
         OutputFault::EnvMismatch(out(alloc)?),
     ];
-    tell_all(teller, alloc, "OutputFault::number", &faults, |it| it.number())?;
+    tell_all(
+        teller,
+        alloc,
+        "OutputFault::number",
+        &faults,
+        |it| it.number(),
+    )?;
     let faults = [
         NodeFault::Unreadable,
         NodeFault::TooMany,
@@ -130,14 +144,26 @@ fn of_plans(teller: &mut Teller<'_>, alloc: Global, x: &StorePath) -> Result<(),
         NodeFault::Outputs(OutputFault::BadName),
         NodeFault::OutputClash,
     ];
-    tell_all(teller, alloc, "NodeFault::number", &faults, |it| it.number())?;
+    tell_all(
+        teller,
+        alloc,
+        "NodeFault::number",
+        &faults,
+        |it| it.number(),
+    )?;
     let faults = [
         GraphFault::NoMemory,
         GraphFault::Name,
         GraphFault::At(x.copy(alloc)?, NodeFault::Cycle),
         GraphFault::Draft(NodeFault::Outputs(OutputFault::MixedOutputs)),
     ];
-    tell_all(teller, alloc, "GraphFault::number", &faults, |it| it.number())
+    tell_all(
+        teller,
+        alloc,
+        "GraphFault::number",
+        &faults,
+        |it| it.number(),
+    )
 }
 
 // The fault of an entry that adds a path, and refers to another that is not valid.
@@ -166,12 +192,36 @@ fn of_tables(
         unclosed(alloc, x, y)?,
         TableFault::AlreadyValid(x.copy(alloc)?),
     ];
-    tell_all(teller, alloc, "TableFault::number", &faults, |it| it.number())?;
+    tell_all(
+        teller,
+        alloc,
+        "TableFault::number",
+        &faults,
+        |it| it.number(),
+    )?;
     let faults = [ViewFault::NoMemory, ViewFault::NotValid(x.copy(alloc)?)];
-    tell_all(teller, alloc, "ViewFault::number", &faults, |it| it.number())?;
+    tell_all(
+        teller,
+        alloc,
+        "ViewFault::number",
+        &faults,
+        |it| it.number(),
+    )?;
     let faults = [OutletFault::NoMemory, OutletFault::NoView];
-    tell_all(teller, alloc, "OutletFault::number", &faults, |it| it.number())?;
-    tell_all(teller, alloc, "OpenFault::number", &[OpenFault::NoMemory], |it| it.number())
+    tell_all(
+        teller,
+        alloc,
+        "OutletFault::number",
+        &faults,
+        |it| it.number(),
+    )?;
+    tell_all(
+        teller,
+        alloc,
+        "OpenFault::number",
+        &[OpenFault::NoMemory],
+        |it| it.number(),
+    )
 }
 
 const REASONS: [Reason; 10] = [
@@ -209,7 +259,13 @@ fn of_runs(teller: &mut Teller<'_>, alloc: Global) -> Result<(), AllocError> {
         BookFault::ForeignLease,
         BookFault::NotLawful,
     ];
-    tell_all(teller, alloc, "BookFault::number", &faults, |it| it.number())?;
+    tell_all(
+        teller,
+        alloc,
+        "BookFault::number",
+        &faults,
+        |it| it.number(),
+    )?;
     let faults = [
         RunFault::NoView,
         RunFault::NoWorkers,
@@ -219,7 +275,13 @@ fn of_runs(teller: &mut Teller<'_>, alloc: Global) -> Result<(), AllocError> {
     ];
     tell_all(teller, alloc, "RunFault::number", &faults, |it| it.number())?;
     let faults = [ScanFault::NoMemory];
-    tell_all(teller, alloc, "ScanFault::number", &faults, |it| it.number())
+    tell_all(
+        teller,
+        alloc,
+        "ScanFault::number",
+        &faults,
+        |it| it.number(),
+    )
 }
 
 fn of_refusals(teller: &mut Teller<'_>) {
@@ -228,5 +290,25 @@ fn of_refusals(teller: &mut Teller<'_>) {
         let number = refusal.number();
         teller.ends("Refusal::number");
         teller.say(format_args!("Refusal::number {refusal:?} {number}"));
+    }
+}
+// TEMPORARY
+impl Fault for BookFault {
+    fn is_want(&self) -> bool {
+        matches!(self, BookFault::NoMemory)
+    }
+
+    fn words(&self, alloc: Global) -> Result<String, AllocError> {
+        format!(in alloc; "{self:?}")
+    }
+}
+
+impl Fault for ScanFault {
+    fn is_want(&self) -> bool {
+        true
+    }
+
+    fn words(&self, alloc: Global) -> Result<String, AllocError> {
+        format!(in alloc; "{self:?}")
     }
 }

@@ -39,7 +39,9 @@ fn chain(world: &mut World, line: &Line<'_>) -> Done {
             text.push_str(&reference)?;
         }
     }
-    world.texts.keep(world.alloc, line.name(), text.into_bytes())
+    world
+        .texts
+        .keep(world.alloc, line.name(), text.into_bytes())
 }
 
 // Derivations' files on disk, each under the text of its path.
