@@ -1,29 +1,64 @@
-"""Finds the program that measures, and runs programs."""
+"""Finds the program that measures, runs programs, and reads what was measured."""
 
+import collections
 import os
+import re
 import subprocess
 import sys
+import tempfile
 import time
 
 TOP = os.path.dirname(os.path.dirname(os.path.abspath(__file__)))
-PROGRAM = os.path.join(TOP, "crates", "bench_program", "out", "bench_program")
+# A call that was measured: its name, the nanoseconds that it took, and the lines that tell its answer. The calls of a line that tells
+# none of them are one without a name.
+Call = collections.namedtuple("Call", "name nanos told")
+BEGINS, ENDS, TOOK = (re.compile(text) for text in (r"begins \d+ .*", r"ends \d+ (.*)", r"took (\d+) ns"))
 
 
-def bench_program():
-    """The path of the program whose words measure the parts of a run. It is built by hand, as the program of a run is."""
-    if not os.path.exists(PROGRAM):
-        sys.exit("build the program first: (cd crates/bench_program && rt run)")
-    return PROGRAM
+def lab_program():
+    """The path of `lab`, whose lines call the libraries: the value of LAB, or what is built by hand, as the program of a run is."""
+    program = os.environ.get("LAB") or os.path.join(TOP, "crates", "lab", "out", "lab")
+    if not os.path.exists(program):
+        sys.exit("build the program first: (cd crates/lab && rt run)")
+    return program
 
 
-def measured(command, **options):
-    """What a command prints, the seconds that it took, and the most memory that it held, in bytes."""
-    begin = time.perf_counter()
-    with subprocess.Popen(command, stdout=subprocess.PIPE, text=True, **options) as run:
-        printed = run.stdout.read()
-        _, status, usage = os.wait4(run.pid, 0)
-        run.returncode = os.waitstatus_to_exitcode(status)
+def measured(command, script="", **options):
+    """What a command prints of lines that it reads, the seconds that it took, and the most memory that it held, in bytes."""
+    with tempfile.TemporaryFile("w+", encoding="ascii") as lines:
+        lines.write(script)
+        lines.seek(0)
+        begin = time.perf_counter()
+        with subprocess.Popen(command, stdin=lines, stdout=subprocess.PIPE, text=True, **options) as run:
+            printed = run.stdout.read()
+            _, status, usage = os.wait4(run.pid, 0)
+            run.returncode = os.waitstatus_to_exitcode(status)
     passed = time.perf_counter() - begin
     if run.returncode != 0:
         sys.exit(f"{command[0]} ended with status {run.returncode}\n{printed[-2000:]}")
     return printed, passed, usage.ru_maxrss * 1024
+
+
+def calls_of(*script):
+    """The calls that `lab` makes by these lines, and the most memory that it held. What is told before the first call is left out."""
+    printed, _, memory = measured([lab_program(), "--times"], "".join(f"{line}\n" for line in script))
+    calls, name = [], ""
+    for line in printed.splitlines():
+        if match := ENDS.fullmatch(line):
+            name = match[1]
+        elif match := TOOK.fullmatch(line):
+            calls.append(Call(name, int(match[1]), []))
+            name = ""
+        elif calls and not BEGINS.fullmatch(line):
+            calls[-1].told.append(line)
+    return calls, memory
+
+
+def last_of(calls, name):
+    """The last call with this name."""
+    return [call for call in calls if call.name == name][-1]
+
+
+def micros_of(calls, *names):
+    """The microseconds that the calls with these names took together."""
+    return sum(call.nanos for call in calls if call.name in names) // 1000

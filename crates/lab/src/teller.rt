@@ -52,6 +52,11 @@ impl<'a> Teller<'a> {
         self.rt
     }
 
+    /// Whether the time of each call is printed.
+    pub(crate) fn tells_times(&self) -> bool {
+        self.tells_times
+    }
+
     /// Prints a line.
     pub(crate) fn say<D: Display + Drop>(&mut self, line: D) {
         if !self.is_hushed && self.rt.println(line).is_err() {

@@ -39,10 +39,10 @@ pub(crate) fn take<W: Wait>(
     text: &[u8],
 ) -> Result<(), AllocError> {
     let line = Line::of(world.alloc, text)?;
-    let before = lent(world, &line)?;
+    let before = lent(teller, world, &line)?;
     take_once(wait, teller, world, lines, &line)?;
     if teller.wants() {
-        let is_as_it_was = lent(world, &line)? == before;
+        let is_as_it_was = lent(teller, world, &line)? == before;
         teller.takes_again(is_as_it_was);
         take_once(wait, teller, world, lines, &line)?;
     }
@@ -52,8 +52,11 @@ pub(crate) fn take<W: Wait>(
     Ok(())
 }
 
-// The text of what a line lends to be changed; no bytes where there is nothing.
-fn lent(world: &World, line: &Line<'_>) -> Result<Vec<u8>, AllocError> {
+// The text of what a line lends to be changed; no bytes where there is nothing, or times are told.
+fn lent(teller: &Teller<'_>, world: &World, line: &Line<'_>) -> Result<Vec<u8>, AllocError> {
+    if teller.tells_times() {
+        return Ok(Vec::new(world.alloc));
+    }
     let mut text = journals::lent(world, line)?;
     text.extend_from_slice(&tables::lent(world, line)?)?;
     text.extend_from_slice(&drvs::lent(world, line)?)?;
