@@ -10,7 +10,7 @@ use nix_names::{NameFault, StorePath};
 use ref_scan::ScanFault;
 use sched_core::{BookFault, Reason, Refusal};
 use std::alloc::{AllocError, Global};
-use std::fmt::Display;
+use std::fmt::{Debug, Display};
 use store_run::RunFault;
 use valid_table::{Journal, OutletFault, Record, TableFault};
 use valid_view::{OpenFault, ViewFault};
@@ -32,18 +32,8 @@ pub(crate) fn take(
     of_derivations(teller, world.alloc, &x)?;
     of_plans(teller, world.alloc, &x)?;
     of_tables(teller, world.alloc, &x, y)?;
-    of_runs(teller, world.alloc)?;
+    of_runs(teller);
     Ok(true)
-}
-
-impl Fault for RunFault {
-    fn is_want(&self) -> bool {
-        matches!(self, RunFault::NoMemory)
-    }
-
-    fn words(&self, alloc: Global) -> Result<String, AllocError> {
-        format!(in alloc; "{self:?}")
-    }
 }
 
 const X: &[u8] = b"/nix/store/aaaaaaaaaaaaaaaaaaaaaaaaaaaaaaaa-x";
@@ -53,7 +43,6 @@ const Y: &[u8] = b"/nix/store/bbbbbbbbbbbbbbbbbbbbbbbbbbbbbbbb-y";
 /// Tells some faults of one type, whose number is asked by a call.
 pub(crate) fn tell_all<F: Fault + Display, N: Fn(&F) -> u8>(
     teller: &mut Teller<'_>,
-    alloc: Global,
     call: &str,
     faults: &[F],
     number_of: N,
@@ -64,10 +53,27 @@ pub(crate) fn tell_all<F: Fault + Display, N: Fn(&F) -> u8>(
         teller.begins(call);
         let number = number_of(fault);
         teller.ends(call);
-        let words = fault.words(alloc)?;
+        let words = fault.words(teller.rt().alloc())?;
         teller.say(format_args!("{call} {} {number} {fault}", words.as_str()));
     }
     Ok(())
+}
+
+// The same for faults that hold no path.
+fn tell_plain<F: Debug + Display, N: Fn(&F) -> u8>(
+    teller: &mut Teller<'_>,
+    call: &str,
+    faults: &[F],
+    number_of: N,
+)
+    requires { N.IsAlwaysCallable number_of }
+{
+    for fault in faults {
+        teller.begins(call);
+        let number = number_of(fault);
+        teller.ends(call);
+        teller.say(format_args!("{call} {fault:?} {number} {fault}"));
+    }
 }
 
 const NAME_FAULTS: [NameFault; 8] = [
@@ -88,20 +94,13 @@ const SOURCE_FAULTS: [SourceFault; 3] = [
 ];
 
 fn of_derivations(teller: &mut Teller<'_>, alloc: Global, x: &StorePath) -> Result<(), AllocError> {
-    tell_all(
+    tell_plain(teller, "NameFault::number", &NAME_FAULTS, |it| it.number());
+    tell_plain(
         teller,
-        alloc,
-        "NameFault::number",
-        &NAME_FAULTS,
-        |it| it.number(),
-    )?;
-    tell_all(
-        teller,
-        alloc,
         "SourceFault::number",
         &SOURCE_FAULTS,
         |it| it.number(),
-    )?;
+    );
     let faults = [
         DrvFault::NoMemory,
         DrvFault::Syntax(7),
@@ -112,7 +111,7 @@ fn of_derivations(teller: &mut Teller<'_>, alloc: Global, x: &StorePath) -> Resu
         DrvFault::NotSorted,
         DrvFault::BadReference(out(alloc)?),
     ];
-    tell_all(teller, alloc, "DrvFault::number", &faults, |it| it.number())
+    tell_all(teller, "DrvFault::number", &faults, |it| it.number())
 }
 
 fn out(alloc: Global) -> Result<Vec<u8>, AllocError> {
@@ -129,13 +128,7 @@ fn of_plans(teller: &mut Teller<'_>, alloc: Global, x: &StorePath) -> Result<(),
         OutputFault::OutputMismatch(out(alloc)?, x.copy(alloc)?),
         OutputFault::EnvMismatch(out(alloc)?),
     ];
-    tell_all(
-        teller,
-        alloc,
-        "OutputFault::number",
-        &faults,
-        |it| it.number(),
-    )?;
+    tell_all(teller, "OutputFault::number", &faults, |it| it.number())?;
     let faults = [
         NodeFault::Unreadable,
         NodeFault::TooMany,
@@ -144,26 +137,14 @@ fn of_plans(teller: &mut Teller<'_>, alloc: Global, x: &StorePath) -> Result<(),
         NodeFault::Outputs(OutputFault::BadName),
         NodeFault::OutputClash,
     ];
-    tell_all(
-        teller,
-        alloc,
-        "NodeFault::number",
-        &faults,
-        |it| it.number(),
-    )?;
+    tell_all(teller, "NodeFault::number", &faults, |it| it.number())?;
     let faults = [
         GraphFault::NoMemory,
         GraphFault::Name,
         GraphFault::At(x.copy(alloc)?, NodeFault::Cycle),
         GraphFault::Draft(NodeFault::Outputs(OutputFault::MixedOutputs)),
     ];
-    tell_all(
-        teller,
-        alloc,
-        "GraphFault::number",
-        &faults,
-        |it| it.number(),
-    )
+    tell_all(teller, "GraphFault::number", &faults, |it| it.number())
 }
 
 // The fault of an entry that adds a path, and refers to another that is not valid.
@@ -192,36 +173,24 @@ fn of_tables(
         unclosed(alloc, x, y)?,
         TableFault::AlreadyValid(x.copy(alloc)?),
     ];
-    tell_all(
-        teller,
-        alloc,
-        "TableFault::number",
-        &faults,
-        |it| it.number(),
-    )?;
+    tell_all(teller, "TableFault::number", &faults, |it| it.number())?;
     let faults = [ViewFault::NoMemory, ViewFault::NotValid(x.copy(alloc)?)];
-    tell_all(
-        teller,
-        alloc,
-        "ViewFault::number",
-        &faults,
-        |it| it.number(),
-    )?;
+    tell_all(teller, "ViewFault::number", &faults, |it| it.number())?;
     let faults = [OutletFault::NoMemory, OutletFault::NoView];
-    tell_all(
+    tell_plain(teller, "OutletFault::number", &faults, |it| it.number());
+    tell_plain(
         teller,
-        alloc,
-        "OutletFault::number",
-        &faults,
-        |it| it.number(),
-    )?;
-    tell_all(
-        teller,
-        alloc,
         "OpenFault::number",
         &[OpenFault::NoMemory],
         |it| it.number(),
-    )
+    );
+    tell_plain(
+        teller,
+        "ScanFault::number",
+        &[ScanFault::NoMemory],
+        |it| it.number(),
+    );
+    Ok(())
 }
 
 const REASONS: [Reason; 10] = [
@@ -245,7 +214,7 @@ const REFUSALS: [Refusal; 5] = [
     Refusal::PartlyValid(0),
 ];
 
-fn of_runs(teller: &mut Teller<'_>, alloc: Global) -> Result<(), AllocError> {
+fn of_runs(teller: &mut Teller<'_>) {
     for reason in REASONS {
         teller.begins("Reason::number");
         let number = reason.number();
@@ -259,13 +228,7 @@ fn of_runs(teller: &mut Teller<'_>, alloc: Global) -> Result<(), AllocError> {
         BookFault::ForeignLease,
         BookFault::NotLawful,
     ];
-    tell_all(
-        teller,
-        alloc,
-        "BookFault::number",
-        &faults,
-        |it| it.number(),
-    )?;
+    tell_plain(teller, "BookFault::number", &faults, |it| it.number());
     let faults = [
         RunFault::NoView,
         RunFault::NoWorkers,
@@ -273,15 +236,7 @@ fn of_runs(teller: &mut Teller<'_>, alloc: Global) -> Result<(), AllocError> {
         RunFault::NoMemory,
         RunFault::ForeignPlan,
     ];
-    tell_all(teller, alloc, "RunFault::number", &faults, |it| it.number())?;
-    let faults = [ScanFault::NoMemory];
-    tell_all(
-        teller,
-        alloc,
-        "ScanFault::number",
-        &faults,
-        |it| it.number(),
-    )
+    tell_plain(teller, "RunFault::number", &faults, |it| it.number());
 }
 
 fn of_refusals(teller: &mut Teller<'_>) {
@@ -290,25 +245,5 @@ fn of_refusals(teller: &mut Teller<'_>) {
         let number = refusal.number();
         teller.ends("Refusal::number");
         teller.say(format_args!("Refusal::number {refusal:?} {number}"));
-    }
-}
-// TEMPORARY
-impl Fault for BookFault {
-    fn is_want(&self) -> bool {
-        matches!(self, BookFault::NoMemory)
-    }
-
-    fn words(&self, alloc: Global) -> Result<String, AllocError> {
-        format!(in alloc; "{self:?}")
-    }
-}
-
-impl Fault for ScanFault {
-    fn is_want(&self) -> bool {
-        true
-    }
-
-    fn words(&self, alloc: Global) -> Result<String, AllocError> {
-        format!(in alloc; "{self:?}")
     }
 }

@@ -378,13 +378,7 @@ fn ask<J: Naming>(
         (b"fault", Some(path)) => {
             if let Err(fault) = reader.look(path) {
                 let faults = [fault];
-                tell_all(
-                    teller,
-                    world.alloc,
-                    "ViewFault::number",
-                    &faults,
-                    |it| it.number(),
-                )?;
+                tell_all(teller, "ViewFault::number", &faults, |it| it.number())?;
             }
         }
         (b"seen", _) => {
