@@ -17,16 +17,6 @@ pub(crate) trait Fault {
     fn words(&self, alloc: Global) -> Result<String, AllocError>;
 }
 
-impl Fault for OutletFault {
-    fn is_want(&self) -> bool {
-        matches!(self, OutletFault::NoMemory)
-    }
-
-    fn words(&self, alloc: Global) -> Result<String, AllocError> {
-        format!(in alloc; "{self:?}")
-    }
-}
-
 impl Fault for ViewFault {
     fn is_want(&self) -> bool {
         matches!(self, ViewFault::NoMemory)

@@ -27,6 +27,8 @@ pub(crate) struct Teller<'a> {
     tells_times: bool,
     start: Option<Instant>,
     is_hushed: bool,
+    // The nanoseconds of the calls of which nothing was printed.
+    hushed: u128,
 }
 
 impl<'a> Teller<'a> {
@@ -39,12 +41,18 @@ impl<'a> Teller<'a> {
             tells_times,
             start: None,
             is_hushed: false,
+            hushed: 0,
         }
     }
 
-    /// Prints nothing from now on, or prints again.
+    /// Prints nothing from now on, or prints again: first the time of the calls of which nothing was
+    /// printed.
     pub(crate) fn hush(&mut self, is_hushed: bool) {
         self.is_hushed = is_hushed;
+        if self.tells_times {
+            self.say(format_args!("took {} ns", self.hushed));
+        }
+        self.hushed = 0;
     }
 
     /// What the program stands on.
@@ -83,6 +91,7 @@ impl<'a> Teller<'a> {
         self.say(format_args!("ends {number} {call}"));
         self.number = self.number.wrapping_add(1);
         if let Some(passed) = passed {
+            self.hushed = self.hushed.saturating_add(passed.as_nanos());
             self.say(format_args!("took {} ns", passed.as_nanos()));
         }
     }

@@ -50,9 +50,7 @@ pub(crate) fn tell_all<F: Fault + Display, N: Fn(&F) -> u8>(
     requires { N.IsAlwaysCallable number_of }
 {
     for fault in faults {
-        teller.begins(call);
-        let number = number_of(fault);
-        teller.ends(call);
+        let number = called!(teller, call, number_of(fault));
         let words = fault.words(teller.rt().alloc())?;
         teller.say(format_args!("{call} {} {number} {fault}", words.as_str()));
     }
@@ -69,9 +67,7 @@ fn tell_plain<F: Debug + Display, N: Fn(&F) -> u8>(
     requires { N.IsAlwaysCallable number_of }
 {
     for fault in faults {
-        teller.begins(call);
-        let number = number_of(fault);
-        teller.ends(call);
+        let number = called!(teller, call, number_of(fault));
         teller.say(format_args!("{call} {fault:?} {number} {fault}"));
     }
 }
@@ -216,9 +212,7 @@ const REFUSALS: [Refusal; 5] = [
 
 fn of_runs(teller: &mut Teller<'_>) {
     for reason in REASONS {
-        teller.begins("Reason::number");
-        let number = reason.number();
-        teller.ends("Reason::number");
+        let number = called!(teller, "Reason::number", reason.number());
         teller.say(format_args!("Reason::number {reason:?} {number}"));
     }
     of_refusals(teller);
@@ -241,9 +235,7 @@ fn of_runs(teller: &mut Teller<'_>) {
 
 fn of_refusals(teller: &mut Teller<'_>) {
     for refusal in REFUSALS {
-        teller.begins("Refusal::number");
-        let number = refusal.number();
-        teller.ends("Refusal::number");
+        let number = called!(teller, "Refusal::number", refusal.number());
         teller.say(format_args!("Refusal::number {refusal:?} {number}"));
     }
 }

@@ -98,12 +98,7 @@ fn cause_of(word: &[u8]) -> Refusal {
 }
 
 // Adds what a line says of a derivation.
-fn push(
-    plan: &Plan,
-    d: usize,
-    said: [&[u8]; 3],
-    out: &mut Vec<u8>,
-) -> Result<(), AllocError>
+fn push(plan: &Plan, d: usize, said: [&[u8]; 3], out: &mut Vec<u8>) -> Result<(), AllocError>
     requires { d < length plan.now.nodes }
 {
     let [call, word, value] = said;

@@ -68,9 +68,11 @@ fn load(teller: &mut Teller<'_>, world: &mut World, line: &Line<'_>) -> Done {
         return lost(teller, "no path");
     };
     let mut source = Folder { files: teller.rt() };
-    teller.begins("Plan::load");
-    let answer = Plan::load(world.alloc, &mut source, &dir, &roots);
-    teller.ends("Plan::load");
+    let answer = called!(
+        teller,
+        "Plan::load",
+        Plan::load(world.alloc, &mut source, &dir, &roots)
+    );
     match teller.answered(world.alloc, answer) {
         Some(plan) => {
             teller.say(format_args!("{} derivations", plan.len()));
@@ -83,9 +85,7 @@ fn load(teller: &mut Teller<'_>, world: &mut World, line: &Line<'_>) -> Done {
 // One pass over a text, which `scan` is compared with.
 fn find(teller: &mut Teller<'_>, world: &World, line: &Line<'_>) {
     let (text, wanted) = (world.text(line.argument(0)), world.text(line.argument(1)));
-    teller.begins("memmem");
-    let place = memmem::find(text, wanted);
-    teller.ends("memmem");
+    let place = called!(teller, "memmem", memmem::find(text, wanted));
     teller.say(format_args!("{place:?}"));
 }
 

@@ -37,9 +37,7 @@ pub(crate) fn take<W: Wait>(
         teller.not_allowed();
         return Ok(true);
     }
-    teller.begins("Name::new");
-    let name = Name::new();
-    teller.ends("Name::new");
+    let name = called!(teller, "Name::new", Name::new());
     let opening = Opening {
         journal,
         readers,
@@ -75,9 +73,11 @@ fn opened<J: Naming + Send, W: Wait>(
     let Ok(journal) = journal.copy(world.alloc) else {
         return Err(AllocError);
     };
-    teller.begins("open");
-    let view = open::<J, &W>(world.alloc, wait, name, &journal, readers);
-    teller.ends("open");
+    let view = called!(
+        teller,
+        "open",
+        open::<J, &W>(world.alloc, wait, name, &journal, readers)
+    );
     match view {
         Ok((writer, readers)) => {
             let view = View {
@@ -118,9 +118,7 @@ impl<J: Naming + Send, W: Wait> View<'_, J, W> {
             writer,
             mut readers,
         } = self;
-        teller.begins("ViewWriter::close");
-        let shown = writer.close();
-        teller.ends("ViewWriter::close");
+        let shown = called!(teller, "ViewWriter::close", writer.close());
         teller.say(format_args!("closed with {} entries", shown.len()));
         taken?;
         take_last_lines(teller, world, lines, &mut readers)
@@ -243,9 +241,7 @@ impl<J: Naming + Send, W: Wait> View<'_, J, W> {
             teller.not_allowed();
             return false;
         }
-        teller.begins("ViewWriter::append");
-        let answer = self.writer.append(shown);
-        teller.ends("ViewWriter::append");
+        let answer = called!(teller, "ViewWriter::append", self.writer.append(shown));
         let answer = teller.answered(alloc, answer);
         if answer.is_some() {
             self.journal.push_reserved(entry, copy);
@@ -254,21 +250,15 @@ impl<J: Naming + Send, W: Wait> View<'_, J, W> {
     }
 
     fn publish(&mut self, teller: &mut Teller<'_>, alloc: Global) {
-        teller.begins("ViewWriter::publish");
-        let answer = self.writer.publish();
-        teller.ends("ViewWriter::publish");
+        let answer = called!(teller, "ViewWriter::publish", self.writer.publish());
         if let Some(()) = teller.answered(alloc, answer) {
             teller.say("published");
         }
     }
 
     fn tell(&self, teller: &mut Teller<'_>) {
-        teller.begins("ViewWriter::tell");
-        let told = self.writer.tell();
-        teller.ends("ViewWriter::tell");
-        teller.begins("Prefix::len");
-        let length = told.len();
-        teller.ends("Prefix::len");
+        let told = called!(teller, "ViewWriter::tell", self.writer.tell());
+        let length = called!(teller, "Prefix::len", told.len());
         teller.say(format_args!("{length} entries are shown"));
     }
 
@@ -278,12 +268,12 @@ impl<J: Naming + Send, W: Wait> View<'_, J, W> {
         let Some(reader) = reader_of(line, &mut self.readers) else {
             return teller.lost("no reader");
         };
-        teller.begins("ViewWriter::prefix");
-        let prefix = <ViewWriter<J, &W> as Tells<J>>::prefix(told);
-        teller.ends("ViewWriter::prefix");
-        teller.begins("ViewReader::learn");
-        reader.learn(prefix);
-        teller.ends("ViewReader::learn");
+        let prefix = called!(
+            teller,
+            "ViewWriter::prefix",
+            <ViewWriter<J, &W> as Tells<J>>::prefix(told)
+        );
+        called!(teller, "ViewReader::learn", reader.learn(prefix));
     }
 
     // The longer of the list that is shown and the one that a reader saw.
@@ -292,12 +282,8 @@ impl<J: Naming + Send, W: Wait> View<'_, J, W> {
         let Some(reader) = reader_of(line, &mut self.readers) else {
             return teller.lost("no reader");
         };
-        teller.begins("Prefix::again");
-        let again = told.again();
-        teller.ends("Prefix::again");
-        teller.begins("Prefix::longer");
-        let longer = reader.seen().longer(&again);
-        teller.ends("Prefix::longer");
+        let again = called!(teller, "Prefix::again", told.again());
+        let longer = called!(teller, "Prefix::longer", reader.seen().longer(&again));
         teller.say(format_args!("{} and {} entries", again.len(), longer.len()));
     }
 }
@@ -358,17 +344,17 @@ fn ask<J: Naming>(
     };
     match (line.call(), paths.first()) {
         (b"look", Some(path)) => {
-            teller.begins("ViewReader::look");
-            let answer = reader.look(path);
-            teller.ends("ViewReader::look");
+            let answer = called!(teller, "ViewReader::look", reader.look(path));
             if let Some(seen) = teller.answered(world.alloc, answer) {
                 tell_seen(teller, world.alloc, seen)?;
             }
         }
         (b"closure" | b"closure_len", _) => {
-            teller.begins("ViewReader::closure");
-            let answer = reader.closure(world.alloc, &paths);
-            teller.ends("ViewReader::closure");
+            let answer = called!(
+                teller,
+                "ViewReader::closure",
+                reader.closure(world.alloc, &paths)
+            );
             match teller.answered(world.alloc, answer) {
                 Some(all) if line.call() == b"closure".as_slice() => teller.paths(&all),
                 Some(all) => teller.say(format_args!("{} paths", all.len())),
@@ -382,9 +368,7 @@ fn ask<J: Naming>(
             }
         }
         (b"seen", _) => {
-            teller.begins("ViewReader::seen");
-            let seen = reader.seen();
-            teller.ends("ViewReader::seen");
+            let seen = called!(teller, "ViewReader::seen", reader.seen());
             teller.say(format_args!("{} entries were seen", seen.len()));
         }
         _ => teller.lost("there is no such call of a view"),
