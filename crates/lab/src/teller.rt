@@ -5,6 +5,7 @@ use nix_names::StorePath;
 use std::alloc::Global;
 use std::fmt::Display;
 use std::io::Print;
+use std::mem;
 use std::time::Instant;
 
 /// How it stands with the line that is taken.
@@ -49,10 +50,10 @@ impl<'a> Teller<'a> {
     /// printed.
     pub(crate) fn hush(&mut self, is_hushed: bool) {
         self.is_hushed = is_hushed;
+        let passed = mem::replace(&mut self.hushed, 0);
         if self.tells_times {
-            self.say(format_args!("took {} ns", self.hushed));
+            self.say(format_args!("took {passed} ns"));
         }
-        self.hushed = 0;
     }
 
     /// What the program stands on.
