@@ -22,9 +22,9 @@ def expect(wanted, got):
         raise Fault(wanted, got)
 
 
-def told(out, err, status):
-    """What a run writes and its status, in one text."""
-    lines = [f"out| {line}" for line in whole(out)] + [f"err| {line}" for line in whole(err)]
+def told(out, err, status, stream="err"):
+    """What a run writes and its status, in one text. Standard error is named by its label."""
+    lines = [f"out| {line}" for line in whole(out)] + [f"{stream}| {line}" for line in whole(err)]
     return "\n".join([*lines, f"status {status}", ""])
 
 

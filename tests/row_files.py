@@ -3,8 +3,9 @@
 A row begins with `== NAME`, and a comment with `#`. Each other line begins a step, whose texts
 stand below it: `|` begins a line of a text, and `+` a piece of a line. Before these marks stands
 the text's label, if the step has more than one text. A text of one line may stand behind its step,
-with its mark. The status that is wanted of a run is 0 where no other is given. Before the first row `text <WORD>` lets a word
-stand for a text, and `for <WORD> in VALUES` has each row taken once with each of these values.
+with its mark. The status that is wanted of a run is 0 where no other is given. Before the first row
+`text <WORD>` lets a word stand for a text, and `for <WORD> in VALUES` has each row taken once with
+each of these values: a value is a word, or the numbers `1..9`. In a row it has that row taken so.
 """
 
 import re
@@ -13,13 +14,26 @@ from row_calls import LABELS, NUMBERS
 
 INLINE = re.compile(r"(.*?) ([|+]) (.*)")
 PIECE = re.compile(r"    ([a-z ]*)([|+])(?: (.*))?")
-SETTING = re.compile(r"    ([a-z]+) ([0-9]+)")
+SETTING = re.compile(r"    ([a-z ]+) ([0-9]+)")
 
 # The kinds of step, and how many words may follow each.
 STEPS = {
+    "for": range(3, 100),
     "$": range(1, 100),
+    "sh": [0],
+    "start": range(3, 100),
+    "await": [1],
+    "goes-on": [1],
+    "kill": [1, 2],
+    "until": [1],
+    "as-user": [0],
+    "trace": [2],
     "lab": [0],
     "put": [1],
+    "script": range(1, 9),
+    "many": range(3, 9),
+    "note": [0],
+    "unchanged": [0],
     "twins": [1],
     "text-path": [2],
     "output-path": [2, 3],
@@ -55,8 +69,11 @@ STEPS = {
 # What may stand before the first row.
 FRONT = {"text": [1], "for": range(3, 100)}
 # The texts and numbers of a run.
-RUN_TEXTS = {"out", "err", "by path", "too much", *LABELS}
-RUN_NUMBERS = {"status", "room", *NUMBERS}
+GIVEN_TEXTS = {"in", "env", "tty", "before"}
+GIVEN_NUMBERS = {"room", "err room", "limit", "ignore", *NUMBERS}
+TOLD_TEXTS = {"out", "err", "tty", "by path", "out like", "err like", "tty like"}
+RUN_TEXTS = GIVEN_TEXTS | TOLD_TEXTS | {"too much", *LABELS}
+RUN_NUMBERS = GIVEN_NUMBERS | {"status"}
 
 
 class Mistake(Exception):
@@ -93,6 +110,12 @@ class Step:
         labels, numbers = set(self.texts), set(self.numbers)
         if self.kind == "$":
             known = labels <= RUN_TEXTS and numbers <= RUN_NUMBERS
+        elif self.kind == "sh":
+            known = labels <= RUN_TEXTS | {""} and numbers <= RUN_NUMBERS
+        elif self.kind == "start":
+            known = labels <= GIVEN_TEXTS and numbers <= GIVEN_NUMBERS
+        elif self.kind == "await":
+            known = labels <= TOLD_TEXTS and numbers <= {"status"}
         elif self.kind == "lab":
             known = numbers <= {"status"}
         elif self.kind == "twins":
@@ -157,11 +180,27 @@ class Reading:
     def given(self):
         """The rows, each with each value of the word that has several."""
         texts = {s.words[0]: s.texts.get("", "") for s in self.front if s.kind == "text"}
-        loops = [(s.words[0], s.words[2:]) for s in self.front if s.kind == "for"]
-        rows = [Row(self.file, name, texts, steps) for name, steps in self.rows.items()]
-        for word, values in loops:
-            rows = [row.with_word(word, value) for row in rows for value in values]
+        rows = []
+        for name, steps in self.rows.items():
+            loops = [step for step in [*self.front, *steps] if step.kind == "for"]
+            row = Row(self.file, name, texts, [step for step in steps if step.kind != "for"])
+            rows += looped(row, loops)
         return rows
+
+
+def looped(row, loops):
+    """A row with each value of each word that stands for several."""
+    rows = [row]
+    for word, _, *values in (step.words for step in loops):
+        rows = [it.with_word(word, value) for it in rows for value in all_values(values)]
+    return rows
+
+
+def all_values(words):
+    """The values that these words give."""
+    for word in words:
+        first, _, last = word.partition("..")
+        yield from map(str, range(int(first), int(last) + 1)) if last else [word]
 
 
 def rows_of(file):

@@ -1,65 +1,49 @@
 """Takes the steps of a row in a store folder of its own.
 
 A word in angle brackets stands for a text: `<dir>` for the store folder, `<above>` for the folder
-above it, in which the program runs, `<bom>` for a byte order mark, `<tab>` and `<cr>` for a tab and a carriage return, and other words for what earlier steps
+above it, in which the program runs, `<bom>` for a byte order mark, `<tab>` and `<cr>` for a tab and
+a carriage return, `<xff>` and `<nul>` for bytes, and other words for what earlier steps
 name. `put any` writes a draft to `<dir>/file` and lets `add-drv` add it under the name `any`: then
-`<any>` stands for the derivation's path, `<any.out>` for the path of its output `out`, and
-`<any.file>` for the name of its file. `twins`
-does so with two drafts, of which the second may name the first: `<try>` is the first number with
-which the first path is the lesser, so both paths have to vary with it. `rising` does as `put` does,
-with the first number with which the paths of the outputs rise. `order` names the lesser and the
-greater of two paths `<lesser>` and `<greater>`. `drv <any> any.drv` writes a derivation to its own
-path, which is computed here, as are those of `text-path`, `output-path` and `fixed-path`. `digest
-<word>` lets a word stand for the SHA-256 digest of a text.
+`<any>` stands for the derivation's path, `<any.out>` for the path of its output `out`, `<any.file>`
+for the name of its file, and `<any.name>` for that name without hash part and end. `script any
+<input>..` does so with a draft whose builder is a shell over the text, and which uses the output
+`out` of each input. `many N any MOST <input>..` adds N of them, `<any-0>` and so on, and `<any-*>`
+stands for all their paths: in their text `<n>` is the number, and `<inputs>` are the outputs of
+those before that one uses too, which are at most MOST and given by chance. `twins` adds two drafts,
+of which the second may name the first: `<try>` is the first number with which the first path is the
+lesser, so both paths have to vary with it. `rising` does as `put` does, with the first number with
+which the paths of the outputs rise. `order` names the lesser and the greater of two paths
+`<lesser>` and `<greater>`. `drv <any> any.drv` writes a derivation to its own path, which is
+computed here, as are those of `text-path`, `output-path` and `fixed-path`. `digest <word>` lets a
+word stand for the SHA-256 digest of a text.
 
 Steps of one line give a text to the program, and say what it tells of that (`row_texts.py`).
-`has-lines` compares the lines of a file in any order, `holds` its whole text.
-
-Below a run stand what it writes to standard output (`out`) and to standard error (`err`), and its
-status. Lines of `by path` come before those of `out`, in the order of the paths in them.
-With `room N` standard output takes N bytes and refuses the next; with `too much` the run is made
-with room for each number of bytes that is less than this text's. What happens between two calls of
-the system is said by `before` (`row_calls.py`).
+`has-lines` compares the lines of a file in any order, `holds` its whole text. `unchanged` sees that
+the store folder is as it was at the last `note`. The steps of runs stand in `row_runs.py`.
 """
 
 import hashlib
 import os
 import pathlib
+import random
 import re
-import resource
-import signal
 import stat
-import subprocess
 
 from reading import own_path
-from row_calls import compare_calls, settings
-from row_faults import Fault, expect, told
+from row_faults import Fault, expect
 from row_lab import take_lab
+from row_runs import RUNS, Ran, Run
 from row_texts import TEXTS
-from scenes import outputs_in
+from row_traces import take_trace
+from scenes import draft, outputs_in, snapshot
 from store_paths import make_path, text_path
 
 WORD = re.compile(r"<[^<>\s]+>")
-# The seconds that a run may take.
-MOST_SECONDS = 120
 # How many numbers are tried at most for an order of paths. Each gives the order of two paths in one
 # of two cases, and that of three in one of six.
 MOST_TRIES = 64
-# The greatest size of the files of a run whose standard output has little room: that has it at the
-# end of a file of this size.
-GREATEST_FILE = 2**30
-
-
-def after_word(line):
-    """The text of a line after its first word."""
-    return line.partition(" ")[2] or line
-
-
-class Ran:
-    """How a run ended: what it wrote, and its status."""
-
-    def __init__(self, out, err, status):
-        self.out, self.err, self.status = out, err, status
+# How far before one of many derivations those may be that it uses.
+WINDOW = 10
 
 
 class Scene:
@@ -71,8 +55,13 @@ class Scene:
         self.dir = folder / "store"
         self.dir.mkdir()
         self.names = {"<dir>": str(self.dir), "<bom>": "\ufeff", "<tab>": "\t", "<cr>": "\r"}
-        self.names["<above>"] = str(folder)
-        self.names["<xff>"] = "\udcff"
+        self.names |= {"<above>": str(folder), "<xff>": "\udcff", "<nul>": "\0"}
+        self.runs, self.seconds, self.user = {}, 0, {}
+
+    def close(self):
+        """Ends the runs that were started, and what they left."""
+        for run in self.runs.values():
+            run.kill()
 
     def said(self, text):
         """A text in which each word is replaced by its text."""
@@ -81,9 +70,16 @@ class Scene:
             word = found[0]
             if word.endswith(".file>"):
                 return pathlib.Path(meant([word[:-6] + ">"])).name
+            if word.endswith(".name>"):
+                return pathlib.Path(meant([word[:-6] + ">"])).stem[33:]
             return self.said(self.texts[word]) if word in self.texts else self.names.get(word, word)
 
         return WORD.sub(meant, text)
+
+    def words(self, words):
+        """The words of a command line, where one of all paths stands for several."""
+        lists = [self.said(it).split() if it.endswith("*>") else [self.said(it)] for it in words]
+        return [word for words in lists for word in words]
 
     def path(self, text):
         """The path that a word of a step gives."""
@@ -98,8 +94,8 @@ class Scene:
 
     def take(self, step):
         """Takes a step. Fails where something else comes of it than it says."""
-        if step.kind == "$":
-            self.take_run(step)
+        if step.kind in RUNS:
+            RUNS[step.kind](self, step)
         elif step.kind == "lab":
             take_lab(self, step)
         elif step.kind in NAMING:
@@ -109,64 +105,18 @@ class Scene:
         else:
             FILES[step.kind](self, self.path(step.words[0]), step)
 
-    # Runs.
-
-    def run(self, words, room=None, env=None):
-        """Runs the program, and gives how that ended. Standard output takes `room` bytes."""
-        start = GREATEST_FILE - room if room is not None else 0
-        with open(self.folder / "out", "w+b") as out, open(self.folder / "err", "w+b") as err:
-            out.seek(start)
-            streams = {"stdin": subprocess.DEVNULL, "stdout": out, "stderr": err}
-            before = limit_files if room is not None else None
-            run = subprocess.Popen(
-                ["nix_realise", *words],
-                executable=self.program,
-                cwd=self.folder,
-                env=env,
-                preexec_fn=before,
-                start_new_session=True,
-                **streams,
-            )
-            status = ended(run)
-            out.seek(start)
-            err.seek(0)
-            texts = [file.read().decode(errors="backslashreplace") for file in (out, err)]
-        return Ran(*texts, status)
-
-    def take_run(self, step):
-        """Runs a command line, and compares what it writes and its status."""
-        words = [self.said(word) for word in step.words[1:]]
-        if "too much" in step.texts:
-            for room in range(len(self.text(step, "too much").encode())):
-                self.compare_narrow(step, words, room)
-        elif "room" in step.numbers:
-            self.compare_narrow(step, words, step.numbers["room"])
-        else:
-            ran = self.run(words, env=settings(self, step))
-            wanted = told(self.report(step), self.text(step, "err"), step.numbers.get("status", 0))
-            expect(wanted, told(ran.out, ran.err, ran.status))
-            compare_calls(self, step)
-
-    def report(self, step):
-        """What a run has to print: lines in the order of the paths in them, then a text."""
-        lines = self.text(step, "by path").splitlines(keepends=True)
-        return "".join(sorted(lines, key=after_word)) + self.text(step, "out")
-
-    def compare_narrow(self, step, words, room):
-        """Runs with room for so many bytes, and compares the line of the fault and the status."""
-        ran = self.run(words, room)
-        head = f"with room for {room} bytes on standard output:\n"
-        wanted = told("", self.text(step, "err"), step.numbers.get("status", 0))
-        expect(head + wanted, head + told("", ran.err, ran.status))
+    def run(self, words):
+        """Runs the program, and gives how that ended."""
+        return Run(self, ["nix_realise", *map(str, words)]).ended()
 
     # Words for paths.
 
-    def put(self, name, draft):
+    def put(self, name, text):
         """Puts the derivation of a draft into the store folder, and gives its path."""
         file = self.dir / "file"
-        file.write_text(draft)
+        file.write_text(text, errors="surrogateescape", newline="")
         ran = self.run(["add-drv", "--store-dir", self.dir, name, file])
-        expect(told("", "", 0), told("", ran.err, ran.status))
+        expect(Ran(ran.out, "", False, 0).told(), ran.told())
         return ran.out.rstrip("\n")
 
     def name_drv(self, name, path):
@@ -179,6 +129,28 @@ class Scene:
         """Puts a derivation into the store folder, and names its paths."""
         (name,) = step.words
         self.put_named(name, name, step.texts.get("", ""))
+
+    def take_script(self, step):
+        """Puts a derivation into the store folder, whose builder is a shell over a text."""
+        name, *inputs = step.words
+        self.put_script(name, self.text(step), map(self.said, inputs))
+
+    def put_script(self, name, text, inputs):
+        """Puts such a derivation into the store folder, which uses these inputs' outputs `out`."""
+        self.put_named(name, name, draft(text, inputs=[(path, "out") for path in inputs]))
+
+    def take_many(self, step):
+        """Puts many such derivations into the store folder."""
+        count, name, most, *inputs = map(self.said, step.words)
+        chance, words = random.Random(1), [f"<{name}-{number}" for number in range(int(count))]
+        for number, word in enumerate(words):
+            before = words[max(0, number - WINDOW) : number]
+            used = chance.sample(before, min(len(before), chance.randint(0, int(most))))
+            self.names["<n>"] = str(number)
+            self.names["<inputs>"] = self.said(" ".join(f"{it}.out>" for it in used))
+            used = [*inputs, *(self.said(f"{it}>") for it in used)]
+            self.put_script(word[1:], self.text(step), used)
+        self.names[f"<{name}-*>"] = self.said(" ".join(f"{word}>" for word in words))
 
     def take_twins(self, step):
         """Puts two derivations into the store folder, the first at the lesser path."""
@@ -204,9 +176,9 @@ class Scene:
             os.remove(path)
         raise Fault("a number with which the outputs' paths rise", "none")
 
-    def put_named(self, name, word, draft):
+    def put_named(self, name, word, text):
         """Puts a derivation into the store folder, and names its paths by a word."""
-        path = self.put(name, self.said(draft))
+        path = self.put(name, self.said(text))
         self.name_drv(word, path)
         return path
 
@@ -263,7 +235,19 @@ class Scene:
 
     def write(self, path, step):
         """Writes a file."""
-        path.write_text(self.text(step), newline="")
+        path.write_text(self.text(step), errors="surrogateescape", newline="")
+
+    def take_note(self, _):
+        """Keeps what stands in the store folder."""
+        self.noted = snapshot(self.dir)
+
+    def unchanged(self, _):
+        """Compares what stands in the store folder with what stood there at the last note."""
+        found = snapshot(self.dir)
+        names = sorted({*found, *self.noted})
+        differs = [name for name in names if found.get(name) != self.noted.get(name)]
+        if differs:
+            raise Fault("what stood there before", f"others at {' '.join(differs)}")
 
     def fill(self, path, step):
         """Writes a file of one letter that is repeated."""
@@ -294,24 +278,6 @@ class Scene:
         found = sorted(os.listdir(self.dir))
         if len(found) != int(wanted):
             raise Fault(f"{wanted} files and folders", f"{len(found)}: {' '.join(found)}")
-
-
-def limit_files():
-    """Lets this process, which is about to become the program, make no greater file, and lets such
-    a write fail."""
-    signal.signal(signal.SIGXFSZ, signal.SIG_IGN)
-    _, most = resource.getrlimit(resource.RLIMIT_FSIZE)
-    resource.setrlimit(resource.RLIMIT_FSIZE, (GREATEST_FILE, most))
-
-
-def ended(run):
-    """The status with which a run ended. It is killed where it takes too long."""
-    try:
-        return run.wait(MOST_SECONDS)
-    except subprocess.TimeoutExpired:
-        os.killpg(run.pid, signal.SIGKILL)
-        run.wait()
-        return f"none after {MOST_SECONDS} seconds"
 
 
 def in_order(text):
@@ -350,6 +316,11 @@ def exists(_, path, __):
 
 NAMING = {
     "put": Scene.take_put,
+    "script": Scene.take_script,
+    "many": Scene.take_many,
+    "note": Scene.take_note,
+    "unchanged": Scene.unchanged,
+    "trace": take_trace,
     "twins": Scene.take_twins,
     "text-path": Scene.take_text_path,
     "output-path": Scene.take_output_path,
