@@ -122,7 +122,8 @@ class Scene:
     def name_drv(self, name, path):
         """Names the path of a derivation and those of its outputs."""
         self.names[f"<{name}>"] = path
-        for output, found in outputs_in(pathlib.Path(path).read_text()).items():
+        text = pathlib.Path(path).read_text(errors="surrogateescape")
+        for output, found in outputs_in(text).items():
             self.names[f"<{name}.{output}>"] = found
 
     def take_put(self, step):
