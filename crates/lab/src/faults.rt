@@ -179,3 +179,13 @@ impl Fault for ScanFault {
         format!(in alloc; "{self:?}")
     }
 }
+
+impl Fault for OutletFault {
+    fn is_want(&self) -> bool {
+        matches!(self, OutletFault::NoMemory)
+    }
+
+    fn words(&self, alloc: Global) -> Result<String, AllocError> {
+        format!(in alloc; "{self:?}")
+    }
+}
