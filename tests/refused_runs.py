@@ -2,6 +2,7 @@
 
 import os
 import re
+import shutil
 
 from refused_scenes import FIRST_LINE, JOURNAL, Scene
 from scenes import contents, draft, put
@@ -10,21 +11,25 @@ SCRIPTS = {
     "first": "echo first > $out",
     "second": "mkdir -p $out/sub junk/deep; echo a > $out/a; echo b > $out/sub/b;"
     " : > junk/deep/f; : > junk/g",
-    "third": "mkdir junk; : > junk/f; echo third > $out",
+    "third": "mkdir junk $dev; : > junk/f; echo d > $dev/d; echo third > $out",
 }
-REASONS = "(NoStart|ReadFault|MissingOutput\\(\"out\"\\)|ExitStatus\\(\\d+\\)|OutOfMemory|Killed)"
+OUTPUTS = {"first": ["out"], "second": ["out"], "third": ["dev", "out"]}
+REASONS = '(NoStart|ReadFault|MissingOutput\\("out"\\)|ExitStatus\\(\\d+\\)|OutOfMemory|Killed)'
 
 
 class Runs(Scene):
-    """Three derivations: the second uses the first, and the third's output is there, an old one."""
+    """Three derivations: the second uses the first, and an old output of the third is there."""
+
+    scripts = SCRIPTS
 
     def prepare(self):
-        self.drv, self.out = {}, {}
-        for name, script in SCRIPTS.items():
+        self.drv, self.out, self.paths = {}, {}, {}
+        for name, script in self.scripts.items():
             inputs = [(self.drv["first"], "out")] if name == "second" else []
-            text = draft(script, inputs=inputs)
+            text = draft(script, OUTPUTS[name], inputs)
             self.drv[name], outputs = put(self.program, self.store, name, text)
             self.out[name] = outputs["out"]
+            self.paths[name] = [outputs[output] for output in OUTPUTS[name]]
             base = os.path.basename(self.drv[name])
             self.old_files[base] = open(self.drv[name]).read()
         self.old_files[JOURNAL] = FIRST_LINE + f"A {self.store}/{'a' * 32}-x -\n"
@@ -53,7 +58,7 @@ class Runs(Scene):
             lines.append(f"{word} {drv}{colon}{reason}\n")
         for name in ("second", "third"):
             if words[name].split(":")[0] in ("built", "reused", "build", "reuse"):
-                lines.append(f"output {self.out[name]}\n")
+                lines += [f"output {path}\n" for path in self.paths[name]]
         return "".join(lines)
 
 
@@ -101,8 +106,8 @@ class Realise(Runs):
 
     def of_output(self, path):
         """The derivation whose output, or a part of it, lies at a path."""
-        for name, output in self.out.items():
-            if path == output or path.startswith(output + "/"):
+        for name, outputs in self.paths.items():
+            if any(path == output or path.startswith(output + "/") for output in outputs):
                 return name
         return None
 
@@ -137,9 +142,14 @@ class Realise(Runs):
         if "/.nix_realise-left-" in path:
             is_taken = self.is_taken_by_another(calls, at) != self.is_raced
             return "folder aside" if is_taken or self.has_started(calls, at) else "name aside"
-        made = [c.kind for c in calls[: at + 1]].count("create")
+        if path.endswith(str(self.journal)) or "/.nix_realise-" in path:
+            # The journal is kept by a thread of its own while the run goes on.
+            if call.thread != calls[0].thread:
+                return "journal kept"
+        own = [c for c in calls[: at + 1] if c.thread == calls[0].thread]
+        made = [c.kind for c in own].count("create")
         if path == str(self.journal) and call.kind != "rename":
-            looks = [c.path for c in calls[: at + 1] if c.kind == "look"].count(path)
+            looks = [c.path for c in own if c.kind == "look"].count(path)
             return ("journal read", "journal tried", "journal written")[looks - 1]
         if path == str(self.journal) or "/.nix_realise-" in path:
             return "journal tried" if made == 1 else "journal written"
@@ -150,11 +160,18 @@ class Realise(Runs):
         return "taken place" if self.is_taken(path) else "free place"
 
     def is_taken_by_another(self, calls, at):
-        """Whether another worker moved something to the name of a refused rename, before the call's thread looked at it again."""
+        """Whether another worker moved something to the name of a refused rename, before the call's
+        thread looked at it again."""
         own, to = calls[at].thread, calls[at].path.split(" > ")[-1]
-        looks = (n for n in range(at + 1, len(calls)) if calls[n].thread == own and calls[n].kind == "look")
+        looks = (
+            n
+            for n in range(at + 1, len(calls))
+            if calls[n].thread == own and calls[n].kind == "look"
+        )
         moves = [it for it in calls[: next(looks, at)] if it.kind == "rename" and it.thread != own]
-        return calls[at].kind == "rename" and any(it.path.split(" > ")[-1] == to for it in moves if not it.is_refused)
+        return calls[at].kind == "rename" and any(
+            it.path.split(" > ")[-1] == to for it in moves if not it.is_refused
+        )
 
     def races(self, calls, at):
         # A call is logged before it is made. So where two workers move something to one name, the
@@ -169,6 +186,10 @@ class Realise(Runs):
         if not any(it.kind == "thread" for it in calls[:at]):
             return "keeper"
         return "only" if self.jobs == 1 else "one of two"
+
+    def wanted_paths(self):
+        """The paths of the outputs of both roots."""
+        return [*self.paths["second"], *self.paths["third"]]
 
     def is_taken(self, path):
         """Whether something lay at a place of the store folder before the run."""
@@ -189,7 +210,7 @@ class Realise(Runs):
     def is_again(self, out):
         # The first one is not wanted where the second is valid.
         rows = [f"((built|reused) {re.escape(drv)}\n)?" for drv in sorted(self.drv.values())]
-        rows += [f"output {re.escape(self.out[name])}\n" for name in ("second", "third")]
+        rows += [f"output {re.escape(path)}\n" for path in self.wanted_paths()]
         return re.fullmatch("".join(rows), out) is not None
 
     def is_stated(self, told):
@@ -197,7 +218,7 @@ class Realise(Runs):
         row = f"((built|reused) {{0}}|failed {{0}}: {REASONS}"
         row += "|refused {0}: InputNotRealised\\(.*\\))\n"
         rows = [row.format(re.escape(drv)) for drv in sorted(self.drv.values())]
-        rows += [f"(output {re.escape(self.out[name])}\n)?" for name in ("second", "third")]
+        rows += [f"(output {re.escape(path)}\n)?" for path in self.wanted_paths()]
         if out and not err:
             is_bad = re.search("^(failed|refused) ", out, re.M) is not None
             return re.fullmatch("".join(rows), out) is not None and status == int(is_bad)
@@ -211,9 +232,9 @@ class Realise(Runs):
         return text.startswith(old), sorted(entry for entry in entries if entry)
 
     def names_of(self, found, name):
-        """What stands at an output."""
-        base = os.path.basename(self.out[name])
-        return {n: e[:2] for n, e in found.items() if n == base or n.startswith(base + "/")}
+        """What stands at the outputs of a derivation."""
+        bases = [os.path.basename(path) for path in self.paths[name]]
+        return {n: e[:2] for n, e in found.items() if n.split("/")[0] in bases}
 
     def strays(self, found, stands):
         is_last = isinstance(stands, dict)
@@ -275,3 +296,53 @@ class RealiseByTwo(Realise):
 
     name = "realise by two"
     jobs = 2
+
+
+class RealiseByRunner(Realise):
+    """The same by a runner and with logs, where build folders of failed builders are kept."""
+
+    name = "realise by a runner"
+    scripts = {**SCRIPTS, "third": SCRIPTS["third"] + "; ln -s d $dev/l"}
+    kept = ""
+
+    def command(self):
+        words = ["--keep-failed", "--outputs", "nix", "--logs", self.logs]
+        return ["realise", *words, "--runner", "/usr/bin/env", *self.common()]
+
+    def lay(self):
+        super().lay()
+        self.kept = ""
+        shutil.rmtree(self.logs, ignore_errors=True)
+
+    def place_of(self, calls, at):
+        call = calls[at]
+        if (call.kind, call.path) == ("look", "/usr/bin/env"):
+            return "runner"
+        if call.path.startswith(str(self.logs)):
+            return "logs" if call.path == str(self.logs) else "log"
+        return super().place_of(calls, at)
+
+    def told_of(self, told, calls, at):
+        status, out, err = super().told_of(told, calls, at)
+        if self.failed:
+            drv = self.drv[self.failed]
+            err += f"nix_realise: {drv}: failed, see {self.logs}/{os.path.basename(drv)}.log\n"
+        if self.failed and told == "ReadFault":
+            own = [it for it in calls[:at] if it.thread == calls[at].thread]
+            made = [it.path for it in own if it.kind == "make-folder" and not it.is_refused]
+            self.kept = os.path.basename(made[-1])
+            err += f"nix_realise: {drv}: kept {self.store}/{self.kept}\n"
+        return status, out, err
+
+    def is_stated(self, told):
+        status, out, err = told
+        seen = re.findall("^nix_realise: .*: failed, see .*\n", err, re.M)
+        rest = re.sub("^nix_realise: .*: (failed, see|kept) .*\n", "", err, flags=re.M)
+        is_told = len(seen) == len(re.findall("^failed ", out, re.M))
+        return is_told and super().is_stated((status, out, rest))
+
+    def rest(self, found, stands):
+        # What is kept may be moved aside by the next run, and is not then.
+        kept = {name for name in found if self.kept and name.split("/")[0] == self.kept}
+        self.left |= kept
+        return [name for name in super().rest(found, stands) if name not in kept]

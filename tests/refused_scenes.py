@@ -22,6 +22,8 @@ TOLD = {
     "unprinted": (3, "", "run: Unwritable"),
     "untold": (3, "", ""),
     "no thread": (3, "", "run: ThreadFault"),
+    "no runner": (2, "", "/usr/bin/env: NoRunner"),
+    "no logs": (3, "", "LOGS: Unwritable"),
     "NoStart": (1, "report", ""),
     "ReadFault": (1, "report", ""),
 }
@@ -49,6 +51,10 @@ ROWS = [
     ("realise", "look", "database of Nix", "ever", "new"),
     ("realise", "look create", "journal tried", "unwritten", "old"),
     ("realise", "remove", "journal tried", "unwritten", "left"),
+    ("realise", "look", "runner", "no runner", "old"),
+    ("realise", "make-folder", "logs", "no logs", "old"),
+    ("realise", "remove", "log", "ever", "new"),
+    ("realise", "create duplicate", "log", "NoStart", "less"),
     ("realise", "thread", "keeper", "ever", "new"),
     ("realise", "thread", "only", "no thread", "old"),
     ("realise", "thread", "one of two", "ever", "new"),
@@ -58,9 +64,10 @@ ROWS = [
     ("realise", "look rename open-folder list remove", "folder aside", "ever", "moved"),
     ("realise", "make-folder open spawn", "start", "NoStart", "less"),
     ("realise", "wait", "end", "ReadFault", "less"),
-    ("realise", "look open read open-folder list", "output", "ReadFault", "less"),
+    ("realise", "look open read open-folder list read-link", "output", "ReadFault", "less"),
     ("realise", "look open-folder remove", "build folder", "ever", "new"),
     ("realise", WRITING, "journal written", "unwritten", "outputs"),
+    ("realise", WRITING, "journal kept", "ever", "new"),
     ("realise", "print", "", "unprinted", "new"),
     ("words", "open read", "file", "file", "old"),
     ("words", "tell", "", "untold", "old"),
@@ -89,7 +96,8 @@ def rows_not_met():
     """The kinds of call of the rows that no refused call was of."""
     for number, (names, kinds, where, _, _) in enumerate(ROWS):
         for kind in kinds.split():
-            if (number, kind) not in MET:
+            # A short run may end before its journal is kept.
+            if (number, kind) not in MET and where != "journal kept":
                 yield f"{names}: {kind}, {where}"
 
 
@@ -109,6 +117,7 @@ class Scene:
         self.own = {}
         self.path = ""
         self.file = folder / "file"
+        self.logs = folder / "logs"
         self.good_status, self.good_out, self.good_err = 0, "", ""
         self.last = None
         self.left = set()
@@ -151,8 +160,9 @@ class Scene:
 
     def passes(self, call, name):
         """Whether a run goes on as ever where a call is refused with an error."""
-        is_passed = name in ("EINTR", "EEXIST", "EOPNOTSUPP")
-        return is_passed or (name == "EACCES" and self.is_of_lock(call))
+        if name == "EEXIST":
+            return ".nix_realise-" in call.path
+        return name in ("EINTR", "EOPNOTSUPP") or (name == "EACCES" and self.is_of_lock(call))
 
     def told_of(self, told, calls, at):
         """What is told: status, standard output, standard error."""
@@ -160,7 +170,7 @@ class Scene:
             return self.good_status, self.good_out, self.good_err
         status, out, err = TOLD[told]
         err = err.replace("FILE", str(self.file)).replace("PATH", self.path)
-        err = err.replace("STORE", str(self.store))
+        err = err.replace("STORE", str(self.store)).replace("LOGS", str(self.logs))
         if at is not None:
             err = err.replace("DRV", calls[at].path)
         return status, out.replace("PATH", self.path), f"nix_realise: {err}\n" if err else ""
@@ -271,6 +281,7 @@ class AddText(Scene):
 
     subcommand = name = "add-text"
     is_old = True
+    held = JOURNAL
 
     def prepare(self):
         text = "a text of its own\n"
@@ -281,10 +292,10 @@ class AddText(Scene):
         entry = f"A {self.store}/{'a' * 32}-x -\n"
         old = FIRST_LINE + entry
         if self.is_old:
-            self.old_files = {base: "an old text\n", JOURNAL: old}
+            self.old_files = {base: "an old text\n", self.held: old}
         new = (old if self.is_old else FIRST_LINE) + f"A {self.path} sha256:{digest}\n"
         before = self.old_files.get
-        self.own = {base: (before(base), text), JOURNAL: (before(JOURNAL), new)}
+        self.own = {base: (before(base), text), self.held: (before(self.held), new)}
 
     def command(self):
         return ["add-text", "--store-dir", self.store, "greeting", self.file]
@@ -296,9 +307,9 @@ class AddText(Scene):
             return ""
         if self.is_of_lock(call):
             return "lock"
-        if call.path == str(self.file):
+        if os.path.abspath(call.path) == os.path.abspath(self.file):
             return "file"
-        if call.path.endswith(str(self.journal)) and call.kind != "rename":
+        if os.path.abspath(call.path) == os.path.abspath(self.journal):
             looks = [c.path for c in calls[: at + 1] if c.kind == "look"].count(str(self.journal))
             return "journal read" if looks == 1 else "journal written"
         if call.path == self.path or call.path.endswith("> " + self.path):
@@ -307,7 +318,7 @@ class AddText(Scene):
 
     def permitted(self, stands):
         if stands == "text":
-            return {name: (pair[name != JOURNAL],) for name, pair in self.own.items()}
+            return {name: (pair[name != self.held],) for name, pair in self.own.items()}
         return super().permitted(stands)
 
 
@@ -316,6 +327,21 @@ class AddTextFresh(AddText):
 
     name = "add-text, no journal"
     is_old = False
+
+
+class AddTextRelative(AddText):
+    """`add-text` of a file, and by a journal, that are given by relative paths."""
+
+    name = "add-text, relative"
+    held = "journal"
+
+    def prepare(self):
+        super().prepare()
+        self.file, self.journal = map(os.path.relpath, (self.file, self.store / self.held))
+
+    def command(self):
+        words = ["--journal", self.journal, "greeting", self.file]
+        return ["add-text", "--store-dir", self.store, *words]
 
 
 class AddTextValid(AddText):
@@ -386,9 +412,9 @@ class Help(Scene):
 
 def scenes(program, folder, only):
     """All scenes, or those of these names, each laid anew in the one store folder."""
-    from refused_runs import Plan, PlanDot, Realise, RealiseByTwo
+    from refused_runs import Plan, PlanDot, Realise, RealiseByRunner, RealiseByTwo
 
-    kinds = [Check, AddText, AddTextFresh, AddTextValid, AddDrv]
-    for kind in [*kinds, Plan, PlanDot, Realise, RealiseByTwo, Words, Help]:
+    kinds = [Check, AddText, AddTextFresh, AddTextRelative, AddTextValid, AddDrv, Plan, PlanDot]
+    for kind in [*kinds, Realise, RealiseByTwo, RealiseByRunner, Words, Help]:
         if not only or kind.name in only:
             yield kind(program, folder)

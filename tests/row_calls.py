@@ -5,11 +5,13 @@ A line of `before` is `N KIND PATH: COMMAND`: right before the Nth call of a kin
 shell runs the command. Where that fails the call is refused with its status as the error; `refuse
 EIO` stands for such an end. With `most N` each read and each write takes N bytes at most.
 
-`calls` are all calls of the run, `first calls` and `last calls` those with which it begins and
-ends, and `calls by path` those at the paths that it names, in the order at each path.
+`calls` are all calls of the run. A line has the kinds of those that follow one another at one path,
+and the path, which is `-` where there is none. `first calls` and `last calls` are the lines with
+which they begin and end. `calls by path` are those at some paths, with a line for all at one path.
 """
 
 import errno
+import itertools
 import os
 import re
 import shutil
@@ -60,9 +62,10 @@ def settings(scene, step):
     return {**os.environ, **more}
 
 
-def path_of(call):
-    """The path of a call."""
-    return call.partition(" ")[2]
+def grouped(calls):
+    """Lines of the kinds of calls at one path, and that path."""
+    groups = itertools.groupby(calls, key=lambda call: call[1])
+    return [" ".join([*(kind for kind, _ in group), path]) for path, group in groups]
 
 
 def compare_calls(scene, step):
@@ -70,18 +73,20 @@ def compare_calls(scene, step):
     if not needs_library(step):
         return
     text = (scene.folder / "calls").read_text(errors="surrogateescape")
-    calls = [line.split(" ", 3) for line in text.splitlines()]
-    happened = [call for call in calls if call[0] == "before"]
+    lines = [line.split(" ", 3) for line in text.splitlines()]
+    happened = [line for line in lines if line[0] == "before"]
     expect(str(scene.text(step, "before").count("\n")), str(len(happened)))
     # What is printed goes to a file of the script.
     calls = [
-        (kind, path if kind != "print" else "") for done, kind, _, path in calls if done != "before"
+        (kind, "-" if kind == "print" else path or "-")
+        for done, kind, _, path in lines
+        if done != "before"
     ]
-    made = [f"{kind} {path}".rstrip() for kind, path in calls]
     for label in PARTS.keys() & step.texts.keys():
         wanted = scene.text(step, label).splitlines()
-        expect("\n".join(wanted), "\n".join(PARTS[label](made, len(wanted))))
-    wanted = scene.text(step, "calls by path").splitlines()
-    paths = set(map(path_of, wanted))
-    found = [call for call in made if path_of(call) in paths]
-    expect(*["\n".join(sorted(calls, key=path_of)) for calls in (wanted, found)])
+        expect("\n".join(wanted), "\n".join(PARTS[label](grouped(calls), len(wanted))))
+    wanted = sorted(scene.text(step, "calls by path").splitlines())
+    by_path = grouped(sorted(calls, key=lambda call: call[1]))
+    paths = {line.rpartition(" ")[2] for line in wanted}
+    found = sorted(line for line in by_path if line.rpartition(" ")[2] in paths)
+    expect("\n".join(wanted), "\n".join(found))
