@@ -24,7 +24,11 @@ STEPS = {
     "start": range(3, 100),
     "await": [1],
     "goes-on": [1],
-    "kill": [1, 2],
+    "kill": [2],
+    "built": range(1, 9),
+    "reused": range(1, 9),
+    "failed": range(2, 9),
+    "refused": range(2, 9),
     "until": [1],
     "as-user": [0],
     "trace": [2],
@@ -108,7 +112,7 @@ class Step:
         if self.kind not in kinds or len(self.words) not in kinds[self.kind]:
             raise Mistake("nothing is known of such a step")
         labels, numbers = set(self.texts), set(self.numbers)
-        if self.kind == "$":
+        if self.kind in ("$", "built", "reused", "failed", "refused"):
             known = labels <= RUN_TEXTS and numbers <= RUN_NUMBERS
         elif self.kind == "sh":
             known = labels <= RUN_TEXTS | {""} and numbers <= RUN_NUMBERS

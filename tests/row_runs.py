@@ -1,24 +1,24 @@
 """Runs of the program, and of shells, and what comes of them.
 
-Below `$ nix_realise WORD..` stand what the run writes to standard output (`out`) and to standard
-error (`err`), and its status. Lines of `by path` come before those of `out`, in the order of the
-paths in them. `tty` in place of `err` has standard error on a terminal: `~` begins what follows the
-sequence that clears a line, and its line is cut at the last column. `out like`, `err like` and `tty
-like` are expressions that match the whole. Where `out` is a word that stands for nothing yet, it
-stands for what came. `in` is the standard input, and `env` has a variable on each line, or the name
-of one that is not set. With `room N` standard output takes N bytes and refuses the next, with `err
-room N` standard error does; with `too much` the run is made with room for each number of bytes that
-is less than this text's. `limit N` is the greatest size of a file, and `ignore N` a signal that is
-ignored.
+Below `$ nix_realise WORD..` stand what it writes to standard output (`out`) and to standard error
+(`err`), and its status. Lines of `by path` come before those of `out`, in the order of the paths in
+them. With `tty` in place of `err` standard error is a terminal: `~` begins what follows the
+sequence that clears a line, which is cut at the last column. `out like`, `err like` and `tty like`
+are expressions for the whole. A word for which nothing stands yet, alone in `out`, stands for what
+came. `in` is the standard input. A line of `env` sets a variable, or names one that is not set.
+With `room N` standard output takes N bytes and refuses the next, with `err room N` standard error
+does; with `too much` the run is made with room for each number of bytes that is less than this
+text's. `limit N` is the greatest size of a file, and `ignore N` a signal that is ignored.
 
-`sh` has a shell take the text below, in the folder above the store folder; `nix_realise` is the
-program there, and a command that fails ends it. What happens between two calls of the system is
-said by `before` (`row_calls.py`).
+`built NAME WORD..` and `reused NAME WORD..` realise one derivation by these words, which comes to
+that; `failed NAME REASON WORD..` does so too, and `refused FAULT WORD..` is any run to which the
+store folder has that fault. `sh` has a shell take the text below, above the store folder;
+`nix_realise` is the program there, and a command that fails ends it.
 
-`start NAME nix_realise WORD..` lets a run go on, and `await NAME` waits for its end: below that
-stands what came. `goes-on NAME` sees that it has not ended. `kill NAME` kills it, and `kill NAME
-H` does so after H hundredths of the time that the run before took. `until PATH` waits until
-something stands there. After `as-user` no run is the superuser's.
+`start NAME nix_realise WORD..` lets a run go on, and `await NAME` waits for its end. `goes-on NAME`
+sees that it has not ended, and `kill NAME H` kills it after H hundredths of the time that the run
+before took. `until PATH` waits until something stands there. After `as-user` no run is the
+superuser's.
 """
 
 import os
@@ -30,7 +30,6 @@ import shutil
 import signal
 import subprocess
 import tempfile
-import threading
 import time
 
 from row_calls import compare_calls, settings
@@ -50,96 +49,92 @@ ALONE = re.compile(r"(<[a-z0-9.-]+>)\n?")
 
 
 class Ran:
-    """How a run ended: what it wrote, whether standard error is a terminal, and its status."""
+    """How a run ended: what it wrote, its status, and the label of standard error."""
 
-    def __init__(self, out, err, is_shown, status):
-        self.out, self.err, self.is_shown, self.status = out, err, is_shown, status
+    def __init__(self, out, err, status, label="err"):
+        self.out, self.err, self.status, self.label = out, err, status, label
 
     def told(self):
         """All of it in one text."""
-        return told(self.out, self.err, self.status, "tty" if self.is_shown else "err")
+        return told(self.out, self.err, self.status, self.label)
 
 
-class Written:
-    """A stream into a file, with room for so many bytes if that is a number."""
+class Parts:
+    """What stands below a step."""
 
-    is_shown = False
+    def __init__(self, texts, numbers):
+        self.texts, self.numbers = texts, numbers
 
-    def __init__(self, scene, room):
-        self.file = tempfile.TemporaryFile(dir=scene.folder)
+
+class Stream:
+    """Where a run writes to: a file, which has room for so many bytes if that is a number, or a
+    terminal, which keeps what it is sent until that is read."""
+
+    def __init__(self, scene, room, label):
+        self.label = label
         self.begin = GREATEST_FILE - room if room is not None else 0
-        self.file.seek(self.begin)
-
-    def let_go(self):
-        """Leaves the stream to the run."""
+        if label == "tty":
+            self.ours, self.file = pty.openpty()
+        else:
+            self.file = tempfile.TemporaryFile(dir=scene.folder)
+            self.file.seek(self.begin)
 
     def text(self):
         """What was written."""
+        if self.label == "tty":
+            os.close(self.file)
+            return marked(decoded(read_all(self.ours)))
         self.file.seek(self.begin)
-        with self.file:
-            return decoded(self.file.read())
+        return decoded(self.file.read())
 
 
-class Terminal:
-    """A stream to a terminal."""
-
-    is_shown = True
-
-    def __init__(self):
-        self.ours, self.file = pty.openpty()
-        self.sent = b""
-        self.reading = threading.Thread(target=self.read, daemon=True)
-
-    def let_go(self):
-        """Leaves the terminal to the run, and reads what it is sent."""
-        os.close(self.file)
-        self.reading.start()
-
-    def read(self):
-        """Reads up to the end, which is an error where nobody holds the other side."""
-        try:
-            while piece := os.read(self.ours, 4096):
-                self.sent += piece
-        except OSError:
-            pass
-        os.close(self.ours)
-
-    def text(self):
-        """What was sent, with marks in place of the sequences of a terminal."""
-        self.reading.join(MOST_SECONDS)
-        first, *lines = decoded(self.sent).replace("\r\n", "\n").split(CLEAR)
-        return first + "".join(map(marked, lines))
+def read_all(terminal):
+    """What a terminal was sent, up to the end, which is an error where nobody holds it."""
+    sent = b""
+    try:
+        while piece := os.read(terminal, 4096):
+            sent += piece
+    except OSError:
+        pass
+    os.close(terminal)
+    return sent
 
 
-class Plain:
-    """A step that says nothing of a run."""
+def decoded(text):
+    """Bytes as a text, also those that are none."""
+    return text.decode(errors="backslashreplace")
 
-    texts, numbers = {}, {}
+
+def marked(sent):
+    """What a terminal was sent, with marks in place of its sequences."""
+    first, *lines = sent.replace("\r\n", "\n").split(CLEAR)
+    lines = [CUT.sub(r"\1", line) + "\n" if CUT.fullmatch(line) else line for line in lines]
+    return first + "".join(f"~ {line}" if line else "~\n" for line in lines)
 
 
 class Run:
     """A run that was started as the parts of a step say."""
 
-    def __init__(self, scene, words, step=Plain, room=None):
+    def __init__(self, scene, words, step, room=None):
         self.begin, self.scene, numbers = time.monotonic(), scene, step.numbers
-        self.out = Written(scene, numbers.get("room", room))
+        self.out = Stream(scene, numbers.get("room", room), "out")
         is_shown = any(label.startswith("tty") for label in step.texts)
-        self.err = Terminal() if is_shown else Written(scene, numbers.get("err room"))
+        self.err = Stream(scene, numbers.get("err room"), "tty" if is_shown else "err")
         with tempfile.TemporaryFile(dir=scene.folder) as given:
             given.write(scene.said(step.texts.get("in", "")).encode())
             given.seek(0)
-            streams = {"stdin": given, "stdout": self.out.file, "stderr": self.err.file}
             self.process = subprocess.Popen(
                 words,
                 executable=scene.program if words[0] == "nix_realise" else None,
                 cwd=scene.folder,
                 env=environment(scene, step),
-                preexec_fn=before(numbers, room is not None),
+                preexec_fn=before(numbers, self.out.begin or self.err.begin),
                 start_new_session=True,
+                stdin=given,
+                stdout=self.out.file,
+                stderr=self.err.file,
                 **scene.user,
-                **streams,
             )
-        self.err.let_go()
 
     def ended(self):
         """How it ended. It is killed where it takes too long."""
@@ -149,8 +144,7 @@ class Run:
             self.kill()
             status = f"none after {MOST_SECONDS} seconds"
         self.scene.seconds = time.monotonic() - self.begin
-        status = 128 - status if isinstance(status, int) and status < 0 else status
-        return Ran(self.out.text(), self.err.text(), self.err.is_shown, status)
+        return Ran(self.out.text(), self.err.text(), status, self.err.label)
 
     def kill(self):
         """Kills it, if it has not ended, and what it left."""
@@ -159,17 +153,6 @@ class Run:
         except ProcessLookupError:
             pass
         self.process.wait()
-
-
-def decoded(text):
-    """Bytes as a text, also those that are none."""
-    return text.decode(errors="backslashreplace")
-
-
-def marked(line):
-    """What follows the sequence that clears a line: a line that is cut, nothing, or other words."""
-    cut = CUT.fullmatch(line)
-    return f"~ {cut[1]}\n" if cut else f"~ {line}" if line else "~\n"
 
 
 def environment(scene, step):
@@ -186,7 +169,6 @@ def environment(scene, step):
 
 def before(numbers, is_narrow):
     """What a process does when it is about to become the program, if that is anything."""
-    is_narrow = is_narrow or "room" in numbers or "err room" in numbers
     limit = numbers.get("limit", GREATEST_FILE if is_narrow else None)
 
     def set_up():
@@ -220,10 +202,8 @@ def wanted_of(scene, step, label, came):
 
 def compare(scene, step, ran):
     """Compares how a run ended with what stands below a step."""
-    out = wanted_of(scene, step, "out", ran.out)
-    err = wanted_of(scene, step, "tty" if ran.is_shown else "err", ran.err)
-    status = step.numbers.get("status", 0)
-    expect(Ran(out, err, ran.is_shown, status).told(), ran.told())
+    out, err = (wanted_of(scene, step, *it) for it in (("out", ran.out), (ran.label, ran.err)))
+    expect(Ran(out, err, step.numbers.get("status", 0), ran.label).told(), ran.told())
     compare_calls(scene, step)
 
 
@@ -247,22 +227,35 @@ def compare_narrow(scene, step, words, room):
     expect(head + wanted, head + told("", ran.err, ran.status))
 
 
+def take_outcome(scene, step):
+    """Realises a derivation, and compares the report with what a step says."""
+    name, *words = step.words
+    how = words.pop(0) if step.kind == "failed" else None
+    out = f"failed <{name}>: {how}\n" if how else f"{step.kind} <{name}>\noutput <{name}.out>\n"
+    parts = Parts({"out": out, **step.texts}, {"status": 1 if how else 0, **step.numbers})
+    words = ["nix_realise", "realise", "--store-dir", "<dir>", *words, f"<{name}>"]
+    compare(scene, parts, Run(scene, scene.words(words), parts).ended())
+
+
+def take_refused(scene, step):
+    """Makes a run which has a fault of the store folder."""
+    fault, subcommand, *words = scene.words(step.words)
+    words = ["nix_realise", subcommand, "--store-dir", str(scene.dir), *words]
+    parts = Parts({"err": f"nix_realise: <dir>: {fault}\n", **step.texts}, {"status": 3})
+    compare(scene, parts, Run(scene, words, parts).ended())
+
+
 def take_shell(scene, step):
     """Has a shell take a script, and compares what it writes and its status."""
     head = f'export LC_ALL=C; nix_realise() {{ "{scene.program}" "$@"; }}\n'
-    script = head + scene.text(step)
-    compare(scene, step, Run(scene, ["/bin/sh", "-e", "-c", script], step).ended())
+    words = ["/bin/sh", "-e", "-c", head + scene.text(step)]
+    compare(scene, step, Run(scene, words, step).ended())
 
 
 def take_start(scene, step):
     """Starts a run, and lets it go on."""
     name, *words = step.words
     scene.runs[name] = Run(scene, scene.words(words), step)
-
-
-def take_await(scene, step):
-    """Waits until a run ends, and compares what it wrote and its status."""
-    compare(scene, step, scene.runs[step.words[0]].ended())
 
 
 def take_goes_on(scene, step):
@@ -274,10 +267,11 @@ def take_goes_on(scene, step):
 
 def take_kill(scene, step):
     """Kills a run, after a part of the time that the run before took."""
-    name, hundredths = [*step.words, "0"][:2]
-    time.sleep(scene.seconds * int(scene.said(hundredths)) / 100)
-    scene.runs[name].process.kill()
-    scene.runs[name].process.wait()
+    process, hundredths = scene.runs[step.words[0]].process, int(scene.said(step.words[1]))
+    time.sleep(scene.seconds * hundredths / 100)
+    process.kill()
+    if process.wait() != -signal.SIGKILL and not hundredths:
+        raise Fault("a run that is killed", "one that has ended")
 
 
 def take_until(scene, step):
@@ -300,9 +294,13 @@ def take_as_user(scene, _):
 
 RUNS = {
     "$": take_run,
+    "built": take_outcome,
+    "reused": take_outcome,
+    "failed": take_outcome,
+    "refused": take_refused,
     "sh": take_shell,
     "start": take_start,
-    "await": take_await,
+    "await": lambda scene, step: compare(scene, step, scene.runs[step.words[0]].ended()),
     "goes-on": take_goes_on,
     "kill": take_kill,
     "until": take_until,

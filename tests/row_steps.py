@@ -32,7 +32,7 @@ import stat
 from reading import own_path
 from row_faults import Fault, expect
 from row_lab import take_lab
-from row_runs import RUNS, Ran, Run
+from row_runs import RUNS, Parts, Ran, Run
 from row_texts import TEXTS
 from row_traces import take_trace
 from scenes import draft, outputs_in, snapshot
@@ -107,7 +107,7 @@ class Scene:
 
     def run(self, words):
         """Runs the program, and gives how that ended."""
-        return Run(self, ["nix_realise", *map(str, words)]).ended()
+        return Run(self, ["nix_realise", *map(str, words)], Parts({}, {})).ended()
 
     # Words for paths.
 
@@ -116,7 +116,7 @@ class Scene:
         file = self.dir / "file"
         file.write_text(text, errors="surrogateescape", newline="")
         ran = self.run(["add-drv", "--store-dir", self.dir, name, file])
-        expect(Ran(ran.out, "", False, 0).told(), ran.told())
+        expect(Ran(ran.out, "", 0).told(), ran.told())
         return ran.out.rstrip("\n")
 
     def name_drv(self, name, path):
