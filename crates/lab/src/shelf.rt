@@ -44,7 +44,10 @@ impl<T: Drop> Shelf<T> {
     /// Takes out the value that `$NAME` stands for.
     pub(crate) fn take(&mut self, word: &[u8]) -> Option<T> {
         let place = self.place(word)?;
-        Some(self.kept.swap_remove(place).value)
+        if place < self.kept.len() {
+            return Some(self.kept.swap_remove(place).value);
+        }
+        None
     }
 
     /// Keeps a value under a name, in place of what was kept there; under no name not at all.
