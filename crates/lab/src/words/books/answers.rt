@@ -1,8 +1,8 @@
 //! What builders leave, in words: a status, or `killed`, and a tree for each output.
 //!
 //! A tree is `-` where nothing lies, `file:TEXT`, `zeros:N` for a file of N bytes, `parts:A:B` for a
-//! file in these pieces, or `folder:N:M` for a folder of N files of M bytes. The last tree stands
-//! for those that are left out.
+//! file in these pieces, or `folder:N` for a folder of N empty files. The last tree stands for those
+//! that are left out.
 
 use crate::line::number_of;
 use crate::world::World;
@@ -24,12 +24,11 @@ fn zeros(alloc: Global, count: &[u8]) -> Result<Tree, AllocError> {
     Ok(Tree::File(vec![in alloc; 0; number_of(count).unwrap_or(0)]?))
 }
 
-// A folder of such files.
-fn folder(alloc: Global, word: &[u8]) -> Result<Tree, AllocError> {
-    let (count, size) = halves(word, b':');
+// A folder of empty files.
+fn folder(alloc: Global, count: &[u8]) -> Result<Tree, AllocError> {
     let mut members = Vec::new(alloc);
     for _ in 0..number_of(count).unwrap_or(0) {
-        let (name, tree) = (b"f".to_vec(alloc)?, zeros(alloc, size)?);
+        let (name, tree) = (b"f".to_vec(alloc)?, Tree::File(Vec::new(alloc)));
         members.push(Member { name, tree })?;
     }
     Ok(Tree::Dir(members))
