@@ -158,11 +158,16 @@ class Scene:
         """Whether a call opens the store folder for its lock, or asks for that."""
         return call.kind == "lock" or call.path == f"{self.store}/."
 
+    def is_of_journal(self, call):
+        """Whether a call opens the journal, which may be gone by then: it counts as empty."""
+        return call.kind == "open" and call.path == str(self.journal)
+
     def passes(self, call, name):
         """Whether a run goes on as ever where a call is refused with an error."""
-        if name == "EEXIST":
+        if name == "EEXIST" and call.kind == "create":
             return ".nix_realise-" in call.path
-        return name in ("EINTR", "EOPNOTSUPP") or (name == "EACCES" and self.is_of_lock(call))
+        is_unlocked = name in ("EACCES", "ENOENT") and self.is_of_lock(call)
+        return name in ("EINTR", "EOPNOTSUPP") or is_unlocked
 
     def told_of(self, told, calls, at):
         """What is told: status, standard output, standard error."""
