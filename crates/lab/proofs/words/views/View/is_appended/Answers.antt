@@ -1,0 +1,23 @@
+use Rattle.lab.proofs.words.views.View.is_appended.Goals as goal
+
+pub append-requires-clause-new : goal.append-requires-clause-new
+append-requires-clause-new g c =
+    rw (
+      c.args.self.now.same,
+      c.requires.alike.1,
+      ← c.table.ensures.value,
+    ) c.in_default.ensures.0
+
+pub append-requires-clause-closed : goal.append-requires-clause-closed
+append-requires-clause-closed g c =
+    rw (
+      c.args.self.now.same,
+      c.requires.alike.1,
+      ← c.table.ensures.value,
+    ) c.in_default.ensures.1
+
+pub push_reserved-requires-clause-new : goal.push_reserved-requires-clause-new
+push_reserved-requires-clause-new g c = rw (← c.table.ensures.value) c.in_default.ensures.0
+
+pub push_reserved-requires-clause-closed : goal.push_reserved-requires-clause-closed
+push_reserved-requires-clause-closed g c = rw (← c.table.ensures.value) c.in_default.ensures.1
