@@ -67,7 +67,8 @@ impl<'a> Line<'a> {
 
     /// The arguments from this number on.
     pub(crate) fn arguments(&self, first: usize) -> &[&'a [u8]] {
-        self.arguments.get(first..).unwrap_or(&[])
+        let (_, rest) = self.arguments.split_at(first.min(self.arguments.len()));
+        rest
     }
 
     /// The argument with this number as a number, if it is one.

@@ -59,7 +59,6 @@ fn lent(teller: &Teller<'_>, world: &World, line: &Line<'_>) -> Result<Vec<u8>, 
     }
     let mut text = journals::lent(world, line)?;
     text.extend_from_slice(&tables::lent(world, line)?)?;
-    text.extend_from_slice(&drvs::lent(world, line)?)?;
     Ok(text)
 }
 

@@ -3,7 +3,7 @@
 use crate::shelf::Shelf;
 use drv_graph::Plan;
 use forecast::Forecast;
-use nix_drv::{Derivation, ListSource};
+use nix_drv::Derivation;
 use nix_names::{NameFault, StoreDir, StorePath, parse_path};
 use ref_scan::{Scanner, Tree};
 use std::alloc::{AllocError, Global};
@@ -28,7 +28,6 @@ pub(crate) struct World {
     pub(crate) texts: Shelf<Vec<u8>>,
     pub(crate) lists: Shelf<Vec<StorePath>>,
     pub(crate) drvs: Shelf<Derivation>,
-    pub(crate) sources: Shelf<ListSource>,
     pub(crate) plans: Shelf<Plan>,
     pub(crate) journals: Shelf<Journal>,
     pub(crate) tables: Shelf<KeptTable>,
@@ -46,7 +45,6 @@ impl World {
             texts: Shelf::new(alloc),
             lists: Shelf::new(alloc),
             drvs: Shelf::new(alloc),
-            sources: Shelf::new(alloc),
             plans: Shelf::new(alloc),
             journals: Shelf::new(alloc),
             tables: Shelf::new(alloc),

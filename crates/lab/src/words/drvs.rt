@@ -1,11 +1,14 @@
 //! Derivations, their texts and their sources.
 
-use crate::line::{Line, Lines};
-use crate::teller::Teller;
-use crate::words::names::{Done, appended, file_bytes, keep_path, lost};
+use crate::line::{Line, Lines, number_of};
+use crate::teller::{Done, Stop, Teller};
+use crate::words::names::{appended, file_at, keep_path};
 use crate::world::World;
-use nix_drv::{Derivation, DrvFault, DrvSource, EnvEntry, ListSource, ListedFile, Parts};
-use nix_names::{StorePath, is_name};
+use nix_drv::{
+    Derivation, DrvSource, EnvEntry, ListSource, ListedFile, Parts, check_text, named_text_path,
+    read, references, text_path, write, write_string,
+};
+use nix_names::is_name;
 use std::alloc::{AllocError, Global};
 use valid_table::Record;
 
@@ -16,94 +19,73 @@ pub(crate) fn take(
     _lines: &mut Lines<'_>,
     line: &Line<'_>,
 ) -> Result<bool, AllocError> {
-    match line.call() {
-        b"read" => read(teller, world, line)?,
-        b"check_text" => check_text(teller, world, line)?,
-        b"write" => write(teller, world, line)?,
-        b"write_string" => write_string(teller, world, line)?,
-        b"drv" => tell(teller, world, line),
+    let done = match line.call() {
+        b"read" => is_read(teller, world, line),
+        b"check_text" => checked(teller, world, line),
+        b"write" => written(teller, world, line),
+        b"write_string" => string(teller, world, line),
+        b"drv" => drv(teller, world, line),
         b"places" => places(teller, world, line),
         b"uses" => uses(teller, world, line),
-        b"Derivation::copy" => copy(teller, world, line)?,
-        b"Derivation::new" => new(teller, world, line)?,
-        b"Parts::copy" => copy_parts(teller, world, line)?,
-        b"Parts::text_with_inputs" => text_with_inputs(teller, world, line),
-        b"text_path" => text_path(teller, world, line)?,
-        b"named_text_path" => named_text_path(teller, world, line)?,
-        b"references" => references(teller, world, line),
-        b"ListSource::new" => new_source(teller, world, line)?,
+        b"Derivation::copy" => copy(teller, world, line),
+        b"Derivation::new" => new(teller, world, line),
+        b"Parts::copy" => parts(teller, world, line),
+        b"Parts::text_with_inputs" => with_inputs(teller, world, line),
+        b"text_path" | b"named_text_path" => path_of(teller, world, line),
+        b"references" => referred(teller, world, line),
+        b"ListSource::new" => list(teller, world, line),
         b"ListSource::fetch" => fetch(teller, world, line),
-        b"ListSource::failures" => failures(teller, world, line),
         _ => return Ok(false),
-    }
-    Ok(true)
+    };
+    teller.settle(done)
 }
 
-/// What the source that a line lends to be changed says of itself; no bytes where there is none.
-pub(crate) fn lent(world: &World, line: &Line<'_>) -> Result<Vec<u8>, AllocError> {
-    match world.sources.get(line.argument(0)) {
-        Some(source) => source.failures().to_be_bytes().to_vec(world.alloc),
-        None => Ok(Vec::new(world.alloc)),
-    }
-}
-
-// Keeps a derivation, if there is one.
-fn keep(
-    teller: &mut Teller<'_>,
-    world: &mut World,
+/// The derivation that an argument stands for.
+pub(crate) fn drv_of<'a>(
+    world: &'a World,
     line: &Line<'_>,
-    answer: Result<Derivation, DrvFault>,
-) -> Done {
-    match teller.answered(world.alloc, answer) {
-        Some(drv) => {
-            teller.say("a derivation");
-            world.drvs.keep(world.alloc, line.name(), drv)
-        }
-        None => Ok(()),
-    }
+    number: usize,
+) -> Result<&'a Derivation, Stop> {
+    let found = world.drvs.get(line.argument(number));
+    found.ok_or(Stop::Lost)
 }
 
-fn read(teller: &mut Teller<'_>, world: &mut World, line: &Line<'_>) -> Done {
+// Keeps a derivation, or says that there is one.
+fn keep(teller: &mut Teller<'_>, world: &mut World, line: &Line<'_>, drv: Derivation) -> Done {
+    if line.name().is_empty() {
+        teller.say("a derivation");
+    }
+    Ok(world.drvs.keep(world.alloc, line.name(), drv)?)
+}
+
+fn is_read(teller: &mut Teller<'_>, world: &mut World, line: &Line<'_>) -> Done {
     let text = world.text(line.argument(0));
-    teller.begins("read");
-    let answer = nix_drv::read(world.alloc, text);
-    teller.ends("read");
-    keep(teller, world, line, answer)
+    let drv = teller.call(world.alloc, "read", || read(world.alloc, text))?;
+    keep(teller, world, line, drv)
 }
 
-fn check_text(teller: &mut Teller<'_>, world: &mut World, line: &Line<'_>) -> Done {
-    let (Ok(dir), Ok(path)) = (world.dir(), world.path(line.argument(0))) else {
-        return lost(teller, "no path");
-    };
+fn checked(teller: &mut Teller<'_>, world: &mut World, line: &Line<'_>) -> Done {
+    let (dir, path) = (world.dir()?, world.path(line.argument(0))?);
     let text = world.text(line.argument(1));
-    teller.begins("check_text");
-    let answer = nix_drv::check_text(world.alloc, &dir, &path, text);
-    teller.ends("check_text");
-    keep(teller, world, line, answer)
+    let drv = teller.call(world.alloc, "check_text", || {
+        check_text(world.alloc, &dir, &path, text)
+    })?;
+    keep(teller, world, line, drv)
 }
 
-fn write(teller: &mut Teller<'_>, world: &mut World, line: &Line<'_>) -> Done {
-    let Some(drv) = world.drvs.get(line.argument(0)) else {
-        return lost(teller, "no derivation");
-    };
-    teller.begins("write");
-    let answer = nix_drv::write(world.alloc, drv);
-    teller.ends("write");
-    match teller.answered(world.alloc, answer) {
-        Some(text) => {
-            teller.text(&text);
-            world.texts.keep(world.alloc, line.name(), text)
-        }
-        None => Ok(()),
+fn written(teller: &mut Teller<'_>, world: &mut World, line: &Line<'_>) -> Done {
+    let drv = drv_of(world, line, 0)?;
+    let text = teller.call(world.alloc, "write", || write(world.alloc, drv))?;
+    if line.name().is_empty() {
+        teller.text(&text);
     }
+    Ok(world.texts.keep(world.alloc, line.name(), text)?)
 }
 
-fn write_string(teller: &mut Teller<'_>, world: &mut World, line: &Line<'_>) -> Done {
+fn string(teller: &mut Teller<'_>, world: &mut World, line: &Line<'_>) -> Done {
     let mut out = world.text(line.argument(0)).to_vec(world.alloc)?;
     let text = world.text(line.argument(1));
-    teller.begins("write_string");
-    let answer = nix_drv::write_string(&mut out, text);
-    teller.ends("write_string");
+    let answer = teller.marked("write_string", || write_string(&mut out, text));
     appended(teller, world, line, out, answer)
 }
 
@@ -114,104 +96,92 @@ fn tell_texts(teller: &mut Teller<'_>, word: &str, texts: &[Vec<u8>]) {
     }
 }
 
-fn tell_outputs_and_inputs(teller: &mut Teller<'_>, drv: &Derivation) {
-    teller.begins("Derivation::outputs Derivation::inputs");
-    let (outputs, inputs) = (drv.outputs(), drv.inputs());
-    teller.ends("Derivation::outputs Derivation::inputs");
+fn tell_outputs(teller: &mut Teller<'_>, drv: &Derivation) {
+    let outputs = teller.marked("Derivation::outputs", || drv.outputs());
     for output in outputs {
         let (name, path) = (output.name.escape_ascii(), output.path.escape_ascii());
         let (algo, hash) = (output.algo.escape_ascii(), output.hash.escape_ascii());
         teller.say(format_args!("output {name} {path} ({algo}, {hash})"));
     }
-    inputs.iter().for_each(|input| {
+}
+
+fn tell_inputs(teller: &mut Teller<'_>, drv: &Derivation) {
+    let inputs = teller.marked("Derivation::inputs", || drv.inputs());
+    for input in inputs {
         teller.say(format_args!("input {}", input.path.escape_ascii()));
         tell_texts(teller, "  name", &input.names);
-    });
+    }
 }
 
 // All that a derivation says.
-fn tell(teller: &mut Teller<'_>, world: &World, line: &Line<'_>) {
-    const CALLS: &str = "Derivation::sources Derivation::system Derivation::builder \
-        Derivation::args Derivation::env";
-    let Some(drv) = world.drvs.get(line.argument(0)) else {
-        return teller.lost("no derivation");
-    };
-    tell_outputs_and_inputs(teller, drv);
-    teller.begins(CALLS);
-    let (sources, args, env) = (drv.sources(), drv.args(), drv.env());
-    let (system, builder) = (drv.system(), drv.builder());
-    teller.ends(CALLS);
+fn drv(teller: &mut Teller<'_>, world: &World, line: &Line<'_>) -> Done {
+    const LISTS: &str = "Derivation::sources Derivation::args Derivation::env";
+    let drv = drv_of(world, line, 0)?;
+    tell_outputs(teller, drv);
+    tell_inputs(teller, drv);
+    let (sources, args, env) = teller.marked(LISTS, || (drv.sources(), drv.args(), drv.env()));
+    let texts = teller.marked("Derivation::system Derivation::builder", || {
+        (drv.system(), drv.builder())
+    });
     tell_texts(teller, "source", sources);
-    teller.say(format_args!("system {}", system.escape_ascii()));
-    teller.say(format_args!("builder {}", builder.escape_ascii()));
+    let (system, builder) = (texts.0.escape_ascii(), texts.1.escape_ascii());
+    teller.say(format_args!("system \"{system}\", builder \"{builder}\""));
     tell_texts(teller, "argument", args);
     for entry in env {
         let (key, value) = (entry.key.escape_ascii(), entry.value.escape_ascii());
         teller.say(format_args!("entry {key}={value}"));
     }
+    Ok(())
 }
 
-// Where some names stand among the outputs, and in the environment.
-fn places(teller: &mut Teller<'_>, world: &World, line: &Line<'_>) {
-    let Some(drv) = world.drvs.get(line.argument(0)) else {
-        return teller.lost("no derivation");
-    };
-    for word in line.arguments(1) {
-        let name = world.text(word);
-        teller.begins("Derivation::output_place Derivation::env_place");
-        let (output, entry) = (drv.output_place(name), drv.env_place(name));
-        teller.ends("Derivation::output_place Derivation::env_place");
-        teller.say(format_args!("{} {output:?} {entry:?}", name.escape_ascii()));
-    }
+// Where a name stands among the outputs, and in the environment.
+fn places(teller: &mut Teller<'_>, world: &World, line: &Line<'_>) -> Done {
+    let (drv, name) = (drv_of(world, line, 0)?, world.text(line.argument(1)));
+    let places = teller.marked("Derivation::output_place Derivation::env_place", || {
+        (drv.output_place(name), drv.env_place(name))
+    });
+    teller.say(format_args!("{:?} {:?}", places.0, places.1));
+    Ok(())
 }
 
-fn uses(teller: &mut Teller<'_>, world: &World, line: &Line<'_>) {
-    let (Some(drv), Some(input)) = (world.drvs.get(line.argument(0)), line.number(1)) else {
-        return teller.lost("no derivation, or no number");
-    };
+fn uses(teller: &mut Teller<'_>, world: &World, line: &Line<'_>) -> Done {
+    let (drv, input) = (drv_of(world, line, 0)?, line.number(1).unwrap_or(0));
     if input >= drv.inputs().len() {
-        return teller.not_allowed();
+        return Err(Stop::NotAllowed);
     }
     teller.begins("Derivation::uses");
     let is_used = drv.uses(input, line.argument(2));
     teller.ends("Derivation::uses");
     teller.say(is_used);
+    Ok(())
 }
 
 fn copy(teller: &mut Teller<'_>, world: &mut World, line: &Line<'_>) -> Done {
-    let Some(drv) = world.drvs.get(line.argument(0)) else {
-        return lost(teller, "no derivation");
-    };
-    teller.begins("Derivation::copy");
-    let answer = drv.copy(world.alloc);
-    teller.ends("Derivation::copy");
-    keep(teller, world, line, answer)
+    let drv = drv_of(world, line, 0)?;
+    let copy = teller.call(world.alloc, "Derivation::copy", || drv.copy(world.alloc))?;
+    keep(teller, world, line, copy)
 }
 
-fn copy_parts(teller: &mut Teller<'_>, world: &mut World, line: &Line<'_>) -> Done {
-    let Some(drv) = world.drvs.get(line.argument(0)) else {
-        return lost(teller, "no derivation");
-    };
-    teller.begins("Derivation::parts Parts::copy");
-    let answer = drv.parts().copy(world.alloc);
-    teller.ends("Derivation::parts Parts::copy");
-    match teller.answered(world.alloc, answer) {
-        Some(parts) => keep(teller, world, line, Derivation::new(parts)),
-        None => Ok(()),
+fn parts(teller: &mut Teller<'_>, world: &mut World, line: &Line<'_>) -> Done {
+    let drv = drv_of(world, line, 0)?;
+    let parts = teller.marked("Derivation::parts", || drv.parts());
+    let copy = teller.call(world.alloc, "Parts::copy", || parts.copy(world.alloc))?;
+    match Derivation::new(copy) {
+        Ok(drv) => keep(teller, world, line, drv),
+        Err(_) => Err(Stop::Lost),
     }
 }
 
-fn text_with_inputs(teller: &mut Teller<'_>, world: &World, line: &Line<'_>) {
-    let drv = world.drvs.get(line.argument(0));
-    let (Some(drv), Some(other)) = (drv, world.drvs.get(line.argument(1))) else {
-        return teller.lost("no derivations");
-    };
-    teller.begins("Parts::text_with_inputs");
-    let answer = drv.parts().text_with_inputs(world.alloc, other.inputs());
-    teller.ends("Parts::text_with_inputs");
-    if let Some(text) = teller.answered(world.alloc, answer) {
-        teller.text(&text);
-    }
+fn with_inputs(teller: &mut Teller<'_>, world: &World, line: &Line<'_>) -> Done {
+    let (parts, inputs) = (
+        drv_of(world, line, 0)?.parts(),
+        drv_of(world, line, 1)?.inputs(),
+    );
+    let text = teller.call(world.alloc, "Parts::text_with_inputs", || {
+        parts.text_with_inputs(world.alloc, inputs)
+    })?;
+    teller.text(&text);
+    Ok(())
 }
 
 // The texts that words stand for.
@@ -235,175 +205,148 @@ fn entries(world: &World, words: &[&[u8]]) -> Result<Vec<EnvEntry>, AllocError> 
 
 // Leaves out the paths of the outputs, where a derivation has them.
 fn leave_out(drv: &Derivation, parts: &mut Parts) {
-    parts
-        .outputs
-        .iter_mut()
-        .for_each(|output| output.path.clear());
-    for entry in parts.env.iter_mut() {
-        if drv.output_place(&entry.key).is_some() {
-            entry.value.clear();
-        }
+    for output in parts.outputs.iter_mut() {
+        output.path.clear();
     }
+    let values = parts.env.iter_mut();
+    values.for_each(|entry| if drv.output_place(&entry.key).is_some() {
+        entry.value.clear();
+    });
 }
 
 // Gives some parts in place of those of a derivation.
 fn change(world: &World, line: &Line<'_>, drv: &Derivation, parts: &mut Parts) -> Done {
+    let words = line.arguments(2);
     match line.argument(1) {
         b"draft" => leave_out(drv, parts),
-        b"sources" => parts.sources = texts(world, line.arguments(2))?,
+        b"sources" => parts.sources = texts(world, words)?,
         b"builder" => parts.builder = world.text(line.argument(2)).to_vec(world.alloc)?,
-        b"args" => parts.args = texts(world, line.arguments(2))?,
-        b"env" => parts.env = entries(world, line.arguments(2))?,
-        b"inputs" => if let Some(other) = world.drvs.get(line.argument(2)) {
-            parts.inputs = other.parts().copy(world.alloc)?.inputs;
-        },
-        _ => {}
+        b"args" => parts.args = texts(world, words)?,
+        b"env" => parts.env = entries(world, words)?,
+        _ => parts.inputs = drv_of(world, line, 2)?.parts().copy(world.alloc)?.inputs,
     }
     Ok(())
 }
 
 // The derivation of the parts of another one, of which some are changed.
 fn new(teller: &mut Teller<'_>, world: &mut World, line: &Line<'_>) -> Done {
-    let Some(drv) = world.drvs.get(line.argument(0)) else {
-        return lost(teller, "no derivation");
-    };
-    let Ok(copy) = drv.copy(world.alloc) else {
-        return Err(AllocError);
-    };
-    teller.begins("Derivation::into_parts");
-    let mut parts = copy.into_parts();
-    teller.ends("Derivation::into_parts");
+    let drv = drv_of(world, line, 0)?;
+    let copy = drv.copy(world.alloc).ok().ok_or(Stop::NoMemory)?;
+    let mut parts = teller.marked("Derivation::into_parts", || copy.into_parts());
     change(world, line, drv, &mut parts)?;
-    teller.begins("Derivation::new");
-    let answer = Derivation::new(parts);
-    teller.ends("Derivation::new");
-    keep(teller, world, line, answer)
+    let drv = teller.call(world.alloc, "Derivation::new", || Derivation::new(parts))?;
+    keep(teller, world, line, drv)
 }
 
-// A record of the references that words stand for, if each is greater than the one before it.
-fn rising(world: &World, words: &[&[u8]]) -> Option<Record> {
-    let paths = world.paths(words).ok()?;
-    let record = Record::new(world.paths(words).ok()?, None).ok()?;
-    if record.references() == paths.as_slice() {
-        Some(record)
+// The path of a text under a name, with references, each greater than the one before it.
+fn path_of(teller: &mut Teller<'_>, world: &mut World, line: &Line<'_>) -> Done {
+    let (name, text) = (world.text(line.argument(0)), world.text(line.argument(1)));
+    let (dir, paths) = (world.dir()?, world.paths(line.arguments(2))?);
+    let record = Record::new(world.paths(line.arguments(2))?, None).ok();
+    let record = record.ok_or(Stop::NoMemory)?;
+    if record.references() != paths.as_slice() {
+        return Err(Stop::NotAllowed);
+    }
+    let path = if line.call() == b"text_path".as_slice() {
+        teller.call(world.alloc, "text_path", || {
+            text_path(world.alloc, &dir, name, text, record.references())
+        })
+    } else if is_name(name) {
+        teller.begins("named_text_path");
+        let answer = named_text_path(world.alloc, &dir, name, text, record.references());
+        teller.ends("named_text_path");
+        teller.answered(world.alloc, answer).ok_or(Stop::Told)
     } else {
-        None
-    }
-}
-
-fn text_path(teller: &mut Teller<'_>, world: &mut World, line: &Line<'_>) -> Done {
-    let (name, text) = (world.text(line.argument(0)), world.text(line.argument(1)));
-    let (Ok(dir), Some(record)) = (world.dir(), rising(world, line.arguments(2))) else {
-        teller.not_allowed();
-        return Ok(());
+        Err(Stop::NotAllowed)
     };
-    teller.begins("text_path");
-    let answer = nix_drv::text_path(world.alloc, &dir, name, text, record.references());
-    teller.ends("text_path");
-    let path = teller.answered(world.alloc, answer);
-    keep_path(teller, world, line, path)
+    keep_path(teller, world, line, &path?)
 }
 
-fn named_text_path(teller: &mut Teller<'_>, world: &mut World, line: &Line<'_>) -> Done {
-    let (name, text) = (world.text(line.argument(0)), world.text(line.argument(1)));
-    let (Ok(dir), Some(record)) = (world.dir(), rising(world, line.arguments(2))) else {
-        teller.not_allowed();
-        return Ok(());
-    };
-    if !is_name(name) {
-        teller.not_allowed();
-        return Ok(());
-    }
-    teller.begins("named_text_path");
-    let answer = nix_drv::named_text_path(world.alloc, &dir, name, text, record.references());
-    teller.ends("named_text_path");
-    let path = teller.answered(world.alloc, answer);
-    keep_path(teller, world, line, path)
+fn referred(teller: &mut Teller<'_>, world: &World, line: &Line<'_>) -> Done {
+    let (dir, drv) = (world.dir()?, drv_of(world, line, 0)?);
+    let paths = teller.call(world.alloc, "references", || {
+        references(world.alloc, &dir, drv)
+    })?;
+    teller.paths(&paths);
+    Ok(())
 }
 
-fn references(teller: &mut Teller<'_>, world: &World, line: &Line<'_>) {
-    let (Ok(dir), Some(drv)) = (world.dir(), world.drvs.get(line.argument(0))) else {
-        return teller.lost("no derivation");
-    };
-    teller.begins("references");
-    let answer = nix_drv::references(world.alloc, &dir, drv);
-    teller.ends("references");
-    if let Some(paths) = teller.answered(world.alloc, answer) {
-        teller.paths(&paths);
-    }
-}
-
-// The files of a list, each a line: its path, a space and its bytes.
-fn listed(alloc: Global, text: &[u8]) -> Result<Vec<ListedFile>, AllocError> {
-    let mut files = Vec::new(alloc);
-    for line in text.split(|byte| *byte == b'\n') {
-        if let Some(end) = line.iter().position(|byte| *byte == b' ') {
-            let (path, rest) = line.split_at(end);
-            let bytes = rest.get(1..).unwrap_or(rest).to_vec(alloc)?;
-            let path = path.to_vec(alloc)?;
+// The source of a list: each line of it is a file, its path, a space and its bytes, or the number
+// of a fetch that fails.
+fn files(alloc: Global, list: &[u8]) -> Result<(Vec<ListedFile>, Vec<u64>), AllocError> {
+    let (mut files, mut failing) = (Vec::new(alloc), Vec::new(alloc));
+    for line in list.split(|byte| *byte == b'\n') {
+        let end = line.iter().position(|byte| *byte == b' ');
+        let (path, rest) = line.split_at(end.unwrap_or(line.len()));
+        if let Some(bytes) = rest.get(1..) {
+            let (path, bytes) = (path.to_vec(alloc)?, bytes.to_vec(alloc)?);
             files.push(ListedFile { path, bytes })?;
-        }
-    }
-    Ok(files)
-}
-
-// The file of this name as one of the store folder.
-fn stored(
-    teller: &mut Teller<'_>,
-    world: &World,
-    name: &[u8],
-) -> Result<Option<ListedFile>, AllocError> {
-    let Some(bytes) = file_bytes(teller, name) else {
-        return Ok(None);
-    };
-    let mut path = world.dir.to_vec(world.alloc)?;
-    path.push(b'/')?;
-    path.extend_from_slice(name.rsplit(|byte| *byte == b'/').next().unwrap_or(name))?;
-    Ok(Some(ListedFile { path, bytes }))
-}
-
-// A source of the files that words name: a kept list, or a file below the folder of the tests. A
-// word that is a number is that of a fetch which fails.
-fn new_source(teller: &mut Teller<'_>, world: &mut World, line: &Line<'_>) -> Done {
-    let (mut files, mut failing) = (Vec::new(world.alloc), Vec::new(world.alloc));
-    for word in line.arguments(0) {
-        if let Some(number) = crate::line::number_of(word) {
+        } else if let Some(number) = number_of(path) {
             failing.push(u64::try_from(number).unwrap_or(0))?;
-        } else if let Some(text) = world.texts.get(word) {
-            files.append(&mut listed(world.alloc, text)?)?;
-        } else if let Some(file) = stored(teller, world, word)? {
-            files.push(file)?;
         }
     }
-    teller.begins("ListSource::new");
-    let answer = ListSource::new(world.alloc, files, failing);
-    teller.ends("ListSource::new");
-    match teller.answered(world.alloc, answer) {
-        Some(source) => world.sources.keep(world.alloc, line.name(), source),
-        None => Ok(()),
+    Ok((files, failing))
+}
+
+/// The source of the list that an argument stands for.
+pub(crate) fn source_of(world: &World, line: &Line<'_>, number: usize) -> Result<ListSource, Stop> {
+    let (files, failing) = files(world.alloc, world.text(line.argument(number)))?;
+    ListSource::new(world.alloc, files, failing)
+        .ok()
+        .ok_or(Stop::NoMemory)
+}
+
+/// Prints how many fetches of a source failed, if some did.
+pub(crate) fn tell_failures(teller: &mut Teller<'_>, source: &ListSource) {
+    let count = teller.marked("ListSource::failures", || source.failures());
+    if count != 0 {
+        teller.say(format_args!("{count} failures"));
     }
 }
 
-fn fetch(teller: &mut Teller<'_>, world: &mut World, line: &Line<'_>) {
-    let alloc = world.alloc;
-    let path = world.path(line.argument(1));
-    let (Ok(path), Some(source)) = (path, world.sources.get_mut(line.argument(0))) else {
-        return teller.lost("no source, or no path");
-    };
-    teller.begins("ListSource::fetch");
-    let answer = source.fetch(alloc, &path);
-    teller.ends("ListSource::fetch");
-    if let Some(text) = teller.answered(alloc, answer) {
-        teller.text(&text);
+// Adds to a list the lines of a kept one, the number of a fetch, or a file of the store folder.
+fn push_listed(teller: &Teller<'_>, world: &World, list: &mut Vec<u8>, word: &[u8]) -> Done {
+    if world.texts.get(word).is_some() || number_of(word).is_some() {
+        list.extend_from_slice(world.text(word))?;
+    } else {
+        let (bytes, base) = (
+            file_at(teller, word)?,
+            word.rsplit(|byte| *byte == b'/').next(),
+        );
+        let pieces = [
+            &world.dir,
+            b"/".as_slice(),
+            base.unwrap_or(word),
+            b" ",
+            &bytes,
+        ];
+        list.extend_from_slice(&pieces.concat(world.alloc)?)?;
     }
+    Ok(list.push(b'\n')?)
 }
 
-fn failures(teller: &mut Teller<'_>, world: &World, line: &Line<'_>) {
-    let Some(source) = world.sources.get(line.argument(0)) else {
-        return teller.lost("no source");
-    };
-    teller.begins("ListSource::failures");
-    let count = source.failures();
-    teller.ends("ListSource::failures");
-    teller.say(format_args!("{count} failures"));
+// Keeps the list of what words stand for.
+fn list(teller: &mut Teller<'_>, world: &mut World, line: &Line<'_>) -> Done {
+    let mut list = Vec::new(world.alloc);
+    for word in line.arguments(0) {
+        push_listed(teller, world, &mut list, word)?;
+    }
+    let (files, failing) = files(world.alloc, &list)?;
+    drop(teller.call(world.alloc, "ListSource::new", || {
+        ListSource::new(world.alloc, files, failing)
+    })?);
+    Ok(world.texts.keep(world.alloc, line.name(), list)?)
+}
+
+// The fetch of a source with a number, after as many others.
+fn fetch(teller: &mut Teller<'_>, world: &World, line: &Line<'_>) -> Done {
+    let (mut source, path) = (source_of(world, line, 0)?, world.path(line.argument(1))?);
+    for _ in 0..line.number(2).unwrap_or(0) {
+        drop(source.fetch(world.alloc, &path));
+    }
+    let answer = teller.marked("ListSource::fetch", || source.fetch(world.alloc, &path));
+    tell_failures(teller, &source);
+    let text = teller.answered(world.alloc, answer).ok_or(Stop::Told)?;
+    teller.text(&text);
+    Ok(())
 }

@@ -1,24 +1,15 @@
 //! Names, paths and digests.
 
 use crate::line::{Line, Lines};
-use crate::teller::Teller;
+use crate::teller::{Done, Stop, Teller};
 use crate::world::World;
 use nix_names::{
-    Algorithm, Digest, StoreDir, StorePath, fold20, is_drv_name, is_name, known_path,
-    make_named_path,
+    Algorithm, Digest, StoreDir, StorePath, fold20, from_base32, is_drv_name, is_name, known_path,
+    make_named_path, make_path, parse_path, to_base32,
 };
 use std::alloc::{AllocError, Global};
 use std::mem::size_of;
 use std::{fs, str};
-
-/// What the taking of a line answers: nothing, unless there is no memory to go on.
-pub(crate) type Done = Result<(), AllocError>;
-
-/// Notes that a line means nothing.
-pub(crate) fn lost(teller: &mut Teller<'_>, why: &str) -> Done {
-    teller.lost(why);
-    Ok(())
-}
 
 /// Takes a line, if its call is one of these.
 pub(crate) fn take(
@@ -27,89 +18,57 @@ pub(crate) fn take(
     _lines: &mut Lines<'_>,
     line: &Line<'_>,
 ) -> Result<bool, AllocError> {
-    match line.call() {
-        b"bytes" => bytes(teller, world, line)?,
-        b"file" => file(teller, world, line)?,
-        b"dir" => dir(teller, world, line)?,
-        b"to_base32" => to_base32(teller, world, line),
-        b"from_base32" => from_base32(teller, world, line)?,
-        b"parse_path" => parse_path(teller, world, line)?,
-        b"known_path" => known(teller, world, line)?,
-        b"make_path" => make_path(teller, world, line)?,
-        b"make_named_path" => make_named(teller, world, line)?,
-        b"fold20" => fold(teller, world, line)?,
+    let done = match line.call() {
+        b"bytes" => bytes(world, line),
+        b"file" => file(teller, world, line),
+        b"dir" => dir(teller, world, line),
+        b"to_base32" => encoded(teller, world, line),
+        b"from_base32" => decoded(teller, world, line),
+        b"parse_path" => parsed(teller, world, line),
+        b"known_path" => known(teller, world, line),
+        b"make_path" => made(teller, world, line),
+        b"make_named_path" => made_named(teller, world, line),
+        b"fold20" => folded(teller, world, line),
         b"is_name" => names(teller, world, line),
         b"path" => path(teller, world, line),
         b"compare" => compare(teller, world, line),
-        b"Digest::of_text" => of_text(teller, world, line)?,
-        b"Digest::of_digits" => of_digits(teller, world, line)?,
-        b"Digest::push_text" => push_text(teller, world, line)?,
-        b"Digest::push_digits" => push_digits(teller, world, line)?,
+        b"Digest::of_text" => of_text(teller, world, line),
+        b"Digest::of_digits" => of_digits(teller, world, line),
+        b"Digest::push_text" => push_text(teller, world, line),
+        b"Digest::push_digits" => push_digits(teller, world, line),
         _ => return Ok(false),
-    }
-    Ok(true)
+    };
+    teller.settle(done)
 }
 
 // Keeps a text, which is given in hex digits.
-fn bytes(teller: &mut Teller<'_>, world: &mut World, line: &Line<'_>) -> Done {
-    let Ok(bytes) = hex::decode(world.alloc, line.argument(0)) else {
-        return lost(teller, "no hex digits");
-    };
-    world.texts.keep(world.alloc, line.name(), bytes)
+fn bytes(world: &mut World, line: &Line<'_>) -> Done {
+    match hex::decode(world.alloc, line.argument(0)) {
+        Ok(bytes) => Ok(world.texts.keep(world.alloc, line.name(), bytes)?),
+        Err(_) => Err(Stop::Lost),
+    }
 }
 
 // Keeps the bytes of a file as a text.
-fn file(teller: &mut Teller<'_>, world: &mut World, line: &Line<'_>) -> Done {
-    match file_bytes(teller, line.argument(0)) {
-        Some(bytes) => world.texts.keep(world.alloc, line.name(), bytes),
-        None => Ok(()),
+fn file(teller: &Teller<'_>, world: &mut World, line: &Line<'_>) -> Done {
+    let bytes = file_at(teller, line.argument(0))?;
+    Ok(world.texts.keep(world.alloc, line.name(), bytes)?)
+}
+
+/// The bytes of the file at a path.
+pub(crate) fn file_at(teller: &Teller<'_>, path: &[u8]) -> Result<Vec<u8>, Stop> {
+    match str::from_utf8(path) {
+        Ok(path) => fs::read(teller.rt(), path).ok().ok_or(Stop::Lost),
+        Err(_) => Err(Stop::Lost),
     }
 }
 
-/// The bytes of the file at a path; where there are none, the line means nothing.
-pub(crate) fn file_bytes(teller: &mut Teller<'_>, path: &[u8]) -> Option<Vec<u8>> {
-    let read = match str::from_utf8(path) {
-        Ok(path) => fs::read(teller.rt(), path).ok(),
-        Err(_) => None,
-    };
-    if read.is_none() {
-        teller.lost("no file");
-    }
-    read
-}
-
-/// The 32 bytes that are written in hex digits, if they are.
-pub(crate) fn digest_of(digits: &[u8]) -> Option<[u8; 32]> {
+/// The 32 bytes that are written in hex digits.
+pub(crate) fn digest_of(digits: &[u8]) -> Result<[u8; 32], Stop> {
     let mut digest = [0; 32];
     match hex::decode_to_slice(digits, &mut digest) {
-        Ok(()) => Some(digest),
-        Err(_) => None,
-    }
-}
-
-// Makes a folder the store folder of the lines that follow.
-fn dir(teller: &mut Teller<'_>, world: &mut World, line: &Line<'_>) -> Done {
-    let text = world.text(line.argument(0));
-    teller.begins("StoreDir::new");
-    let answer = StoreDir::new(world.alloc, text);
-    teller.ends("StoreDir::new");
-    if let Some(dir) = teller.answered(world.alloc, answer) {
-        teller.begins("StoreDir::text");
-        let text = dir.text();
-        teller.ends("StoreDir::text");
-        teller.text(text);
-        world.dir = text.to_vec(world.alloc)?;
-    }
-    Ok(())
-}
-
-fn to_base32(teller: &mut Teller<'_>, world: &World, line: &Line<'_>) {
-    let bytes = world.text(line.argument(0));
-    teller.begins("to_base32");
-    let answer = nix_names::to_base32(world.alloc, bytes);
-    teller.ends("to_base32");
-    if let Some(text) = teller.answered(world.alloc, answer) {
-        teller.say(text.as_str());
+        Ok(()) => Ok(digest),
+        Err(_) => Err(Stop::Lost),
     }
 }
 
@@ -120,192 +79,172 @@ fn tell_hex(teller: &mut Teller<'_>, alloc: Global, bytes: &[u8]) -> Done {
     Ok(())
 }
 
-fn from_base32(teller: &mut Teller<'_>, world: &World, line: &Line<'_>) -> Done {
-    let Some(count) = line.number(0) else {
-        return lost(teller, "no number");
-    };
-    let text = world.text(line.argument(1));
-    teller.begins("from_base32");
-    let answer = nix_names::from_base32(world.alloc, text, count);
-    teller.ends("from_base32");
-    match teller.answered(world.alloc, answer) {
-        Some(bytes) => tell_hex(teller, world.alloc, &bytes),
-        None => Ok(()),
-    }
+// Makes a folder the store folder of the lines that follow.
+fn dir(teller: &mut Teller<'_>, world: &mut World, line: &Line<'_>) -> Done {
+    let text = world.text(line.argument(0));
+    let dir = teller.call(
+        world.alloc,
+        "StoreDir::new",
+        || StoreDir::new(world.alloc, text),
+    )?;
+    let text = teller.marked("StoreDir::text", || dir.text());
+    teller.text(text);
+    world.dir = text.to_vec(world.alloc)?;
+    Ok(())
 }
 
-/// Prints a path and keeps its text, if there is one.
+fn encoded(teller: &mut Teller<'_>, world: &World, line: &Line<'_>) -> Done {
+    let bytes = world.text(line.argument(0));
+    let text = teller.call(world.alloc, "to_base32", || to_base32(world.alloc, bytes))?;
+    teller.say(text.as_str());
+    Ok(())
+}
+
+fn decoded(teller: &mut Teller<'_>, world: &World, line: &Line<'_>) -> Done {
+    let text = world.text(line.argument(0));
+    let count = line.number(1).ok_or(Stop::Lost)?;
+    let bytes = teller.call(world.alloc, "from_base32", || {
+        from_base32(world.alloc, text, count)
+    })?;
+    tell_hex(teller, world.alloc, &bytes)
+}
+
+/// Prints a path and keeps its text.
 pub(crate) fn keep_path(
     teller: &mut Teller<'_>,
     world: &mut World,
     line: &Line<'_>,
-    path: Option<StorePath>,
+    path: &StorePath,
 ) -> Done {
-    let Some(path) = path else { return Ok(()) };
     teller.say(path.as_str());
     let text = path.text().to_vec(world.alloc)?;
-    world.texts.keep(world.alloc, line.name(), text)
+    Ok(world.texts.keep(world.alloc, line.name(), text)?)
 }
 
-fn parse_path(teller: &mut Teller<'_>, world: &mut World, line: &Line<'_>) -> Done {
-    let Ok(dir) = world.dir() else {
-        return lost(teller, "no store folder");
-    };
-    let text = world.text(line.argument(0));
-    teller.begins("parse_path");
-    let answer = nix_names::parse_path(world.alloc, &dir, text);
-    teller.ends("parse_path");
-    let path = teller.answered(world.alloc, answer);
-    keep_path(teller, world, line, path)
+fn parsed(teller: &mut Teller<'_>, world: &mut World, line: &Line<'_>) -> Done {
+    let (dir, text) = (world.dir()?, world.text(line.argument(0)));
+    let path = teller.call(world.alloc, "parse_path", || {
+        parse_path(world.alloc, &dir, text)
+    })?;
+    keep_path(teller, world, line, &path)
 }
 
 fn known(teller: &mut Teller<'_>, world: &mut World, line: &Line<'_>) -> Done {
-    let Ok(path) = world.path(line.argument(0)) else {
-        teller.not_allowed();
-        return Ok(());
-    };
-    teller.begins("known_path");
-    let answer = known_path(world.alloc, path.text());
-    teller.ends("known_path");
-    let path = teller.answered(world.alloc, answer);
-    keep_path(teller, world, line, path)
+    let path = world.path(line.argument(0)).ok().ok_or(Stop::NotAllowed)?;
+    let path = teller.call(world.alloc, "known_path", || {
+        known_path(world.alloc, path.text())
+    })?;
+    keep_path(teller, world, line, &path)
 }
 
-fn make_path(teller: &mut Teller<'_>, world: &mut World, line: &Line<'_>) -> Done {
+fn made(teller: &mut Teller<'_>, world: &mut World, line: &Line<'_>) -> Done {
     let (kind, name) = (line.argument(0), world.text(line.argument(2)));
-    let (Ok(dir), Some(inner)) = (world.dir(), digest_of(line.argument(1))) else {
-        return lost(teller, "no digest");
-    };
-    teller.begins("make_path");
-    let answer = nix_names::make_path(world.alloc, kind, &inner, &dir, name);
-    teller.ends("make_path");
-    let path = teller.answered(world.alloc, answer);
-    keep_path(teller, world, line, path)
+    let (dir, inner) = (world.dir()?, digest_of(line.argument(1))?);
+    let path = teller.call(world.alloc, "make_path", || {
+        make_path(world.alloc, kind, &inner, &dir, name)
+    })?;
+    keep_path(teller, world, line, &path)
 }
 
-fn make_named(teller: &mut Teller<'_>, world: &mut World, line: &Line<'_>) -> Done {
+fn made_named(teller: &mut Teller<'_>, world: &mut World, line: &Line<'_>) -> Done {
     let (kind, name) = (line.argument(0), world.text(line.argument(2)));
-    let (Ok(dir), Some(inner)) = (world.dir(), digest_of(line.argument(1))) else {
-        return lost(teller, "no digest");
-    };
+    let (dir, inner) = (world.dir()?, digest_of(line.argument(1))?);
     if !is_name(name) {
-        teller.not_allowed();
-        return Ok(());
+        return Err(Stop::NotAllowed);
     }
     teller.begins("make_named_path");
     let answer = make_named_path(world.alloc, kind, &inner, &dir, name);
     teller.ends("make_named_path");
-    let path = teller.answered(world.alloc, answer);
-    keep_path(teller, world, line, path)
+    let path = teller.answered(world.alloc, answer).ok_or(Stop::Told)?;
+    keep_path(teller, world, line, &path)
 }
 
-fn fold(teller: &mut Teller<'_>, world: &World, line: &Line<'_>) -> Done {
-    let Some(digest) = digest_of(line.argument(0)) else {
-        return lost(teller, "no digest");
-    };
-    teller.begins("fold20");
-    let folded = fold20(&digest);
-    teller.ends("fold20");
+fn folded(teller: &mut Teller<'_>, world: &World, line: &Line<'_>) -> Done {
+    let digest = digest_of(line.argument(0))?;
+    let folded = teller.marked("fold20", || fold20(&digest));
     tell_hex(teller, world.alloc, &folded)
 }
 
 // Whether a text is a name, and whether a name is that of a derivation's file.
-fn names(teller: &mut Teller<'_>, world: &World, line: &Line<'_>) {
+fn names(teller: &mut Teller<'_>, world: &World, line: &Line<'_>) -> Done {
     let name = world.text(line.argument(0));
-    teller.begins("is_name is_drv_name");
-    let (is_name, is_drv_name) = (is_name(name), is_drv_name(name));
-    teller.ends("is_name is_drv_name");
-    teller.say(format_args!("{is_name} {is_drv_name}"));
+    let found = teller.marked("is_name is_drv_name", || (is_name(name), is_drv_name(name)));
+    teller.say(format_args!("{} {}", found.0, found.1));
+    Ok(())
 }
 
 // All that is told of a path, by a copy of it that outlives it.
-fn path(teller: &mut Teller<'_>, world: &World, line: &Line<'_>) {
-    const CALLS: &str = "StorePath::text StorePath::as_str StorePath::hash_part StorePath::name \
-        StorePath::key";
-    let Ok(path) = world.path(line.argument(0)) else {
-        return teller.lost("no path");
-    };
-    teller.begins("StorePath::copy");
-    let copy = path.copy(world.alloc);
-    teller.ends("StorePath::copy");
-    let Some(copy) = teller.answered(world.alloc, copy) else {
-        return;
-    };
+fn path(teller: &mut Teller<'_>, world: &World, line: &Line<'_>) -> Done {
+    const TEXTS: &str = "StorePath::text StorePath::as_str StorePath::hash_part StorePath::name";
+    let path = world.path(line.argument(0))?;
+    let copy = teller.call(world.alloc, "StorePath::copy", || path.copy(world.alloc))?;
     drop(path);
-    teller.begins(CALLS);
-    let texts = (copy.text(), copy.as_str(), copy.hash_part(), copy.name());
-    let key = copy.key();
-    teller.ends(CALLS);
+    let texts = teller.marked(TEXTS, || {
+        (copy.text(), copy.as_str(), copy.hash_part(), copy.name())
+    });
+    let key = teller.marked("StorePath::key", || copy.key());
     teller.text(texts.0);
     teller.say(texts.1);
     teller.text(texts.2);
     teller.text(texts.3);
     teller.say(format_args!("{key:x}, in {} bytes", size_of::<StorePath>()));
+    Ok(())
 }
 
 // How two paths compare.
-fn compare(teller: &mut Teller<'_>, world: &World, line: &Line<'_>) {
-    let (Ok(path), Ok(other)) = (world.path(line.argument(0)), world.path(line.argument(1))) else {
-        return teller.lost("no path");
-    };
-    teller.begins("StorePath::cmp StorePath::eq");
-    let (order, is_same) = (path.cmp(&other), path == other);
-    teller.ends("StorePath::cmp StorePath::eq");
-    teller.say(format_args!("{order:?} {is_same}"));
+fn compare(teller: &mut Teller<'_>, world: &World, line: &Line<'_>) -> Done {
+    let (path, other) = (world.path(line.argument(0))?, world.path(line.argument(1))?);
+    let found = teller.marked("StorePath::cmp StorePath::eq", || {
+        (path.cmp(&other), path == other)
+    });
+    teller.say(format_args!("{:?} {}", found.0, found.1));
+    Ok(())
 }
 
 fn of_text(teller: &mut Teller<'_>, world: &World, line: &Line<'_>) -> Done {
     let text = world.text(line.argument(0));
-    teller.begins("Digest::of_text");
-    let found = Digest::of_text(text);
-    teller.ends("Digest::of_text");
+    let found = teller.marked("Digest::of_text", || Digest::of_text(text));
     tell_digest(teller, world.alloc, found)
 }
 
 fn of_digits(teller: &mut Teller<'_>, world: &World, line: &Line<'_>) -> Done {
     let (name, digits) = (line.argument(0), world.text(line.argument(1)));
-    teller.begins("Algorithm::of_name Digest::of_digits");
-    let found = match Algorithm::of_name(name) {
-        Some(algorithm) => Digest::of_digits(algorithm, digits),
+    let algorithm = teller.marked("Algorithm::of_name", || Algorithm::of_name(name));
+    let found = match algorithm {
+        Some(named) => { teller.marked("Digest::of_digits", || Digest::of_digits(named, digits)) }
         None => None,
     };
-    teller.ends("Algorithm::of_name Digest::of_digits");
     tell_digest(teller, world.alloc, found)
 }
 
 // Prints the algorithm and the bytes of a digest, if there is one.
 fn tell_digest(teller: &mut Teller<'_>, alloc: Global, found: Option<Digest>) -> Done {
-    const CALLS: &str = "Digest::algorithm Algorithm::name Digest::bytes";
     let Some(digest) = found else {
         teller.say("none");
         return Ok(());
     };
-    teller.begins(CALLS);
-    let (name, bytes) = (digest.algorithm().name(), digest.bytes());
-    teller.ends(CALLS);
+    let algorithm = teller.marked("Digest::algorithm", || digest.algorithm());
+    let name = teller.marked("Algorithm::name", || algorithm.name());
+    let bytes = teller.marked("Digest::bytes", || digest.bytes());
     teller.text(name);
     tell_hex(teller, alloc, bytes)
 }
 
+// The digest whose text the second argument is, and a copy of the text to which it is to be added.
+fn adding(world: &World, line: &Line<'_>) -> Result<(Digest, Vec<u8>), Stop> {
+    let digest = Digest::of_text(line.argument(1)).ok_or(Stop::Lost)?;
+    Ok((digest, world.text(line.argument(0)).to_vec(world.alloc)?))
+}
+
 fn push_text(teller: &mut Teller<'_>, world: &mut World, line: &Line<'_>) -> Done {
-    let Some(digest) = Digest::of_text(line.argument(1)) else {
-        return lost(teller, "no digest");
-    };
-    let mut out = world.text(line.argument(0)).to_vec(world.alloc)?;
-    teller.begins("Digest::push_text");
-    let answer = digest.push_text(&mut out);
-    teller.ends("Digest::push_text");
+    let (digest, mut out) = adding(world, line)?;
+    let answer = teller.marked("Digest::push_text", || digest.push_text(&mut out));
     appended(teller, world, line, out, answer)
 }
 
 fn push_digits(teller: &mut Teller<'_>, world: &mut World, line: &Line<'_>) -> Done {
-    let Some(digest) = Digest::of_text(line.argument(1)) else {
-        return lost(teller, "no digest");
-    };
-    let mut out = world.text(line.argument(0)).to_vec(world.alloc)?;
-    teller.begins("Digest::push_digits");
-    let answer = digest.push_digits(&mut out);
-    teller.ends("Digest::push_digits");
+    let (digest, mut out) = adding(world, line)?;
+    let answer = teller.marked("Digest::push_digits", || digest.push_digits(&mut out));
     appended(teller, world, line, out, answer)
 }
 
@@ -319,13 +258,9 @@ pub(crate) fn appended(
     answer: Result<(), AllocError>,
 ) -> Done {
     if !out.starts_with(world.text(line.argument(0))) {
-        return lost(teller, "what stood before is gone");
+        return Err(Stop::Lost);
     }
-    match teller.answered(world.alloc, answer) {
-        Some(()) => {
-            teller.text(&out);
-            world.texts.keep(world.alloc, line.name(), out)
-        }
-        None => Ok(()),
-    }
+    teller.answered(world.alloc, answer).ok_or(Stop::Told)?;
+    teller.text(&out);
+    Ok(world.texts.keep(world.alloc, line.name(), out)?)
 }

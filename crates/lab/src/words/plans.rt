@@ -1,10 +1,11 @@
 //! Plans, drafts and modulo texts.
 
 use crate::line::{Line, Lines};
-use crate::teller::Teller;
-use crate::words::names::{Done, digest_of, lost};
+use crate::teller::{Done, Stop, Teller};
+use crate::words::drvs::{drv_of, source_of, tell_failures};
+use crate::words::names::digest_of;
 use crate::world::World;
-use drv_graph::{Kind, Plan};
+use drv_graph::{GraphFault, Kind, Plan, fill_outputs, modulo_text};
 use std::alloc::{AllocError, Global};
 
 /// Takes a line, if its call is one of these.
@@ -14,56 +15,60 @@ pub(crate) fn take(
     _lines: &mut Lines<'_>,
     line: &Line<'_>,
 ) -> Result<bool, AllocError> {
-    match line.call() {
-        b"Plan::load" => load(teller, world, line)?,
-        b"Plan::copy" => copy(teller, world, line)?,
+    let done = match line.call() {
+        b"Plan::load" => load(teller, world, line),
+        b"Plan::copy" => copy(teller, world, line),
         b"plan" => plan(teller, world, line),
-        b"node" => node(teller, world, line)?,
+        b"node" => node(teller, world, line),
         b"equal" => equal(teller, world, line),
-        b"fill_outputs" => fill_outputs(teller, world, line)?,
-        b"modulo_text" => modulo_text(teller, world, line)?,
+        b"fill_outputs" => fill(teller, world, line),
+        b"modulo_text" => modulo(teller, world, line),
         _ => return Ok(false),
+    };
+    teller.settle(done)
+}
+
+fn plan_of<'a>(world: &'a World, line: &Line<'_>) -> Result<&'a Plan, Stop> {
+    let found = world.plans.get(line.argument(0));
+    found.ok_or(Stop::Lost)
+}
+
+// Keeps a plan, or says how many derivations it has, if there is one.
+fn keep(
+    teller: &mut Teller<'_>,
+    world: &mut World,
+    line: &Line<'_>,
+    answer: Result<Plan, GraphFault>,
+) -> Done {
+    if let Some(plan) = teller.answered(world.alloc, answer) {
+        if line.name().is_empty() {
+            teller.say(format_args!("{} derivations", plan.len()));
+        }
+        world.plans.keep(world.alloc, line.name(), plan)?;
     }
-    Ok(true)
+    Ok(())
 }
 
 fn load(teller: &mut Teller<'_>, world: &mut World, line: &Line<'_>) -> Done {
-    let (alloc, dir, roots) = (world.alloc, world.dir(), world.paths(line.arguments(1)));
-    let (Ok(dir), Ok(roots), Some(source)) = (dir, roots, world.sources.get_mut(line.argument(0)))
-    else {
-        return lost(teller, "no source, or no path");
-    };
-    teller.begins("Plan::load");
-    let answer = Plan::load(alloc, source, &dir, &roots);
-    teller.ends("Plan::load");
-    match teller.answered(alloc, answer) {
-        Some(plan) => {
-            teller.say(format_args!("{} derivations", plan.len()));
-            world.plans.keep(alloc, line.name(), plan)
-        }
-        None => Ok(()),
-    }
+    let (mut source, dir) = (source_of(world, line, 0)?, world.dir()?);
+    let roots = world.paths(line.arguments(1))?;
+    let answer = teller.marked("Plan::load", || {
+        Plan::load(world.alloc, &mut source, &dir, &roots)
+    });
+    tell_failures(teller, &source);
+    keep(teller, world, line, answer)
 }
 
 fn copy(teller: &mut Teller<'_>, world: &mut World, line: &Line<'_>) -> Done {
-    let Some(plan) = world.plans.get(line.argument(0)) else {
-        return lost(teller, "no plan");
-    };
-    teller.begins("Plan::copy");
-    let answer = plan.copy(world.alloc);
-    teller.ends("Plan::copy");
-    match teller.answered(world.alloc, answer) {
-        Some(copy) => world.plans.keep(world.alloc, line.name(), copy),
-        None => Ok(()),
-    }
+    let plan = plan_of(world, line)?;
+    let answer = teller.marked("Plan::copy", || plan.copy(world.alloc));
+    keep(teller, world, line, answer)
 }
 
 // The path, the inputs and the first twin of each derivation of a plan, and its roots.
-fn plan(teller: &mut Teller<'_>, world: &World, line: &Line<'_>) {
+fn plan(teller: &mut Teller<'_>, world: &World, line: &Line<'_>) -> Done {
     const CALLS: &str = "Plan::path Plan::inputs Plan::first_twin";
-    let Some(plan) = world.plans.get(line.argument(0)) else {
-        return teller.lost("no plan");
-    };
+    let plan = plan_of(world, line)?;
     teller.begins("Plan::len Plan::roots");
     let (len, roots) = (plan.len(), plan.roots());
     teller.ends("Plan::len Plan::roots");
@@ -75,17 +80,15 @@ fn plan(teller: &mut Teller<'_>, world: &World, line: &Line<'_>) {
         teller.say(format_args!("{number} {} {inputs:?} {twin}", path.as_str()));
     }
     teller.say(format_args!("roots {roots:?}"));
+    Ok(())
 }
 
 // The kind, the outputs and the sources of one derivation of a plan, which is kept.
 fn node(teller: &mut Teller<'_>, world: &mut World, line: &Line<'_>) -> Done {
     const CALLS: &str = "Plan::drv Plan::kind Plan::output_paths Plan::sources";
-    let (Some(plan), Some(number)) = (world.plans.get(line.argument(0)), line.number(1)) else {
-        return lost(teller, "no plan, or no number");
-    };
+    let (plan, number) = (plan_of(world, line)?, line.number(1).unwrap_or(0));
     if number >= plan.len() {
-        teller.not_allowed();
-        return Ok(());
+        return Err(Stop::NotAllowed);
     }
     teller.begins(CALLS);
     let (drv, kind) = (plan.drv(number), plan.kind(number));
@@ -94,10 +97,8 @@ fn node(teller: &mut Teller<'_>, world: &mut World, line: &Line<'_>) -> Done {
     tell_kind(teller, world.alloc, kind)?;
     teller.paths(outputs);
     teller.paths(sources);
-    match drv.copy(world.alloc) {
-        Ok(copy) => world.drvs.keep(world.alloc, line.name(), copy),
-        Err(_) => Err(AllocError),
-    }
+    let copy = drv.copy(world.alloc).ok().ok_or(Stop::NoMemory)?;
+    Ok(world.drvs.keep(world.alloc, line.name(), copy)?)
 }
 
 fn tell_kind(teller: &mut Teller<'_>, alloc: Global, kind: Kind) -> Done {
@@ -112,75 +113,56 @@ fn tell_kind(teller: &mut Teller<'_>, alloc: Global, kind: Kind) -> Done {
     Ok(())
 }
 
-// Whether two derivations, or two plans, are the same.
-fn equal(teller: &mut Teller<'_>, world: &World, line: &Line<'_>) {
-    let words = (line.argument(0), line.argument(1));
-    teller.begins("Derivation::eq Plan::eq");
-    let are_drvs = match (world.drvs.get(words.0), world.drvs.get(words.1)) {
-        (Some(drv), Some(other)) => Some(drv == other),
-        _ => None,
+// Whether two plans, two derivations, or else two texts are the same.
+fn equal(teller: &mut Teller<'_>, world: &World, line: &Line<'_>) -> Done {
+    let (one, two) = (line.argument(0), line.argument(1));
+    let is_same = if let (Some(plan), Some(other)) = (world.plans.get(one), world.plans.get(two)) {
+        teller.marked("Plan::eq", || plan == other)
+    } else if let (Some(drv), Some(other)) = (world.drvs.get(one), world.drvs.get(two)) {
+        teller.marked("Derivation::eq", || drv == other)
+    } else {
+        world.text(one) == world.text(two)
     };
-    let are_plans = match (world.plans.get(words.0), world.plans.get(words.1)) {
-        (Some(plan), Some(other)) => Some(plan == other),
-        _ => None,
-    };
-    teller.ends("Derivation::eq Plan::eq");
-    match are_drvs.or(are_plans) {
-        Some(are_equal) => teller.say(are_equal),
-        None => teller.lost("no two of one kind"),
-    }
+    teller.say(is_same);
+    Ok(())
 }
 
-fn fill_outputs(teller: &mut Teller<'_>, world: &mut World, line: &Line<'_>) -> Done {
-    let (alloc, dir) = (world.alloc, world.dir());
-    let (source, draft) = (
-        world.sources.get_mut(line.argument(0)),
-        world.drvs.get(line.argument(2)),
-    );
-    let (Ok(dir), Some(source), Some(draft)) = (dir, source, draft) else {
-        return lost(teller, "no source, or no draft");
-    };
-    teller.begins("fill_outputs");
-    let answer = drv_graph::fill_outputs(alloc, source, &dir, line.argument(1), draft);
-    teller.ends("fill_outputs");
-    match teller.answered(alloc, answer) {
-        Some((drv, path)) => {
-            teller.say(path.as_str());
-            world.drvs.keep(alloc, line.name(), drv)
-        }
-        None => Ok(()),
+fn fill(teller: &mut Teller<'_>, world: &mut World, line: &Line<'_>) -> Done {
+    let (mut source, dir) = (source_of(world, line, 0)?, world.dir()?);
+    let (name, draft) = (line.argument(1), drv_of(world, line, 2)?);
+    let answer = teller.marked("fill_outputs", || {
+        fill_outputs(world.alloc, &mut source, &dir, name, draft)
+    });
+    tell_failures(teller, &source);
+    if let Some((drv, path)) = teller.answered(world.alloc, answer) {
+        teller.say(path.as_str());
+        world.drvs.keep(world.alloc, line.name(), drv)?;
     }
+    Ok(())
 }
 
-// The digests that words stand for, if each is one.
-fn digests(alloc: Global, words: &[&[u8]]) -> Result<Option<Vec<[u8; 32]>>, AllocError> {
+// The digests that words stand for.
+fn digests(alloc: Global, words: &[&[u8]]) -> Result<Vec<[u8; 32]>, Stop> {
     let mut digests = Vec::new(alloc);
     for word in words {
-        match digest_of(word) {
-            Some(digest) => digests.push(digest)?,
-            None => return Ok(None),
-        }
+        digests.push(digest_of(word)?)?;
     }
-    Ok(Some(digests))
+    Ok(digests)
 }
 
-fn modulo_text(teller: &mut Teller<'_>, world: &World, line: &Line<'_>) -> Done {
-    let (drv, mask) = (
-        world.drvs.get(line.argument(0)),
+fn modulo(teller: &mut Teller<'_>, world: &World, line: &Line<'_>) -> Done {
+    let (drv, is_masked) = (
+        drv_of(world, line, 0)?,
         line.argument(1) == b"masked".as_slice(),
     );
-    let (Some(drv), Some(hashes)) = (drv, digests(world.alloc, line.arguments(2))?) else {
-        return lost(teller, "no derivation, or no digest");
-    };
+    let hashes = digests(world.alloc, line.arguments(2))?;
     if hashes.len() != drv.inputs().len() {
-        teller.not_allowed();
-        return Ok(());
+        return Err(Stop::NotAllowed);
     }
     teller.begins("modulo_text");
-    let answer = drv_graph::modulo_text(world.alloc, drv, &hashes, mask);
+    let answer = modulo_text(world.alloc, drv, &hashes, is_masked);
     teller.ends("modulo_text");
-    if let Some(text) = teller.answered(world.alloc, answer) {
-        teller.text(&text);
-    }
+    let text = teller.answered(world.alloc, answer).ok_or(Stop::Told)?;
+    teller.text(&text);
     Ok(())
 }
