@@ -1,4 +1,6 @@
 //! Derivations, their texts and their sources.
+ghost use Rattle.std.specs.Prelude.{IfOk};
+ghost use Rattle.nix_names.specs.Rising.{IsRising};
 
 use crate::line::{Line, Lines, number_of};
 use crate::teller::{Done, Stop, Teller};
@@ -8,9 +10,8 @@ use nix_drv::{
     Derivation, DrvSource, EnvEntry, ListSource, ListedFile, Parts, check_text, named_text_path,
     read, references, text_path, write, write_string,
 };
-use nix_names::is_name;
+use nix_names::{StorePath, is_name};
 use std::alloc::{AllocError, Global};
-use valid_table::Record;
 
 /// Takes a line, if its call is one of these.
 pub(crate) fn take(
@@ -31,7 +32,8 @@ pub(crate) fn take(
         b"Derivation::new" => new(teller, world, line),
         b"Parts::copy" => parts(teller, world, line),
         b"Parts::text_with_inputs" => with_inputs(teller, world, line),
-        b"text_path" | b"named_text_path" => path_of(teller, world, line),
+        b"text_path" => path_of(teller, world, line),
+        b"named_text_path" => named_path_of(teller, world, line),
         b"references" => referred(teller, world, line),
         b"ListSource::new" => list(teller, world, line),
         b"ListSource::fetch" => fetch(teller, world, line),
@@ -238,28 +240,48 @@ fn new(teller: &mut Teller<'_>, world: &mut World, line: &Line<'_>) -> Done {
     keep(teller, world, line, drv)
 }
 
-// The path of a text under a name, with references, each greater than the one before it.
+/// The paths that words name, if each is greater than the one before it.
+pub(crate) fn rising(world: &World, words: &[&[u8]]) -> Result<Vec<StorePath>, Stop>
+    ensures { IfOk result (λ paths. IsRising paths.items) }
+{
+    let (alloc, dir) = (world.alloc, world.dir()?);
+    let drv = Derivation::new(Parts {
+        outputs: Vec::new(alloc),
+        inputs: Vec::new(alloc),
+        sources: texts(world, words)?,
+        system: Vec::new(alloc),
+        builder: Vec::new(alloc),
+        args: Vec::new(alloc),
+        env: Vec::new(alloc),
+    });
+    let drv = drv.ok().ok_or(Stop::NotAllowed)?;
+    match references(alloc, &dir, &drv) {
+        Ok(paths) => Ok(paths),
+        Err(_) => Err(Stop::Lost),
+    }
+}
+
 fn path_of(teller: &mut Teller<'_>, world: &mut World, line: &Line<'_>) -> Done {
     let (name, text) = (world.text(line.argument(0)), world.text(line.argument(1)));
-    let (dir, paths) = (world.dir()?, world.paths(line.arguments(2))?);
-    let record = Record::new(world.paths(line.arguments(2))?, None).ok();
-    let record = record.ok_or(Stop::NoMemory)?;
-    if record.references() != paths.as_slice() {
+    let (dir, refs) = (world.dir()?, rising(world, line.arguments(2))?);
+    teller.begins("text_path");
+    let answer = text_path(world.alloc, &dir, name, text, &refs);
+    teller.ends("text_path");
+    let path = teller.answered(world.alloc, answer).ok_or(Stop::Told)?;
+    keep_path(teller, world, line, &path)
+}
+
+fn named_path_of(teller: &mut Teller<'_>, world: &mut World, line: &Line<'_>) -> Done {
+    let (name, text) = (world.text(line.argument(0)), world.text(line.argument(1)));
+    let (dir, refs) = (world.dir()?, rising(world, line.arguments(2))?);
+    if !is_name(name) {
         return Err(Stop::NotAllowed);
     }
-    let path = if line.call() == b"text_path".as_slice() {
-        teller.call(world.alloc, "text_path", || {
-            text_path(world.alloc, &dir, name, text, record.references())
-        })
-    } else if is_name(name) {
-        teller.begins("named_text_path");
-        let answer = named_text_path(world.alloc, &dir, name, text, record.references());
-        teller.ends("named_text_path");
-        teller.answered(world.alloc, answer).ok_or(Stop::Told)
-    } else {
-        Err(Stop::NotAllowed)
-    };
-    keep_path(teller, world, line, &path?)
+    teller.begins("named_text_path");
+    let answer = named_text_path(world.alloc, &dir, name, text, &refs);
+    teller.ends("named_text_path");
+    let path = teller.answered(world.alloc, answer).ok_or(Stop::Told)?;
+    keep_path(teller, world, line, &path)
 }
 
 fn referred(teller: &mut Teller<'_>, world: &World, line: &Line<'_>) -> Done {

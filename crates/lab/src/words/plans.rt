@@ -127,9 +127,15 @@ fn equal(teller: &mut Teller<'_>, world: &World, line: &Line<'_>) -> Done {
     Ok(())
 }
 
+// Fills a draft under a name, or under that of a derivation's path.
 fn fill(teller: &mut Teller<'_>, world: &mut World, line: &Line<'_>) -> Done {
     let (mut source, dir) = (source_of(world, line, 0)?, world.dir()?);
-    let (name, draft) = (line.argument(1), drv_of(world, line, 2)?);
+    let (word, path) = (line.argument(1), world.path(line.argument(1)));
+    let name = match &path {
+        Ok(path) => path.name().strip_suffix(b".drv").unwrap_or(word),
+        Err(_) => word,
+    };
+    let draft = drv_of(world, line, 2)?;
     let answer = teller.marked("fill_outputs", || {
         fill_outputs(world.alloc, &mut source, &dir, name, draft)
     });
