@@ -40,7 +40,7 @@ impl From<NameFault> for Stop {
 }
 
 /// What the taking of a line answers.
-pub(crate) type Done = Result<(), Stop>;
+pub(crate) type Taken = Result<(), Stop>;
 
 /// How it stands with the line that is taken.
 #[derive(Clone, Copy, PartialEq, Eq)]
@@ -155,7 +155,7 @@ impl<'a> Teller<'a> {
     }
 
     /// Ends a line that was taken.
-    pub(crate) fn settle(&mut self, done: Done) -> Result<bool, AllocError> {
+    pub(crate) fn settle(&mut self, done: Taken) -> Result<bool, AllocError> {
         match done {
             Ok(()) | Err(Stop::Told) => {}
             Err(Stop::NotAllowed) => self.not_allowed(),

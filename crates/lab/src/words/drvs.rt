@@ -3,7 +3,7 @@ ghost use Rattle.std.specs.Prelude.{IfOk};
 ghost use Rattle.nix_names.specs.Rising.{IsRising};
 
 use crate::line::{Line, Lines, number_of};
-use crate::teller::{Done, Stop, Teller};
+use crate::teller::{Stop, Taken, Teller};
 use crate::words::names::{appended, file_at, keep_path};
 use crate::world::World;
 use nix_drv::{
@@ -53,20 +53,20 @@ pub(crate) fn drv_of<'a>(
 }
 
 // Keeps a derivation, or says that there is one.
-fn keep(teller: &mut Teller<'_>, world: &mut World, line: &Line<'_>, drv: Derivation) -> Done {
+fn keep(teller: &mut Teller<'_>, world: &mut World, line: &Line<'_>, drv: Derivation) -> Taken {
     if line.name().is_empty() {
         teller.say("a derivation");
     }
     Ok(world.drvs.keep(world.alloc, line.name(), drv)?)
 }
 
-fn is_read(teller: &mut Teller<'_>, world: &mut World, line: &Line<'_>) -> Done {
+fn is_read(teller: &mut Teller<'_>, world: &mut World, line: &Line<'_>) -> Taken {
     let text = world.text(line.argument(0));
     let drv = teller.call(world.alloc, "read", || read(world.alloc, text))?;
     keep(teller, world, line, drv)
 }
 
-fn checked(teller: &mut Teller<'_>, world: &mut World, line: &Line<'_>) -> Done {
+fn checked(teller: &mut Teller<'_>, world: &mut World, line: &Line<'_>) -> Taken {
     let (dir, path) = (world.dir()?, world.path(line.argument(0))?);
     let text = world.text(line.argument(1));
     let drv = teller.call(world.alloc, "check_text", || {
@@ -75,7 +75,7 @@ fn checked(teller: &mut Teller<'_>, world: &mut World, line: &Line<'_>) -> Done 
     keep(teller, world, line, drv)
 }
 
-fn written(teller: &mut Teller<'_>, world: &mut World, line: &Line<'_>) -> Done {
+fn written(teller: &mut Teller<'_>, world: &mut World, line: &Line<'_>) -> Taken {
     let drv = drv_of(world, line, 0)?;
     let text = teller.call(world.alloc, "write", || write(world.alloc, drv))?;
     if line.name().is_empty() {
@@ -84,11 +84,11 @@ fn written(teller: &mut Teller<'_>, world: &mut World, line: &Line<'_>) -> Done 
     Ok(world.texts.keep(world.alloc, line.name(), text)?)
 }
 
-fn string(teller: &mut Teller<'_>, world: &mut World, line: &Line<'_>) -> Done {
+fn string(teller: &mut Teller<'_>, world: &mut World, line: &Line<'_>) -> Taken {
     let mut out = world.text(line.argument(0)).to_vec(world.alloc)?;
     let text = world.text(line.argument(1));
     let answer = teller.marked("write_string", || write_string(&mut out, text));
-    appended(teller, world, line, out, answer)
+    Ok(appended(teller, world, line, out, answer)?)
 }
 
 // Prints each text behind a word.
@@ -116,7 +116,7 @@ fn tell_inputs(teller: &mut Teller<'_>, drv: &Derivation) {
 }
 
 // All that a derivation says.
-fn drv(teller: &mut Teller<'_>, world: &World, line: &Line<'_>) -> Done {
+fn drv(teller: &mut Teller<'_>, world: &World, line: &Line<'_>) -> Taken {
     const LISTS: &str = "Derivation::sources Derivation::args Derivation::env";
     let drv = drv_of(world, line, 0)?;
     tell_outputs(teller, drv);
@@ -137,7 +137,7 @@ fn drv(teller: &mut Teller<'_>, world: &World, line: &Line<'_>) -> Done {
 }
 
 // Where a name stands among the outputs, and in the environment.
-fn places(teller: &mut Teller<'_>, world: &World, line: &Line<'_>) -> Done {
+fn places(teller: &mut Teller<'_>, world: &World, line: &Line<'_>) -> Taken {
     let (drv, name) = (drv_of(world, line, 0)?, world.text(line.argument(1)));
     let places = teller.marked("Derivation::output_place Derivation::env_place", || {
         (drv.output_place(name), drv.env_place(name))
@@ -146,7 +146,7 @@ fn places(teller: &mut Teller<'_>, world: &World, line: &Line<'_>) -> Done {
     Ok(())
 }
 
-fn uses(teller: &mut Teller<'_>, world: &World, line: &Line<'_>) -> Done {
+fn uses(teller: &mut Teller<'_>, world: &World, line: &Line<'_>) -> Taken {
     let (drv, input) = (drv_of(world, line, 0)?, line.number(1).unwrap_or(0));
     if input >= drv.inputs().len() {
         return Err(Stop::NotAllowed);
@@ -158,13 +158,13 @@ fn uses(teller: &mut Teller<'_>, world: &World, line: &Line<'_>) -> Done {
     Ok(())
 }
 
-fn copy(teller: &mut Teller<'_>, world: &mut World, line: &Line<'_>) -> Done {
+fn copy(teller: &mut Teller<'_>, world: &mut World, line: &Line<'_>) -> Taken {
     let drv = drv_of(world, line, 0)?;
     let copy = teller.call(world.alloc, "Derivation::copy", || drv.copy(world.alloc))?;
     keep(teller, world, line, copy)
 }
 
-fn parts(teller: &mut Teller<'_>, world: &mut World, line: &Line<'_>) -> Done {
+fn parts(teller: &mut Teller<'_>, world: &mut World, line: &Line<'_>) -> Taken {
     let drv = drv_of(world, line, 0)?;
     let parts = teller.marked("Derivation::parts", || drv.parts());
     let copy = teller.call(world.alloc, "Parts::copy", || parts.copy(world.alloc))?;
@@ -174,7 +174,7 @@ fn parts(teller: &mut Teller<'_>, world: &mut World, line: &Line<'_>) -> Done {
     }
 }
 
-fn with_inputs(teller: &mut Teller<'_>, world: &World, line: &Line<'_>) -> Done {
+fn with_inputs(teller: &mut Teller<'_>, world: &World, line: &Line<'_>) -> Taken {
     let (parts, inputs) = (
         drv_of(world, line, 0)?.parts(),
         drv_of(world, line, 1)?.inputs(),
@@ -217,7 +217,7 @@ fn leave_out(drv: &Derivation, parts: &mut Parts) {
 }
 
 // Gives some parts in place of those of a derivation.
-fn change(world: &World, line: &Line<'_>, drv: &Derivation, parts: &mut Parts) -> Done {
+fn change(world: &World, line: &Line<'_>, drv: &Derivation, parts: &mut Parts) -> Taken {
     let words = line.arguments(2);
     match line.argument(1) {
         b"draft" => leave_out(drv, parts),
@@ -231,7 +231,7 @@ fn change(world: &World, line: &Line<'_>, drv: &Derivation, parts: &mut Parts) -
 }
 
 // The derivation of the parts of another one, of which some are changed.
-fn new(teller: &mut Teller<'_>, world: &mut World, line: &Line<'_>) -> Done {
+fn new(teller: &mut Teller<'_>, world: &mut World, line: &Line<'_>) -> Taken {
     let drv = drv_of(world, line, 0)?;
     let copy = drv.copy(world.alloc).ok().ok_or(Stop::NoMemory)?;
     let mut parts = teller.marked("Derivation::into_parts", || copy.into_parts());
@@ -261,7 +261,7 @@ pub(crate) fn rising(world: &World, words: &[&[u8]]) -> Result<Vec<StorePath>, S
     }
 }
 
-fn path_of(teller: &mut Teller<'_>, world: &mut World, line: &Line<'_>) -> Done {
+fn path_of(teller: &mut Teller<'_>, world: &mut World, line: &Line<'_>) -> Taken {
     let (name, text) = (world.text(line.argument(0)), world.text(line.argument(1)));
     let (dir, refs) = (world.dir()?, rising(world, line.arguments(2))?);
     teller.begins("text_path");
@@ -271,7 +271,7 @@ fn path_of(teller: &mut Teller<'_>, world: &mut World, line: &Line<'_>) -> Done 
     keep_path(teller, world, line, &path)
 }
 
-fn named_path_of(teller: &mut Teller<'_>, world: &mut World, line: &Line<'_>) -> Done {
+fn named_path_of(teller: &mut Teller<'_>, world: &mut World, line: &Line<'_>) -> Taken {
     let (name, text) = (world.text(line.argument(0)), world.text(line.argument(1)));
     let (dir, refs) = (world.dir()?, rising(world, line.arguments(2))?);
     if !is_name(name) {
@@ -284,7 +284,7 @@ fn named_path_of(teller: &mut Teller<'_>, world: &mut World, line: &Line<'_>) ->
     keep_path(teller, world, line, &path)
 }
 
-fn referred(teller: &mut Teller<'_>, world: &World, line: &Line<'_>) -> Done {
+fn referred(teller: &mut Teller<'_>, world: &World, line: &Line<'_>) -> Taken {
     let (dir, drv) = (world.dir()?, drv_of(world, line, 0)?);
     let paths = teller.call(world.alloc, "references", || {
         references(world.alloc, &dir, drv)
@@ -327,7 +327,7 @@ pub(crate) fn tell_failures(teller: &mut Teller<'_>, source: &ListSource) {
 }
 
 // Adds to a list the lines of a kept one, the number of a fetch, or a file of the store folder.
-fn push_listed(teller: &Teller<'_>, world: &World, list: &mut Vec<u8>, word: &[u8]) -> Done {
+fn push_listed(teller: &Teller<'_>, world: &World, list: &mut Vec<u8>, word: &[u8]) -> Taken {
     if world.texts.get(word).is_some() || number_of(word).is_some() {
         list.extend_from_slice(world.text(word))?;
     } else {
@@ -348,7 +348,7 @@ fn push_listed(teller: &Teller<'_>, world: &World, list: &mut Vec<u8>, word: &[u
 }
 
 // Keeps the list of what words stand for.
-fn list(teller: &mut Teller<'_>, world: &mut World, line: &Line<'_>) -> Done {
+fn list(teller: &mut Teller<'_>, world: &mut World, line: &Line<'_>) -> Taken {
     let mut list = Vec::new(world.alloc);
     for word in line.arguments(0) {
         push_listed(teller, world, &mut list, word)?;
@@ -361,7 +361,7 @@ fn list(teller: &mut Teller<'_>, world: &mut World, line: &Line<'_>) -> Done {
 }
 
 // The fetch of a source with a number, after as many others.
-fn fetch(teller: &mut Teller<'_>, world: &World, line: &Line<'_>) -> Done {
+fn fetch(teller: &mut Teller<'_>, world: &World, line: &Line<'_>) -> Taken {
     let (mut source, path) = (source_of(world, line, 0)?, world.path(line.argument(1))?);
     for _ in 0..line.number(2).unwrap_or(0) {
         drop(source.fetch(world.alloc, &path));

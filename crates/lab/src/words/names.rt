@@ -1,7 +1,7 @@
 //! Names, paths and digests.
 
 use crate::line::{Line, Lines};
-use crate::teller::{Done, Stop, Teller};
+use crate::teller::{Stop, Taken, Teller};
 use crate::world::World;
 use nix_names::{
     Algorithm, Digest, StoreDir, StorePath, fold20, from_base32, is_drv_name, is_name, known_path,
@@ -10,6 +10,15 @@ use nix_names::{
 use std::alloc::{AllocError, Global};
 use std::mem::size_of;
 use std::{fs, str};
+
+/// What the taking of a line answers: nothing, unless there is no memory to go on.
+pub(crate) type Done = Result<(), AllocError>;
+
+/// Notes that a line means nothing.
+pub(crate) fn lost(teller: &mut Teller<'_>, why: &str) -> Done {
+    teller.lost(why);
+    Ok(())
+}
 
 /// Takes a line, if its call is one of these.
 pub(crate) fn take(
@@ -42,7 +51,7 @@ pub(crate) fn take(
 }
 
 // Keeps a text, which is given in hex digits.
-fn bytes(world: &mut World, line: &Line<'_>) -> Done {
+fn bytes(world: &mut World, line: &Line<'_>) -> Taken {
     match hex::decode(world.alloc, line.argument(0)) {
         Ok(bytes) => Ok(world.texts.keep(world.alloc, line.name(), bytes)?),
         Err(_) => Err(Stop::Lost),
@@ -50,7 +59,7 @@ fn bytes(world: &mut World, line: &Line<'_>) -> Done {
 }
 
 // Keeps the bytes of a file as a text.
-fn file(teller: &Teller<'_>, world: &mut World, line: &Line<'_>) -> Done {
+fn file(teller: &Teller<'_>, world: &mut World, line: &Line<'_>) -> Taken {
     let bytes = file_at(teller, line.argument(0))?;
     Ok(world.texts.keep(world.alloc, line.name(), bytes)?)
 }
@@ -73,14 +82,14 @@ pub(crate) fn digest_of(digits: &[u8]) -> Result<[u8; 32], Stop> {
 }
 
 // Prints bytes in hex digits.
-fn tell_hex(teller: &mut Teller<'_>, alloc: Global, bytes: &[u8]) -> Done {
+fn tell_hex(teller: &mut Teller<'_>, alloc: Global, bytes: &[u8]) -> Taken {
     let digits = hex::encode(alloc, bytes)?;
     teller.say(digits.as_str());
     Ok(())
 }
 
 // Makes a folder the store folder of the lines that follow.
-fn dir(teller: &mut Teller<'_>, world: &mut World, line: &Line<'_>) -> Done {
+fn dir(teller: &mut Teller<'_>, world: &mut World, line: &Line<'_>) -> Taken {
     let text = world.text(line.argument(0));
     let dir = teller.call(
         world.alloc,
@@ -93,14 +102,14 @@ fn dir(teller: &mut Teller<'_>, world: &mut World, line: &Line<'_>) -> Done {
     Ok(())
 }
 
-fn encoded(teller: &mut Teller<'_>, world: &World, line: &Line<'_>) -> Done {
+fn encoded(teller: &mut Teller<'_>, world: &World, line: &Line<'_>) -> Taken {
     let bytes = world.text(line.argument(0));
     let text = teller.call(world.alloc, "to_base32", || to_base32(world.alloc, bytes))?;
     teller.say(text.as_str());
     Ok(())
 }
 
-fn decoded(teller: &mut Teller<'_>, world: &World, line: &Line<'_>) -> Done {
+fn decoded(teller: &mut Teller<'_>, world: &World, line: &Line<'_>) -> Taken {
     let text = world.text(line.argument(0));
     let count = line.number(1).ok_or(Stop::Lost)?;
     let bytes = teller.call(world.alloc, "from_base32", || {
@@ -115,13 +124,13 @@ pub(crate) fn keep_path(
     world: &mut World,
     line: &Line<'_>,
     path: &StorePath,
-) -> Done {
+) -> Taken {
     teller.say(path.as_str());
     let text = path.text().to_vec(world.alloc)?;
     Ok(world.texts.keep(world.alloc, line.name(), text)?)
 }
 
-fn parsed(teller: &mut Teller<'_>, world: &mut World, line: &Line<'_>) -> Done {
+fn parsed(teller: &mut Teller<'_>, world: &mut World, line: &Line<'_>) -> Taken {
     let (dir, text) = (world.dir()?, world.text(line.argument(0)));
     let path = teller.call(world.alloc, "parse_path", || {
         parse_path(world.alloc, &dir, text)
@@ -129,7 +138,7 @@ fn parsed(teller: &mut Teller<'_>, world: &mut World, line: &Line<'_>) -> Done {
     keep_path(teller, world, line, &path)
 }
 
-fn known(teller: &mut Teller<'_>, world: &mut World, line: &Line<'_>) -> Done {
+fn known(teller: &mut Teller<'_>, world: &mut World, line: &Line<'_>) -> Taken {
     let path = world.path(line.argument(0)).ok().ok_or(Stop::NotAllowed)?;
     let path = teller.call(world.alloc, "known_path", || {
         known_path(world.alloc, path.text())
@@ -137,7 +146,7 @@ fn known(teller: &mut Teller<'_>, world: &mut World, line: &Line<'_>) -> Done {
     keep_path(teller, world, line, &path)
 }
 
-fn made(teller: &mut Teller<'_>, world: &mut World, line: &Line<'_>) -> Done {
+fn made(teller: &mut Teller<'_>, world: &mut World, line: &Line<'_>) -> Taken {
     let (kind, name) = (line.argument(0), world.text(line.argument(2)));
     let (dir, inner) = (world.dir()?, digest_of(line.argument(1))?);
     let path = teller.call(world.alloc, "make_path", || {
@@ -146,7 +155,7 @@ fn made(teller: &mut Teller<'_>, world: &mut World, line: &Line<'_>) -> Done {
     keep_path(teller, world, line, &path)
 }
 
-fn made_named(teller: &mut Teller<'_>, world: &mut World, line: &Line<'_>) -> Done {
+fn made_named(teller: &mut Teller<'_>, world: &mut World, line: &Line<'_>) -> Taken {
     let (kind, name) = (line.argument(0), world.text(line.argument(2)));
     let (dir, inner) = (world.dir()?, digest_of(line.argument(1))?);
     if !is_name(name) {
@@ -159,14 +168,14 @@ fn made_named(teller: &mut Teller<'_>, world: &mut World, line: &Line<'_>) -> Do
     keep_path(teller, world, line, &path)
 }
 
-fn folded(teller: &mut Teller<'_>, world: &World, line: &Line<'_>) -> Done {
+fn folded(teller: &mut Teller<'_>, world: &World, line: &Line<'_>) -> Taken {
     let digest = digest_of(line.argument(0))?;
     let folded = teller.marked("fold20", || fold20(&digest));
     tell_hex(teller, world.alloc, &folded)
 }
 
 // Whether a text is a name, and whether a name is that of a derivation's file.
-fn names(teller: &mut Teller<'_>, world: &World, line: &Line<'_>) -> Done {
+fn names(teller: &mut Teller<'_>, world: &World, line: &Line<'_>) -> Taken {
     let name = world.text(line.argument(0));
     let found = teller.marked("is_name is_drv_name", || (is_name(name), is_drv_name(name)));
     teller.say(format_args!("{} {}", found.0, found.1));
@@ -174,7 +183,7 @@ fn names(teller: &mut Teller<'_>, world: &World, line: &Line<'_>) -> Done {
 }
 
 // All that is told of a path, by a copy of it that outlives it.
-fn path(teller: &mut Teller<'_>, world: &World, line: &Line<'_>) -> Done {
+fn path(teller: &mut Teller<'_>, world: &World, line: &Line<'_>) -> Taken {
     const TEXTS: &str = "StorePath::text StorePath::as_str StorePath::hash_part StorePath::name";
     let path = world.path(line.argument(0))?;
     let copy = teller.call(world.alloc, "StorePath::copy", || path.copy(world.alloc))?;
@@ -192,7 +201,7 @@ fn path(teller: &mut Teller<'_>, world: &World, line: &Line<'_>) -> Done {
 }
 
 // How two paths compare.
-fn compare(teller: &mut Teller<'_>, world: &World, line: &Line<'_>) -> Done {
+fn compare(teller: &mut Teller<'_>, world: &World, line: &Line<'_>) -> Taken {
     let (path, other) = (world.path(line.argument(0))?, world.path(line.argument(1))?);
     let found = teller.marked("StorePath::cmp StorePath::eq", || {
         (path.cmp(&other), path == other)
@@ -201,13 +210,13 @@ fn compare(teller: &mut Teller<'_>, world: &World, line: &Line<'_>) -> Done {
     Ok(())
 }
 
-fn of_text(teller: &mut Teller<'_>, world: &World, line: &Line<'_>) -> Done {
+fn of_text(teller: &mut Teller<'_>, world: &World, line: &Line<'_>) -> Taken {
     let text = world.text(line.argument(0));
     let found = teller.marked("Digest::of_text", || Digest::of_text(text));
     tell_digest(teller, world.alloc, found)
 }
 
-fn of_digits(teller: &mut Teller<'_>, world: &World, line: &Line<'_>) -> Done {
+fn of_digits(teller: &mut Teller<'_>, world: &World, line: &Line<'_>) -> Taken {
     let (name, digits) = (line.argument(0), world.text(line.argument(1)));
     let algorithm = teller.marked("Algorithm::of_name", || Algorithm::of_name(name));
     let found = match algorithm {
@@ -218,7 +227,7 @@ fn of_digits(teller: &mut Teller<'_>, world: &World, line: &Line<'_>) -> Done {
 }
 
 // Prints the algorithm and the bytes of a digest, if there is one.
-fn tell_digest(teller: &mut Teller<'_>, alloc: Global, found: Option<Digest>) -> Done {
+fn tell_digest(teller: &mut Teller<'_>, alloc: Global, found: Option<Digest>) -> Taken {
     let Some(digest) = found else {
         teller.say("none");
         return Ok(());
@@ -236,16 +245,16 @@ fn adding(world: &World, line: &Line<'_>) -> Result<(Digest, Vec<u8>), Stop> {
     Ok((digest, world.text(line.argument(0)).to_vec(world.alloc)?))
 }
 
-fn push_text(teller: &mut Teller<'_>, world: &mut World, line: &Line<'_>) -> Done {
+fn push_text(teller: &mut Teller<'_>, world: &mut World, line: &Line<'_>) -> Taken {
     let (digest, mut out) = adding(world, line)?;
     let answer = teller.marked("Digest::push_text", || digest.push_text(&mut out));
-    appended(teller, world, line, out, answer)
+    Ok(appended(teller, world, line, out, answer)?)
 }
 
-fn push_digits(teller: &mut Teller<'_>, world: &mut World, line: &Line<'_>) -> Done {
+fn push_digits(teller: &mut Teller<'_>, world: &mut World, line: &Line<'_>) -> Taken {
     let (digest, mut out) = adding(world, line)?;
     let answer = teller.marked("Digest::push_digits", || digest.push_digits(&mut out));
-    appended(teller, world, line, out, answer)
+    Ok(appended(teller, world, line, out, answer)?)
 }
 
 /// Prints and keeps a copy of the first argument's text to which a call added, if it could. What
@@ -258,9 +267,13 @@ pub(crate) fn appended(
     answer: Result<(), AllocError>,
 ) -> Done {
     if !out.starts_with(world.text(line.argument(0))) {
-        return Err(Stop::Lost);
+        return lost(teller, "what stood before is gone");
     }
-    teller.answered(world.alloc, answer).ok_or(Stop::Told)?;
-    teller.text(&out);
-    Ok(world.texts.keep(world.alloc, line.name(), out)?)
+    match teller.answered(world.alloc, answer) {
+        Some(()) => {
+            teller.text(&out);
+            world.texts.keep(world.alloc, line.name(), out)
+        }
+        None => Ok(()),
+    }
 }

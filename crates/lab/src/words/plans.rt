@@ -1,7 +1,7 @@
 //! Plans, drafts and modulo texts.
 
 use crate::line::{Line, Lines};
-use crate::teller::{Done, Stop, Teller};
+use crate::teller::{Stop, Taken, Teller};
 use crate::words::drvs::{drv_of, source_of, tell_failures};
 use crate::words::names::digest_of;
 use crate::world::World;
@@ -33,23 +33,21 @@ fn plan_of<'a>(world: &'a World, line: &Line<'_>) -> Result<&'a Plan, Stop> {
     found.ok_or(Stop::Lost)
 }
 
-// Keeps a plan, or says how many derivations it has, if there is one.
+// Keeps a plan and says how many derivations it has, if there is one.
 fn keep(
     teller: &mut Teller<'_>,
     world: &mut World,
     line: &Line<'_>,
     answer: Result<Plan, GraphFault>,
-) -> Done {
+) -> Taken {
     if let Some(plan) = teller.answered(world.alloc, answer) {
-        if line.name().is_empty() {
-            teller.say(format_args!("{} derivations", plan.len()));
-        }
+        teller.say(format_args!("{} derivations", plan.len()));
         world.plans.keep(world.alloc, line.name(), plan)?;
     }
     Ok(())
 }
 
-fn load(teller: &mut Teller<'_>, world: &mut World, line: &Line<'_>) -> Done {
+fn load(teller: &mut Teller<'_>, world: &mut World, line: &Line<'_>) -> Taken {
     let (mut source, dir) = (source_of(world, line, 0)?, world.dir()?);
     let roots = world.paths(line.arguments(1))?;
     let answer = teller.marked("Plan::load", || {
@@ -59,14 +57,14 @@ fn load(teller: &mut Teller<'_>, world: &mut World, line: &Line<'_>) -> Done {
     keep(teller, world, line, answer)
 }
 
-fn copy(teller: &mut Teller<'_>, world: &mut World, line: &Line<'_>) -> Done {
+fn copy(teller: &mut Teller<'_>, world: &mut World, line: &Line<'_>) -> Taken {
     let plan = plan_of(world, line)?;
     let answer = teller.marked("Plan::copy", || plan.copy(world.alloc));
     keep(teller, world, line, answer)
 }
 
 // The path, the inputs and the first twin of each derivation of a plan, and its roots.
-fn plan(teller: &mut Teller<'_>, world: &World, line: &Line<'_>) -> Done {
+fn plan(teller: &mut Teller<'_>, world: &World, line: &Line<'_>) -> Taken {
     const CALLS: &str = "Plan::path Plan::inputs Plan::first_twin";
     let plan = plan_of(world, line)?;
     teller.begins("Plan::len Plan::roots");
@@ -84,7 +82,7 @@ fn plan(teller: &mut Teller<'_>, world: &World, line: &Line<'_>) -> Done {
 }
 
 // The kind, the outputs and the sources of one derivation of a plan, which is kept.
-fn node(teller: &mut Teller<'_>, world: &mut World, line: &Line<'_>) -> Done {
+fn node(teller: &mut Teller<'_>, world: &mut World, line: &Line<'_>) -> Taken {
     const CALLS: &str = "Plan::drv Plan::kind Plan::output_paths Plan::sources";
     let (plan, number) = (plan_of(world, line)?, line.number(1).unwrap_or(0));
     if number >= plan.len() {
@@ -101,7 +99,7 @@ fn node(teller: &mut Teller<'_>, world: &mut World, line: &Line<'_>) -> Done {
     Ok(world.drvs.keep(world.alloc, line.name(), copy)?)
 }
 
-fn tell_kind(teller: &mut Teller<'_>, alloc: Global, kind: Kind) -> Done {
+fn tell_kind(teller: &mut Teller<'_>, alloc: Global, kind: Kind) -> Taken {
     match kind {
         Kind::Addressed => teller.say("Addressed"),
         Kind::Fixed(method, digest) => {
@@ -114,7 +112,7 @@ fn tell_kind(teller: &mut Teller<'_>, alloc: Global, kind: Kind) -> Done {
 }
 
 // Whether two plans, two derivations, or else two texts are the same.
-fn equal(teller: &mut Teller<'_>, world: &World, line: &Line<'_>) -> Done {
+fn equal(teller: &mut Teller<'_>, world: &World, line: &Line<'_>) -> Taken {
     let (one, two) = (line.argument(0), line.argument(1));
     let is_same = if let (Some(plan), Some(other)) = (world.plans.get(one), world.plans.get(two)) {
         teller.marked("Plan::eq", || plan == other)
@@ -128,7 +126,7 @@ fn equal(teller: &mut Teller<'_>, world: &World, line: &Line<'_>) -> Done {
 }
 
 // Fills a draft under a name, or under that of a derivation's path.
-fn fill(teller: &mut Teller<'_>, world: &mut World, line: &Line<'_>) -> Done {
+fn fill(teller: &mut Teller<'_>, world: &mut World, line: &Line<'_>) -> Taken {
     let (mut source, dir) = (source_of(world, line, 0)?, world.dir()?);
     let (word, path) = (line.argument(1), world.path(line.argument(1)));
     let name = match &path {
@@ -156,7 +154,7 @@ fn digests(alloc: Global, words: &[&[u8]]) -> Result<Vec<[u8; 32]>, Stop> {
     Ok(digests)
 }
 
-fn modulo(teller: &mut Teller<'_>, world: &World, line: &Line<'_>) -> Done {
+fn modulo(teller: &mut Teller<'_>, world: &World, line: &Line<'_>) -> Taken {
     let (drv, is_masked) = (
         drv_of(world, line, 0)?,
         line.argument(1) == b"masked".as_slice(),
