@@ -34,6 +34,9 @@ impl From<NameFault> for Stop {
     }
 }
 
+/// What the taking of a line answers.
+pub(crate) type Taken = Result<(), Stop>;
+
 /// What a call answered. The line is over where that is a fault, which is told.
 pub(crate) fn answered<T: Drop, F: Fault + Drop>(
     teller: &mut Teller<'_>,
@@ -62,4 +65,16 @@ macro_rules! call {
     }};
 }
 
+// Makes a call so, and tells its answer where that is a fault.
+macro_rules! tried {
+    ($teller:expr, $name:expr, $call:expr) => {{
+        $teller.begins($name);
+        let answer = $call;
+        $teller.ends($name);
+        let alloc = $teller.rt().alloc();
+        answered($teller, alloc, answer)
+    }};
+}
+
 pub(crate) use call;
+pub(crate) use tried;

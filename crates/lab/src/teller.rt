@@ -1,46 +1,12 @@
 //! What is printed of calls and their answers.
 
 use crate::faults::Fault;
-use nix_names::{NameFault, StorePath};
-use std::alloc::{AllocError, AllocFailed, Global};
+use nix_names::StorePath;
+use std::alloc::Global;
 use std::fmt::Display;
 use std::io::Print;
 use std::mem;
 use std::time::Instant;
-
-/// Why nothing more is done with a line.
-#[derive(Clone, Copy)]
-pub(crate) enum Stop {
-    /// A call of it was answered by a fault, which was told.
-    Told,
-    /// Its call may not be made with its arguments.
-    NotAllowed,
-    /// It means nothing: what a word of it names is not there.
-    Lost,
-    /// There is no memory to go on.
-    NoMemory,
-}
-
-impl From<AllocError> for Stop {
-    fn from(_fault: AllocError) -> Stop {
-        Stop::NoMemory
-    }
-}
-
-impl<T: Drop> From<AllocFailed<T>> for Stop {
-    fn from(_fault: AllocFailed<T>) -> Stop {
-        Stop::NoMemory
-    }
-}
-
-impl From<NameFault> for Stop {
-    fn from(_fault: NameFault) -> Stop {
-        Stop::Lost
-    }
-}
-
-/// What the taking of a line answers.
-pub(crate) type Taken = Result<(), Stop>;
 
 /// How it stands with the line that is taken.
 #[derive(Clone, Copy, PartialEq, Eq)]
@@ -129,40 +95,6 @@ impl<'a> Teller<'a> {
             self.hushed = self.hushed.saturating_add(passed.as_nanos());
             self.say(format_args!("took {} ns", passed.as_nanos()));
         }
-    }
-
-    /// What a call answers, between the lines that say that it begins and that it ended.
-    pub(crate) fn marked<R, F: FnOnce() -> R>(&mut self, call: &str, make: F) -> R
-        requires { F.IsAlwaysCallable make }
-    {
-        self.begins(call);
-        let answer = make();
-        self.ends(call);
-        answer
-    }
-
-    /// What a call answers, if it is no fault. A fault is told, and nothing more is done then.
-    pub(crate) fn call<T: Drop, E: Fault + Drop, F: FnOnce() -> Result<T, E>>(
-        &mut self,
-        alloc: Global,
-        call: &str,
-        make: F,
-    ) -> Result<T, Stop>
-        requires { F.IsAlwaysCallable make }
-    {
-        let answer = self.marked(call, make);
-        self.answered(alloc, answer).ok_or(Stop::Told)
-    }
-
-    /// Ends a line that was taken.
-    pub(crate) fn settle(&mut self, done: Taken) -> Result<bool, AllocError> {
-        match done {
-            Ok(()) | Err(Stop::Told) => {}
-            Err(Stop::NotAllowed) => self.not_allowed(),
-            Err(Stop::Lost) => self.lost("what a word names is not there"),
-            Err(Stop::NoMemory) => return Err(AllocError),
-        }
-        Ok(true)
     }
 
     /// Says that a call may not be made with its arguments.

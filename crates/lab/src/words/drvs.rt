@@ -1,16 +1,16 @@
 //! Derivations, their texts and their sources.
-ghost use Rattle.std.specs.Prelude.{IfOk};
-ghost use Rattle.nix_names.specs.Rising.{IsRising};
 
 use crate::line::{Line, Lines, number_of};
-use crate::teller::{Stop, Taken, Teller};
-use crate::words::names::{appended, file_at, keep_path};
+use crate::rising::rising;
+use crate::stop::{Stop, Taken, answered, call, end, tried};
+use crate::teller::Teller;
+use crate::words::names::{appended, file_bytes, keep_path};
 use crate::world::World;
 use nix_drv::{
     Derivation, DrvSource, EnvEntry, ListSource, ListedFile, Parts, check_text, named_text_path,
     read, references, text_path, write, write_string,
 };
-use nix_names::{StorePath, is_name};
+use nix_names::is_name;
 use std::alloc::{AllocError, Global};
 
 /// Takes a line, if its call is one of these.
@@ -39,7 +39,8 @@ pub(crate) fn take(
         b"ListSource::fetch" => fetch(teller, world, line),
         _ => return Ok(false),
     };
-    teller.settle(done)
+    end(teller, done);
+    Ok(true)
 }
 
 /// The derivation that an argument stands for.
@@ -49,7 +50,7 @@ pub(crate) fn drv_of<'a>(
     number: usize,
 ) -> Result<&'a Derivation, Stop> {
     let found = world.drvs.get(line.argument(number));
-    found.ok_or(Stop::Lost)
+    found.ok_or(Stop::Lost("no derivation"))
 }
 
 // Keeps a derivation, or says that there is one.
@@ -62,22 +63,24 @@ fn keep(teller: &mut Teller<'_>, world: &mut World, line: &Line<'_>, drv: Deriva
 
 fn is_read(teller: &mut Teller<'_>, world: &mut World, line: &Line<'_>) -> Taken {
     let text = world.text(line.argument(0));
-    let drv = teller.call(world.alloc, "read", || read(world.alloc, text))?;
+    let drv = tried!(teller, "read", read(world.alloc, text))?;
     keep(teller, world, line, drv)
 }
 
 fn checked(teller: &mut Teller<'_>, world: &mut World, line: &Line<'_>) -> Taken {
     let (dir, path) = (world.dir()?, world.path(line.argument(0))?);
     let text = world.text(line.argument(1));
-    let drv = teller.call(world.alloc, "check_text", || {
+    let drv = tried!(
+        teller,
+        "check_text",
         check_text(world.alloc, &dir, &path, text)
-    })?;
+    )?;
     keep(teller, world, line, drv)
 }
 
 fn written(teller: &mut Teller<'_>, world: &mut World, line: &Line<'_>) -> Taken {
     let drv = drv_of(world, line, 0)?;
-    let text = teller.call(world.alloc, "write", || write(world.alloc, drv))?;
+    let text = tried!(teller, "write", write(world.alloc, drv))?;
     if line.name().is_empty() {
         teller.text(&text);
     }
@@ -87,7 +90,7 @@ fn written(teller: &mut Teller<'_>, world: &mut World, line: &Line<'_>) -> Taken
 fn string(teller: &mut Teller<'_>, world: &mut World, line: &Line<'_>) -> Taken {
     let mut out = world.text(line.argument(0)).to_vec(world.alloc)?;
     let text = world.text(line.argument(1));
-    let answer = teller.marked("write_string", || write_string(&mut out, text));
+    let answer = call!(teller, "write_string", write_string(&mut out, text));
     Ok(appended(teller, world, line, out, answer)?)
 }
 
@@ -99,7 +102,7 @@ fn tell_texts(teller: &mut Teller<'_>, word: &str, texts: &[Vec<u8>]) {
 }
 
 fn tell_outputs(teller: &mut Teller<'_>, drv: &Derivation) {
-    let outputs = teller.marked("Derivation::outputs", || drv.outputs());
+    let outputs = call!(teller, "Derivation::outputs", drv.outputs());
     for output in outputs {
         let (name, path) = (output.name.escape_ascii(), output.path.escape_ascii());
         let (algo, hash) = (output.algo.escape_ascii(), output.hash.escape_ascii());
@@ -108,7 +111,7 @@ fn tell_outputs(teller: &mut Teller<'_>, drv: &Derivation) {
 }
 
 fn tell_inputs(teller: &mut Teller<'_>, drv: &Derivation) {
-    let inputs = teller.marked("Derivation::inputs", || drv.inputs());
+    let inputs = call!(teller, "Derivation::inputs", drv.inputs());
     for input in inputs {
         teller.say(format_args!("input {}", input.path.escape_ascii()));
         tell_texts(teller, "  name", &input.names);
@@ -121,10 +124,12 @@ fn drv(teller: &mut Teller<'_>, world: &World, line: &Line<'_>) -> Taken {
     let drv = drv_of(world, line, 0)?;
     tell_outputs(teller, drv);
     tell_inputs(teller, drv);
-    let (sources, args, env) = teller.marked(LISTS, || (drv.sources(), drv.args(), drv.env()));
-    let texts = teller.marked("Derivation::system Derivation::builder", || {
+    let (sources, args, env) = call!(teller, LISTS, (drv.sources(), drv.args(), drv.env()));
+    let texts = call!(
+        teller,
+        "Derivation::system Derivation::builder",
         (drv.system(), drv.builder())
-    });
+    );
     tell_texts(teller, "source", sources);
     let (system, builder) = (texts.0.escape_ascii(), texts.1.escape_ascii());
     teller.say(format_args!("system \"{system}\", builder \"{builder}\""));
@@ -139,9 +144,11 @@ fn drv(teller: &mut Teller<'_>, world: &World, line: &Line<'_>) -> Taken {
 // Where a name stands among the outputs, and in the environment.
 fn places(teller: &mut Teller<'_>, world: &World, line: &Line<'_>) -> Taken {
     let (drv, name) = (drv_of(world, line, 0)?, world.text(line.argument(1)));
-    let places = teller.marked("Derivation::output_place Derivation::env_place", || {
+    let places = call!(
+        teller,
+        "Derivation::output_place Derivation::env_place",
         (drv.output_place(name), drv.env_place(name))
-    });
+    );
     teller.say(format_args!("{:?} {:?}", places.0, places.1));
     Ok(())
 }
@@ -151,26 +158,28 @@ fn uses(teller: &mut Teller<'_>, world: &World, line: &Line<'_>) -> Taken {
     if input >= drv.inputs().len() {
         return Err(Stop::NotAllowed);
     }
-    teller.begins("Derivation::uses");
-    let is_used = drv.uses(input, line.argument(2));
-    teller.ends("Derivation::uses");
+    let is_used = call!(
+        teller,
+        "Derivation::uses",
+        drv.uses(input, line.argument(2))
+    );
     teller.say(is_used);
     Ok(())
 }
 
 fn copy(teller: &mut Teller<'_>, world: &mut World, line: &Line<'_>) -> Taken {
     let drv = drv_of(world, line, 0)?;
-    let copy = teller.call(world.alloc, "Derivation::copy", || drv.copy(world.alloc))?;
+    let copy = tried!(teller, "Derivation::copy", drv.copy(world.alloc))?;
     keep(teller, world, line, copy)
 }
 
 fn parts(teller: &mut Teller<'_>, world: &mut World, line: &Line<'_>) -> Taken {
     let drv = drv_of(world, line, 0)?;
-    let parts = teller.marked("Derivation::parts", || drv.parts());
-    let copy = teller.call(world.alloc, "Parts::copy", || parts.copy(world.alloc))?;
+    let parts = call!(teller, "Derivation::parts", drv.parts());
+    let copy = tried!(teller, "Parts::copy", parts.copy(world.alloc))?;
     match Derivation::new(copy) {
         Ok(drv) => keep(teller, world, line, drv),
-        Err(_) => Err(Stop::Lost),
+        Err(_) => Err(Stop::Lost("no derivation")),
     }
 }
 
@@ -179,9 +188,11 @@ fn with_inputs(teller: &mut Teller<'_>, world: &World, line: &Line<'_>) -> Taken
         drv_of(world, line, 0)?.parts(),
         drv_of(world, line, 1)?.inputs(),
     );
-    let text = teller.call(world.alloc, "Parts::text_with_inputs", || {
+    let text = tried!(
+        teller,
+        "Parts::text_with_inputs",
         parts.text_with_inputs(world.alloc, inputs)
-    })?;
+    )?;
     teller.text(&text);
     Ok(())
 }
@@ -233,41 +244,21 @@ fn change(world: &World, line: &Line<'_>, drv: &Derivation, parts: &mut Parts) -
 // The derivation of the parts of another one, of which some are changed.
 fn new(teller: &mut Teller<'_>, world: &mut World, line: &Line<'_>) -> Taken {
     let drv = drv_of(world, line, 0)?;
-    let copy = drv.copy(world.alloc).ok().ok_or(Stop::NoMemory)?;
-    let mut parts = teller.marked("Derivation::into_parts", || copy.into_parts());
+    let copy = drv.copy(world.alloc).ok().ok_or(Stop::Lost("no memory"))?;
+    let mut parts = call!(teller, "Derivation::into_parts", copy.into_parts());
     change(world, line, drv, &mut parts)?;
-    let drv = teller.call(world.alloc, "Derivation::new", || Derivation::new(parts))?;
+    let drv = tried!(teller, "Derivation::new", Derivation::new(parts))?;
     keep(teller, world, line, drv)
-}
-
-/// The paths that words name, if each is greater than the one before it.
-pub(crate) fn rising(world: &World, words: &[&[u8]]) -> Result<Vec<StorePath>, Stop>
-    ensures { IfOk result (λ paths. IsRising paths.items) }
-{
-    let (alloc, dir) = (world.alloc, world.dir()?);
-    let drv = Derivation::new(Parts {
-        outputs: Vec::new(alloc),
-        inputs: Vec::new(alloc),
-        sources: texts(world, words)?,
-        system: Vec::new(alloc),
-        builder: Vec::new(alloc),
-        args: Vec::new(alloc),
-        env: Vec::new(alloc),
-    });
-    let drv = drv.ok().ok_or(Stop::NotAllowed)?;
-    match references(alloc, &dir, &drv) {
-        Ok(paths) => Ok(paths),
-        Err(_) => Err(Stop::Lost),
-    }
 }
 
 fn path_of(teller: &mut Teller<'_>, world: &mut World, line: &Line<'_>) -> Taken {
     let (name, text) = (world.text(line.argument(0)), world.text(line.argument(1)));
     let (dir, refs) = (world.dir()?, rising(world, line.arguments(2))?);
-    teller.begins("text_path");
-    let answer = text_path(world.alloc, &dir, name, text, &refs);
-    teller.ends("text_path");
-    let path = teller.answered(world.alloc, answer).ok_or(Stop::Told)?;
+    let path = tried!(
+        teller,
+        "text_path",
+        text_path(world.alloc, &dir, name, text, &refs)
+    )?;
     keep_path(teller, world, line, &path)
 }
 
@@ -277,18 +268,17 @@ fn named_path_of(teller: &mut Teller<'_>, world: &mut World, line: &Line<'_>) ->
     if !is_name(name) {
         return Err(Stop::NotAllowed);
     }
-    teller.begins("named_text_path");
-    let answer = named_text_path(world.alloc, &dir, name, text, &refs);
-    teller.ends("named_text_path");
-    let path = teller.answered(world.alloc, answer).ok_or(Stop::Told)?;
+    let path = tried!(
+        teller,
+        "named_text_path",
+        named_text_path(world.alloc, &dir, name, text, &refs)
+    )?;
     keep_path(teller, world, line, &path)
 }
 
 fn referred(teller: &mut Teller<'_>, world: &World, line: &Line<'_>) -> Taken {
     let (dir, drv) = (world.dir()?, drv_of(world, line, 0)?);
-    let paths = teller.call(world.alloc, "references", || {
-        references(world.alloc, &dir, drv)
-    })?;
+    let paths = tried!(teller, "references", references(world.alloc, &dir, drv))?;
     teller.paths(&paths);
     Ok(())
 }
@@ -315,12 +305,12 @@ pub(crate) fn source_of(world: &World, line: &Line<'_>, number: usize) -> Result
     let (files, failing) = files(world.alloc, world.text(line.argument(number)))?;
     ListSource::new(world.alloc, files, failing)
         .ok()
-        .ok_or(Stop::NoMemory)
+        .ok_or(Stop::Lost("no memory"))
 }
 
 /// Prints how many fetches of a source failed, if some did.
 pub(crate) fn tell_failures(teller: &mut Teller<'_>, source: &ListSource) {
-    let count = teller.marked("ListSource::failures", || source.failures());
+    let count = call!(teller, "ListSource::failures", source.failures());
     if count != 0 {
         teller.say(format_args!("{count} failures"));
     }
@@ -332,7 +322,7 @@ fn push_listed(teller: &Teller<'_>, world: &World, list: &mut Vec<u8>, word: &[u
         list.extend_from_slice(world.text(word))?;
     } else {
         let (bytes, base) = (
-            file_at(teller, word)?,
+            file_bytes(teller, word).ok_or(Stop::Lost("no file"))?,
             word.rsplit(|byte| *byte == b'/').next(),
         );
         let pieces = [
@@ -354,9 +344,11 @@ fn list(teller: &mut Teller<'_>, world: &mut World, line: &Line<'_>) -> Taken {
         push_listed(teller, world, &mut list, word)?;
     }
     let (files, failing) = files(world.alloc, &list)?;
-    drop(teller.call(world.alloc, "ListSource::new", || {
+    drop(tried!(
+        teller,
+        "ListSource::new",
         ListSource::new(world.alloc, files, failing)
-    })?);
+    )?);
     Ok(world.texts.keep(world.alloc, line.name(), list)?)
 }
 
@@ -366,9 +358,13 @@ fn fetch(teller: &mut Teller<'_>, world: &World, line: &Line<'_>) -> Taken {
     for _ in 0..line.number(2).unwrap_or(0) {
         drop(source.fetch(world.alloc, &path));
     }
-    let answer = teller.marked("ListSource::fetch", || source.fetch(world.alloc, &path));
+    let answer = call!(
+        teller,
+        "ListSource::fetch",
+        source.fetch(world.alloc, &path)
+    );
     tell_failures(teller, &source);
-    let text = teller.answered(world.alloc, answer).ok_or(Stop::Told)?;
+    let text = answered(teller, world.alloc, answer)?;
     teller.text(&text);
     Ok(())
 }

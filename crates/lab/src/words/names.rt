@@ -1,7 +1,8 @@
 //! Names, paths and digests.
 
 use crate::line::{Line, Lines};
-use crate::teller::{Stop, Taken, Teller};
+use crate::stop::{Stop, Taken, answered, call, end, tried};
+use crate::teller::Teller;
 use crate::world::World;
 use nix_names::{
     Algorithm, Digest, StoreDir, StorePath, fold20, from_base32, is_drv_name, is_name, known_path,
@@ -47,28 +48,29 @@ pub(crate) fn take(
         b"Digest::push_digits" => push_digits(teller, world, line),
         _ => return Ok(false),
     };
-    teller.settle(done)
+    end(teller, done);
+    Ok(true)
 }
 
 // Keeps a text, which is given in hex digits.
 fn bytes(world: &mut World, line: &Line<'_>) -> Taken {
     match hex::decode(world.alloc, line.argument(0)) {
         Ok(bytes) => Ok(world.texts.keep(world.alloc, line.name(), bytes)?),
-        Err(_) => Err(Stop::Lost),
+        Err(_) => Err(Stop::Lost("no such bytes")),
     }
 }
 
 // Keeps the bytes of a file as a text.
 fn file(teller: &Teller<'_>, world: &mut World, line: &Line<'_>) -> Taken {
-    let bytes = file_at(teller, line.argument(0))?;
+    let bytes = file_bytes(teller, line.argument(0)).ok_or(Stop::Lost("no file"))?;
     Ok(world.texts.keep(world.alloc, line.name(), bytes)?)
 }
 
-/// The bytes of the file at a path.
-pub(crate) fn file_at(teller: &Teller<'_>, path: &[u8]) -> Result<Vec<u8>, Stop> {
+/// The bytes of the file at a path, if there is one.
+pub(crate) fn file_bytes(teller: &Teller<'_>, path: &[u8]) -> Option<Vec<u8>> {
     match str::from_utf8(path) {
-        Ok(path) => fs::read(teller.rt(), path).ok().ok_or(Stop::Lost),
-        Err(_) => Err(Stop::Lost),
+        Ok(path) => fs::read(teller.rt(), path).ok(),
+        Err(_) => None,
     }
 }
 
@@ -77,7 +79,7 @@ pub(crate) fn digest_of(digits: &[u8]) -> Result<[u8; 32], Stop> {
     let mut digest = [0; 32];
     match hex::decode_to_slice(digits, &mut digest) {
         Ok(()) => Ok(digest),
-        Err(_) => Err(Stop::Lost),
+        Err(_) => Err(Stop::Lost("no such bytes")),
     }
 }
 
@@ -91,12 +93,8 @@ fn tell_hex(teller: &mut Teller<'_>, alloc: Global, bytes: &[u8]) -> Taken {
 // Makes a folder the store folder of the lines that follow.
 fn dir(teller: &mut Teller<'_>, world: &mut World, line: &Line<'_>) -> Taken {
     let text = world.text(line.argument(0));
-    let dir = teller.call(
-        world.alloc,
-        "StoreDir::new",
-        || StoreDir::new(world.alloc, text),
-    )?;
-    let text = teller.marked("StoreDir::text", || dir.text());
+    let dir = tried!(teller, "StoreDir::new", StoreDir::new(world.alloc, text))?;
+    let text = call!(teller, "StoreDir::text", dir.text());
     teller.text(text);
     world.dir = text.to_vec(world.alloc)?;
     Ok(())
@@ -104,17 +102,15 @@ fn dir(teller: &mut Teller<'_>, world: &mut World, line: &Line<'_>) -> Taken {
 
 fn encoded(teller: &mut Teller<'_>, world: &World, line: &Line<'_>) -> Taken {
     let bytes = world.text(line.argument(0));
-    let text = teller.call(world.alloc, "to_base32", || to_base32(world.alloc, bytes))?;
+    let text = tried!(teller, "to_base32", to_base32(world.alloc, bytes))?;
     teller.say(text.as_str());
     Ok(())
 }
 
 fn decoded(teller: &mut Teller<'_>, world: &World, line: &Line<'_>) -> Taken {
     let text = world.text(line.argument(0));
-    let count = line.number(1).ok_or(Stop::Lost)?;
-    let bytes = teller.call(world.alloc, "from_base32", || {
-        from_base32(world.alloc, text, count)
-    })?;
+    let count = line.number(1).ok_or(Stop::Lost("no such bytes"))?;
+    let bytes = tried!(teller, "from_base32", from_base32(world.alloc, text, count))?;
     tell_hex(teller, world.alloc, &bytes)
 }
 
@@ -132,26 +128,24 @@ pub(crate) fn keep_path(
 
 fn parsed(teller: &mut Teller<'_>, world: &mut World, line: &Line<'_>) -> Taken {
     let (dir, text) = (world.dir()?, world.text(line.argument(0)));
-    let path = teller.call(world.alloc, "parse_path", || {
-        parse_path(world.alloc, &dir, text)
-    })?;
+    let path = tried!(teller, "parse_path", parse_path(world.alloc, &dir, text))?;
     keep_path(teller, world, line, &path)
 }
 
 fn known(teller: &mut Teller<'_>, world: &mut World, line: &Line<'_>) -> Taken {
     let path = world.path(line.argument(0)).ok().ok_or(Stop::NotAllowed)?;
-    let path = teller.call(world.alloc, "known_path", || {
-        known_path(world.alloc, path.text())
-    })?;
+    let path = tried!(teller, "known_path", known_path(world.alloc, path.text()))?;
     keep_path(teller, world, line, &path)
 }
 
 fn made(teller: &mut Teller<'_>, world: &mut World, line: &Line<'_>) -> Taken {
     let (kind, name) = (line.argument(0), world.text(line.argument(2)));
     let (dir, inner) = (world.dir()?, digest_of(line.argument(1))?);
-    let path = teller.call(world.alloc, "make_path", || {
+    let path = tried!(
+        teller,
+        "make_path",
         make_path(world.alloc, kind, &inner, &dir, name)
-    })?;
+    )?;
     keep_path(teller, world, line, &path)
 }
 
@@ -161,23 +155,28 @@ fn made_named(teller: &mut Teller<'_>, world: &mut World, line: &Line<'_>) -> Ta
     if !is_name(name) {
         return Err(Stop::NotAllowed);
     }
-    teller.begins("make_named_path");
-    let answer = make_named_path(world.alloc, kind, &inner, &dir, name);
-    teller.ends("make_named_path");
-    let path = teller.answered(world.alloc, answer).ok_or(Stop::Told)?;
+    let path = tried!(
+        teller,
+        "make_named_path",
+        make_named_path(world.alloc, kind, &inner, &dir, name)
+    )?;
     keep_path(teller, world, line, &path)
 }
 
 fn folded(teller: &mut Teller<'_>, world: &World, line: &Line<'_>) -> Taken {
     let digest = digest_of(line.argument(0))?;
-    let folded = teller.marked("fold20", || fold20(&digest));
+    let folded = call!(teller, "fold20", fold20(&digest));
     tell_hex(teller, world.alloc, &folded)
 }
 
 // Whether a text is a name, and whether a name is that of a derivation's file.
 fn names(teller: &mut Teller<'_>, world: &World, line: &Line<'_>) -> Taken {
     let name = world.text(line.argument(0));
-    let found = teller.marked("is_name is_drv_name", || (is_name(name), is_drv_name(name)));
+    let found = call!(
+        teller,
+        "is_name is_drv_name",
+        (is_name(name), is_drv_name(name))
+    );
     teller.say(format_args!("{} {}", found.0, found.1));
     Ok(())
 }
@@ -186,12 +185,14 @@ fn names(teller: &mut Teller<'_>, world: &World, line: &Line<'_>) -> Taken {
 fn path(teller: &mut Teller<'_>, world: &World, line: &Line<'_>) -> Taken {
     const TEXTS: &str = "StorePath::text StorePath::as_str StorePath::hash_part StorePath::name";
     let path = world.path(line.argument(0))?;
-    let copy = teller.call(world.alloc, "StorePath::copy", || path.copy(world.alloc))?;
+    let copy = tried!(teller, "StorePath::copy", path.copy(world.alloc))?;
     drop(path);
-    let texts = teller.marked(TEXTS, || {
+    let texts = call!(
+        teller,
+        TEXTS,
         (copy.text(), copy.as_str(), copy.hash_part(), copy.name())
-    });
-    let key = teller.marked("StorePath::key", || copy.key());
+    );
+    let key = call!(teller, "StorePath::key", copy.key());
     teller.text(texts.0);
     teller.say(texts.1);
     teller.text(texts.2);
@@ -203,24 +204,32 @@ fn path(teller: &mut Teller<'_>, world: &World, line: &Line<'_>) -> Taken {
 // How two paths compare.
 fn compare(teller: &mut Teller<'_>, world: &World, line: &Line<'_>) -> Taken {
     let (path, other) = (world.path(line.argument(0))?, world.path(line.argument(1))?);
-    let found = teller.marked("StorePath::cmp StorePath::eq", || {
+    let found = call!(
+        teller,
+        "StorePath::cmp StorePath::eq",
         (path.cmp(&other), path == other)
-    });
+    );
     teller.say(format_args!("{:?} {}", found.0, found.1));
     Ok(())
 }
 
 fn of_text(teller: &mut Teller<'_>, world: &World, line: &Line<'_>) -> Taken {
     let text = world.text(line.argument(0));
-    let found = teller.marked("Digest::of_text", || Digest::of_text(text));
+    let found = call!(teller, "Digest::of_text", Digest::of_text(text));
     tell_digest(teller, world.alloc, found)
 }
 
 fn of_digits(teller: &mut Teller<'_>, world: &World, line: &Line<'_>) -> Taken {
     let (name, digits) = (line.argument(0), world.text(line.argument(1)));
-    let algorithm = teller.marked("Algorithm::of_name", || Algorithm::of_name(name));
+    let algorithm = call!(teller, "Algorithm::of_name", Algorithm::of_name(name));
     let found = match algorithm {
-        Some(named) => { teller.marked("Digest::of_digits", || Digest::of_digits(named, digits)) }
+        Some(named) => {
+            call!(
+                teller,
+                "Digest::of_digits",
+                Digest::of_digits(named, digits)
+            )
+        }
         None => None,
     };
     tell_digest(teller, world.alloc, found)
@@ -232,28 +241,28 @@ fn tell_digest(teller: &mut Teller<'_>, alloc: Global, found: Option<Digest>) ->
         teller.say("none");
         return Ok(());
     };
-    let algorithm = teller.marked("Digest::algorithm", || digest.algorithm());
-    let name = teller.marked("Algorithm::name", || algorithm.name());
-    let bytes = teller.marked("Digest::bytes", || digest.bytes());
+    let algorithm = call!(teller, "Digest::algorithm", digest.algorithm());
+    let name = call!(teller, "Algorithm::name", algorithm.name());
+    let bytes = call!(teller, "Digest::bytes", digest.bytes());
     teller.text(name);
     tell_hex(teller, alloc, bytes)
 }
 
 // The digest whose text the second argument is, and a copy of the text to which it is to be added.
 fn adding(world: &World, line: &Line<'_>) -> Result<(Digest, Vec<u8>), Stop> {
-    let digest = Digest::of_text(line.argument(1)).ok_or(Stop::Lost)?;
+    let digest = Digest::of_text(line.argument(1)).ok_or(Stop::Lost("no such bytes"))?;
     Ok((digest, world.text(line.argument(0)).to_vec(world.alloc)?))
 }
 
 fn push_text(teller: &mut Teller<'_>, world: &mut World, line: &Line<'_>) -> Taken {
     let (digest, mut out) = adding(world, line)?;
-    let answer = teller.marked("Digest::push_text", || digest.push_text(&mut out));
+    let answer = call!(teller, "Digest::push_text", digest.push_text(&mut out));
     Ok(appended(teller, world, line, out, answer)?)
 }
 
 fn push_digits(teller: &mut Teller<'_>, world: &mut World, line: &Line<'_>) -> Taken {
     let (digest, mut out) = adding(world, line)?;
-    let answer = teller.marked("Digest::push_digits", || digest.push_digits(&mut out));
+    let answer = call!(teller, "Digest::push_digits", digest.push_digits(&mut out));
     Ok(appended(teller, world, line, out, answer)?)
 }
 

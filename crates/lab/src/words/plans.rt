@@ -1,7 +1,8 @@
 //! Plans, drafts and modulo texts.
 
 use crate::line::{Line, Lines};
-use crate::teller::{Stop, Taken, Teller};
+use crate::stop::{Stop, Taken, answered, call, end, tried};
+use crate::teller::Teller;
 use crate::words::drvs::{drv_of, source_of, tell_failures};
 use crate::words::names::digest_of;
 use crate::world::World;
@@ -25,12 +26,13 @@ pub(crate) fn take(
         b"modulo_text" => modulo(teller, world, line),
         _ => return Ok(false),
     };
-    teller.settle(done)
+    end(teller, done);
+    Ok(true)
 }
 
 fn plan_of<'a>(world: &'a World, line: &Line<'_>) -> Result<&'a Plan, Stop> {
     let found = world.plans.get(line.argument(0));
-    found.ok_or(Stop::Lost)
+    found.ok_or(Stop::Lost("no plan"))
 }
 
 // Keeps a plan and says how many derivations it has, if there is one.
@@ -50,16 +52,18 @@ fn keep(
 fn load(teller: &mut Teller<'_>, world: &mut World, line: &Line<'_>) -> Taken {
     let (mut source, dir) = (source_of(world, line, 0)?, world.dir()?);
     let roots = world.paths(line.arguments(1))?;
-    let answer = teller.marked("Plan::load", || {
+    let answer = call!(
+        teller,
+        "Plan::load",
         Plan::load(world.alloc, &mut source, &dir, &roots)
-    });
+    );
     tell_failures(teller, &source);
     keep(teller, world, line, answer)
 }
 
 fn copy(teller: &mut Teller<'_>, world: &mut World, line: &Line<'_>) -> Taken {
     let plan = plan_of(world, line)?;
-    let answer = teller.marked("Plan::copy", || plan.copy(world.alloc));
+    let answer = call!(teller, "Plan::copy", plan.copy(world.alloc));
     keep(teller, world, line, answer)
 }
 
@@ -67,9 +71,7 @@ fn copy(teller: &mut Teller<'_>, world: &mut World, line: &Line<'_>) -> Taken {
 fn plan(teller: &mut Teller<'_>, world: &World, line: &Line<'_>) -> Taken {
     const CALLS: &str = "Plan::path Plan::inputs Plan::first_twin";
     let plan = plan_of(world, line)?;
-    teller.begins("Plan::len Plan::roots");
-    let (len, roots) = (plan.len(), plan.roots());
-    teller.ends("Plan::len Plan::roots");
+    let (len, roots) = call!(teller, "Plan::len Plan::roots", (plan.len(), plan.roots()));
     for number in 0..len {
         teller.begins(CALLS);
         let (path, inputs) = (plan.path(number), plan.inputs(number));
@@ -95,7 +97,7 @@ fn node(teller: &mut Teller<'_>, world: &mut World, line: &Line<'_>) -> Taken {
     tell_kind(teller, world.alloc, kind)?;
     teller.paths(outputs);
     teller.paths(sources);
-    let copy = drv.copy(world.alloc).ok().ok_or(Stop::NoMemory)?;
+    let copy = drv.copy(world.alloc).ok().ok_or(Stop::Lost("no memory"))?;
     Ok(world.drvs.keep(world.alloc, line.name(), copy)?)
 }
 
@@ -115,9 +117,9 @@ fn tell_kind(teller: &mut Teller<'_>, alloc: Global, kind: Kind) -> Taken {
 fn equal(teller: &mut Teller<'_>, world: &World, line: &Line<'_>) -> Taken {
     let (one, two) = (line.argument(0), line.argument(1));
     let is_same = if let (Some(plan), Some(other)) = (world.plans.get(one), world.plans.get(two)) {
-        teller.marked("Plan::eq", || plan == other)
+        call!(teller, "Plan::eq", plan == other)
     } else if let (Some(drv), Some(other)) = (world.drvs.get(one), world.drvs.get(two)) {
-        teller.marked("Derivation::eq", || drv == other)
+        call!(teller, "Derivation::eq", drv == other)
     } else {
         world.text(one) == world.text(two)
     };
@@ -134,9 +136,11 @@ fn fill(teller: &mut Teller<'_>, world: &mut World, line: &Line<'_>) -> Taken {
         Err(_) => word,
     };
     let draft = drv_of(world, line, 2)?;
-    let answer = teller.marked("fill_outputs", || {
+    let answer = call!(
+        teller,
+        "fill_outputs",
         fill_outputs(world.alloc, &mut source, &dir, name, draft)
-    });
+    );
     tell_failures(teller, &source);
     if let Some((drv, path)) = teller.answered(world.alloc, answer) {
         teller.say(path.as_str());
@@ -163,10 +167,11 @@ fn modulo(teller: &mut Teller<'_>, world: &World, line: &Line<'_>) -> Taken {
     if hashes.len() != drv.inputs().len() {
         return Err(Stop::NotAllowed);
     }
-    teller.begins("modulo_text");
-    let answer = modulo_text(world.alloc, drv, &hashes, is_masked);
-    teller.ends("modulo_text");
-    let text = teller.answered(world.alloc, answer).ok_or(Stop::Told)?;
+    let text = tried!(
+        teller,
+        "modulo_text",
+        modulo_text(world.alloc, drv, &hashes, is_masked)
+    )?;
     teller.text(&text);
     Ok(())
 }
