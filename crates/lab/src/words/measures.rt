@@ -1,4 +1,4 @@
-//! What `bench/` measures by: plans of files on disk, large texts, and the memory that is held.
+//! What `bench/` measures by: plans of files on disk, a pass over a text, and the memory that is held.
 
 use crate::line::{Line, number_of};
 use crate::teller::Teller;
@@ -18,30 +18,12 @@ pub(crate) fn take(
     line: &Line<'_>,
 ) -> Result<bool, AllocError> {
     match line.call() {
-        b"chain" => chain(world, line)?,
         b"load_files" => load(teller, world, line)?,
         b"memmem" => find(teller, world, line),
         b"memory" => memory(teller),
         _ => return Ok(false),
     }
     Ok(true)
-}
-
-// The text of a journal of so many paths, each of which but the first refers to the one before it.
-fn chain(world: &mut World, line: &Line<'_>) -> Done {
-    let mut text = String::new(world.alloc);
-    text.push_str("realiser-journal 2\n")?;
-    for n in 0..line.number(0).unwrap_or(0) {
-        let path = format!(in world.alloc; "A /nix/store/{n:032}-x -\n")?;
-        text.push_str(&path)?;
-        if let Some(before) = n.checked_sub(1) {
-            let reference = format!(in world.alloc; "R /nix/store/{before:032}-x\n")?;
-            text.push_str(&reference)?;
-        }
-    }
-    world
-        .texts
-        .keep(world.alloc, line.name(), text.into_bytes())
 }
 
 // Derivations' files on disk, each under the text of its path.
