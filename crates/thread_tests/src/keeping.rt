@@ -43,6 +43,23 @@ fn read(counter: &AtomicU64) -> u64 {
 }
 
 impl Counts {
+    fn new() -> Counts {
+        let [calls, kept, strays, last, ended, vain] = [0; 6].map(AtomicU64::new);
+        Counts {
+            calls,
+            kept,
+            strays,
+            last,
+            ended,
+            vain,
+        }
+    }
+
+    // How many texts were handed over and kept, strays and waits in vain.
+    fn read(&self) -> [u64; 4] {
+        [&self.calls, &self.kept, &self.strays, &self.vain].map(read)
+    }
+
     // Waits until a counter is so great.
     fn waits(&self, counter: &AtomicU64, least: u64) {
         for _ in 0..PATIENCE {
@@ -160,32 +177,23 @@ fn run_named<J: Naming + Send + Sync, R: Threads + Wait + Clock + Sync>(
     Ok(traces_at_end(alloc, ended)?)
 }
 
-// Of a diamond's run by one worker: how many texts were handed over and kept, strays and waits in
-// vain, and whether the text that was kept last is a beginning of the run's journal.
+// The counts of a diamond's run by one worker, and whether the text that was kept last is a
+// beginning of the run's journal.
 fn counted<R: Threads + Wait + Clock + Sync>(
     rt: &R,
     alloc: Global,
     manner: Manner,
 ) -> Result<([u64; 4], bool), Fail> {
-    let [calls, kept, strays, last, ended, vain] = [0; 6].map(AtomicU64::new);
-    let counts = &Counts {
-        calls,
-        kept,
-        strays,
-        last,
-        ended,
-        vain,
-    };
+    let counts = Counts::new();
     let place = Place {
         alloc,
-        counts,
+        counts: &counts,
         manner,
         before: Vec::from_slice(alloc, BEFORE)?,
     };
     let plan = plan(alloc, DIAMOND)?;
     let (_, _, text) = run_named::<Brand, _>(rt, Name::new(), &plan, place)?;
-    let told = [&counts.calls, &counts.kept, &counts.strays, &counts.vain].map(read);
-    Ok((told, begins(&text, read(&counts.last))))
+    Ok((counts.read(), begins(&text, read(&counts.last))))
 }
 
 // A diamond has four derivations, of which the last ends the run. A text is kept after each of the

@@ -172,17 +172,13 @@ fn rest<R: Host>(
 fn stopped_while_others_wait(rt: HostRuntime) -> Result<(), Fail> {
     let all = [Event::Begin(0, 0), Event::Done(0, 0)];
     for (view, fault) in CAUSES {
-        let wanted = if view == View::Gone {
-            &all[..1]
-        } else {
-            &all[..]
-        };
+        let count = if view == View::Gone { 1 } else { 2 };
         for workers in [1usize, 2, 4, 64] {
             let gates = [waiting(0, workers.wrapping_sub(1))];
             let manner = by(workers, 0, &gates);
             let (events, stop) = rest(&rt, rt.alloc(), (DIAMOND, view), manner)?;
-            assert_eq!(rt; events.as_slice(), wanted, "by {workers}");
-            assert_eq!(rt; stop, Some(fault), "by {workers}");
+            assert!(rt; all.starts_with(&events), "got {events:?} by {workers}");
+            assert_eq!(rt; (events.len(), stop), (count, Some(fault)), "by {workers}");
         }
     }
     Ok(())
@@ -206,17 +202,13 @@ fn stopped_while_another_builds(rt: HostRuntime) -> Result<(), Fail> {
     let [first, second] = [Event::Begin(0, 0), Event::Begin(1, 1)];
     let all = [first, second, Event::Done(1, 1), Event::Done(0, 0)];
     for (view, fault) in CAUSES {
-        let wanted = if view == View::Gone {
-            &all[..2]
-        } else {
-            &all[..]
-        };
+        let count = if view == View::Gone { 2 } else { 4 };
         for workers in [2, 4, 64] {
             let gates = stop_gates(workers);
             let manner = by(workers, 0, &gates);
             let (events, stop) = rest(&rt, rt.alloc(), (APART, view), manner)?;
-            assert_eq!(rt; events.as_slice(), wanted, "by {workers}");
-            assert_eq!(rt; stop, Some(fault), "by {workers}");
+            assert!(rt; all.starts_with(&events), "got {events:?} by {workers}");
+            assert_eq!(rt; (events.len(), stop), (count, Some(fault)), "by {workers}");
         }
     }
     Ok(())

@@ -36,10 +36,11 @@ const ROWS: [(&[&[usize]], &[&str]); 5] = [
 ];
 
 // The first lease ends once all other workers wait; the first user of a base once both are under
-// way; and the second one once the worker of the first one waits too.
-fn gates(workers: usize) -> [Gate; 3] {
+// way, and the second one once the worker of the first one waits too. Else there is no lease 9.
+fn gates(workers: usize, is_base: bool) -> [Gate; 3] {
+    let (left, right) = if is_base { (1, 2) } else { (9, 9) };
     let first = waiting(0, workers.wrapping_sub(1));
-    [first, (1, Act::Runs(2, 2), 1), waiting(2, workers)]
+    [first, (left, Act::Runs(2, 2), 1), waiting(right, workers)]
 }
 
 // What all workers of a run do, in order, each with its number.
@@ -54,13 +55,8 @@ fn texts<R: Host>(
     uses: &[&[usize]],
     workers: usize,
 ) -> Result<Vec<String>, Fail> {
-    let gates = gates(workers);
-    let few = if uses.len() < 3 {
-        &gates[..1]
-    } else {
-        &gates[..]
-    };
-    let manner = by(workers, 0, few);
+    let gates = gates(workers, uses.len() > 2);
+    let manner = by(workers, 0, &gates);
     let acts = acts_of(rt, alloc, plan(alloc, uses)?, manner)?;
     let mut texts = Vec::new(alloc);
     for worker in 0..workers {
