@@ -147,12 +147,10 @@ class Run:
         return Ran(self.out.text(), self.err.text(), status, self.err.label)
 
     def kill(self):
-        """Kills it, if it has not ended, and what it left."""
-        try:
+        """Kills it and what it left, if nobody has waited for its end."""
+        if self.process.returncode is None:
             os.killpg(self.process.pid, signal.SIGKILL)
-        except ProcessLookupError:
-            pass
-        self.process.wait()
+            self.process.wait()
 
 
 def environment(scene, step):
@@ -270,7 +268,9 @@ def take_kill(scene, step):
     process, hundredths = scene.runs[step.words[0]].process, int(scene.said(step.words[1]))
     time.sleep(scene.seconds * hundredths / 100)
     process.kill()
-    if process.wait() != -signal.SIGKILL and not hundredths:
+    # Its number is kept, since what it left is killed by that at the end of the row.
+    end = os.waitid(os.P_PID, process.pid, os.WEXITED | os.WNOWAIT)
+    if end.si_status != signal.SIGKILL and not hundredths:
         raise Fault("a run that is killed", "one that has ended")
 
 
