@@ -267,7 +267,7 @@ def take_kill(scene, step):
     """Kills a run, after a part of the time that the run before took."""
     process, hundredths = scene.runs[step.words[0]].process, int(scene.said(step.words[1]))
     time.sleep(scene.seconds * hundredths / 100)
-    process.kill()
+    os.kill(process.pid, signal.SIGKILL)
     # Its number is kept, since what it left is killed by that at the end of the row.
     end = os.waitid(os.P_PID, process.pid, os.WEXITED | os.WNOWAIT)
     if end.si_status != signal.SIGKILL and not hundredths:
