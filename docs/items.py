@@ -248,5 +248,5 @@ def all_crates():
     return [
         Crate(it)
         for it in listed
-        if not it.endswith(("_tests", "test_plans")) and (CRATES / it / "src/lib.rt").exists()
+        if not it.endswith("_tests") and (CRATES / it / "src/lib.rt").exists()
     ]

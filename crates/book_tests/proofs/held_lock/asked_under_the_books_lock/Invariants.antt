@@ -1,5 +1,0 @@
--- The list that was just made.
-use Rattle.book_tests.proofs.held_lock.asked_under_the_books_lock.Given as goal
-
-abbrev pub ghosts-asked : goal.ghosts-asked
-ghosts-asked g a = record { book = a.name }

@@ -1,5 +1,0 @@
--- The list that was just made.
-use Rattle.view_tests.proofs.crowd.crowd_beside_a_writer.Given as goal
-
-abbrev pub ghosts-crowded : goal.ghosts-crowded
-ghosts-crowded g a = record { book = a.name }
