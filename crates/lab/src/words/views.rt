@@ -250,7 +250,13 @@ impl<J: Naming + Send, W: Wait> View<'_, J, W> {
     }
 
     fn publish(&mut self, teller: &mut Teller<'_>, alloc: Global) {
-        let answer = called!(teller, "ViewWriter::publish", self.writer.publish());
+        let is_idle = self.writer.tell().len() == self.journal.entries().len() as u64;
+        let call = if is_idle {
+            "ViewWriter::publish idle"
+        } else {
+            "ViewWriter::publish"
+        };
+        let answer = called!(teller, call, self.writer.publish());
         if let Some(()) = teller.answered(alloc, answer) {
             teller.say("published");
         }
