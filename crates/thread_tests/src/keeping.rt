@@ -211,7 +211,7 @@ fn texts_of_a_run(rt: HostRuntime) -> Result<(), Fail> {
 // again, with what was registered meanwhile.
 #[test]
 fn refused_texts(rt: HostRuntime) -> Result<(), Fail> {
-    for (each, wanted) in [(2, ([3, 2, 0, 0], true)), (1, ([3, 0, 0, 0], false))] {
+    for (each, wanted) in [(2, ([3, 2, 0, 0], true)), (1, ([3, 0, 0, 0], true))] {
         let counted = counted(&rt, rt.alloc(), (false, each))?;
         assert_eq!(rt; counted, wanted, "each {each}");
     }
