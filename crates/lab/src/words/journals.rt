@@ -2,9 +2,8 @@
 //!
 //! `Journal::append_each J` is a journal to which each entry of another one was added or appended,
 //! and `outlet J ENTRY` opens an outlet with a journal, in which an entry waits and is published.
-ghost use Rattle.std.specs.Prelude.{◌≡◌, ◌≤◌, [], IsTrue, length};
-ghost use Rattle.valid_table.specs.Adding.{AreClosed, AreNew};
-ghost use Rattle.valid_table.specs.Entries.{registered, registered_by};
+ghost use Rattle.std.specs.Prelude.{◌≡◌, ◌≤◌, ◌++◌, IsTrue, length};
+ghost use Rattle.valid_table.specs.Entries.{registered_by};
 ghost use Rattle.valid_table.specs.Valid.{HasDrvPath};
 
 use crate::line::{Line, Lines};
@@ -257,41 +256,46 @@ fn registers(teller: &mut Teller<'_>, world: &World, line: &Line<'_>) -> Result<
 fn outlet(teller: &mut Teller<'_>, world: &World, line: &Line<'_>) -> Result<(), Stop> {
     let entry = entry_of(world, line.arguments(1))?;
     let journal = journal(world, line)?;
-    if let Some(_) = journal.table().obstacle(&entry) {
-        return Err(Stop::NotAllowed);
-    }
     let answer = call!(
         teller,
         "ListOutlet::open",
         ListOutlet::open(world.alloc, journal)
     );
     match answer {
-        Ok(outlet) => append(teller, world.alloc, outlet, entry),
+        Ok(outlet) => append(teller, world.alloc, journal, outlet, entry),
         Err(fault) => answered(teller, world.alloc, Err(fault)),
     }
 }
 
-// Appends an entry to an outlet in which nothing waits, publishes it, and tells how the outlet
-// stands before and after that.
+// Appends an entry to the outlet that opens with a journal.
 fn append(
     teller: &mut Teller<'_>,
     alloc: Global,
+    journal: &Journal,
     mut outlet: ListOutlet,
     entry: Entry,
 ) -> Result<(), Stop>
-    requires new { AreNew (registered outlet.shown) (registered_by entry) }
-    requires closed { AreClosed (registered outlet.shown) (registered_by entry) }
-    requires none { outlet.pending ≡ [] }
+    requires { outlet.shown ++ outlet.pending ≡ journal.now.entries }
 {
-    let before = outlet.shown().len();
-    let answer = call!(teller, "ListOutlet::append", outlet.append(entry));
-    if answer.is_err() && (outlet.shown().len() != before || !outlet.pending().is_empty()) {
+    if let Some(_) = journal.table().obstacle(&entry) {
+        return Err(Stop::NotAllowed);
+    }
+    teller.begins("ListOutlet::append");
+    let answer = outlet.append(entry);
+    teller.ends("ListOutlet::append");
+    if answer.is_err() && (outlet.shown() != journal.entries() || !outlet.pending().is_empty()) {
         return Err(Stop::Lost("memory was refused, and the outlet is not as it was"));
     }
     answered(teller, alloc, answer)?;
+    publish(teller, outlet)
+}
+
+// Publishes what waits in an outlet, and tells how that stands before and after that.
+fn publish(teller: &mut Teller<'_>, mut outlet: ListOutlet) -> Result<(), Stop> {
     tell_outlet(teller, &outlet);
-    let answer = call!(teller, "ListOutlet::publish", outlet.publish());
-    answered(teller, alloc, answer)?;
+    if call!(teller, "ListOutlet::publish", outlet.publish()).is_err() {
+        return Err(Stop::Lost("the outlet did not publish"));
+    }
     tell_outlet(teller, &outlet);
     call!(teller, "ListOutlet::close", outlet.close());
     Ok(())

@@ -42,8 +42,8 @@ fn zeros(world: &mut World, line: &Line<'_>) -> Result<(), Stop> {
     Ok(world.texts.keep(world.alloc, line.name(), text)?)
 }
 
-// A head, and a template once for each number, in which `%` stands for the number in eight digits, and `^` for
-// the number before it.
+// A head, and a template once for each number, in which `%` stands for the number in eight digits,
+// and `^` for the number before it.
 fn numbered(world: &mut World, line: &Line<'_>) -> Result<(), Stop> {
     let (first, end) = (line.number(1).unwrap_or(0), line.number(2).unwrap_or(0));
     let mut text = world.text(line.argument(3)).to_vec(world.alloc)?;

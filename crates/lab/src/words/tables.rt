@@ -1,6 +1,6 @@
 //! Tables, closures, and lists of paths.
 //!
-//! A line that only asks a table may name a journal, and asks that one's table. `list PATH ..` keeps
+//! A line that only asks a table may name a journal, and asks its table. `list PATH ..` keeps
 //! paths, each a line of a text, and `same A B` compares two lists, two journals or two texts.
 ghost use Rattle.std.specs.Prelude.{◌≤◌, length};
 ghost use Rattle.valid_table.specs.Entries.{registered_by};
