@@ -363,7 +363,9 @@ fn fetch(teller: &mut Teller<'_>, world: &World, line: &Line<'_>) -> Taken {
         "ListSource::fetch",
         source.fetch(world.alloc, &path)
     );
-    tell_failures(teller, &source);
+    if !matches!(&answer, Err(SourceFault::NoMemory)) {
+        tell_failures(teller, &source);
+    }
     let text = answered(teller, world.alloc, answer)?;
     teller.text(&text);
     Ok(())
