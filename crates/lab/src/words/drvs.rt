@@ -7,8 +7,8 @@ use crate::teller::Teller;
 use crate::words::names::{appended, file_bytes, keep_path};
 use crate::world::World;
 use nix_drv::{
-    Derivation, DrvSource, EnvEntry, ListSource, ListedFile, Parts, check_text, named_text_path,
-    read, references, text_path, write, write_string,
+    Derivation, DrvSource, EnvEntry, ListSource, ListedFile, Parts, SourceFault, check_text,
+    named_text_path, read, references, text_path, write, write_string,
 };
 use nix_names::is_name;
 use std::alloc::{AllocError, Global};
