@@ -241,12 +241,16 @@ impl<J: Naming + Send, W: Wait> View<'_, J, W> {
             teller.not_allowed();
             return false;
         }
-        let answer = called!(teller, "ViewWriter::append", self.writer.append(shown));
-        let answer = teller.answered(alloc, answer);
-        if answer.is_some() {
-            self.journal.push_reserved(entry, copy);
+        match called!(teller, "ViewWriter::append", self.writer.append(shown)) {
+            Ok(()) => {
+                self.journal.push_reserved(entry, copy);
+                true
+            }
+            Err(fault) => {
+                teller.tell_fault(alloc, &fault);
+                false
+            }
         }
-        answer.is_some()
     }
 
     fn publish(&mut self, teller: &mut Teller<'_>, alloc: Global) {

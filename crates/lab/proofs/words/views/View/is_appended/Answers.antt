@@ -1,15 +1,15 @@
 use Rattle.lab.proofs.words.views.View.is_appended.Goals as goal
 
-pub append-requires-clause-new : goal.append-requires-clause-new
-append-requires-clause-new g c =
+pub append-answer-requires-clause-new : goal.append-answer-requires-clause-new
+append-answer-requires-clause-new g c =
     rw (
       c.args.self.now.same,
       c.requires.alike.1,
       ← c.table.ensures.value,
     ) c.in_default.ensures.0
 
-pub append-requires-clause-closed : goal.append-requires-clause-closed
-append-requires-clause-closed g c =
+pub append-answer-requires-clause-closed : goal.append-answer-requires-clause-closed
+append-answer-requires-clause-closed g c =
     rw (
       c.args.self.now.same,
       c.requires.alike.1,
