@@ -71,6 +71,17 @@ impl<'a> Line<'a> {
         rest
     }
 
+    /// The arguments before the one with this number.
+    pub(crate) fn arguments_before(&self, end: usize) -> &[&'a [u8]] {
+        self.arguments.get(..end).unwrap_or(&self.arguments)
+    }
+
+    /// How many arguments stand before a mark; all where it is none of them.
+    pub(crate) fn place(&self, mark: &[u8]) -> usize {
+        let place = self.arguments.iter().position(|word| *word == mark);
+        place.unwrap_or(self.arguments.len())
+    }
+
     /// The argument with this number as a number, if it is one.
     pub(crate) fn number(&self, number: usize) -> Option<usize> {
         number_of(self.argument(number))

@@ -8,7 +8,7 @@ use crate::line::{Line, Lines};
 use crate::rising::rising;
 use crate::stop::{Stop, answered, call, end};
 use crate::teller::Teller;
-use crate::words::tables::{give_paths, halves};
+use crate::words::tables::give_paths;
 use crate::world::World;
 use ref_scan::{Member, Scanner, Tree, scan};
 use std::alloc::{AllocError, Global};
@@ -165,7 +165,9 @@ fn scanned(teller: &mut Teller<'_>, world: &mut World, line: &Line<'_>) -> Resul
 }
 
 fn scanner(teller: &mut Teller<'_>, world: &mut World, line: &Line<'_>) -> Result<(), Stop> {
-    let (permitted, pieces) = halves(line.arguments(0), b":");
+    let place = line.place(b":");
+    let permitted = line.arguments_before(place);
+    let pieces = line.arguments(place.saturating_add(1));
     let permitted = rising(world, permitted)?;
     let answer = call!(
         teller,

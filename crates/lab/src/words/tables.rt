@@ -84,16 +84,6 @@ pub(crate) fn push_told_of_words(
     Ok(())
 }
 
-/// The words before a mark, and those behind it.
-pub(crate) fn halves<'a, 'b>(
-    words: &'a [&'b [u8]],
-    mark: &[u8],
-) -> (&'a [&'b [u8]], &'a [&'b [u8]]) {
-    let place = words.iter().position(|word| *word == mark);
-    let (before, rest) = words.split_at(place.unwrap_or(words.len()));
-    (before, rest.get(1..).unwrap_or(&[]))
-}
-
 /// Keeps paths under the line's name and says how many they are; where it has no name, prints them.
 pub(crate) fn give_paths(
     teller: &mut Teller<'_>,
@@ -147,8 +137,9 @@ fn same(teller: &mut Teller<'_>, world: &World, line: &Line<'_>) -> Result<(), S
 }
 
 fn united(teller: &mut Teller<'_>, world: &mut World, line: &Line<'_>) -> Result<(), Stop> {
-    let (left, right) = halves(line.arguments(0), b"/");
-    let (left, right) = (rising(world, left)?, rising(world, right)?);
+    let place = line.place(b"/");
+    let left = rising(world, line.arguments_before(place))?;
+    let right = rising(world, line.arguments(place.saturating_add(1)))?;
     let answer = call!(teller, "union", union(world.alloc, &left, &right));
     let all = answered(teller, world.alloc, answer)?;
     give_paths(teller, world, line, all)
