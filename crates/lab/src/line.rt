@@ -73,7 +73,8 @@ impl<'a> Line<'a> {
 
     /// The arguments before the one with this number.
     pub(crate) fn arguments_before(&self, end: usize) -> &[&'a [u8]] {
-        self.arguments.get(..end).unwrap_or(&self.arguments)
+        let (before, _) = self.arguments.split_at(end.min(self.arguments.len()));
+        before
     }
 
     /// How many arguments stand before a mark; all where it is none of them.
