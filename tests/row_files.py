@@ -91,21 +91,29 @@ class Step:
         self.number, self.line = number, line
         self.texts, self.numbers = {}, {}
         inline = None if line.startswith("$") else INLINE.fullmatch(line)
+        self.kind, *self.words = (inline[1] if inline else line).split(" ")
         if inline:
-            line = inline[1]
-            self.add(f"    {inline[2]} {inline[3]}")
-        self.kind, *self.words = line.split(" ")
+            self.put("", inline[2], inline[3])
 
     def add(self, line):
         """Adds a line that stands below the step."""
         if piece := PIECE.fullmatch(line):
             label, mark, text = piece.groups()
-            end = "\n" if mark == "|" else ""
-            self.texts[label] = self.texts.get(label, "") + (text or "") + end
+            call, sign, answer = (text or "").partition(" => ")
+            if self.kind == "lab" and not label and sign:
+                self.put("", "|", call)
+                self.put("out", "|", answer)
+            else:
+                self.put(label, mark, text or "")
         elif setting := SETTING.fullmatch(line):
             self.numbers[setting[1]] = int(setting[2])
         else:
             raise Mistake("it is no part of a step")
+
+    def put(self, label, mark, text):
+        """Adds a line or a piece to the text with a label."""
+        end = "\n" if mark == "|" else ""
+        self.texts[label] = self.texts.get(label, "") + text + end
 
     def check(self, kinds):
         """Refuses a step that is none of these kinds, or that has other parts than it may have."""

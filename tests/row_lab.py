@@ -2,7 +2,8 @@
 
 Each text with a label is kept under that name first. The lines of the text without a label are
 given to the program, and what it prints is compared with `out`, but for the lines that say where a
-call begins and ends. It runs in the folder of the tests, and `<xff>` stands for a byte of all ones.
+call begins and ends. An answer of one line may stand behind its call, as `CALL => ANSWER`. The
+program runs in the folder of the tests, and `<xff>` stands for a byte of all ones.
 """
 
 import re
