@@ -1,7 +1,8 @@
-"""Derivations as files of a store folder, made apart from the program: what the measurements of plans, books and runs read.
+"""Derivations as files of a store folder, made apart from the program: what the measurements of
+plans, books and runs read.
 
-The text is that of the Nix manual, "Store Derivation"; the output path is that of its masked modulo text, in which inputs with one
-hash are one entry.
+The text is that of the Nix manual, "Store Derivation"; the output path is that of its masked modulo
+text, in which inputs with one hash are one entry.
 """
 
 import hashlib
@@ -17,11 +18,14 @@ SCRIPT = "echo hello > $out"
 def entries(name, output):
     """The entries of the environment of a derivation with this output."""
     environment = {"builder": "/bin/sh", "name": name, "out": output, "system": "x86_64-linux"}
-    return environment | {f"key{number:02}": f"the value of key {number}, which says little" for number in range(8)}
+    return environment | {
+        f"key{number:02}": f"the value of key {number}, which says little" for number in range(8)
+    }
 
 
 def derivation(name, output, inputs, script=SCRIPT, sources=(), content=("", "")):
-    """The text of a derivation with one output, these inputs and sources, which runs a script; nothing in it takes an escape.
+    """The text of a derivation with one output, these inputs and sources, which runs a script;
+    nothing in it takes an escape.
 
     A fixed output has a method and a hash as its content.
     """
@@ -47,15 +51,18 @@ def name_of(number):
 
 
 def output_of(folder, number, inputs, script=SCRIPT, sources=()):
-    """The path of the output of the derivation with this number, whose inputs are paths with their modulo hashes."""
+    """The path of the output of the derivation with this number, whose inputs are paths with their
+    modulo hashes."""
     name = name_of(number)
     hashes = sorted({modulo for _, modulo in inputs})
-    return make_path("output:out", digest(derivation(name, "", hashes, script, sources)), folder, name)
+    return make_path(
+        "output:out", digest(derivation(name, "", hashes, script, sources)), folder, name
+    )
 
 
 def made(folder, number, inputs, script=SCRIPT, sources=()):
-    """The path, the text, the output's path and the modulo hash of the derivation with this number, whose inputs are paths with
-    their modulo hashes."""
+    """The path, the text, the output's path and the modulo hash of the derivation with this number,
+    whose inputs are paths with their modulo hashes."""
     name = name_of(number)
     output = output_of(folder, number, inputs, script, sources)
     paths = sorted(path for path, _ in inputs)
@@ -66,7 +73,8 @@ def made(folder, number, inputs, script=SCRIPT, sources=()):
 
 
 def write(folder, number, inputs, script=SCRIPT, sources=()):
-    """Writes the derivation with this number, whose inputs are paths with their modulo hashes, and gives its own."""
+    """Writes the derivation with this number, whose inputs are paths with their modulo hashes, and
+    gives its own."""
     path, text, _, modulo = made(folder, number, inputs, script, sources)
     with open(path, "w", encoding="ascii") as file:
         file.write(text)
@@ -74,11 +82,14 @@ def write(folder, number, inputs, script=SCRIPT, sources=()):
 
 
 def write_fixed(folder, name, script, inputs, content):
-    """Writes a derivation that has to make one file of this content, whose inputs are paths with their modulo hashes, and gives its own."""
+    """Writes a derivation that has to make one file of this content, whose inputs are paths with
+    their modulo hashes, and gives its own."""
     made = f"fixed:out:sha256:{hashlib.sha256(content).hexdigest()}:"
     output = make_path("output:out", digest(made), folder, name)
     paths = sorted(path for path, _ in inputs)
-    text = derivation(name, output, paths, script, content=("sha256", hashlib.sha256(content).hexdigest()))
+    text = derivation(
+        name, output, paths, script, content=("sha256", hashlib.sha256(content).hexdigest())
+    )
     path = text_path(folder, name + ".drv", text.encode(), paths)
     with open(path, "w", encoding="ascii") as file:
         file.write(text)
@@ -94,7 +105,13 @@ def chain(folder, count):
 
 
 def digest_all(paths):
-    """How many milliseconds `sha256sum` takes over the files, which it gets in as few calls as their names allow."""
+    """How many milliseconds `sha256sum` takes over the files, which it gets in as few calls as
+    their names allow."""
     start = time.monotonic()
-    subprocess.run(["xargs", "-0", "sha256sum"], input="\0".join(paths).encode(), check=True, stdout=subprocess.DEVNULL)
+    subprocess.run(
+        ["xargs", "-0", "sha256sum"],
+        input="\0".join(paths).encode(),
+        check=True,
+        stdout=subprocess.DEVNULL,
+    )
     return (time.monotonic() - start) * 1e3

@@ -9,14 +9,17 @@ import tempfile
 import time
 
 TOP = os.path.dirname(os.path.dirname(os.path.abspath(__file__)))
-# A call that was measured: its name, the nanoseconds that it took, and the lines that tell its answer. The calls of a line that tells
-# none of them are one without a name.
+# A call that was measured: its name, the nanoseconds that it took, and the lines that tell its
+# answer. The calls of a line that tells none of them are one without a name.
 Call = collections.namedtuple("Call", "name nanos told")
-BEGINS, ENDS, TOOK = (re.compile(text) for text in (r"begins \d+ .*", r"ends \d+ (.*)", r"took (\d+) ns"))
+BEGINS, ENDS, TOOK = (
+    re.compile(text) for text in (r"begins \d+ .*", r"ends \d+ (.*)", r"took (\d+) ns")
+)
 
 
 def lab_program():
-    """The path of `lab`, whose lines call the libraries: the value of LAB, or what is built by hand, as the program of a run is."""
+    """The path of `lab`, whose lines call the libraries: the value of LAB, or what is built by
+    hand, as the program of a run is."""
     program = os.environ.get("LAB") or os.path.join(TOP, "crates", "lab", "out", "lab")
     if not os.path.exists(program):
         sys.exit("build the program first: (cd crates/lab && rt run)")
@@ -24,12 +27,15 @@ def lab_program():
 
 
 def measured(command, script="", **options):
-    """What a command prints of lines that it reads, the seconds that it took, and the most memory that it held, in bytes."""
+    """What a command prints of lines that it reads, the seconds that it took, and the most memory
+    that it held, in bytes."""
     with tempfile.TemporaryFile("w+", encoding="ascii") as lines:
         lines.write(script)
         lines.seek(0)
         begin = time.perf_counter()
-        with subprocess.Popen(command, stdin=lines, stdout=subprocess.PIPE, text=True, **options) as run:
+        with subprocess.Popen(
+            command, stdin=lines, stdout=subprocess.PIPE, text=True, **options
+        ) as run:
             printed = run.stdout.read()
             _, status, usage = os.wait4(run.pid, 0)
             run.returncode = os.waitstatus_to_exitcode(status)
@@ -40,8 +46,11 @@ def measured(command, script="", **options):
 
 
 def calls_of(*script):
-    """The calls that `lab` makes by these lines, and the most memory that it held. What is told before the first call is left out."""
-    printed, _, memory = measured([lab_program(), "--times"], "".join(f"{line}\n" for line in script))
+    """The calls that `lab` makes by these lines, and the most memory that it held. What is told
+    before the first call is left out."""
+    printed, _, memory = measured(
+        [lab_program(), "--times"], "".join(f"{line}\n" for line in script)
+    )
     calls, name = [], ""
     for line in printed.splitlines():
         if match := ENDS.fullmatch(line):

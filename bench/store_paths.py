@@ -1,6 +1,8 @@
-"""Store paths, computed apart from the program: what the measurements and their inputs are made with.
+"""Store paths, computed apart from the program: what the measurements and their inputs are made
+with.
 
-Base-32 and the text path are those of the Nix manual, "Store Path" and "Complete Store Path Calculation".
+Base-32 and the text path are those of the Nix manual, "Store Path" and "Complete Store Path
+Calculation".
 """
 
 import hashlib
@@ -9,7 +11,8 @@ ALPHABET = "0123456789abcdfghijklmnpqrsvwxyz"
 
 
 def base32(data):
-    """The base-32 text of some bytes: one number, byte i weighing 256^i, most significant digit first."""
+    """The base-32 text of some bytes: one number, byte i weighing 256^i, most significant digit
+    first."""
     number = int.from_bytes(data, "little")
     length = (8 * len(data) + 4) // 5
     return "".join(ALPHABET[(number >> (5 * i)) & 31] for i in reversed(range(length)))
