@@ -63,6 +63,6 @@ pub use logs::Logs;
 pub use manner::Manner;
 pub use processes::{ByProcesses, ProcessBuild};
 pub use progress::ProgressLine;
-pub use trace::Trace;
+pub use trace::{Trace, TraceText};
 pub use tracing::Tracing;
 pub use watching::Watching;

@@ -60,6 +60,21 @@ impl NotedLeases {
     }
 }
 
+/// The text of a trace. Only `Trace::text` makes one.
+#[derive(Drop)]
+pub struct TraceText {
+    bytes: Vec<u8>,
+}
+
+impl TraceText {
+    /// Its bytes.
+    pub fn bytes(&self) -> &[u8]
+        ensures { result.now ≡ self.now.bytes.items }
+    {
+        &self.bytes
+    }
+}
+
 /// The leases of a run that ended, and when the run began. The builders of its workers note them.
 #[derive(Drop)]
 pub struct Trace {
@@ -78,10 +93,12 @@ impl Trace {
 
     /// The text of the trace: an event for each lease that ended. Want of memory, now or when a
     /// lease was noted, is the only error: a trace has all leases, or there is none.
-    pub fn text<R: Wait + AllocGlobal>(&self, rt: &R) -> Result<Vec<u8>, AllocError>
-        ensures { IfOk result (λ text. (ended : List EndedLease) × (text.items ≡ trace_of ended)) }
+    pub fn text<R: Wait + AllocGlobal>(&self, rt: &R) -> Result<TraceText, AllocError>
+        ensures { IfOk result (λ text. (ended : List EndedLease)
+            × (text.bytes.items ≡ trace_of ended)) }
     {
-        self.noted.lock(rt).text(rt.alloc())
+        let bytes = self.noted.lock(rt).text(rt.alloc())?;
+        Ok(TraceText { bytes })
     }
 
     // How many microseconds ago the run began.

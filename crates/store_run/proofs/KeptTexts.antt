@@ -1,6 +1,7 @@
 -- How the text of a run's entries goes on.
 use Rattle.std.proofs.Common.{◌≡◌, ◌∙◌, ◌++◌, ℕ, List, Result, Ok, Err, OnOk, ap, ap₂, subst, sym, refl, cond, length, take, take_at}
 use Rattle.std.proofs.Math.Seq.{take-length}
+use Rattle.std.specs.Prelude.{IfSome, None, Option, Some}
 use Rattle.std.specs.Result.{is_ok}
 use Rattle.nix_names.specs.Bytes.{Bytes}
 use Rattle.valid_table.specs.Written.{written_text}
@@ -9,9 +10,9 @@ use Rattle.valid_table.proofs.WrittenTexts.{text_goes_on}
 use Rattle.build_outcome.specs.declared.job.Answer.{Answer}
 use Rattle.build_outcome.specs.declared.job.Job.{Job}
 use Rattle.build_outcome.specs.declared.reason.Reason.{Reason}
-use Rattle.run_states.specs.Runs.{Run}
+use Rattle.run_states.specs.Runs.{History, Run}
 use Rattle.drv_graph.specs.Plans.{Graph}
-use Rattle.sched_core.specs.Books.{Ledger}
+use Rattle.sched_core.specs.Books.{BuildsOver, Ledger}
 use Rattle.store_run.specs.Keeping.{IsKeptText, MayKeepEach}
 use Rattle.store_run.specs.Realising.{IsOverLent}
 use Rattle.store_run.specs.private.Looking.{IsLook, IsNews, Looked}
@@ -50,34 +51,53 @@ added (Ok x) before more after is holds = holds is
 added (Err e) before more after is holds = tt
 
 -- the text of the entries that a look found may be handed over
-pub may_be_kept : (may : Job → Result Answer Reason → Type 0)
+pub may_be_kept : (may : Job → Result Answer Reason → Type 0) (was_shown : List Entry → Type 0)
     (is_over : Run → List Entry → Type 0) (may_keep : Bytes → Type 0) (known : List Entry)
-    (looked : Looked) (text bytes : Bytes) → MayKeepEach may is_over may_keep
-    → IsLook may is_over known looked
+    (looked : Looked) (text bytes : Bytes) → MayKeepEach may was_shown is_over may_keep
+    → IsLook may was_shown is_over known looked
     → ((entries : List Entry) → IsNews known entries looked → text ≡ written_text entries)
     → bytes ≡ text → may_keep bytes
-may_be_kept may is_over may_keep known looked text bytes each look is same =
+may_be_kept may was_shown is_over may_keep known looked text bytes each look is same =
     each look.run look.history.opening bytes look.over (record {
       history = look.history;
       opening_is = refl;
       legal = look.legal;
       answered = look.answered;
+      shown = looked.shown;
+      is_shown = look.is_shown;
+      goes_on = (look.news.waiting, sym look.news.all);
+      seeds = look.seeds;
       text_is = same ∙ is look.history.entries look.news;
     })
+
+-- what follows where there is something
+pub of_some : {A : Type 0} {Fact Other : A → Type 0} (found : Option A) → IfSome found Fact
+    → ((x : A) → Fact x → Other x) → IfSome found Other
+of_some (Some x) fact follows = follows x fact
+of_some None fact follows = tt
+
+-- what a look shows is what the book shows, so all is valid there that is built from
+pub builds_over_look : (run : Run) (history : History) (shown told looked : List Entry)
+    → BuildsOver run history shown → told ≡ shown → looked ≡ told
+    → BuildsOver run history looked
+builds_over_look run history shown told looked builds is same =
+    subst (BuildsOver run history) (sym (same ∙ is)) builds
 
 -- the run over a plan, for a system
 abbrev run_of : Graph → Bytes → Run
 run_of graph system = record { graph = graph; system = system }
 
 -- what is kept of the run of a book over what was lent, is kept of the run over that
-pub kept_of_lent : (may : Job → Result Answer Reason → Type 0) (plan : Graph) (system : Bytes)
-    (entries : List Entry) (book : Ledger) (run : Run) (opening : List Entry) (text : Bytes)
+pub kept_of_lent : (may : Job → Result Answer Reason → Type 0) (was_shown : List Entry → Type 0)
+    (plan : Graph) (system : Bytes) (entries : List Entry) (book : Ledger) (run : Run)
+    (opening : List Entry) (text : Bytes)
     → IsOverLent plan system entries book
-    → (run ≡ book.run) × (opening ≡ book.history.opening) → IsKeptText may run opening text
-    → IsKeptText may (record { graph = plan; system = system }) entries text
-kept_of_lent may plan system entries book run opening text over is kept =
+    → (run ≡ book.run) × (opening ≡ book.history.opening)
+    → IsKeptText may was_shown run opening text
+    → IsKeptText may was_shown (record { graph = plan; system = system }) entries text
+kept_of_lent may was_shown plan system entries book run opening text over is kept =
     let lent : Run = record { graph = plan; system = system } in
     let same : book.run ≡ lent =
     ap₂ (λ (g : Graph) (s : Bytes). run_of g s) over.plan_is over.system_is in
-    subst (λ (r : Run). IsKeptText may r entries text) (is.0 ∙ same)
-    (subst (λ (o : List Entry). IsKeptText may run o text) (is.1 ∙ over.opening_is) kept)
+    subst (λ (r : Run). IsKeptText may was_shown r entries text) (is.0 ∙ same)
+    (subst (λ (o : List Entry). IsKeptText may was_shown run o text) (is.1 ∙ over.opening_is) kept)

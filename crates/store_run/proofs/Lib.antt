@@ -7,6 +7,7 @@ pub mod CutOpenings
 pub mod CutReports
 pub mod CutStates
 pub mod CutsJoined
+pub mod DigestSizes
 pub mod DiamondJobs
 pub mod DiamondPlan
 pub mod DiamondRuns
@@ -20,12 +21,15 @@ pub mod OneThreads
 pub mod Openings
 pub mod Permits
 pub mod RunEndings
+pub mod RunEntries
+pub mod RunJournals
 pub mod ExampleLoads
 pub mod ScheduleExample
 pub mod Schedules
 pub mod SameOutcomes
 pub mod SameVerdicts
 pub mod Standings
+pub mod StorePlans
 pub mod Telling
 pub mod ToldRuns
 pub mod Turns
@@ -35,3 +39,4 @@ pub mod TwinExample
 pub mod TwinJobs
 pub mod TwinLoads
 pub mod TwinPlans
+pub mod WrittenVersions

@@ -2,7 +2,7 @@
 use Rattle.std.proofs.Common.{◌≡◌, ◌≤◌, inl, inr, IfErr, IfOk, ℕ, List, arith, false}
 use Rattle.std.specs.Bool.{◌==◌}
 use Rattle.std.proofs.lemmas.Bool.Decides.{nat_tests}
-use Rattle.std.specs.Prelude.{Option, Some, None, Result, Ok, Err}
+use Rattle.std.specs.Prelude.{IfSome, MatchResult, Option, Some, None, Result, Ok, Err}
 use Rattle.drv_graph.specs.Plans.{Graph}
 use Rattle.valid_table.specs.declared.entry.Entry.{Entry}
 use Rattle.sched_core.specs.Books.{Ledger}
@@ -18,6 +18,31 @@ use Rattle.store_run.specs.Realising.{IsCutOff, IsLeft, IsOverLent, IsRealised, 
 use Rattle.store_run.specs.private.Sharing.{Share}
 use Rattle.store_run.specs.Workers.{AreWorkers}
 use Rattle.store_run.specs.declared.fault.RunFault.{RunFault}
+use Rattle.store_run.specs.declared.fault.RunFault.TheVariants as fault
+
+-- ---- what the book shows that a run hands out
+
+handed_shown : (fact : List Entry → Type 0) (fault : RunFault) (book : Ledger) → fact book.shown
+    → IfSome (handed_out fault book) (λ (b : Ledger). fact b.shown)
+handed_shown fact fault.ForeignPlan book holds = tt
+handed_shown fact fault.NoWorkers book holds = holds
+handed_shown fact fault.NoView book holds = holds
+handed_shown fact fault.ThreadFault book holds = holds
+handed_shown fact fault.NoMemory book holds = holds
+
+-- what holds of the list that the workers' book shows
+pub shown_at_end : (fact : List Entry → Type 0) (plan : Graph) (system : List ℕ)
+    (opening : List Entry) (share : Share) (ended : Result Ledger (RunFault × Ledger))
+    (result : Result Ledger (RunFault × Option Ledger)) → fact share.book.shown
+    → IsRunEnd plan system opening share ended → IsHandedOut ended result
+    → MatchResult result (λ (b : Ledger). fact b.shown)
+    (λ (e : RunFault × Option Ledger). IfSome e.1 (λ (b : Ledger). fact b.shown))
+shown_at_end fact plan system opening share (Ok book) result holds end out =
+    rw out (rw end.0 holds)
+shown_at_end fact plan system opening share (Err e) result holds end out =
+    rw out (handed_shown fact e.0 e.1 (rw end.0 holds))
+
+-- ---- how it ends
 
 -- what is neither 0 nor more than 64
 pub are_workers : (count : ℕ) → (count == 0) ≡ false → count ≤ 64 → AreWorkers count

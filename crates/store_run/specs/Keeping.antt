@@ -1,5 +1,6 @@
 -- *Kept*: what is kept of a run while it goes on (this product's own).
 use Rattle.std.specs.Prelude.{◌≡◌, List, Result}
+use mathlib.Core.List.{IsPrefix}
 use Rattle.nix_names.specs.Bytes.{Bytes}
 use Rattle.valid_table.specs.Written.{written_text}
 use Rattle.valid_table.specs.declared.entry.Entry.{Entry}
@@ -8,22 +9,28 @@ use Rattle.build_outcome.specs.declared.job.Job.{Job}
 use Rattle.build_outcome.specs.declared.reason.Reason.{Reason}
 use Rattle.run_states.specs.Legal.{IsLegal}
 use Rattle.run_states.specs.Runs.{History, Run}
+use Rattle.sched_core.specs.Books.{BuildsOver}
 use Rattle.store_run.specs.Builders.{IsAnswered}
 
 -- A text is what is kept of a run that opened with these entries: the text of all entries of a
 -- legal history of the run, in which what became of each derivation is a verdict on what a builder
--- may give.
-pub record IsKeptText (may : Job → Result Answer Reason → Type 0) (run : Run)
-    (opening : List Entry) (text : Bytes)
+-- may give. The entries go on from a list that was shown, in which all is valid that is built from.
+pub record IsKeptText (may : Job → Result Answer Reason → Type 0)
+    (was_shown : List Entry → Type 0) (run : Run) (opening : List Entry) (text : Bytes)
     : Type 0 where
   pub history : History
   pub opening_is : history.opening ≡ opening
   pub legal : IsLegal run history
   pub answered : IsAnswered may run history
+  pub shown : List Entry
+  pub is_shown : was_shown shown
+  pub goes_on : IsPrefix shown history.entries
+  pub seeds : BuildsOver run history shown
   pub text_is : text ≡ written_text history.entries
 
 -- each text that is kept of a run that is over something may be handed over
 abbrev pub MayKeepEach : (may : Job → Result Answer Reason → Type 0)
-    → (is_over : Run → List Entry → Type 0) → (may_keep : Bytes → Type 0) → Type 0
-MayKeepEach may is_over may_keep = (run : Run) (opening : List Entry) (text : Bytes)
-    → is_over run opening → IsKeptText may run opening text → may_keep text
+    → (was_shown : List Entry → Type 0) → (is_over : Run → List Entry → Type 0)
+    → (may_keep : Bytes → Type 0) → Type 0
+MayKeepEach may was_shown is_over may_keep = (run : Run) (opening : List Entry) (text : Bytes)
+    → is_over run opening → IsKeptText may was_shown run opening text → may_keep text

@@ -7,6 +7,7 @@ pub mod Keeping
 pub mod Numbers
 pub mod OneThread
 pub mod Realising
+pub mod RunJournals
 pub mod SameOutcomes
 pub mod ScheduleExample
 pub mod Scheduling

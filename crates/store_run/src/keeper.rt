@@ -29,25 +29,25 @@ pub trait Keep {
 
 // Where each text may be put that is kept of a run over the basis.
 #[derive(Drop)]
-pub(crate) struct KeepPlace<B: Build, S: Basis, K: Keep> {
+pub(crate) struct KeepPlace<J: Naming, B: Build, S: Basis, K: Keep> {
     keep: K,
-    of: PhantomData<(B, S)>,
+    of: PhantomData<(J, B, S)>,
 }
 
-impl<B: Build, S: Basis, K: Keep> Model for KeepPlace<B, S, K> {
+impl<J: Naming, B: Build, S: Basis, K: Keep> Model for KeepPlace<J, B, S, K> {
     ghost use Rattle.store_run.specs.Keeping.{MayKeepEach};
 
     ghost Value = { Unit {0} };
 
     ghost view = { λ p. tt };
 
-    ghost invariant = { λ p. MayKeepEach B.may S.is_over K.may_keep };
+    ghost invariant = { λ p. MayKeepEach B.may (J.Showing.shown J.book) S.is_over K.may_keep };
 }
 
-impl<B: Build, S: Basis, K: Keep> KeepPlace<B, S, K> {
+impl<J: Naming, B: Build, S: Basis, K: Keep> KeepPlace<J, B, S, K> {
     // A place where each such text may be put.
-    pub(crate) fn new(keep: K) -> KeepPlace<B, S, K>
-        requires { MayKeepEach B.may S.is_over K.may_keep }
+    pub(crate) fn new(keep: K) -> KeepPlace<J, B, S, K>
+        requires { MayKeepEach B.may (J.Showing.shown J.book) S.is_over K.may_keep }
     {
         KeepPlace {
             keep,
@@ -63,7 +63,7 @@ pub(crate) fn keep_on<R, J, O, B, S, K>(
     alloc: Global,
     locked: &Locked<O, B, S>,
     mut text: KeptText<J>,
-    mut place: KeepPlace<B, S, K>,
+    mut place: KeepPlace<J, B, S, K>,
 )
 where
     R: Wait + Clock,
@@ -91,7 +91,7 @@ fn keep_new<R, J, O, B, S, K>(
     alloc: Global,
     locked: &Locked<O, B, S>,
     text: &mut KeptText<J>,
-    place: &mut KeepPlace<B, S, K>,
+    place: &mut KeepPlace<J, B, S, K>,
 ) -> Option<Duration>
 where
     R: Wait + Clock,

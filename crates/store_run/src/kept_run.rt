@@ -1,5 +1,5 @@
 //! A run beside whose workers a keeper keeps what they register.
-ghost use Rattle.std.specs.Prelude.{◌≡◌, IfErr, IfOk, IfSome, vec_len};
+ghost use Rattle.std.specs.Prelude.{◌≡◌, IfErr, IfOk, IfSome, MatchResult, vec_len};
 ghost use Rattle.nix_names.specs.Bytes.{Bytes};
 ghost use Rattle.run_states.specs.Runs.{Run};
 ghost use Rattle.valid_table.specs.Written.{written_text};
@@ -28,11 +28,14 @@ use valid_view::{Name, Naming, Tells, ViewReader};
 /// Does what `realise` does, and keeps what is registered while the run goes on. A thread beside
 /// the workers hands texts to the place: each is the text of all entries that the book had at one
 /// moment, of a legal history of the run, in which what became of each derivation is a verdict on
-/// what a builder may give. No text is handed over where nothing was registered since the last one
-/// that was kept, nor in the first half second. The thread has ended whenever the call returns;
-/// what was registered last may not have been handed over. Where no thread can be made, nothing is.
-/// The lock is held for the lines of new entries alone, and no worker waits for the place. Takes
-/// memory for the text, once.
+/// what a builder may give. These entries go on from a list that was shown under this name, in
+/// which all is valid that was being built from at that moment. What the returned book shows was
+/// shown under it too; of two such lists one begins with the other, as `Prefix::longer` says. The
+/// next run reads such a text as these entries, by `laws::journals_of_runs_are_read`. No text is
+/// handed over where nothing was registered since the last one that was kept, nor in the first half
+/// second. The thread has ended whenever the call returns; what was registered last may not have
+/// been handed over. Where no thread can be made, nothing is. The lock is held for the lines of new
+/// entries alone, and no worker waits for the place. Takes memory for the text, once.
 pub fn realise_kept<
     'a,
     J: Naming + Send + Sync,
@@ -51,11 +54,13 @@ pub fn realise_kept<
 ) -> RunResult<'a, J, R>
     requires name { name ≡ J.book }
     requires each { (text : Bytes)
-        → IsKeptText B.may (record { graph = plan.now; system = system.now }) journal.now.entries
-        text
+        → IsKeptText B.may (J.Showing.shown J.book)
+        (record { graph = plan.now; system = system.now }) journal.now.entries text
         → K.may_keep text }
     ensures ok { IfOk result
         (IsRealised B.may plan.now system.now journal.now.entries (vec_len builders)) }
+    ensures shown { MatchResult result (λ book. J.Showing.shown J.book book.shown)
+        (λ e. IfSome e.1 (λ book. J.Showing.shown J.book book.shown)) }
     ensures err { IfErr result (λ e. IsRunFault B.may plan.now system.now journal.now.entries
         (vec_len builders) e.0 e.1) }
 {
@@ -70,6 +75,8 @@ pub fn realise_kept<
     let shared = run_kept::<Brand, R, J, _, B, K>(
         rt, alloc, book, readers, builders, journal, place,
     );
+    // Its contract says that what the book shows was shown.
+    shared.shows::<J>();
     hand_out(ending(shared, plan, system, journal))
 }
 
@@ -94,7 +101,7 @@ where
     requires answered { IsAnswered B.may book.run book.history }
     requires over { S.is_over book.run book.history.opening }
     requires shown { book.shown ≡ opening.now.entries }
-    requires each { MayKeepEach B.may S.is_over K.may_keep }
+    requires each { MayKeepEach B.may (J.Showing.shown J.book) S.is_over K.may_keep }
 {
     let text = first_text(alloc, &book, opening);
     let locked = Locked::<O, B, S>::new(book);
@@ -141,7 +148,7 @@ fn run_beside<S, R, J, O, B, K>(
     builders: Vec<B>,
     readers: Vec<ViewReader<J>>,
     text: KeptText<J>,
-    place: KeepPlace<B, S, K>,
+    place: KeepPlace<J, B, S, K>,
 )
 where
     S: Basis + Send,

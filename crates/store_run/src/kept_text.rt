@@ -2,6 +2,7 @@
 ghost use Rattle.std.specs.Prelude.{◌≡◌, ◌++◌, IfErr, IfOk, IfSome, List, OnOk};
 ghost use Rattle.valid_table.specs.Written.{written_text};
 ghost use Rattle.valid_table.specs.declared.entry.Entry.{Entry};
+ghost use Rattle.sched_core.specs.Books.{BuildsOver};
 ghost use Rattle.store_run.specs.private.Looking.{IsNews};
 
 use sched_core::Book;
@@ -79,10 +80,13 @@ impl<J: Naming> KeptText<J> {
     }
 
     // What a book has that the text that was kept last has not; none where there is nothing, or
-    // where memory is refused. Costs the lines of the entries that are new since the last look, and
-    // of those that wait.
+    // where memory is refused. What is shown was shown, and all is valid in it that is built from.
+    // Costs the lines of the entries that are new since the last look, and of those that wait.
     pub(crate) fn look<O: Tells<J>>(&self, alloc: Global, book: &Book<O>) -> Option<NewLines<J>>
-        ensures { IfSome result (IsNews self.now.shown book.now.history.entries) }
+        ensures news { IfSome result (IsNews self.now.shown book.now.history.entries) }
+        ensures shown { IfSome result (λ looked. J.Showing.shown J.book looked.shown) }
+        ensures seeds { IfSome result
+            (λ looked. BuildsOver book.now.run book.now.history looked.shown) }
     {
         let entries = book.journal().entries();
         if entries.len() == self.kept {
@@ -137,7 +141,8 @@ impl<J: Naming> NewLines<J> {
     }
 }
 
-// What some entries, which begin with what is shown now, have that was not shown before.
+// What some entries, which begin with what is shown now, have that was not shown before, and what
+// is shown now.
 fn what_is_new<J: Naming>(
     alloc: Global,
     known: &Prefix<J>,
@@ -145,7 +150,9 @@ fn what_is_new<J: Naming>(
     entries: &[Entry],
 ) -> Option<NewLines<J>>
     requires { (waiting : List Entry) × (entries.now ≡ shown ++ waiting) }
-    ensures { IfSome result (IsNews known.now entries.now) }
+    ensures news { IfSome result (IsNews known.now entries.now) }
+    ensures is { IfSome result (λ looked. looked.shown ≡ shown) }
+    ensures shown { IfSome result (λ looked. J.Showing.shown J.book looked.shown) }
 {
     let (before, now) = (known.len() as usize, shown.len() as usize);
     // Its contract says that the shorter of the two begins the longer.

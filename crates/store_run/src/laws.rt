@@ -11,12 +11,15 @@ ghost use Rattle.store_run.specs.DiamondExample.{cut_behind_left, diamond, may_m
 ghost use Rattle.store_run.specs.GivenOutcomes.{EqualOutcomesAreAlike, OutcomesDecide};
 ghost use Rattle.store_run.specs.Interruptions.{AnyInterruption, CutsAreOne, IsTakenUp};
 ghost use Rattle.store_run.specs.OneThread.{IsOneThread};
+ghost use Rattle.store_run.specs.RunJournals.{EntriesGoOn, JournalsOfRunsAreRead, KeptTextsAreRead, LeftJournalsAreRead};
 ghost use Rattle.store_run.specs.SameOutcomes.{AllowedIsOne};
 ghost use Rattle.store_run.specs.ScheduleExample.{Overlap, both, in_turn, left, may_leave, right, side_by_side, two_files};
 ghost use Rattle.store_run.specs.Scheduling.{AlikeReportTheSame, AnySchedule, HasOneThread, IsWholeRun, OneReport, RealisedIsEnded, RealisedIsWhole, SameReports, WholeRunsAreAlike};
 ghost use Rattle.store_run.specs.TwinExample.{first_twin, freed, may_leave_file, one_by_one, second_twin, three, three_files, tried_again, waiting};
 
+use nix_drv::DrvSource;
 use sched_core::Build;
+use valid_view::Naming;
 
 /// A whole run ends as one thread would: each derivation is in the same state, each path has the
 /// same record, and the report is the same. A run is whole where it had memory and its builders may
@@ -80,6 +83,22 @@ pub fn any_interruption<B: Build>()
 /// number of times.
 pub fn cuts_are_one<B: Build>()
     ensures { CutsAreOne B.may }
+{}
+
+/// In a legal history the entries are those that it opened with, and then the whole entries of its
+/// Done events, one for each and in their order.
+pub fn entries_go_on()
+    ensures { EntriesGoOn }
+{}
+
+/// The text of the entries of a run over a plan of a store folder is read as just these entries,
+/// want of memory apart, if it is within the limit of a journal's text. That holds of each text
+/// that is kept while the run goes on, and of the text of what it leaves behind. The run opened
+/// with entries that some text of a journal of the folder has.
+pub fn journals_of_runs_are_read<B: Build, J: Naming, S: DrvSource>()
+    ensures histories { JournalsOfRunsAreRead B.may S.gives }
+    ensures kept { KeptTextsAreRead B.may (J.Showing.shown J.book) S.gives }
+    ensures left { LeftJournalsAreRead B.may S.gives }
 {}
 
 /// There are whole runs in which builds overlap and one of them fails. The plan is loaded from two

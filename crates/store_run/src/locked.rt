@@ -103,7 +103,8 @@ impl<O: Outlet, B: Build, S: Basis> Locked<O, B, S> {
     ) -> Option<NewLines<J>>
     where
         O: Tells<J>,
-        ensures { IfSome result (IsLook B.may S.is_over text.now.shown) }
+        ensures { IfSome result (IsLook B.may (J.Showing.shown J.book) S.is_over
+            text.now.shown) }
     {
         let mut held = self.shared.lock(rt);
         let news = held.value().look(alloc, text);

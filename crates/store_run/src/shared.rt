@@ -136,11 +136,23 @@ impl<O: Outlet, B: Build, S: Basis> Shared<O, B, S> {
     pub(crate) fn look<J: Naming>(&self, alloc: Global, text: &KeptText<J>) -> Option<NewLines<J>>
     where
         O: Tells<J>,
-        ensures { IfSome result (IsLook B.may S.is_over text.now.shown) }
+        ensures { IfSome result (IsLook B.may (J.Showing.shown J.book) S.is_over
+            text.now.shown) }
     {
         // Its contract says that the history is legal.
         let _ = self.book.events();
         text.look(alloc, &self.book)
+    }
+
+    // The list that the book shows was shown.
+    pub(crate) fn shows<J: Naming>(&self)
+    where
+        O: Tells<J>,
+        ensures { J.Showing.shown J.book self.now.book.shown }
+    {
+        let shown = O::prefix(self.book.tell());
+        // Its contract says that the list was shown.
+        let _ = shown.len();
     }
 
     // The same, over any basis.

@@ -19,7 +19,7 @@ use Rattle.subcommands.specs.JournalFiles.{text_stop, unwritten_stop}
 use Rattle.subcommands.specs.StoreDirs.{IsStoreDirOf}
 use Rattle.subcommands.specs.declared.add_drv.Unput.{Unput}
 use Rattle.subcommands.specs.declared.add_drv.Unput.TheVariants.{File, Line}
-use Rattle.subcommands.specs.declared.add_text.Filed.{Filed}
+use Rattle.subcommands.specs.declared.all_written.Filed.{Filed}
 use Rattle.subcommands.specs.declared.add_text.Unfiled.{Unfiled}
 use Rattle.subcommands.specs.declared.add_text.Unfiled.TheVariants.{Text, Journal}
 use Rattle.subcommands.specs.declared.added_text.AddedText.{AddedText}
@@ -27,7 +27,7 @@ use Rattle.subcommands.specs.declared.added_text.NamedText.{NamedText}
 use Rattle.subcommands.specs.declared.journal_file.OwnJournal.{OwnJournal}
 use Rattle.subcommands.specs.declared.journal_write.UnwrittenJournal.{UnwrittenJournal}
 use Rattle.subcommands.specs.declared.journal_write.UnwrittenJournal.TheVariants as journal_fault
-use Rattle.subcommands.specs.declared.status.Status.{Status}
+use Rattle.subcommands.specs.declared.all_written.AllWritten.{AllWritten}
 use Rattle.subcommands.specs.declared.stop.Stop.{Stop}
 use Rattle.subcommands.specs.declared.stop.Stop.TheVariants.{BadJournal, BadName, BadStoreDir}
 use Rattle.subcommands.specs.declared.stop.Stop.TheVariants.{InUse, JournalNotWritten}
@@ -151,10 +151,10 @@ file_not_written added (Journal fault) before after stop printed why is =
 
 -- how the printing and the writing end is how the run does
 pub put_ends : (request : AddTextRequest) (gave journal : FileBytes)
-    (before after : Option (List ℕ)) (added : AddedText) (result : Result Status Stop)
+    (before after : Option (List ℕ)) (added : AddedText) (result : Result AllWritten Stop)
     → IsAddingText request gave journal (Ok added) → IsPrintedAndWritten added before after result
     → EndsBy request gave journal before after result
-put_ends request gave journal before after added (Ok status) is h =
+put_ends request gave journal before after added (Ok written) is h =
     (h.0, (added, (is, h.1), h.2))
 put_ends request gave journal before after added (Err (NotWritten path)) is h =
     (added, (is, h.1), h.0)

@@ -8,7 +8,7 @@ use Rattle.subcommands.specs.Files.{FileBytes}
 use Rattle.subcommands.specs.Endings.{path_line}
 use Rattle.subcommands.specs.Folders.{may_give}
 use Rattle.subcommands.specs.declared.added_drv.AddedDrv.{AddedDrv}
-use Rattle.subcommands.specs.declared.status.Status.{Status}
+use Rattle.subcommands.specs.declared.all_written.AllWritten.{AllWritten}
 use Rattle.subcommands.specs.declared.status.Status.TheVariants.{Done}
 use Rattle.subcommands.specs.declared.stop.Stop.{Stop}
 use Rattle.subcommands.specs.declared.stop.Stop.TheVariants.{NoMemory, NotWritten, Unwritable}
@@ -22,9 +22,9 @@ IsNotPut path before after stop =
 -- How a run ends, by what FILE gave. Nothing is known of the folder's files. Nothing is printed
 -- where the draft is refused.
 abbrev pub DrvEndsBy : AddDrvRequest → FileBytes → (before after : Option Bytes)
-    → Result Status Stop → Type 0
-DrvEndsBy request gave before after (Ok status) =
-    (status ≡ Done)
+    → Result AllWritten Stop → Type 0
+DrvEndsBy request gave before after (Ok written) =
+    (written.status ≡ Done)
     × ((added : AddedDrv) × IsAddingDrv (λ _ answer. may_give answer) request gave (Ok added)
     × Appends before after (path_line added.path))
 DrvEndsBy request gave before after (Err stop) =
@@ -33,6 +33,6 @@ DrvEndsBy request gave before after (Err stop) =
     × IsNotPut added.path before after stop)
 
 -- how a run ends: nothing is known of what FILE gave
-abbrev pub DrvEnds : AddDrvRequest → (before after : Option Bytes) → Result Status Stop → Type 0
+abbrev pub DrvEnds : AddDrvRequest → (before after : Option Bytes) → Result AllWritten Stop → Type 0
 DrvEnds request before after result =
     (gave : FileBytes) × DrvEndsBy request gave before after result

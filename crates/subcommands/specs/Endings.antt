@@ -10,7 +10,7 @@ use Rattle.subcommands.specs.Files.{FileBytes}
 use Rattle.subcommands.specs.Locking.{IsNotHeld}
 use Rattle.subcommands.specs.declared.added_text.AddedText.{AddedText}
 use Rattle.subcommands.specs.declared.added_text.NamedText.{NamedText}
-use Rattle.subcommands.specs.declared.status.Status.{Status}
+use Rattle.subcommands.specs.declared.all_written.AllWritten.{AllWritten}
 use Rattle.subcommands.specs.declared.status.Status.TheVariants.{Done}
 use Rattle.subcommands.specs.declared.stop.Stop.{Stop}
 use Rattle.subcommands.specs.declared.stop.Stop.TheVariants.{InUse, NotLocked}
@@ -34,10 +34,10 @@ IsWriteFault added stop = ⊥
 
 -- How it ends to print an accepted text's path and to write its files: well only where the
 -- journal's new bytes are not too many. Nothing more is known where the line is refused.
-abbrev pub IsPrintedAndWritten : AddedText → (before after : Option Bytes) → Result Status Stop
+abbrev pub IsPrintedAndWritten : AddedText → (before after : Option Bytes) → Result AllWritten Stop
     → Type 0
-IsPrintedAndWritten added before after (Ok status) =
-    (status ≡ Done) × Appends before after (path_line added.path)
+IsPrintedAndWritten added before after (Ok written) =
+    (written.status ≡ Done) × Appends before after (path_line added.path)
     × ¬ (HasLongJournal (new_bytes added))
 IsPrintedAndWritten added before after (Err Unwritable) = Unit {0}
 IsPrintedAndWritten added before after (Err stop) =
@@ -54,9 +54,9 @@ IsPrinted request gave journal before after added =
 -- printed, and then a file may not be written. Where the line is refused, the text is accepted;
 -- where memory is refused, the store folder is well-formed.
 abbrev pub EndsBy : AddTextRequest → (gave journal : FileBytes)
-    → (before after : Option Bytes) → Result Status Stop → Type 0
-EndsBy request gave journal before after (Ok status) =
-    (status ≡ Done) × ((added : AddedText) × IsPrinted request gave journal before after added
+    → (before after : Option Bytes) → Result AllWritten Stop → Type 0
+EndsBy request gave journal before after (Ok written) =
+    (written.status ≡ Done) × ((added : AddedText) × IsPrinted request gave journal before after added
     × ¬ (HasLongJournal (new_bytes added)))
 EndsBy request gave journal before after (Err (NotWritten path)) =
     (added : AddedText) × IsPrinted request gave journal before after added
@@ -81,13 +81,13 @@ EndsBy request gave journal before after (Err stop) =
     (after ≡ before) × IsAddingText request gave journal (Err stop)
 
 -- how a run ends: nothing is known of what the files gave
-abbrev pub Ends : AddTextRequest → (before after : Option Bytes) → Result Status Stop → Type 0
+abbrev pub Ends : AddTextRequest → (before after : Option Bytes) → Result AllWritten Stop → Type 0
 Ends request before after result =
     (gave : FileBytes) × (journal : FileBytes) × EndsBy request gave journal before after result
 
 -- how a run ends that has a text with its path, and holds its store folder
 abbrev pub HeldTextEnds : AddTextRequest → NamedText → (before after : Option Bytes)
-    → Result Status Stop → Type 0
+    → Result AllWritten Stop → Type 0
 HeldTextEnds request named before after result =
     (gave : FileBytes) → IsNaming request gave (Ok named)
     → (journal : FileBytes) × EndsBy request gave journal before after result

@@ -5,7 +5,7 @@ use Rattle.nix_names.specs.Bytes.{Bytes, Path}
 use Rattle.subcommands.specs.JournalFiles.{max_journal_len, text_stop, unwritten_stop}
 use Rattle.subcommands.specs.declared.add_drv.Unput.{Unput}
 use Rattle.subcommands.specs.declared.add_drv.Unput.TheVariants.{File, Line}
-use Rattle.subcommands.specs.declared.add_text.Filed.{Filed}
+use Rattle.subcommands.specs.declared.all_written.Filed.{Filed}
 use Rattle.subcommands.specs.declared.add_text.Unfiled.{Unfiled}
 use Rattle.subcommands.specs.declared.add_text.Unfiled.TheVariants.{Text, Journal}
 use Rattle.subcommands.specs.declared.added_drv.AddedDrv.{AddedDrv}

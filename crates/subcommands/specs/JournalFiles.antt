@@ -1,5 +1,5 @@
 -- Where the journal file is, and what ends a run that can't write a file.
-use Rattle.std.specs.Prelude.{◌≤◌, ◌<◌, ℕ, ◌++◌, Option, Some, None, codes, length, option_map}
+use Rattle.std.specs.Prelude.{◌≤◌, ◌<◌, ℕ, ◌≡◌, ◌++◌, Option, Some, None, codes, length, option_map, string_bytes}
 use Rattle.nix_names.specs.Bytes.{Bytes, Dir, Path}
 use Rattle.process_build.specs.declared.failures.Failure.{Failure}
 use Rattle.process_build.specs.declared.failures.Failure.TheVariants as failure
@@ -7,6 +7,7 @@ use Rattle.command_line.specs.declared.options.AddTextRequest.{AddTextRequest}
 use Rattle.command_line.specs.declared.options.RunRequest.{RunRequest}
 use Rattle.subcommands.specs.Files.{IsReadFrom}
 use Rattle.subcommands.specs.declared.files.Given.{Given}
+use Rattle.subcommands.specs.declared.journal_file.OwnJournal.{OwnJournal}
 use Rattle.subcommands.specs.declared.journal_write.UnwrittenJournal.{UnwrittenJournal}
 use Rattle.subcommands.specs.declared.journal_write.UnwrittenJournal.TheVariants.{File, TooLong}
 use Rattle.subcommands.specs.declared.stop.Stop.{Stop}
@@ -17,6 +18,15 @@ use Rattle.subcommands.specs.declared.stop.Stop.TheVariants.{NoMemory, NotWritte
 abbrev pub journal_path_of : (store_dir : Dir) → (given : Option Bytes) → Bytes
 journal_path_of store_dir None = store_dir ++ codes "/realiser-journal"
 journal_path_of store_dir (Some given) = given
+
+-- the path of the journal file of a run, by its words
+abbrev pub runs_journal : RunRequest → Bytes
+runs_journal request =
+    journal_path_of request.store_dir.now (option_map (λ f. f.now) request.journal)
+
+-- a file of a store folder that is held is the journal file of a run
+abbrev pub IsRunsFile : RunRequest → OwnJournal → Type 0
+IsRunsFile request file = string_bytes file.path ≡ runs_journal request
 
 -- the journal file of a run was read
 abbrev pub IsRunsJournal : RunRequest → Given → Type 0

@@ -69,6 +69,10 @@ pub record IsKeptText (kept : List KeptFolder) (text : Bytes) : Type 0 where
   pub by_path : IsSorted (slice_cmp nat_cmp) (map (λ (k : KeptFolder). k.drv) sorted)
   pub is_text : text ≡ flat_map kept_line sorted
 
+-- no folder is kept where the request doesn't ask for that
+abbrev pub AreKeptFor : RealiseRequest → List KeptFolder → Type 0
+AreKeptFor request kept = request.keep_failed ≡ false → kept ≡ []
+
 -- What standard error gets at the end of a run: the lines of the derivations that failed, then
 -- those of the folders that were kept.
 pub record IsLastText (request : RealiseRequest) (run : RunOver) (history : History)

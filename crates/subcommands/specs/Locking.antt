@@ -1,6 +1,6 @@
 -- What a run makes of the system's answers on the lock of its store folder, and of the look at the
 -- database by which Nix manages a store.
-use Rattle.std.specs.Prelude.{◌≡◌, ◌⊎◌, ◌↔◌, Bool, false, Option, Some, None, Result, Ok, Err, codes}
+use Rattle.std.specs.Prelude.{◌≡◌, ◌≢◌, ◌↔◌, ◌++◌, Bool, true, false, Option, Some, None, Result, Ok, Err, codes}
 use Rattle.std.specs.Borrow.{Bor}
 use Rattle.std.specs.IoError.{error_kind}
 use Rattle.std.specs.Path.{path_with_file_name}
@@ -9,10 +9,11 @@ use Rattle.std.specs.declared.io.ErrorKind.TheVariants as kind
 use Rattle.nix_names.specs.Bytes.{Bytes, Dir}
 use Rattle.process_build.specs.Errors.{IsInterruption, IsNoMemory}
 use Rattle.command_line.specs.declared.options.RealiseRequest.{RealiseRequest}
-use Rattle.subcommands.specs.declared.locks.HeldFolder.{HeldFolder}
-use Rattle.subcommands.specs.declared.locks.LockFault.{LockFault}
-use Rattle.subcommands.specs.declared.locks.LockFault.TheVariants.{Held, NoLock, Interrupted}
-use Rattle.subcommands.specs.declared.locks.LockFault.TheVariants as lock
+use Rattle.subcommands.specs.declared.locks.Unlocked.{Unlocked}
+use Rattle.subcommands.specs.declared.locks.Unlocked.TheVariants.{NotOpened, Refused}
+use Rattle.subcommands.specs.declared.lock_call.LockFault.{LockFault}
+use Rattle.subcommands.specs.declared.lock_call.LockFault.TheVariants.{Held, NoLock, Interrupted}
+use Rattle.subcommands.specs.declared.lock_call.LockFault.TheVariants as lock
 use Rattle.subcommands.specs.declared.nix_store.Allowed.{Allowed}
 use Rattle.subcommands.specs.declared.nix_store.DatabaseFinding.{DatabaseFinding}
 use Rattle.subcommands.specs.declared.nix_store.DatabaseFinding.TheVariants.{There, NotTold}
@@ -24,37 +25,56 @@ use Rattle.subcommands.specs.declared.stop.Stop.TheVariants.{InUse, NixStore, No
 abbrev pub IsHeldElsewhere : Error → Type 0
 IsHeldElsewhere error = error_kind error ≡ kind.WouldBlock
 
--- there is nothing to lock: the file system knows no such lock, no folder is there, or the process
--- may not open it
-abbrev pub IsWithoutLock : Error → Type 0
-IsWithoutLock error =
-    (error_kind error ≡ kind.Unsupported)
-    ⊎ ((error_kind error ≡ kind.NotFound)
-    ⊎ ((error_kind error ≡ kind.NotADirectory) ⊎ (error_kind error ≡ kind.PermissionDenied)))
+-- the file system knows no such lock
+abbrev pub IsUnknownLock : Error → Type 0
+IsUnknownLock error = error_kind error ≡ kind.Unsupported
 
 -- what an error of a call for the lock means: each of these faults exactly for its kind, and
 -- `Other` for every other error
 abbrev pub IsLockFault : Error → LockFault → Type 0
 IsLockFault error fault =
-    ((fault ≡ Held) ↔ IsHeldElsewhere error) × ((fault ≡ NoLock) ↔ IsWithoutLock error)
+    ((fault ≡ Held) ↔ IsHeldElsewhere error) × ((fault ≡ NoLock) ↔ IsUnknownLock error)
     × ((fault ≡ Interrupted) ↔ IsInterruption error) × ((fault ≡ lock.NoMemory) ↔ IsNoMemory error)
 
--- what ends a run whose call for the lock gave none; nothing where it goes on without one
-abbrev pub lock_stop : (dir : Bor Bytes) → LockFault → Option Stop
-lock_stop dir Held = Some (InUse dir)
-lock_stop dir NoLock = None
-lock_stop dir lock.NoMemory = Some NoMemory
-lock_stop dir fault = Some (NotLocked dir)
+-- what an error in opening or making the file means that is locked: never that another process
+-- holds the lock, or that the file system knows none
+abbrev pub IsOpenFault : Error → LockFault → Type 0
+IsOpenFault error fault =
+    (fault ≢ Held) × (fault ≢ NoLock)
+    × ((fault ≡ Interrupted) ↔ IsInterruption error) × ((fault ≡ lock.NoMemory) ↔ IsNoMemory error)
 
--- The store folder is used with the lock that the call gave. Where it gave none, the folder is used
--- without a lock, or the run ends.
-abbrev pub IsHeldBy : {K : Type 0} → (dir : Bor Bytes) → Result K LockFault
-    → Result (HeldFolder K) Stop → Type 0
-IsHeldBy dir (Ok lock) (Ok held) = (held.dir ≡ dir) × (held.lock ≡ Some lock)
-IsHeldBy dir (Ok lock) (Err stop) = ⊥
-IsHeldBy dir (Err fault) (Ok held) =
-    (held.dir ≡ dir) × (held.lock ≡ None) × (lock_stop dir fault ≡ None)
-IsHeldBy dir (Err fault) (Err stop) = lock_stop dir fault ≡ Some stop
+-- why there is no lock
+abbrev pub IsFaultOf : Unlocked → LockFault → Type 0
+IsFaultOf (Refused error) fault = IsLockFault error fault
+IsFaultOf (NotOpened error) fault = IsOpenFault error fault
+
+-- the path of the file that is locked for a store folder
+abbrev pub lock_path : Dir → Bytes
+lock_path dir = dir ++ codes "/.nix_realise-lock"
+
+-- why there is no lock, if there is none
+abbrev pub fault_in : {K : Type 0} → Result K LockFault → Option LockFault
+fault_in (Ok lock) = None
+fault_in (Err fault) = Some fault
+
+-- whether another process holds the lock
+abbrev pub is_held : {K : Type 0} → Result K LockFault → Bool
+is_held (Err Held) = true
+is_held answer = false
+
+-- what ends a run that asked for the lock of this folder, and that is to wait or not; nothing where
+-- it has the lock, or goes on without one
+abbrev pub lock_stop : (dir : Bor Bytes) → (wait : Bool) → Option LockFault → Option Stop
+lock_stop dir wait None = None
+lock_stop dir wait (Some NoLock) = None
+lock_stop dir wait (Some lock.NoMemory) = Some NoMemory
+lock_stop dir false (Some Held) = Some (InUse dir)
+lock_stop dir wait (Some fault) = Some (NotLocked dir)
+
+-- what ended a run, if anything did
+abbrev pub stop_in : {H : Type 0} → Result H Stop → Option Stop
+stop_in (Ok held) = None
+stop_in (Err stop) = Some stop
 
 -- Why a run may not use its store folder: another run does, and it isn't to wait for that; the
 -- system gives no lock; or memory is refused.

@@ -15,7 +15,7 @@ use Rattle.command_line.specs.declared.options.Request.TheVariants.{Realise}
 use Rattle.subcommands.specs.CheckLines.{IsCheckReport}
 use Rattle.subcommands.specs.DrvEndings.{DrvEnds}
 use Rattle.subcommands.specs.Endings.{Ends}
-use Rattle.subcommands.specs.Finishes.{EndsQuietly}
+use Rattle.subcommands.specs.Finishes.{EndsQuietly, EndsWritten}
 use Rattle.subcommands.specs.Folders.{may_give}
 use Rattle.subcommands.specs.Planning.{PlanEnds}
 use Rattle.subcommands.specs.Realising.{May, RealiseEnds}
@@ -51,9 +51,9 @@ CheckEnds request out (Err stop) =
 abbrev pub SubcommandEnds : May → Request → Stream → Result Finish Stop → Type 0
 SubcommandEnds may (Check request) out outcome = EndsQuietly (CheckEnds request out) outcome
 SubcommandEnds may (AddText request) out outcome =
-    EndsQuietly (Ends request out.0 out.1) outcome
+    EndsWritten (Ends request out.0 out.1) outcome
 SubcommandEnds may (AddDrv request) out outcome =
-    EndsQuietly (DrvEnds request out.0 out.1) outcome
+    EndsWritten (DrvEnds request out.0 out.1) outcome
 SubcommandEnds may (Plan request) out outcome = EndsQuietly (PlanEnds request out.0 out.1) outcome
 SubcommandEnds may (Realise request) out outcome = RealiseEnds may request out.0 out.1 outcome
 

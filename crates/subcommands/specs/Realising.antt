@@ -19,7 +19,7 @@ use Rattle.subcommands.specs.Files.{FileBytes}
 use Rattle.subcommands.specs.Finishes.{last_text}
 use Rattle.subcommands.specs.Folders.{may_give}
 use Rattle.subcommands.specs.JournalFiles.{max_journal_len}
-use Rattle.subcommands.specs.LastLines.{IsLastText}
+use Rattle.subcommands.specs.LastLines.{AreKeptFor, IsLastText}
 use Rattle.subcommands.specs.Locking.{IsKeptOut}
 use Rattle.subcommands.specs.Tasks.{HasPlan, IsNotPlanned}
 use Rattle.subcommands.specs.Tracing.{IsTracedEnd}
@@ -57,13 +57,14 @@ HasShortText book = length (written_text book.history.entries) ≤ max_journal_l
 
 -- How a run ends with a settled book: its report is printed, or nothing where the journal is not
 -- written, exactly where its text is too long or else since it can't be, or memory is refused. The
--- last lines tell of some folders that were kept.
+-- last lines tell of some folders that were kept, and of none where the request doesn't ask for
+-- that.
 abbrev pub BookEnds : RealiseRequest → Ledger → (before after : Option Bytes)
     → Result Finish Stop → Type 0
 BookEnds request book before after (Ok finish) =
     ((text : Bytes) × IsReportIn book.run book.history text × Appends before after text)
     × (finish.status ≡ roots_status book.run book.history)
-    × ((kept : List KeptFolder)
+    × ((kept : List KeptFolder) × AreKeptFor request kept
     × IsLastText request book.run book.history kept (last_text finish))
     × HasShortText book
 BookEnds request book before after (Err JournalTooLong) =

@@ -6,12 +6,18 @@ use Rattle.subcommands.specs.declared.finish.Finish.{Finish}
 use Rattle.subcommands.specs.declared.stop.Stop.{Stop}
 use Rattle.subcommands.specs.declared.stop.Stop.TheVariants.{NoMemory, NoTrace}
 use Rattle.subcommands.specs.declared.trace_file.TraceWritten.{TraceWritten}
+use Rattle.subcommands.specs.declared.trace_file.Traced.{Traced}
 
 -- why the file at this path doesn't get the trace
 abbrev pub IsTraceStop : (file : Bor Bytes) → Stop → Type 0
 IsTraceStop file (NoTrace blamed) = blamed ≡ file
 IsTraceStop file NoMemory = Unit {0}
 IsTraceStop file stop = ⊥
+
+-- how a run ended that may have been traced
+abbrev pub finish_in : Result Traced Stop → Result Finish Stop
+finish_in (Ok traced) = Ok traced.finish
+finish_in (Err stop) = Err stop
 
 -- what is told of a run that ended so, by what came of writing its trace: what stopped the run, if
 -- anything did; else why there is no trace

@@ -7,9 +7,9 @@ ghost use Rattle.subcommands.specs.Endings.{path_line};
 
 use crate::add_text::{print_path, text_stop};
 use crate::added_drv::{AddedDrv, added_drv};
+use crate::all_written::AllWritten;
 use crate::files::read_text;
 use crate::folder::FolderSource;
-use crate::status::Status;
 use crate::stop::Stop;
 use crate::store_dir::store_dir;
 use crate::whole_file::{Unwritten, Written, write_whole};
@@ -25,7 +25,7 @@ pub fn add_drv<'a, R: Files + AllocGlobal, O: Write>(
     rt: &R,
     request: &AddDrvRequest<'a>,
     out: &mut O,
-) -> Result<Status, Stop<'a>>
+) -> Result<AllWritten, Stop<'a>>
     ensures { DrvEnds request.now (O.contents out.old) (O.contents out.new) result }
 {
     store_dir(rt.alloc(), request.store_dir)?;
@@ -33,7 +33,7 @@ pub fn add_drv<'a, R: Files + AllocGlobal, O: Write>(
     let mut source = FolderSource::new(rt);
     let added = added_drv(rt.alloc(), &mut source, request, draft)?;
     match put(rt, &added, out) {
-        Ok(written) => Ok(done(written)),
+        Ok(written) => Ok(AllWritten::of_drv(&added, written)),
         Err(unput) => Err(stop_of(unput, added)),
     }
 }
@@ -67,14 +67,6 @@ fn put<'w, R: Files + AllocGlobal, O: Write>(
             Err(Unput::Line)
         }
     }
-}
-
-// The status of a run whose file was written.
-fn done(written: Written<'_>) -> Status
-    ensures { result ≡ Status.Done }
-{
-    written.spend();
-    Status::Done
 }
 
 // What ends a run whose derivation was not put.

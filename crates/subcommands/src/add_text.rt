@@ -6,15 +6,15 @@ ghost use Rattle.subcommands.specs.Filed.{AreFiled, IsUnfiled, unfiled_stop};
 ghost use Rattle.subcommands.specs.JournalFiles.{text_stop};
 
 use crate::added_text::{AddedText, NamedText, added_text, named_text};
+use crate::all_written::{AllWritten, Filed};
 use crate::files::read_text;
 use crate::journal_file::OwnJournal;
 use crate::journal_write::UnwrittenJournal;
 use crate::locks::{Holding, Locks, hold};
 use crate::printing::print_bytes;
-use crate::status::Status;
 use crate::stop::Stop;
 use crate::store_dir::store_dir;
-use crate::whole_file::{Unwritten, Written, write_whole};
+use crate::whole_file::{Unwritten, write_whole};
 use command_line::AddTextRequest;
 use nix_names::{StoreDir, StorePath};
 use process_build::Failure;
@@ -33,7 +33,7 @@ pub fn add_text<'a, R, L, O>(
     locks: &L,
     request: &AddTextRequest<'a>,
     out: &mut O,
-) -> Result<Status, Stop<'a>>
+) -> Result<AllWritten, Stop<'a>>
 where
     R: Files + AllocGlobal,
     L: Locks,
@@ -55,7 +55,7 @@ fn add_held<'a, R: Files + AllocGlobal, O: Write>(
     dir: &StoreDir,
     named: NamedText,
     out: &mut O,
-) -> Result<Status, Stop<'a>>
+) -> Result<AllWritten, Stop<'a>>
     requires held { holding.dir.now ≡ request.now.store_dir.now }
     requires dir { dir.now ≡ request.now.store_dir.now }
     ensures { HeldTextEnds request.now named (O.contents out.old) (O.contents out.new) result }
@@ -72,14 +72,14 @@ fn put<'a, R: Files + AllocGlobal, O: Write>(
     file: &OwnJournal<'_>,
     added: AddedText,
     out: &mut O,
-) -> Result<Status, Stop<'a>>
+) -> Result<AllWritten, Stop<'a>>
     ensures { IsPrintedAndWritten added (O.contents out.old) (O.contents out.new) result }
 {
     let Ok(()) = print_path(added.path(), out) else {
         return Err(Stop::Unwritable);
     };
     match write_files(rt, file, &added) {
-        Ok(filed) => Ok(done(filed)),
+        Ok(filed) => Ok(AllWritten::of_text(file, &added, filed)),
         Err(unfiled) => Err(stop_of(unfiled, added)),
     }
 }
@@ -90,12 +90,6 @@ pub fn print_path<O: Write>(path: &StorePath, out: &mut O) -> io::Result<()>
 {
     out.write_all(path.text())?;
     print_bytes(b"\n", out)
-}
-
-// Evidence that the files of a text were written.
-struct Filed<'w> {
-    text: Written<'w>,
-    journal: Written<'w>,
 }
 
 // Evidence that a file of a text was not written.
@@ -129,17 +123,6 @@ fn write_files<'w, R: Files + AllocGlobal>(
             Err(Unfiled::Journal(fault))
         }
     }
-}
-
-// The status of a run whose files were written.
-fn done(filed: Option<Filed<'_>>) -> Status
-    ensures { result ≡ Status.Done }
-{
-    if let Some(Filed { text, journal }) = filed {
-        text.spend();
-        journal.spend();
-    }
-    Status::Done
 }
 
 // What ends a run of which a file was not written.

@@ -1,7 +1,8 @@
 //! How a subcommand ends that isn't stopped.
 ghost use Rattle.std.specs.Prelude.{◌≡◌};
-ghost use Rattle.subcommands.specs.Finishes.{last_text, quietly};
+ghost use Rattle.subcommands.specs.Finishes.{last_text, quietly, quietly_written};
 
+use crate::all_written::AllWritten;
 use crate::status::Status;
 use crate::stop::Stop;
 
@@ -31,6 +32,19 @@ pub fn quietly(ended: Result<Status, Stop<'_>>) -> Result<Finish, Stop<'_>>
     match ended {
         Ok(status) => Ok(Finish {
             status,
+            lines: None,
+        }),
+        Err(stop) => Err(stop),
+    }
+}
+
+/// The same of a subcommand whose files were written.
+pub fn quietly_written(ended: Result<AllWritten, Stop<'_>>) -> Result<Finish, Stop<'_>>
+    ensures { result ≡ quietly_written ended.entry }
+{
+    match ended {
+        Ok(written) => Ok(Finish {
+            status: written.status(),
             lines: None,
         }),
         Err(stop) => Err(stop),

@@ -57,7 +57,7 @@ impl JournalFile {
 #[derive(Drop)]
 pub struct OwnJournal<'h> {
     path: String,
-    _holding: Holding<'h>,
+    holding: Holding<'h>,
 }
 
 impl<'h> OwnJournal<'h> {
@@ -71,10 +71,7 @@ impl<'h> OwnJournal<'h> {
             ≡ journal_path_of holding.entry.dir.now (option_map (λ f. f.now) given.entry)) }
     {
         let path = journal_path(alloc, holding.dir(), given)?;
-        Ok(OwnJournal {
-            path,
-            _holding: holding,
-        })
+        Ok(OwnJournal { path, holding })
     }
 
     /// What the file gives, at most one byte more than a journal may have.
@@ -96,7 +93,8 @@ impl<'h> OwnJournal<'h> {
         ensures at { IfOk result (λ place. P.keeps_at place (string_bytes self.now.path)) }
         ensures each { IfOk result (λ _. (text : Bytes) → P.Place.may_keep text) }
     {
-        places.place(String::from_str(alloc, self.path.as_str())?)
+        let path = String::from_str(alloc, self.path.as_str())?;
+        places.place(self.holding, path)
     }
 
     /// Puts a file with these bytes in place of the journal file, if there is one. They are not

@@ -4,6 +4,7 @@ ghost use Rattle.subcommands.specs.JournalFiles.{IsUnwrittenJournal, max_journal
 
 use crate::journal_file::OwnJournal;
 use crate::journal_write::{UnwrittenJournal, write_journal};
+use crate::locks::Holding;
 use crate::whole_file::{Tried, Written};
 use std::alloc::AllocError;
 use std::rt::Files;
@@ -20,9 +21,9 @@ pub trait Places {
     // A place is that of the file at a path.
     ghost keeps_at: { Self.Place → Bytes → Type 0 };
 
-    /// The place of the journal file at a path, which takes each text. Want of memory is the only
-    /// error.
-    fn place(&self, path: String) -> Result<Self::Place, AllocError>
+    /// The place of the journal file at a path, which takes each text. The right to use the store
+    /// folder is held. Want of memory is the only error.
+    fn place(&self, holding: Holding<'_>, path: String) -> Result<Self::Place, AllocError>
         ensures at { IfOk result (λ place. keeps_at place (string_bytes path)) }
         ensures each { IfOk result (λ _. (text : Bytes) → Self.Place.may_keep text) };
 }
@@ -34,8 +35,8 @@ impl<R: Files + AllocGlobal + Clone + Send + Drop> Places for R {
 
     ghost keeps_at = { λ place path. string_bytes place.path ≡ path };
 
-    fn place(&self, path: String) -> Result<InJournal<R>, AllocError> {
-        Ok(InJournal::new(self.clone()?, path))
+    fn place(&self, holding: Holding<'_>, path: String) -> Result<InJournal<R>, AllocError> {
+        Ok(InJournal::new(self.clone()?, holding, path))
     }
 }
 
@@ -47,8 +48,8 @@ pub struct InJournal<R> {
 }
 
 impl<R> InJournal<R> {
-    /// Over the journal file at a path.
-    pub fn new(rt: R, path: String) -> InJournal<R>
+    /// Over the journal file at a path, where the right to use the store folder is held.
+    pub fn new(rt: R, _holding: Holding<'_>, path: String) -> InJournal<R>
         ensures { result.path ≡ path }
     {
         InJournal { rt, path }

@@ -1,9 +1,11 @@
 //! What became of the journal where the workers of a run gave no settled book.
 ghost use Rattle.std.specs.Prelude.{◌≡◌, IfOk, false, true};
 ghost use Rattle.valid_table.specs.Written.{written_text};
+ghost use Rattle.subcommands.specs.JournalFiles.{runs_journal};
 
 use crate::journal_write::UnwrittenJournal;
 use crate::whole_file::Written;
+use command_line::RealiseRequest;
 use sched_core::Book;
 use valid_table::{Outlet, TableFault};
 
@@ -22,12 +24,15 @@ impl JournalOutcome {
         JournalOutcome { has_book: false }
     }
 
-    /// The journal of a book was written, or could not be.
+    /// The journal of a book was written to the path that the run's words name, or could not be.
     pub fn of_write<O: Outlet>(
+        _request: &RealiseRequest<'_>,
         _book: &Book<O>,
         tried: Result<Written<'_>, UnwrittenJournal>,
     ) -> JournalOutcome
-        requires { IfOk tried
+        requires path { IfOk tried
+            (λ written. written.path.now ≡ runs_journal _request.now.run) }
+        requires bytes { IfOk tried
             (λ written. written.bytes.now ≡ written_text _book.now.history.entries) }
         ensures { result.has_book ≡ true }
     {

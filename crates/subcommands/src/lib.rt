@@ -10,7 +10,8 @@
 //! | `journal_file` | the journal file: its path, read and written |
 //! | `journal_write` | the journal file, written only where a later run can read it |
 //! | `journal_keeper` | the journal file, as it is written while a run goes on |
-//! | `locks`, `waiting` | the lock of a store folder; the line that tells that a run waits for it |
+//! | `lock_call`, `locks` | the calls for the lock of a store folder; that lock |
+//! | `waiting` | the line that tells that a run waits for it |
 //! | `nix_store` | whether Nix manages a store folder |
 //! | `stop` | why a run ends without its report |
 //! | `journal_outcome` | what became of the journal of workers that gave no settled book |
@@ -19,6 +20,7 @@
 //! | `verdict`, `check` | the verdict of `check` on one word; its lines |
 //! | `added_text`, `add_text` | the answer of `add-text`; the subcommand |
 //! | `added_drv`, `add_drv` | the answer of `add-drv`; the subcommand |
+//! | `all_written` | evidence that their files were written |
 //! | `task` | what `plan` and `realise` take: a plan and a journal |
 //! | `read_task` | the same for a run that changes nothing |
 //! | `plan` | the subcommand `plan` |
@@ -36,6 +38,7 @@ mod add_drv;
 mod add_text;
 mod added_drv;
 mod added_text;
+mod all_written;
 mod builders;
 mod check;
 mod fault_words;
@@ -48,6 +51,7 @@ mod journal_keeper;
 mod journal_outcome;
 mod journal_write;
 mod last_lines;
+mod lock_call;
 mod locks;
 mod logs_folder;
 mod nix_store;
@@ -71,7 +75,8 @@ mod whole_file;
 pub use check::check_lines;
 pub use folder::FolderSource;
 pub use journal_keeper::{InJournal, Places};
-pub use locks::Locks;
+pub use lock_call::LockFault;
+pub use locks::{FileLock, Holding, Locks, Unlocked};
 pub use process::run_process;
 pub use program::{print_no_memory, refuse_words, run};
 pub use status::{Ending, Status};

@@ -1,90 +1,106 @@
 //! The lock of a store folder, which keeps two runs apart.
-ghost use Rattle.std.specs.Prelude.{◌≡◌, ◌≢◌, IfErr, IfOk, IsTrue};
-ghost use Rattle.subcommands.specs.Locking.{IsHeldBy, IsNotHeld};
-ghost use Rattle.subcommands.specs.declared.locks.LockFault.TheVariants.{Held as HeldByOther};
+ghost use Rattle.std.specs.Prelude.{◌≡◌, IfErr, IfOk, string_bytes};
+ghost use Rattle.subcommands.specs.Locking.{IsNotHeld, fault_in, lock_path, lock_stop, stop_in};
 
+use crate::lock_call::{Asked, LockFault, ask};
 use crate::stop::Stop;
-use process_build::Failure;
 use std::fs::File;
-use std::io;
 use std::io::ErrorKind;
+use std::os::unix::fs::OpenOptionsExt;
+use std::{fs, io};
 
-/// What takes the locks of folders. A lock is advisory and exclusive, and belongs to one process:
-/// the system lets go of it when that ends.
+/// Why there is no lock of a store folder.
+#[derive(Debug, Drop)]
+pub enum Unlocked {
+    /// The file that is locked could not be opened or made.
+    NotOpened(io::Error),
+    /// It was open, and the call for its lock was refused.
+    Refused(io::Error),
+}
+
+/// What takes the locks of store folders. A lock is advisory and exclusive, and belongs to one
+/// process: the system lets go of it when that ends.
 pub trait Locks {
+    ghost use Rattle.std.specs.Prelude.{IfOk};
+    ghost use Rattle.nix_names.specs.Bytes.{Dir};
+
     /// A lock that is held. It is let go when the value is dropped.
     type Lock: Drop;
 
-    /// Takes the lock of the folder at a path. Where another process holds it, the call waits if
-    /// `waits` is set, and else ends with an error of the kind `WouldBlock`. An error of the kind
-    /// `Unsupported` says that the file system knows no such lock.
-    fn lock(&self, dir: &str, waits: bool) -> io::Result<Self::Lock>;
+    // A lock is that of the store folder at a path.
+    ghost locks_in: { Self.Lock → Dir → Type 0 };
+
+    /// Takes the lock of the store folder at a path. Where another process holds it, the call waits
+    /// if `waits` is set, and else is refused with an error of the kind `WouldBlock`. One of the
+    /// kind `Unsupported` says that the file system knows no such lock.
+    fn lock(&self, dir: &str, waits: bool) -> Result<Self::Lock, Unlocked>
+        ensures { IfOk result (λ lock. locks_in lock dir.now) };
+}
+
+/// The file at a path, which is open, and whose lock is held. Only `HostRuntime::lock` gives one.
+#[derive(Drop)]
+pub struct FileLock {
+    path: String,
+    file: File,
 }
 
 impl Locks for HostRuntime {
-    type Lock = File;
+    ghost use Rattle.std.specs.Prelude.{◌≡◌, string_bytes};
+    ghost use Rattle.subcommands.specs.Locking.{lock_path};
 
-    fn lock(&self, dir: &str, waits: bool) -> io::Result<File> {
-        let folder = open_folder(self, dir)?;
-        if waits {
-            folder.lock()?;
-        } else {
-            folder.try_lock()?;
-        }
-        Ok(folder)
+    type Lock = FileLock;
+
+    ghost locks_in = { λ lock dir. string_bytes lock.path ≡ lock_path dir };
+
+    fn lock(&self, dir: &str, waits: bool) -> Result<FileLock, Unlocked> {
+        let lock = open_in(self, dir).map_err(Unlocked::NotOpened)?;
+        take(&lock.file, waits).map_err(Unlocked::Refused)?;
+        Ok(lock)
     }
 }
 
-// Opens the folder at a path. Behind the slash nothing but a folder is found, so no pipe is opened.
-// No process that is started inherits an open file.
-fn open_folder(rt: &HostRuntime, dir: &str) -> io::Result<File> {
-    let path = format!(in rt.alloc(); "{dir}/.")?;
-    File::open(rt, path.as_str())
+// Opens the file of a store folder that is locked.
+fn open_in(rt: &HostRuntime, dir: &str) -> io::Result<FileLock>
+    ensures { IfOk result (λ lock. string_bytes lock.path ≡ lock_path dir.now) }
+{
+    let path = format!(in rt.alloc(); "{dir}/.nix_realise-lock")?;
+    let file = open_file(rt, path.as_str())?;
+    Ok(FileLock { path, file })
 }
 
-/// Why a call for the lock of a folder gave none.
-#[derive(Clone, Copy, Debug, PartialEq, Eq)]
-pub enum LockFault {
-    /// Another process holds the lock.
-    Held,
-    /// There is nothing to lock: the file system knows no such lock, no folder is there, or the
-    /// process may not open it.
-    NoLock,
-    /// A signal came between, and nothing was done.
-    Interrupted,
-    /// Memory was refused.
-    NoMemory,
-    /// Any other fault of the system.
-    Other,
-}
-
-impl From<io::Error> for LockFault {
-    ghost use Rattle.subcommands.specs.Locking.{IsLockFault};
-
-    ghost from_gives = { λ error fault. IsLockFault error fault };
-
-    fn from(error: io::Error) -> Self {
-        match error.kind() {
-            ErrorKind::WouldBlock => LockFault::Held,
-            ErrorKind::Unsupported
-            | ErrorKind::NotFound
-            | ErrorKind::NotADirectory
-            | ErrorKind::PermissionDenied => LockFault::NoLock,
-            ErrorKind::Interrupted => LockFault::Interrupted,
-            _ => match Failure::from(error) {
-                Failure::NoMemory => LockFault::NoMemory,
-                _ => LockFault::Other,
-            },
+// Opens the file at a path, which is made where nothing is: empty, and only its owner may write to
+// it. So a regular file that may not be written is opened to be read: a lock needs no more. No
+// process that is started inherits an open file.
+fn open_file(rt: &HostRuntime, path: &str) -> io::Result<File> {
+    let mut how = File::options();
+    how.read(true).write(true).create(true).mode(0o644);
+    match how.open(rt, path) {
+        Ok(file) => Ok(file),
+        Err(error) if error.kind() == ErrorKind::PermissionDenied => {
+            if fs::metadata(rt, path)?.is_file() {
+                File::open(rt, path)
+            } else {
+                Err(error)
+            }
         }
+        Err(error) => Err(error),
     }
 }
 
-/// The right to use a store folder, as long as the value lives: its lock, or none where there is
-/// nothing to lock. Only `hold` makes one.
+// Takes the lock of an open file.
+fn take(file: &File, waits: bool) -> io::Result<()> {
+    if waits {
+        file.lock()
+    } else {
+        Ok(file.try_lock()?)
+    }
+}
+
+/// The right to use a store folder, as long as the value lives: its lock, or none where the file
+/// system knows no such lock. Only `hold` makes one, of what came of asking for the lock.
 #[derive(Drop)]
 pub struct HeldFolder<'a, K> {
-    dir: &'a str,
-    lock: Option<K>,
+    asked: Asked<'a, K>,
 }
 
 /// Evidence that the right to use a store folder is held. Only `HeldFolder::holding` makes one.
@@ -96,9 +112,11 @@ pub struct Holding<'h> {
 impl<K> HeldFolder<'_, K> {
     /// Evidence for it, for as long as it is held.
     pub fn holding(&self) -> Holding<'_>
-        ensures { result.dir.now ≡ self.now.dir.now }
+        ensures { result.dir.now ≡ self.now.asked.dir.now }
     {
-        Holding { dir: self.dir }
+        Holding {
+            dir: self.asked.dir(),
+        }
     }
 }
 
@@ -112,70 +130,38 @@ impl<'h> Holding<'h> {
 }
 
 /// Takes the lock of a store folder; waits for it if `wait` is set. The faults: `InUse` where
-/// another process holds it and `wait` isn't set; `NotLocked` where the system gives no lock for
-/// another reason; `NoMemory`. Where there is nothing to lock, the folder is used without a lock.
+/// another process holds it and `wait` isn't set; `NotLocked` where the file that is locked can't be
+/// made, or the system gives no lock for another reason; `NoMemory`. Where the file system knows no
+/// such lock, the folder is used without one.
 pub fn hold<'a, L: Locks>(
     locks: &L,
     dir: &'a str,
     wait: bool,
 ) -> Result<HeldFolder<'a, L::Lock>, Stop<'a>>
-    ensures ok { IfOk result (λ held. held.dir ≡ dir.entry) }
+    ensures ok { IfOk result (λ held. held.asked.dir ≡ dir.entry) }
+    ensures lock { IfOk result (λ held.
+        IfOk held.asked.answer (λ lock. L.locks_in lock dir.entry.now)) }
     ensures err { IfErr result (IsNotHeld dir.entry wait) }
 {
-    if wait {
-        held_by(dir, lock_or_wait(locks, dir))
+    let asked = ask(locks, dir, false);
+    if wait && asked.is_held() {
+        held_by(ask(locks, dir, true), wait)
     } else {
-        held_by(dir, ask_for_lock(locks, dir, false))
+        held_by(asked, wait)
     }
 }
 
-// What comes of a call for the lock; where another process holds it, of one that waits. No such
-// call ends because another process holds the lock.
-fn lock_or_wait<L: Locks>(locks: &L, dir: &str) -> Result<L::Lock, LockFault>
-    ensures { IfErr result (λ fault. fault ≢ HeldByOther) }
+// The right to use a folder, by what came of asking for its lock. A run that is to wait never ends
+// because another process holds the lock.
+fn held_by<'a, K: Drop>(asked: Asked<'a, K>, wait: bool) -> Result<HeldFolder<'a, K>, Stop<'a>>
+    ensures ok { IfOk result (λ held. held.asked ≡ asked.entry) }
+    ensures err { IfErr result (IsNotHeld asked.entry.dir wait) }
+    ensures by { lock_stop asked.entry.dir wait (fault_in asked.entry.answer) ≡ stop_in result }
 {
-    match ask_for_lock(locks, dir, false) {
-        Err(LockFault::Held) => lock_by_waiting(locks, dir),
-        answer => answer,
-    }
-}
-
-// What comes of a call that waits.
-fn lock_by_waiting<L: Locks>(locks: &L, dir: &str) -> Result<L::Lock, LockFault>
-    ensures { IfErr result (λ fault. fault ≢ HeldByOther) }
-{
-    match ask_for_lock(locks, dir, true) {
-        Err(LockFault::Held) => Err(LockFault::Other),
-        answer => answer,
-    }
-}
-
-// What comes of a call for the lock, which is made again while a signal interrupts it.
-fn ask_for_lock<L: Locks>(locks: &L, dir: &str, waits: bool) -> Result<L::Lock, LockFault> {
-    for _ in 0..u64::MAX {
-        match locks.lock(dir, waits).map_err(LockFault::from) {
-            Err(LockFault::Interrupted) => {}
-            answer => return answer,
-        }
-    }
-    Err(LockFault::Interrupted)
-}
-
-// The right to use a folder, by what came of the call for its lock.
-fn held_by<'a, K: Drop>(
-    dir: &'a str,
-    answer: Result<K, LockFault>,
-) -> Result<HeldFolder<'a, K>, Stop<'a>>
-    ensures { IsHeldBy dir.entry answer result }
-{
-    match answer {
-        Ok(lock) => Ok(HeldFolder {
-            dir,
-            lock: Some(lock),
-        }),
-        Err(LockFault::NoLock) => Ok(HeldFolder { dir, lock: None }),
-        Err(LockFault::Held) => Err(Stop::InUse(dir)),
-        Err(LockFault::NoMemory) => Err(Stop::NoMemory),
-        Err(LockFault::Interrupted | LockFault::Other) => Err(Stop::NotLocked(dir)),
+    match asked.fault() {
+        None | Some(LockFault::NoLock) => Ok(HeldFolder { asked }),
+        Some(LockFault::Held) if !wait => Err(Stop::InUse(asked.dir())),
+        Some(LockFault::NoMemory) => Err(Stop::NoMemory),
+        Some(_) => Err(Stop::NotLocked(asked.dir())),
     }
 }

@@ -13,7 +13,7 @@ use crate::add_drv::add_drv;
 use crate::add_text::add_text;
 use crate::check::check_lines;
 use crate::fault_words::stop_line;
-use crate::finish::{Finish, quietly};
+use crate::finish::{Finish, quietly, quietly_written};
 use crate::folder::FolderSource;
 use crate::journal_keeper::Places;
 use crate::locks::Locks;
@@ -103,8 +103,8 @@ where
 {
     match request {
         Request::Check(request) => quietly(check(rt, request, out)),
-        Request::AddText(request) => quietly(add_text(rt, host, request, out)),
-        Request::AddDrv(request) => quietly(add_drv(rt, request, out)),
+        Request::AddText(request) => quietly_written(add_text(rt, host, request, out)),
+        Request::AddDrv(request) => quietly_written(add_drv(rt, request, out)),
         Request::Plan(request) => quietly(plan(rt, request, out)),
         Request::Realise(request) => realise(rt, make, host, request, out),
     }

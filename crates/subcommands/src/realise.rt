@@ -5,6 +5,8 @@ ghost use Rattle.drv_graph.specs.Nodes.{paths_of};
 ghost use Rattle.run_states.specs.Courses.{IsRunSettled};
 ghost use Rattle.subcommands.specs.Locking.{IsKeptOut};
 ghost use Rattle.subcommands.specs.Building.{IsMannerFor};
+ghost use Rattle.subcommands.specs.JournalFiles.{IsRunsFile};
+ghost use Rattle.subcommands.specs.LastLines.{AreKeptFor};
 ghost use Rattle.subcommands.specs.Realising.{BookEnds, HeldEnds, IsCutShort, RealiseEnds, RunEnds};
 ghost use Rattle.subcommands.specs.Realising.{TaskEnds};
 ghost use Rattle.process_build.specs.declared.manner.Manner.{Manner};
@@ -24,7 +26,7 @@ use crate::runner::{Runner, runner_of};
 use crate::settled::{journal_bytes, report_of, roots_status};
 use crate::stop::Stop;
 use crate::task::{Task, load_plan};
-use crate::trace_file::{TraceFile, end_traced};
+use crate::trace_file::{TraceFile, end_traced, untraced};
 use command_line::RealiseRequest;
 use drv_graph::Plan;
 use nix_names::StoreDir;
@@ -85,7 +87,7 @@ fn enter<'a, R: Files + AllocGlobal, L: Locks>(
     locks: &L,
     request: &RealiseRequest<'a>,
 ) -> Result<HeldFolder<'a, L::Lock>, Stop<'a>>
-    ensures ok { IfOk result (λ held. held.dir ≡ request.now.run.store_dir) }
+    ensures ok { IfOk result (λ held. held.asked.dir ≡ request.now.run.store_dir) }
     ensures err { IfErr result (IsKeptOut request.now) }
 {
     let allowed = allow(rt, request)?;
@@ -143,6 +145,7 @@ where
     P: Places,
     O: Write,
     requires runner { runner.path ≡ request.now.runner }
+    requires file { IsRunsFile request.now.run journal.file.now }
     requires tried { journal.tried.path.now ≡ string_bytes journal.file.now.path }
     requires place { P.keeps_at journal.place (string_bytes journal.file.now.path) }
     requires each { (text : Bytes) → P.Place.may_keep text }
@@ -173,6 +176,7 @@ where
     P: Places,
     O: Write,
     requires manner { IsMannerFor request.now (paths_of task.now.plan.nodes) manner.now }
+    requires file { IsRunsFile request.now.run journal.file.now }
     requires tried { journal.tried.path.now ≡ string_bytes journal.file.now.path }
     requires place { P.keeps_at journal.place (string_bytes journal.file.now.path) }
     requires each { (text : Bytes) → P.Place.may_keep text }
@@ -186,7 +190,7 @@ where
     let ended = run_built::<R, Tracing<'_, R, M>, P, O>(
         rt, request, journal, task, builders, kept, out,
     );
-    end_traced(rt, &trace, ended)
+    untraced(end_traced(rt, &trace, ended))
 }
 
 // Builds the wanted derivations of a task, by one worker for each builder, writes the journal and
@@ -205,10 +209,12 @@ where
     M: Builders,
     P: Places,
     O: Write,
+    requires file { IsRunsFile request.now.run journal.file.now }
     requires tried { journal.tried.path.now ≡ string_bytes journal.file.now.path }
     requires place { P.keeps_at journal.place (string_bytes journal.file.now.path) }
     requires each { (text : Bytes) → P.Place.may_keep text }
     requires count { length builders.items ≡ request.now.jobs }
+    requires kept { is_some kept ≡ request.now.keep_failed }
     requires manner { (manner : Manner)
         × IsMannerFor request.now (paths_of task.now.plan.nodes) manner
         × All (λ b. M.builds_in b manner) builders.items }
@@ -236,7 +242,9 @@ where
     K: Keep + Send + Drop,
     O: Write,
     requires named { name ≡ J.book }
+    requires file { IsRunsFile request.now.run journal.file.now }
     requires jobs { length builders.items ≡ request.now.jobs }
+    requires kept { is_some kept ≡ request.now.keep_failed }
     requires each { (text : Bytes) → K.may_keep text }
     ensures { RunEnds B.may request.now task.now (O.contents out.old) (O.contents out.new) result }
 {
@@ -245,7 +253,7 @@ where
     let (plan, opening) = (task.plan(), task.journal());
     match realise_kept::<J, R, B, K>(rt, rt.alloc(), name, plan, opening, system, builders, place) {
         Ok(book) => end(rt, request, file, book, kept, out),
-        Err((fault, book)) => Err(fall_short(rt, file, fault, book)),
+        Err((fault, book)) => Err(fall_short(rt, request, file, fault, book)),
     }
 }
 
@@ -258,7 +266,9 @@ fn end<'a, R: Files + AllocGlobal + Wait, V: Outlet, O: Write>(
     kept: Option<&KeptFolders>,
     out: &mut O,
 ) -> Result<Finish, Stop<'a>>
-    requires { IsRunSettled book.run book.history }
+    requires settled { IsRunSettled book.run book.history }
+    requires kept { is_some kept ≡ request.now.keep_failed }
+    requires file { IsRunsFile request.now.run file.now }
     ensures { BookEnds request.now book (O.contents out.old) (O.contents out.new) result }
 {
     let ended = write_and_report(rt, request, file, &book, kept, out);
@@ -269,15 +279,17 @@ fn end<'a, R: Files + AllocGlobal + Wait, V: Outlet, O: Write>(
 // Ends a run for a fault of its workers. Where they left a book, its journal is written.
 fn fall_short<'a, R: Files + AllocGlobal, V: Outlet>(
     rt: &R,
+    request: &RealiseRequest<'a>,
     file: &OwnJournal<'_>,
     fault: RunFault,
     book: Option<Book<V>>,
 ) -> Stop<'a>
+    requires { IsRunsFile request.now.run file.now }
     ensures { IsCutShort fault (is_some book) result }
 {
     match book {
         Some(book) => {
-            let kept = keep(rt, file, &book);
+            let kept = keep(rt, request, file, &book);
             book.close();
             Stop::Run(fault, kept)
         }
@@ -288,13 +300,15 @@ fn fall_short<'a, R: Files + AllocGlobal, V: Outlet>(
 // Puts the journal of a book that isn't settled in place of the journal file.
 fn keep<R: Files + AllocGlobal, V: Outlet>(
     rt: &R,
+    request: &RealiseRequest<'_>,
     file: &OwnJournal<'_>,
     book: &Book<V>,
 ) -> JournalOutcome
+    requires { IsRunsFile request.now.run file.now }
     ensures { result.has_book ≡ true }
 {
     match journal_bytes(rt.alloc(), book) {
-        Ok(bytes) => JournalOutcome::of_write(book, file.write(rt, &bytes)),
+        Ok(bytes) => JournalOutcome::of_write(request, book, file.write(rt, &bytes)),
         Err(refused) => JournalOutcome::no_memory(refused),
     }
 }
@@ -309,21 +323,30 @@ fn write_and_report<'a, R: Files + AllocGlobal + Wait, V: Outlet, O: Write>(
     kept: Option<&KeptFolders>,
     out: &mut O,
 ) -> Result<Finish, Stop<'a>>
-    requires { IsRunSettled book.now.run book.now.history }
+    requires settled { IsRunSettled book.now.run book.now.history }
+    requires kept { is_some kept ≡ request.now.keep_failed }
+    requires file { IsRunsFile request.now.run file.now }
     ensures { BookEnds request.now book.now (O.contents out.old) (O.contents out.new) result }
 {
     let bytes = journal_bytes(rt.alloc(), book)?;
     let written = file.write(rt, &bytes)?;
-    let report = report_of(book, written)?;
-    let lines = last_lines(rt.alloc(), request, book, take_kept(rt, kept))?;
+    let report = report_of(request, book, written)?;
+    let lines = last_lines(rt.alloc(), request, book, take_kept(rt, request, kept))?;
     match print_bytes(&report, out) {
         Ok(()) => Ok(Finish::with(roots_status(book), lines)),
         Err(_) => Err(Stop::Unwritable),
     }
 }
 
-// The build folders that were kept.
-fn take_kept<R: AllocGlobal + Wait>(rt: &R, kept: Option<&KeptFolders>) -> Vec<KeptFolder> {
+// The build folders that were kept: none where the request doesn't ask for them.
+fn take_kept<R: AllocGlobal + Wait>(
+    rt: &R,
+    _request: &RealiseRequest<'_>,
+    kept: Option<&KeptFolders>,
+) -> Vec<KeptFolder>
+    requires { is_some kept ≡ _request.now.keep_failed }
+    ensures { AreKeptFor _request.now result.items }
+{
     match kept {
         Some(kept) => kept.take(rt),
         None => Vec::new(rt.alloc()),

@@ -4,11 +4,13 @@ ghost use Rattle.valid_table.specs.Written.{written_text};
 ghost use Rattle.run_states.specs.Courses.{IsRunSettled};
 ghost use Rattle.run_report.specs.Reports.{IsReportIn};
 ghost use Rattle.run_states.specs.States.{is_good};
+ghost use Rattle.subcommands.specs.JournalFiles.{runs_journal};
 ghost use Rattle.subcommands.specs.RootsStatus.{roots_status};
 
 use crate::status::Status;
 use crate::stop::Stop;
 use crate::whole_file::Written;
+use command_line::RealiseRequest;
 use sched_core::{Book, BookFault, State};
 use std::alloc::Global;
 use valid_table::{Outlet, TableFault};
@@ -44,9 +46,15 @@ pub fn journal_bytes<O: Outlet>(alloc: Global, book: &Book<O>) -> Result<Vec<u8>
     book.journal().write(alloc)
 }
 
-/// The report of a book that is settled, whose journal was written.
-pub fn report_of<'a, O: Outlet>(book: &Book<O>, journal: Written<'_>) -> Result<Vec<u8>, Stop<'a>>
+/// The report of a book that is settled, whose journal was written to the path that the run's words
+/// name.
+pub fn report_of<'a, O: Outlet>(
+    _request: &RealiseRequest<'a>,
+    book: &Book<O>,
+    journal: Written<'_>,
+) -> Result<Vec<u8>, Stop<'a>>
     requires settled { IsRunSettled book.now.run book.now.history }
+    requires path { journal.path.now ≡ runs_journal _request.now.run }
     requires written { journal.bytes.now ≡ written_text book.now.history.entries }
     ensures ok { IfOk result (λ text. IsReportIn book.now.run book.now.history text.items) }
     ensures err { IfErr result (λ stop. stop ≡ Stop.NoMemory) }

@@ -1,12 +1,12 @@
 //! The trace of a run, if the request asks for one: its file, written at the end.
 ghost use Rattle.std.specs.Prelude.{◌≡◌, IfErr, IfOk, option_map};
-ghost use Rattle.subcommands.specs.Tracing.{IsToldOf, IsTraceStop, IsTracedEnd};
+ghost use Rattle.subcommands.specs.Tracing.{IsToldOf, IsTraceStop, IsTracedEnd, finish_in};
 
 use crate::finish::Finish;
 use crate::stop::Stop;
 use crate::whole_file::{Unwritten, Written, write_whole};
 use command_line::RealiseRequest;
-use process_build::{Failure, Trace};
+use process_build::{Failure, Trace, TraceText};
 use std::rt::Files;
 use std::sync::Wait;
 use std::time::Clock;
@@ -46,14 +46,14 @@ impl<'a> TraceFile<'a> {
         ensures err { IfErr result (IsTraceStop self.now.path) }
     {
         let text = self.trace.text(rt)?;
-        match write_whole(rt, self.path, &text) {
-            Ok(written) => Ok(TraceWritten::by(self.path, written)),
+        match write_whole(rt, self.path, text.bytes()) {
+            Ok(written) => Ok(TraceWritten::by(self.path, &text, written)),
             Err(unwritten) => Err(trace_stop(self.path, unwritten)),
         }
     }
 }
 
-// Evidence that the file at a path was written.
+// Evidence that the file at a path was written, with the text of a trace.
 #[derive(Clone, Copy)]
 struct TraceWritten<'a> {
     path: &'a str,
@@ -61,12 +61,48 @@ struct TraceWritten<'a> {
 
 impl<'a> TraceWritten<'a> {
     // By the evidence of writing it.
-    fn by(path: &'a str, written: Written<'_>) -> TraceWritten<'a>
-        requires { written.path.now ≡ path.now }
+    fn by(path: &'a str, _text: &TraceText, written: Written<'_>) -> TraceWritten<'a>
+        requires path { written.path.now ≡ path.now }
+        requires text { written.bytes.now ≡ _text.now.bytes.items }
         ensures { result.path ≡ path.entry }
     {
         written.spend();
         TraceWritten { path }
+    }
+}
+
+/// The end of a run that wasn't stopped. Its trace was written, if the request asks for one. Only
+/// this module makes one.
+#[derive(Drop)]
+pub struct Traced {
+    finish: Finish,
+}
+
+impl Traced {
+    // No trace was asked for.
+    fn without(_file: &Option<TraceFile<'_>>, finish: Finish) -> Traced
+        requires { option_map (λ f. f.path) _file.now ≡ None }
+        ensures { result.finish ≡ finish }
+    {
+        Traced { finish }
+    }
+
+    // The trace was written.
+    fn by(_file: &TraceFile<'_>, _written: TraceWritten<'_>, finish: Finish) -> Traced
+        requires { _written.path.now ≡ _file.now.path.now }
+        ensures { result.finish ≡ finish }
+    {
+        Traced { finish }
+    }
+}
+
+/// How a run ended that may have been traced.
+pub fn untraced<'a>(traced: Result<Traced, Stop<'a>>) -> Result<Finish, Stop<'a>>
+    ensures { result ≡ finish_in traced.entry }
+{
+    match traced {
+        Ok(traced) => Ok(traced.finish),
+        Err(stop) => Err(stop),
     }
 }
 
@@ -76,26 +112,29 @@ pub fn end_traced<'a, R: Files + AllocGlobal + Wait>(
     rt: &R,
     file: &Option<TraceFile<'a>>,
     ended: Result<Finish, Stop<'a>>,
-) -> Result<Finish, Stop<'a>>
-    ensures { IsTracedEnd (option_map (λ f. f.path) file.now) ended.entry result }
+) -> Result<Traced, Stop<'a>>
+    ensures { IsTracedEnd (option_map (λ f. f.path) file.now) ended.entry (finish_in result) }
 {
-    match file {
-        Some(file) => told_end(file.write(rt), ended),
-        None => ended,
+    match (file, ended) {
+        (Some(file), ended) => told_end(file, file.write(rt), ended),
+        (None, Ok(finish)) => Ok(Traced::without(file, finish)),
+        (None, Err(stop)) => Err(stop),
     }
 }
 
 // The end of a run that is told, by what came of writing its trace.
 fn told_end<'a>(
+    file: &TraceFile<'a>,
     written: Result<TraceWritten<'a>, Stop<'a>>,
     ended: Result<Finish, Stop<'a>>,
-) -> Result<Finish, Stop<'a>>
-    ensures { IsToldOf written.entry ended.entry result }
+) -> Result<Traced, Stop<'a>>
+    requires { IfOk written (λ written. written.path ≡ file.now.path) }
+    ensures { IsToldOf written.entry ended.entry (finish_in result) }
 {
     match (written, ended) {
         (_, Err(stop)) => Err(stop),
         (Err(stop), Ok(_)) => Err(stop),
-        (Ok(_), Ok(finish)) => Ok(finish),
+        (Ok(written), Ok(finish)) => Ok(Traced::by(file, written, finish)),
     }
 }
 

@@ -4,7 +4,7 @@ ghost use Rattle.std.specs.Io.KnownBytes.{Appends};
 ghost use Rattle.subcommands.specs.private.Waiting.{waiting_line};
 
 use crate::journal_keeper::Places;
-use crate::locks::Locks;
+use crate::locks::{Holding, Locks, Unlocked};
 use std::alloc::AllocError;
 use std::io;
 use std::io::Write;
@@ -36,9 +36,11 @@ impl<'a, L, W> Telling<'a, L, W> {
 impl<L: Locks, W: Write + Copy> Locks for Telling<'_, L, W> {
     type Lock = L::Lock;
 
+    ghost locks_in = { L.locks_in };
+
     /// Takes the lock of a folder as the others do. A refused write to the terminal changes
     /// nothing.
-    fn lock(&self, dir: &str, waits: bool) -> io::Result<L::Lock> {
+    fn lock(&self, dir: &str, waits: bool) -> Result<L::Lock, Unlocked> {
         if !waits {
             return self.locks.lock(dir, waits);
         }
@@ -55,8 +57,8 @@ impl<L: Places, W> Places for Telling<'_, L, W> {
 
     ghost keeps_at = { L.keeps_at };
 
-    fn place(&self, path: String) -> Result<L::Place, AllocError> {
-        self.locks.place(path)
+    fn place(&self, holding: Holding<'_>, path: String) -> Result<L::Place, AllocError> {
+        self.locks.place(holding, path)
     }
 }
 

@@ -9,6 +9,7 @@ use Rattle.build_outcome.specs.declared.job.Job.{Job}
 use Rattle.build_outcome.specs.declared.reason.Reason.{Reason}
 use Rattle.run_states.specs.Legal.{IsLegal}
 use Rattle.run_states.specs.Runs.{History, Run}
+use Rattle.sched_core.specs.Books.{BuildsOver}
 use Rattle.store_run.specs.Builders.{IsAnswered}
 
 -- What a keeper knows: entries that were shown, a text, and how many entries the text had that was
@@ -36,9 +37,10 @@ pub record IsNews (known entries : List Entry) (looked : Looked) : Type 0 where
   pub waiting_lines : looked.waiting ≡ written_lines waiting
   pub count_is : looked.count ≡ length entries
 
--- What a look at a book behind a lock gives, of which this is known alone: the history is legal, what
--- became of each derivation is a verdict on what a builder may give, and the run is over something.
-pub record IsLook (may : Job → Result Answer Reason → Type 0)
+-- What a look at a book behind a lock gives, of which this is known alone: the history is legal,
+-- what became of each derivation is a verdict on what a builder may give, the run is over something,
+-- and what is shown was shown, in which all is valid that is built from.
+pub record IsLook (may : Job → Result Answer Reason → Type 0) (was_shown : List Entry → Type 0)
     (is_over : Run → List Entry → Type 0) (known : List Entry) (looked : Looked)
     : Type 0 where
   pub run : Run
@@ -46,6 +48,8 @@ pub record IsLook (may : Job → Result Answer Reason → Type 0)
   pub legal : IsLegal run history
   pub answered : IsAnswered may run history
   pub over : is_over run history.opening
+  pub is_shown : was_shown looked.shown
+  pub seeds : BuildsOver run history looked.shown
   pub news : IsNews known history.entries looked
 
 -- the nanoseconds of a keeper's pause after looking and writing that took so many: eight times as

@@ -2,7 +2,7 @@ use Rattle.std.proofs.Common.{◌∙◌, ◌≤◌, subst, sym, vec_len}
 use Rattle.store_run.specs.Builders.{answered_opening}
 use Rattle.store_run.specs.Workers.{AreWorkers}
 use Rattle.store_run.proofs.KeptTexts.{kept_of_lent}
-use Rattle.store_run.proofs.RunEndings.{are_workers, at_err, at_ok}
+use Rattle.store_run.proofs.RunEndings.{are_workers, at_err, at_ok, shown_at_end}
 use Rattle.store_run.proofs.kept_run.realise_kept.Given.{Over}
 use Rattle.store_run.proofs.kept_run.realise_kept.Goals as goal
 
@@ -13,8 +13,8 @@ run_kept-shared-requires-clause-answered g c κs within =
 pub run_kept-shared-requires-clause-each : goal.run_kept-shared-requires-clause-each
 run_kept-shared-requires-clause-each g c κs within = λ run opening text is kept.
     c.requires.each text
-    (kept_of_lent g.B.Build.may _ _ _ c.in-Ok.opened.0 run opening text c.in-Ok.ensures.over is
-    kept)
+    (kept_of_lent g.B.Build.may (g.J.Showing.shown g.J.Naming.book) _ _ _ c.in-Ok.opened.0 run
+    opening text c.in-Ok.ensures.over is kept)
 
 -- there is a right number of workers
 workers : (g : Over) (c : goal.After-hand_out g) → AreWorkers (vec_len c.args.builders)
@@ -35,3 +35,9 @@ returns-clause-err g c =
     (vec_len c.args.builders) (workers g c) c.run_kept-shared.result c.ending.ensures.legal
     c.ending.ensures.answered c.ending.result c.hand_out.result c.ending.ensures.end
     c.hand_out.ensures
+
+pub returns-clause-shown : goal.returns-clause-shown
+returns-clause-shown g c =
+    shown_at_end (g.J.Showing.shown g.J.Naming.book) c.args.plan.now c.args.system.now
+    c.args.journal.now.entries c.run_kept-shared.result c.ending.result c.hand_out.result
+    c.shows.ensures c.ending.ensures.end c.hand_out.ensures

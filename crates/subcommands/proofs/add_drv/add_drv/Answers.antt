@@ -33,5 +33,5 @@ returns g c =
 pub returns-in-Ok : goal.returns-in-Ok
 returns-in-Ok g c = (
   needed_bytes c.read_text-draft.result,
-  (c.done.ensures, (c.in_ok-added.added, c.in_ok-added.ensures, c.in-Ok.ensures.printed)),
+  (c.of_drv.ensures, (c.in_ok-added.added, c.in_ok-added.ensures, c.in-Ok.ensures.printed)),
 )

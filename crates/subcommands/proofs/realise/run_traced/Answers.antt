@@ -1,6 +1,6 @@
 use Rattle.std.proofs.Common.{◌∙◌, ap, inl, inr, refl, subst, Err}
 use Rattle.std.proofs.lemmas.Result.{err_from_is_err_and}
-use Rattle.subcommands.specs.Tracing.{IsTracedEnd}
+use Rattle.subcommands.specs.Tracing.{IsTracedEnd, finish_in}
 use Rattle.subcommands.specs.declared.stop.Stop.TheVariants.{NoMemory}
 use Rattle.subcommands.proofs.realise.run_traced.Goals as goal
 
@@ -15,5 +15,5 @@ returns g c =
     let told = c.end_traced.ensures in
     let ended = c.run_built-ended.result in
     let traced =
-    subst (λ file. IsTracedEnd file ended c.end_traced.result) c.of-trace.ensures told in
-    inl (ended, c.run_built-ended.ensures, traced)
+    subst (λ file. IsTracedEnd file ended (finish_in c.end_traced.result)) c.of-trace.ensures told in
+    inl (ended, c.run_built-ended.ensures, rw c.untraced.ensures traced)

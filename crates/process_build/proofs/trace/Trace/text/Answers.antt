@@ -1,6 +1,5 @@
-use Rattle.std.proofs.Common.{◌≡◌, ℕ, List, refl}
-use Rattle.std.proofs.lemmas.Result.{IfOk-weaker}
+use Rattle.std.proofs.Common.{refl}
 use Rattle.process_build.proofs.trace.Trace.text.Goals as goal
 
 pub returns : goal.returns
-returns g c = IfOk-weaker c.text.result _ _ (λ text e. (_, e)) (c.text.ensures _ (λ whole. refl))
+returns g c = (_, c.in_ok-bytes.ensures _ (λ whole. refl))
