@@ -4,6 +4,8 @@ import dataclasses
 import os
 import sys
 
+from scenes import until
+
 BUILT = ("built DRV\noutput OUT\n", 0)
 AGAIN = ("reused DRV\noutput OUT\n", 0)
 UNWRITABLE = ("", 3, "nix_realise: journal: Unwritable\n")
@@ -11,7 +13,6 @@ UNREADABLE = ("", 3, "nix_realise: journal: Unreadable\n")
 
 
 def failed(reason):
-    """A run whose one derivation failed."""
     return (f"failed DRV: {reason}\n", 1)
 
 
@@ -26,10 +27,10 @@ class Case:
 
     name: str
     script: str
+    # What the run tells, and what the next one tells, once $F/well is there.
     first: tuple = BUILT
-    # What the run tells that comes next, once $F/well is there.
     second: tuple = None
-    # What stands at the output behind the first run: a kind of the script's KINDS; None for any.
+    # What stands at the output after the first run; None for any.
     stands: str = None
     # Any of these first answers is right, beside `first`.
     also: tuple = ()
@@ -37,33 +38,22 @@ class Case:
     beside: tuple = ()
     # What is done between the two runs, with the site.
     between: object = None
-    # The status of the first run where no answer comes.
+    # Whether the program is killed; only the superuser can do so; the disk has one megabyte; strace
+    # can name all paths, and no child keeps it waiting; a child still runs after the first run.
     killed: bool = False
-    # Whether only the superuser can do so.
     root: bool = False
-    # Whether it runs on a disk of one megabyte.
     small: bool = False
-    # Whether strace can name all paths, and no child keeps it waiting.
     traced: bool = True
-    # Whether a child of the builder has to run still when the first run has ended.
     stays: bool = False
     # Options of both runs.
     options: tuple = ()
 
     def next(self):
-        if self.second:
-            return self.second
-        return AGAIN if self.first == BUILT else BUILT
+        return self.second or (AGAIN if self.first == BUILT else BUILT)
 
 
-def levels(count):
-    return f"p=$out; mkdir $p; for i in $(seq 2 {count}); do p=$p/d; mkdir $p; done"
-
-
-def entries(count):
-    return f"mkdir $out; cd $out; seq {count} | xargs touch"
-
-
+LEVELS = "p=$out; mkdir $p; for i in $(seq 2 {}); do p=$p/d; mkdir $p; done"
+ENTRIES = "mkdir $out; cd $out; seq {} | xargs touch"
 # Ends well where nothing is open but the three standard streams.
 FILES = """
 import os, sys
@@ -111,29 +101,30 @@ def linked():
 
 
 def limits():
-    """Outputs at a limit, and past it."""
-    yield Case("65,536 entries", entries(65536), stands="folder")
-    yield Case("65,537 entries", entries(65537), TOO_LARGE, stands="folder")
-    yield Case("100,000 entries", entries(100000), TOO_LARGE, stands="folder")
-    yield Case("64 MiB", "truncate -s 67108864 $out", stands="file")
-    yield Case("64 MiB and a byte", "truncate -s 67108865 $out", TOO_LARGE, stands="file")
-    two = "mkdir $out; truncate -s 67108864 $out/a; echo > $out/b"
-    yield Case("64 MiB and a byte in two files", two, TOO_LARGE, stands="folder")
-    yield Case("32 levels", levels(32), stands="folder")
-    yield Case("33 levels", levels(33), TOO_LARGE, stands="folder")
-    deep = "mkdir $out; cd $out; for i in $(seq 200); do mkdir d; cd d; done"
-    yield Case("200 levels", deep, TOO_LARGE, stands="folder")
-    in_build = "for i in $(seq 200); do mkdir d; cd d; : > f; done; echo made > $out"
-    yield Case("200 levels in the build folder", in_build)
     long = "n=$(printf %0255d 7); mkdir $out; cd $out; mkdir $n; echo x > $n/$n"
-    yield Case("names of 255 bytes", long, stands="folder")
     longer = f"mkdir $out; cd $out; {sys.executable} -c '{LONG}'"
-    yield Case("a path of 5,000 bytes", longer, READ_FAULT, stands="folder", traced=False)
-    stray = "mkdir $out; : > $out/$(printf 'a\\377')"
-    yield Case("a name that is not UTF-8", stray, READ_FAULT, stands="folder")
     odd = 'mkdir $out; : > "$out/a b"; : > "$out/$(printf \'c\\nd\\\\\')"; : > $out/-rf'
-    yield Case("names with spaces, newlines and dashes", odd, stands="folder")
-    yield Case("nothing", "exit 0", failed('MissingOutput("out")'))
+    no_text = "mkdir $out; : > $out/$(printf 'a\\377')"
+    levels = "for i in $(seq 200); do mkdir d; cd d; {} done"
+    two = "mkdir $out; truncate -s 67108864 $out/a; echo > $out/b"
+    for name, script, first, *stands in (
+        ("65,536 entries", ENTRIES.format(65536), BUILT, "folder"),
+        ("65,537 entries", ENTRIES.format(65537), TOO_LARGE, "folder"),
+        ("100,000 entries", ENTRIES.format(100000), TOO_LARGE, "folder"),
+        ("64 MiB", "truncate -s 67108864 $out", BUILT, "file"),
+        ("64 MiB and a byte", "truncate -s 67108865 $out", TOO_LARGE, "file"),
+        ("64 MiB and a byte in two files", two, TOO_LARGE, "folder"),
+        ("32 levels", LEVELS.format(32), BUILT, "folder"),
+        ("33 levels", LEVELS.format(33), TOO_LARGE, "folder"),
+        ("200 levels", "mkdir $out; cd $out; " + levels.format(""), TOO_LARGE, "folder"),
+        ("200 levels in the build folder", levels.format(": > f;") + "; echo > $out", BUILT),
+        ("names of 255 bytes", long, BUILT, "folder"),
+        ("a path of 5,000 bytes", longer, READ_FAULT, "folder"),
+        ("a name that is no UTF-8", no_text, READ_FAULT, "folder"),
+        ("names with spaces, newlines and dashes", odd, BUILT, "folder"),
+        ("nothing", "exit 0", failed('MissingOutput("out")')),
+    ):
+        yield Case(name, script, first, None, *stands, traced=script != longer)
     yield Case("a file without permissions", "echo x > $out; chmod 0 $out", also=(READ_FAULT,))
 
 
@@ -152,45 +143,47 @@ def ends():
     yield Case("a child that stays", outlives + "echo made > $out", stays=True, **more)
     late = "(until [ -e $F/well ]; do sleep 0.05; done; echo late > $out; : > $F/late)" + CHILD
     late += "echo made > $out"
-    yield Case("a child that changes the output later", late, between=wait_late, **more)
+    changed = lambda site: until("a late change", (site.outside / "late").exists)
+    yield Case("a child that changes the output later", late, between=changed, **more)
     kills = "kill -9 $PPID; sleep 0.2; echo late > $out"
-    yield Case("the death of the program", kills, killed=True, second=BUILT, between=wait_a_little)
-    fds = f"{sys.executable} -c '{FILES}' && echo made > $out"
-    yield Case("a look at its open files", fds, stands="file")
-    unseen = "cat; head -c 300000 /dev/zero; echo x >&2; echo > $out"
-    yield Case("input and words that nobody sees", unseen)
+    ended = lambda site: until("its end", lambda: os.path.exists(site.output))
+    yield Case("the death of the program", kills, killed=True, second=BUILT, between=ended)
+    looks, unseen = f"{sys.executable} -c '{FILES}'", "cat; head -c 300000 /dev/zero; echo x >&2"
+    yield Case("a look at its open files", f"{looks} && echo made > $out", stands="file")
+    yield Case("input and words that nobody sees", f"{unseen}; echo > $out")
 
 
 def beside():
-    """Builders that write beside their outputs."""
     names = (".nix_realise-0", ".nix_realise-left-0", "beside", ".build-7")
     script = "".join(f"echo mine > $NIX_STORE/{name}; " for name in names)
     yield Case("files beside the output", script + "echo made > $out", beside=names)
     yield Case("another journal", f"echo garbage > {JOURNAL}; echo made > $out")
     yield Case("no journal", f"rm {JOURNAL}; echo made > $out")
-    linked = f"rm {JOURNAL}; ln -s $W/file {JOURNAL}; echo made > $out"
-    yield Case("a link for the journal", linked)
+    yield Case("a link for the journal", f"rm {JOURNAL}; ln -s $W/file {JOURNAL}; echo made > $out")
     for name, make in (("folder", "mkdir"), ("pipe", "mkfifo")):
         script = f"rm {JOURNAL}; {make} {JOURNAL}; echo made > $out"
-        own = ("realiser-journal",)
-        yield Case(f"a {name} for the journal", script, UNWRITABLE, second=UNREADABLE, beside=own)
-    gone = "cd /; rm -rf $NIX_BUILD_TOP; echo made > $out"
-    yield Case("no build folder", gone)
-    for name, at in (("a link for the build folder", "$W"), ("a dangling link for it", "$W/none")):
-        script = f"cd /; rm -rf $NIX_BUILD_TOP; ln -s {at} $NIX_BUILD_TOP; "
-        yield Case(name, script + "echo made > $out")
+        more = {"second": UNREADABLE, "beside": ("realiser-journal",)}
+        yield Case(f"a {name} for the journal", script, UNWRITABLE, **more)
+    for name, link in (
+        ("no build folder", ""),
+        ("a link for the build folder", "ln -s $W $NIX_BUILD_TOP; "),
+        ("a dangling link for it", "ln -s $W/none $NIX_BUILD_TOP; "),
+    ):
+        yield Case(name, f"cd /; rm -rf $NIX_BUILD_TOP; {link}echo made > $out")
     links = "ln -s $W link; ln -s $W/file file; mkdir d; ln -s $W d/link; ln $W/file hard; "
     yield Case("links in the build folder", links + "echo made > $out")
     yield Case("a hard link for the output", "ln $W/file $out", stands="file")
 
 
+# Has the children end, and waits for them.
+STOP = lambda site: site.stop()
 ANY_ANSWER = (READ_FAULT, TOO_LARGE, failed('MissingOutput("out")'), BUILT)
 MANY_FILES = "mkdir -p $out/d; for i in $(seq 300); do : > $out/d/$i; : > $out/$i; done; "
 
 
 def swaps_of_outputs():
     """Links that come and go, in the place of a folder, while the program reads it."""
-    read = {"also": ANY_ANSWER, "between": stop}
+    read = {"also": ANY_ANSWER, "between": STOP}
     for name, at in (("for", "$out"), ("in", "$out/d")):
         yield Case(f"a link {name} the output while it is read", MANY_FILES + swapping(at), **read)
 
@@ -198,7 +191,7 @@ def swaps_of_outputs():
 def swaps():
     """Links that come and go, and files that grow, while the program reads or removes."""
     yield from swaps_of_outputs()
-    removed = {"beside": ("*",), "between": stop}
+    removed = {"beside": ("*",), "between": STOP}
     fill = "for i in $(seq 300); do mkdir -p d/$i; : > d/$i/f; done; echo made > $out; "
     top = swapping("$NIX_BUILD_TOP")
     yield Case("a link for the build folder while it is removed", fill + top, **removed)
@@ -207,7 +200,7 @@ def swaps():
     five = failed("ExitStatus(5)")
     yield Case("a link in an old output while it is removed", keep, five, beside=("*",))
     grow = "echo > $out; " + LOOP.format(400, "head -c 500000 /dev/zero >> $out")
-    yield Case("a file that grows", grow, also=ANY_ANSWER, between=stop)
+    yield Case("a file that grows", grow, also=ANY_ANSWER, between=STOP)
 
 
 SWAP = """
@@ -234,30 +227,11 @@ def swapping(at):
 
 
 def small_disks():
-    """Builders that fill a small disk."""
-    fills = "cat /dev/zero > $out"
-    more = {"second": BUILT, "also": (failed("ExitStatus(1)"),), "small": True}
-    yield Case("a full disk by the output", fills, UNWRITABLE, **more)
-    fills = "cat /dev/zero > big; exit 9"
-    yield Case("a full disk by the build folder", fills, failed("ExitStatus(9)"), small=True)
-
-
-def wait_late(site):
-    """Waits until a child has changed the output."""
-    site.until((site.outside / "late").exists)
-
-
-def wait_a_little(site):
-    """Waits until the builder of a killed program has ended."""
-    site.until(lambda: os.path.exists(site.output))
-
-
-def stop(site):
-    """Has the children end, and waits for them."""
-    site.stop()
+    one, nine, also = "cat /dev/zero > $out", "cat /dev/zero > big; exit 9", failed("ExitStatus(1)")
+    yield Case("a full disk by the output", one, UNWRITABLE, BUILT, also=(also,), small=True)
+    yield Case("a full disk by the build folder", nine, failed("ExitStatus(9)"), small=True)
 
 
 def cases():
-    """All of them."""
     for group in (ends, beside, kinds, limits, swaps, linked, small_disks):
         yield from group()

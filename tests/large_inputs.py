@@ -36,18 +36,22 @@ class Place:
         shutil.rmtree(self.aside)
 
     def put(self, name, text, references=()):
-        """Writes a derivation's text to its own path, and gives that path."""
         path = text_path(self.folder, name + ".drv", text, references)
         with open(path, "wb") as file:
             file.write(text)
         return path
 
     def file(self, name, data):
-        """Writes a file beside the store folder, and gives its path."""
         path = os.path.join(self.aside, name)
         with open(path, "wb") as file:
             file.write(data)
         return path
+
+    def words(self, subcommand, *more, journal=None):
+        """The words of a command line for the store folder and, if it has one, the journal."""
+        has_journal = subcommand not in ("check", "add-drv")
+        options = ["--journal", journal or self.journal] if has_journal else []
+        return [subcommand, "--store-dir", self.folder, *options, *more]
 
     def path(self, number, name="x"):
         """A path of the store folder; such paths rise with their numbers."""
@@ -66,33 +70,7 @@ def most(part, element):
 
 
 def filled(part, count, element_of):
-    """A derivation whose part has so many elements."""
     return text_of(**{part: ",".join(element_of(number) for number in range(count))})
-
-
-def of_arguments():
-    """4 MiB of empty arguments, exactly: the last one is longer."""
-    count = most("args", '""')
-    text = filled("args", count, lambda _: '""')
-    return text.replace(b'""],[])', b'"' + b"x" * (MAX_DRV - len(text)) + b'"],[])')
-
-
-def of_variables():
-    """4 MiB of variables of the environment."""
-    element = '("%06d","")'
-    return filled("env", most("env", element % 0), lambda number: element % number)
-
-
-def of_escapes():
-    """4 MiB of one argument, all of whose bytes are escaped."""
-    return text_of(args='"' + "\\n" * ((MAX_DRV - len(text_of()) - 2) // 2) + '"')
-
-
-def of_sources(place):
-    """4 MiB of sources, and their paths."""
-    count = most("sources", quoted(place.path(0)))
-    paths = [place.path(number) for number in range(count)]
-    return text_of(sources=",".join(map(quoted, paths))), paths
 
 
 def used(path):
@@ -100,21 +78,33 @@ def used(path):
     return f'("{path}",["out"])'
 
 
-def of_inputs(place):
-    """50,000 inputs, or as many as a derivation of 4 MiB holds; and their paths."""
-    count = min(INPUTS, most("inputs", used(place.path(0, "x.drv"))))
-    paths = [place.path(number, "x.drv") for number in range(count)]
-    return text_of(inputs=",".join(map(used, paths))), paths
+def listed_in(place, sources=(), drvs=()):
+    """A derivation with these sources and inputs, and the paths of all."""
+    text = text_of(sources=",".join(map(quoted, sources)), inputs=",".join(map(used, drvs)))
+    return text, [*sources, *drvs]
 
 
-def of_both(place):
-    """4 MiB of sources and inputs, whose paths lie between one another; and the paths of all."""
-    size = len(quoted(place.path(0)) + used(place.path(0, "x.drv"))) + 2
-    count = (MAX_DRV - len(text_of())) // size
+def large_texts(place):
+    """Derivations of 4 MiB, with the paths that they refer to, by their names: empty arguments, of
+    which the last one is longer; variables; one argument whose bytes are all escaped; sources; at
+    most 50,000 inputs; and sources and inputs whose paths lie between one another."""
+    arguments = filled("args", most("args", '""'), lambda _: '""')
+    last = b'"' + b"x" * (MAX_DRV - len(arguments)) + b'"],[])'
+    yield "1,398,000 arguments", arguments.replace(b'""],[])', last), []
+    element = '("%06d","")'
+    yield "350,000 variables", filled("env", most("env", element % 0), element.__mod__), []
+    escapes = "\\n" * ((MAX_DRV - len(text_of()) - 2) // 2)
+    yield "two million escapes", text_of(args=f'"{escapes}"'), []
+    source, drv = quoted(place.path(0)), used(place.path(0, "x.drv"))
+    sources = [place.path(number) for number in range(most("sources", source))]
+    yield f"{len(sources)} sources", *listed_in(place, sources)
+    count = min(INPUTS, most("inputs", drv))
+    drvs = [place.path(number, "x.drv") for number in range(count)]
+    yield f"{count} inputs", *listed_in(place, (), drvs)
+    count = (MAX_DRV - len(text_of())) // (len(source + drv) + 2)
     sources = [place.path(2 * number) for number in range(count)]
     drvs = [place.path(2 * number + 1, "x.drv") for number in range(count)]
-    text = text_of(sources=",".join(map(quoted, sources)), inputs=",".join(map(used, drvs)))
-    return text, sources + drvs
+    yield f"{2 * count} sources and inputs in turn", *listed_in(place, sources, drvs)
 
 
 class Row:
@@ -130,11 +120,9 @@ class Row:
             file.write(self.text)
 
     def draft(self):
-        """The text without its output's path."""
         return self.text.replace(self.output, "")
 
     def entry(self, digest):
-        """The lines that register the output."""
         return f"D {self.path}\nO {self.output} {digest}\n"
 
 
@@ -147,7 +135,6 @@ def chain(place, source):
 
 
 def leaves(place, count, script_of):
-    """Derivations without inputs."""
     return [Row(place, number, script=script_of(number)) for number in range(count)]
 
 
@@ -188,16 +175,26 @@ def picture(rows, roots):
     return "\n".join(["digraph plan {", *drawn, "}", ""]).encode()
 
 
+def with_outputs(place, names, text):
+    """A draft of outputs, whose text is made of their paths; the filled text, and the paths."""
+    modulo = hashlib.sha256(text({}, True)).hexdigest()
+    path_of = lambda name: make_path(f"output:{name}", modulo, place.folder, f"many-{name}")
+    paths = {name: path_of(name) for name in names}
+    return text({}, False), text(paths, False), list(paths.values())
+
+
+def outputs(names, paths):
+    return ",".join(f'("{name}","{paths.get(name, "")}","","")' for name in names)
+
+
 def wide(place, rows):
     """A draft of 64 outputs with these inputs; the filled text, and the outputs' paths in order."""
     names = [f"o{number}" for number in range(10, 74)]
-    outputs = lambda paths: ",".join(f'("{name}","{paths.get(name, "")}","","")' for name in names)
-    inputs = lambda texts: ",".join(map(used, sorted(texts)))
-    of_paths = inputs(row.path for row in rows)
-    digest = hashlib.sha256(text_of(outputs({}), inputs(row.modulo for row in rows))).hexdigest()
-    path_of = lambda name: make_path(f"output:{name}", digest, place.folder, f"many-{name}")
-    paths = {name: path_of(name) for name in names}
-    return text_of(outputs({}), of_paths), text_of(outputs(paths), of_paths), [*paths.values()]
+    inputs = lambda is_modulo: sorted(row.modulo if is_modulo else row.path for row in rows)
+    text = lambda paths, is_modulo: text_of(
+        outputs(names, paths), ",".join(map(used, inputs(is_modulo)))
+    )
+    return with_outputs(place, names, text)
 
 
 # What makes the outputs of `many_outputs`: each has the paths of so many before it.
@@ -213,20 +210,16 @@ for number, path in enumerate(paths):
 
 def many_outputs(place, count, variables=0):
     """A draft of so many outputs, which refer to one another, and of so many variables more; the
-    filled text, and the outputs' paths by their names."""
+    filled text, and the outputs' paths in order."""
     names = [f"o{number:04d}" for number in range(count)]
     others = [f'("v{number:06d}","")' for number in range(variables)]
     writer = WRITER.replace("COUNT", str(count)).replace("BEFORE", str(BEFORE))
     file = place.file(f"writer-{count}", writer.encode())
     args = f'"-c",{quoted(f"exec {sys.executable} {file}")}'
-    outputs = lambda paths: ",".join(f'("{name}","{paths.get(name, "")}","","")' for name in names)
     named = lambda paths: [f'("{name}","{paths.get(name, "")}")' for name in names]
     env = lambda paths: ",".join([*named(paths), *others])
-    draft = text_of(outputs({}), args=args, env=env({}))
-    digest = hashlib.sha256(draft).hexdigest()
-    path_of = lambda name: make_path(f"output:{name}", digest, place.folder, f"many-{name}")
-    paths = {name: path_of(name) for name in names}
-    return draft, text_of(outputs(paths), args=args, env=env(paths)), paths
+    text = lambda paths, _: text_of(outputs(names, paths), args=args, env=env(paths))
+    return with_outputs(place, names, text)
 
 
 def added(paths):
@@ -245,5 +238,4 @@ def journal_of(place, length):
 
 
 def digest_of(data):
-    """A digest as the journal has it."""
     return "sha256:" + hashlib.sha256(data).hexdigest()

@@ -1,15 +1,22 @@
 # Derivations whose outputs have symbolic links, for `tests/links-beside-nix`.
 let
-  run = name: outputs: text: derivation {
+  with-more = more: name: outputs: text: derivation ({
     inherit name outputs;
     system = "x86_64-linux";
     builder = "/bin/sh";
     args = [ "-euc" ("PATH=/usr/bin:/bin\n" + text) ];
-  };
+  } // more);
+  run = with-more { };
   one = name: run name [ "out" ];
   # The hash part of a path, as a shell finds it.
   part = path: "$(basename ${path} | head -c 32)";
 in {
+  # What Nix begins, and what is built on that with a source.
+  begun = rec {
+    base = one "base" "echo made > $out";
+    top = one "top" "echo ${builtins.toFile "greeting" "hello\n"} ${base} $out > $out";
+  };
+
   built = rec {
     # A shared library's links, and a link of one output to another.
     library = run "library" [ "out" "dev" ] ''
@@ -62,15 +69,11 @@ in {
   # What neither builds: a fixed output that is a link, though it leads to the declared content, and
   # two outputs that link to each other.
   refused = {
-    flat = derivation {
-      name = "flat";
-      system = "x86_64-linux";
-      builder = "/bin/sh";
-      args = [ "-euc" "PATH=/usr/bin:/bin; ln -s /dev/null $out" ];
+    flat = with-more {
       outputHashMode = "flat";
       outputHashAlgo = "sha256";
       outputHash = "e3b0c44298fc1c149afbf4c8996fb92427ae41e4649b934ca495991b7852b855";
-    };
+    } "flat" [ "out" ] "ln -s /dev/null $out";
     cycle = run "cycle" [ "out" "dev" ] "ln -s $dev $out; ln -s $out $dev";
   };
 }

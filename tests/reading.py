@@ -1,5 +1,5 @@
-"""Derivations and journals read apart from the program, by docs/FORMATS.md alone: what
-`tests/damaged-input` compares the program's answers with."""
+"""Derivations and journals read apart from the program, by docs/FORMATS.md alone: what scripts
+compare the program's answers with."""
 
 import re
 
@@ -10,8 +10,10 @@ BODY = re.compile(rb"[0-9abcdfghijklmnpqrsvwxyz]{32}-([A-Za-z0-9+\-._?=]{1,211})
 SPELLED = {b'"': b'"', b"\\": b"\\", b"n": b"\n", b"r": b"\r", b"t": b"\t"}
 LETTERS = {value: letter for letter, value in SPELLED.items()}
 DIGITS = {b"md5": 32, b"sha1": 40, b"sha256": 64, b"sha512": 128}
-HEX = re.compile(rb"[0-9a-f]*\Z")
 MAX_DRV = 4194304
+# The parts of a derivation: strings, tuples and lists. The first strings of a list's elements rise,
+# but where None follows the element.
+PARTS = [[(str, str, str, str)], [(str, [str])], [str], str, str, [str, None], [(str, str)]]
 
 
 class Refused(Exception):
@@ -23,26 +25,12 @@ class Refused(Exception):
 
 
 def is_path(folder, text):
-    """Whether some bytes are a path of a store folder."""
-    if not text.startswith(folder + b"/"):
-        return False
-    found = BODY.match(text[len(folder) + 1 :])
-    if not found:
-        return False
-    name = found.group(1)
-    return name not in (b".", b"..") and not name.startswith((b".-", b"..-"))
+    found = text.startswith(folder + b"/") and BODY.match(text[len(folder) + 1 :])
+    return bool(found) and not re.match(rb"\.\.?(-|\Z)", found[1])
 
 
 def name_of(path):
-    """The name of a store path."""
     return path.rsplit(b"/", 1)[1][33:]
-
-
-def value_of(spelling):
-    """The bytes that a string spells."""
-    if b"\\" not in spelling:
-        return spelling
-    return re.sub(rb"\\(.)", lambda found: SPELLED[found.group(1)], spelling)
 
 
 def spelling_of(value):
@@ -55,106 +43,76 @@ class Reader:
     """Reads a derivation from the left."""
 
     def __init__(self, text):
-        self.text = text
-        self.at = 0
-        self.disorder = []
+        self.text, self.at, self.disorder = text, 0, []
 
-    def fail(self, place):
-        raise Refused(b"Syntax(%d)" % place)
+    def is_at(self, byte):
+        return self.text[self.at : self.at + 1] == byte
 
-    def fixed(self, bytes_):
-        for byte in bytes_:
-            if self.at >= len(self.text) or self.text[self.at] != byte:
-                self.fail(self.at)
+    def fixed(self, wanted):
+        for byte in wanted:
+            if not self.is_at(bytes([byte])):
+                raise Refused(b"Syntax(%d)" % self.at)
             self.at += 1
 
     def string(self):
         self.fixed(b'"')
-        begin, end = self.at, STRING.match(self.text, self.at).end()
-        if end < len(self.text) and self.text[end] == 34:
-            self.at = end + 1
-            return value_of(self.text[begin:end])
-        if end < len(self.text) and self.text[end] == 92:
-            end += 1
-        self.fail(end)
-
-    def listed(self, element, rises):
-        """The elements of a list; each has a key, which must rise where `rises` is true."""
-        self.fixed(b"[")
-        found = []
-        if self.text[self.at : self.at + 1] == b"]":
+        begin, self.at = self.at, STRING.match(self.text, self.at).end()
+        spelling = self.text[begin : self.at]
+        if self.is_at(b"\\"):
             self.at += 1
-            return found
-        while True:
+            raise Refused(b"Syntax(%d)" % self.at)
+        self.fixed(b'"')
+        return re.sub(rb"\\(.)", lambda found: SPELLED[found[1]], spelling)
+
+    def several(self, forms):
+        """Values with commas between them."""
+        values = []
+        for form in forms:
+            self.fixed(b"," if values else b"")
+            values.append(self.value(form))
+        return values
+
+    def value(self, form):
+        if form is str:
+            return self.string()
+        self.fixed(b"(" if isinstance(form, tuple) else b"[")
+        values = self.several(form) if isinstance(form, tuple) else self.listed(*form)
+        self.fixed(b")" if isinstance(form, tuple) else b"]")
+        return values
+
+    def listed(self, form, rises=True):
+        """The elements of a list. Where one does not rise its place is kept."""
+        values, keys = [], []
+        while not self.is_at(b"]"):
+            self.fixed(b"," if values else b"")
             place = self.at
-            key, value = element()
-            if rises and found and not found[-1][0] < key:
+            values.append(self.value(form))
+            keys.append(values[-1] if form is str else values[-1][0])
+            if rises and len(keys) > 1 and not keys[-2] < keys[-1]:
                 self.disorder.append(place)
-            found.append((key, value))
-            if self.text[self.at : self.at + 1] == b"]":
-                self.at += 1
-                return [value for _, value in found]
-            self.fixed(b",")
-
-    def plain(self):
-        value = self.string()
-        return value, value
-
-    def parts(self, count):
-        """An element of so many strings."""
-
-        def read():
-            self.fixed(b"(")
-            values = [self.string()]
-            for _ in range(count - 1):
-                self.fixed(b",")
-                values.append(self.string())
-            self.fixed(b")")
-            return values[0], values
-
-        return read
-
-    def used(self):
-        """An input derivation and the names of its outputs that are used."""
-        self.fixed(b"(")
-        path = self.string()
-        self.fixed(b",")
-        names = self.listed(self.plain, True)
-        self.fixed(b")")
-        return path, (path, names)
+        return values
 
     def derivation(self):
-        """The outputs, the inputs' paths and the sources."""
+        """The inputs' paths and the sources."""
         self.fixed(b"Derive(")
-        outputs = self.listed(self.parts(4), True)
-        self.fixed(b",")
-        inputs = self.listed(self.used, True)
-        self.fixed(b",")
-        sources = self.listed(self.plain, True)
-        for _ in range(2):
-            self.fixed(b",")
-            self.string()
-        self.fixed(b",")
-        self.listed(self.plain, False)
-        self.fixed(b",")
-        self.listed(self.parts(2), True)
+        _, inputs, sources, *_ = self.several(PARTS)
         self.fixed(b")")
         if self.at < len(self.text):
-            self.fail(self.at)
+            raise Refused(b"Syntax(%d)" % self.at)
         if self.disorder:
             raise Refused(b"Order(%d)" % min(self.disorder))
-        return outputs, [path for path, _ in inputs], sources
+        return [path for path, _ in inputs] + sources
 
 
 def own_path(folder, name, text):
     """The own path of a derivation's text in a folder under a name; else what is wrong with it."""
     if len(text) > MAX_DRV:
         raise Refused(b"TooLong")
-    _, inputs, sources = Reader(text).derivation()
-    for path in inputs + sources:
+    paths = Reader(text).derivation()
+    for path in paths:
         if not is_path(folder, path):
             raise Refused(b"BadReference(" + spelling_of(path) + b")")
-    references = [path.decode() for path in sorted({*inputs, *sources})]
+    references = [path.decode() for path in sorted({*paths})]
     return text_path(folder.decode(), name.decode(), text, references).encode()
 
 
@@ -167,119 +125,75 @@ def check_words(folder, path, text):
     return (b"" if own == path else b"TextPathMismatch(" + own + b")"), own
 
 
-class JournalReader:
-    """Reads a journal line by line."""
+def row_of(folder, version, line):
+    """A line of a journal: its kind, its path, and its digest as version 2 writes it; none if it is
+    not well formed."""
+    kind, path, *rest = line.split(b" ", 2) + [b""]
+    has_digest = kind in (b"A", b"O")
+    if kind not in (b"A", b"D", b"O", b"R") or len(rest) != 1 + has_digest:
+        return None
+    digest = rest[0] if has_digest else None
+    if version == b"1" and has_digest and digest != b"-":
+        digest = b"sha256:" + digest
+    name, colon, digits = (digest or b"-").partition(b":")
+    is_digest = colon and DIGITS.get(name) == len(digits) and re.fullmatch(b"[0-9a-f]*", digits)
+    is_good = is_path(folder, path) and (is_digest or digest in (None, b"-"))
+    return (kind, path, digest) if is_good else None
 
-    def __init__(self, folder, text):
-        self.folder = folder
-        self.text = text
-        self.entries = []
-        self.faults = []
-        self.valid = set()
 
-    def bad(self, number):
-        raise Refused(b"BadLine(%d)" % number)
+def may_follow(row, entry, after):
+    """Whether a row may follow those of the last entry, before a line that stands after it."""
+    kind, path, _ = row
+    if kind == b"D":
+        name = name_of(path)
+        return name.endswith(b".drv") and len(name) > 4 and after.startswith(b"O ")
+    if kind == b"O":
+        before = [it[1] for it in entry if it[0] == b"O"]
+        return entry and entry[0][0] == b"D" and not (before and path <= before[-1])
+    last = entry[-1] if entry else (b"D",)
+    return kind == b"A" or last[0] != b"D" and not (last[0] == b"R" and path <= last[1])
 
-    def digest(self, field, number):
-        """A digest as version 2 writes it."""
-        if field == b"-":
-            return field
-        if self.version == 1:
-            field = b"sha256:" + field
-        name, colon, digits = field.partition(b":")
-        if not colon or DIGITS.get(name) != len(digits) or not HEX.match(digits):
-            self.bad(number)
-        return field
 
-    def path(self, field, number):
-        if not is_path(self.folder, field):
-            self.bad(number)
-        return field
+def entries_of(folder, text):
+    """The entries of a journal, each a list of rows; else what is wrong with it."""
+    head = re.match(rb"realiser-journal (\d+)\n", text)
+    if head and head[1] not in (b"1", b"2"):
+        raise Refused(b"WrongVersion")
+    if text and not head:
+        raise Refused(b"BadLine(1)")
+    entries, numbers, lines = [], {}, text.split(b"\n")
+    for number, line in enumerate(lines[1:-1], 2):
+        row = row_of(folder, head[1], line)
+        if not row or not may_follow(row, entries[-1] if entries else [], lines[number]):
+            raise Refused(b"BadLine(%d)" % number)
+        if row[0] in (b"A", b"D"):
+            entries.append([])
+        entries[-1].append(row)
+        numbers[len(entries), len(entries[-1])] = number
+    if lines[-1]:
+        raise Refused(b"BadLine(%d)" % len(lines))
+    if faults := [*faults_of(entries, numbers)]:
+        raise Refused(min(faults)[1])
+    return entries
 
-    def lines(self):
-        """The lines behind the first, with their numbers."""
-        lines = self.text.split(b"\n")
-        ends = lines.pop() == b""
-        first = lines[0] if lines else b""
-        other = re.match(rb"realiser-journal (\d+)\n", self.text)
-        if other and other.group(1) not in (b"1", b"2"):
-            raise Refused(b"WrongVersion")
-        if not other or first != b"realiser-journal " + other.group(1):
-            self.bad(1)
-        self.version = int(other.group(1))
-        return list(enumerate(lines[1:], 2)), ends
 
-    def read(self):
-        """The entries, each a list of lines as version 2 writes them."""
-        if not self.text:
-            return self.entries
-        lines, ends = self.lines()
-        for place, (number, line) in enumerate(lines):
-            behind = lines[place + 1][1] if place + 1 < len(lines) else self.rest(ends)
-            self.line(number, line, behind)
-        if not ends:
-            self.bad(len(lines) + 2)
-        self.register()
-        if self.faults:
-            raise Refused(min(self.faults)[1])
-        return self.entries
-
-    def rest(self, ends):
-        """The bytes behind the last newline."""
-        return b"" if ends else self.text.rsplit(b"\n", 1)[1]
-
-    def line(self, number, line, behind):
-        kind, _, rest = line.partition(b" ")
-        if line[1:2] != b" " or kind not in (b"A", b"D", b"O", b"R"):
-            self.bad(number)
-        if kind in (b"A", b"O"):
-            path, space, digest = rest.partition(b" ")
-            self.path(path, number)
-            if not space:
-                self.bad(number)
-            row = [kind, path, self.digest(digest, number), number]
-        else:
-            row = [kind, self.path(rest, number), None, number]
-        getattr(self, "add_" + kind.decode().lower())(row, behind)
-
-    def add_a(self, row, behind):
-        self.entries.append([row])
-
-    def add_d(self, row, behind):
-        is_drv = name_of(row[1]).endswith(b".drv") and len(name_of(row[1])) > 4
-        if not is_drv or not behind.startswith(b"O "):
-            self.bad(row[3])
-        self.entries.append([row])
-
-    def add_o(self, row, behind):
-        if not self.entries or self.entries[-1][0][0] != b"D":
-            self.bad(row[3])
-        before = [other[1] for other in self.entries[-1] if other[0] == b"O"]
-        if before and not before[-1] < row[1]:
-            self.bad(row[3])
-        self.entries[-1].append(row)
-
-    def add_r(self, row, behind):
-        last = self.entries[-1][-1] if self.entries else [b"D"]
-        if last[0] == b"D" or last[0] == b"R" and not last[1] < row[1]:
-            self.bad(row[3])
-        self.entries[-1].append(row)
-
-    def register(self):
-        """Looks for references that are not registered, and for paths that are registered twice."""
-        for entry in self.entries:
-            own = {row[1] for row in entry if row[0] in (b"A", b"O")}
-            for kind, path, _, number in entry:
-                if kind == b"R" and path not in self.valid | own:
-                    self.faults.append((number, b"NotClosed(%d)" % number))
-                if kind in (b"A", b"O") and path in self.valid:
-                    self.faults.append((number, b"Twice(%d)" % number))
-            self.valid |= own
+def faults_of(entries, numbers):
+    """References that are not registered, and paths that are registered twice, by their lines."""
+    valid = set()
+    for place, entry in enumerate(entries, 1):
+        own = {path for kind, path, _ in entry if kind in (b"A", b"O")}
+        for at, (kind, path, _) in enumerate(entry, 1):
+            number = numbers[place, at]
+            if kind == b"R" and path not in valid | own:
+                yield number, b"NotClosed(%d)" % number
+            if kind in (b"A", b"O") and path in valid:
+                yield number, b"Twice(%d)" % number
+        valid |= own
 
 
 def journal_of(folder, text):
     """A journal's text in version 2, and the valid paths; else what is wrong."""
-    reader = JournalReader(folder, text)
-    rows = [row for entry in reader.read() for row in entry]
-    written = [b" ".join(part for part in row[:3] if part is not None) + b"\n" for row in rows]
-    return b"realiser-journal 2\n" + b"".join(written), reader.valid
+    rows = [row for entry in entries_of(folder, text) for row in entry]
+    lines = [b" ".join(part for part in row if part is not None) + b"\n" for row in rows]
+    valid = {path for kind, path, _ in rows if kind in (b"A", b"O")}
+    return b"realiser-journal 2\n" + b"".join(lines), valid

@@ -1,12 +1,20 @@
-// Counts the calls of the C library by which a program reaches the system, and refuses those that
-// it is told to refuse. It is loaded before the program by LD_PRELOAD; `tests/refused-calls` and
-// `tests/program-rows` compile and use it.
-// CALLS_LOG names a file to which each call is added as a line: `done` or `refused`, the kind, the
-// thread, and the path. REFUSE is KIND:FIRST:LAST:ERRNO: the calls of that kind from the FIRST to
-// the LAST, counted from 1, fail with that error, and are not done. BEFORE has lines `N KIND PATH:
-// COMMAND`: right before the Nth call of that kind at that path a shell runs the command, and a
-// line `before` is added; a rename is at the path that it gives. Where the command's status is not
-// 0 the call fails with that error. MOST is how many bytes each read and each write takes at most.
+// Watches, counts and refuses calls of the C library by which a program reaches the system or asks
+// for memory. LD_PRELOAD loads it before the program. What it does is said by these variables:
+// CALLS_LOG is a file that gets a line for each call: `done` or `refused`, kind, thread, path.
+// REFUSE is KIND:FIRST:LAST:ERRNO: the calls of that kind from the FIRST to the LAST, counted from
+// 1, fail with that error, and are not done. MOST: a read or a write takes no more bytes.
+// BEFORE has lines `N KIND PATH: COMMAND`: right before the Nth call of that kind at that path
+// (that a rename gives) a shell runs the command, and a line `before` is added. Where its status is
+// not 0 the call fails with that error.
+// OWN has where each of the two functions begins and ends, from the program's base, by which it
+// asks for memory; the C library and the kit ask by others, while they start a thread or a process.
+// Then growths of memory are counted, and that with the number GROWTH is refused: of the whole run,
+// or with CALL of that call alone, the first time that it is made, by the lines `begins CALL` and
+// `ends CALL` that the program prints. With EACH it is told how many growths each call met, in the
+// file TELL, or else on the standard error.
+// RUN_COUNTS is a file whose first 24 bytes get, also where the program is killed: the bytes for
+// which it asks, each growth of a list with its new length; its processor time, in nanoseconds,
+// when it last opened a file; and that when it last wrote to its standard output.
 #define _GNU_SOURCE
 #include <dlfcn.h>
 #include <errno.h>
@@ -14,22 +22,26 @@
 #include <pthread.h>
 #include <spawn.h>
 #include <stdarg.h>
+#include <stdatomic.h>
 #include <stdint.h>
 #include <stdio.h>
 #include <stdlib.h>
 #include <string.h>
+#include <sys/auxv.h>
 #include <sys/file.h>
+#include <sys/mman.h>
 #include <sys/stat.h>
 #include <sys/syscall.h>
 #include <sys/uio.h>
 #include <sys/wait.h>
+#include <time.h>
 #include <unistd.h>
 
-enum { KINDS = 20, EVENTS = 8, LONG = 8192 };
+enum { EVENTS = 8, LONG = 8192 };
 
 struct rule {
     char kind[32];
-    long first, last;
+    long first, last, count;
     int error;
 };
 
@@ -39,17 +51,12 @@ struct event {
     const char *command;
 };
 
-typedef int spawning(pid_t *, const char *, const posix_spawn_file_actions_t *,
-                     const posix_spawnattr_t *, char *const[], char *const[]);
+#define NEXT(name) __typeof__(&name) next = (__typeof__(&name))dlsym(RTLD_NEXT, #name)
 
-#define NEXT(function, name) function next = (function)dlsym(RTLD_NEXT, name)
-
-static const char *names[KINDS];
-static long counts[KINDS];
 static struct rule rule;
 static struct event events[EVENTS];
 static size_t most = -1;
-static int log_file = -2;
+static int log_file = -1, is_watched;
 static pthread_mutex_t lock = PTHREAD_MUTEX_INITIALIZER;
 
 static void read_rule(const char *text) {
@@ -59,7 +66,7 @@ static void read_rule(const char *text) {
 }
 
 static void read_events(const char *text) {
-    char *rest = strdup(text ? text : ""), *line;
+    char *rest = text ? strdup(text) : "", *line;
     for (int i = 0; (line = strtok_r(rest, "\n", &rest)); i++) {
         struct event *it = &events[i];
         int at = 0;
@@ -73,7 +80,7 @@ static void read_events(const char *text) {
 
 // The status of a command, which runs without this library.
 static int status_of(const char *command) {
-    NEXT(spawning *, "posix_spawn");
+    NEXT(posix_spawn);
     char *words[] = {"sh", "-c", (char *)command, 0}, *settings[] = {"PATH=/usr/bin:/bin", 0};
     pid_t pid;
     int status;
@@ -106,11 +113,10 @@ static int happened(const char *kind, const char *path) {
     return error;
 }
 
-static void begin(void) {
+static void begin_calls(void) {
     const char *path = getenv("CALLS_LOG");
     int flags = O_WRONLY | O_APPEND | O_CREAT | O_CLOEXEC;
-    log_file = path ? (int)syscall(SYS_openat, AT_FDCWD, path, flags, 0600) : -1;
-    if (log_file >= 0) {
+    if (path && (log_file = (int)syscall(SYS_openat, AT_FDCWD, path, flags, 0600)) >= 0) {
         // Far from the numbers that the program uses.
         int far = (int)syscall(SYS_fcntl, log_file, F_DUPFD_CLOEXEC, 500);
         syscall(SYS_close, log_file);
@@ -120,30 +126,153 @@ static void begin(void) {
     read_events(getenv("BEFORE"));
     if (getenv("MOST"))
         most = atol(getenv("MOST"));
-}
-
-static long *count_of(const char *kind) {
-    for (int i = 0; i < KINDS; i++) {
-        if (!names[i])
-            names[i] = kind;
-        if (strcmp(names[i], kind) == 0)
-            return &counts[i];
-    }
-    abort();
+    is_watched = path || rule.kind[0] || events[0].command;
 }
 
 // Counts a call, adds its line, and gives the error with which it is refused, or 0.
 static int refused(const char *kind, const char *path) {
+    if (!is_watched)
+        return 0;
     pthread_mutex_lock(&lock);
-    if (log_file == -2)
-        begin();
     int error = happened(kind, path);
-    long number = ++*count_of(kind);
-    if (strcmp(rule.kind, kind) == 0 && rule.first <= number && number <= rule.last)
+    if (strcmp(rule.kind, kind) == 0 && ++rule.count >= rule.first && rule.count <= rule.last)
         error = rule.error;
     add_line(error ? "refused" : "done", kind, path);
     pthread_mutex_unlock(&lock);
     return error;
+}
+
+// The counts of a run, which stand in a file where one is given.
+static struct counts {
+    _Atomic unsigned long long asked, opened, written;
+} uncounted, *counts = &uncounted;
+
+static void begin_counts(void) {
+    const char *path = getenv("RUN_COUNTS");
+    int file = path ? syscall(SYS_openat, AT_FDCWD, path, O_RDWR | O_CLOEXEC) : -1;
+    if (file < 0)
+        return;
+    void *at = mmap(NULL, sizeof uncounted, PROT_READ | PROT_WRITE, MAP_SHARED, file, 0);
+    syscall(SYS_close, file);
+    if (at != MAP_FAILED)
+        counts = at;
+}
+
+static unsigned long long own_time(void) {
+    struct timespec time;
+    clock_gettime(CLOCK_PROCESS_CPUTIME_ID, &time);
+    return time.tv_sec * 1000000000ull + time.tv_nsec;
+}
+
+// Whether growths are counted now, or no more; how many were met; the number of the refused one.
+static _Atomic int is_within;
+static int is_over;
+static _Atomic long met;
+static long number;
+static unsigned long base, own[4];
+static char line[400];
+static size_t length;
+
+static void begin_growths(void) {
+    Dl_info place;
+    char *rest = getenv("OWN");
+    if (!rest || !dladdr((void *)getauxval(AT_ENTRY), &place))
+        return;
+    base = (unsigned long)place.dli_fbase;
+    for (int i = 0; i < 4; i++)
+        own[i] = strtoul(rest, &rest, 16);
+    number = getenv("GROWTH") ? atol(getenv("GROWTH")) : 0;
+    is_within = !getenv("CALL") && !getenv("EACH");
+}
+
+__attribute__((constructor)) static void begin(void) {
+    begin_calls();
+    begin_counts();
+    begin_growths();
+}
+
+static void say(const char *text) {
+    const char *file = getenv("TELL");
+    int flags = O_WRONLY | O_CREAT | O_APPEND;
+    int to = file ? (int)syscall(SYS_openat, AT_FDCWD, file, flags, 0600) : 2;
+    syscall(SYS_write, to, text, strlen(text));
+    if (file)
+        syscall(SYS_close, to);
+}
+
+// What stands in the line after a word, if it begins with that and is of a call that is counted.
+static const char *call_after(const char *word) {
+    size_t head = strlen(word);
+    const char *call = length > head && !memcmp(line, word, head) ? line + head : 0;
+    return call && (getenv("EACH") || !strcmp(call, getenv("CALL"))) ? call : 0;
+}
+
+static void end_line(void) {
+    char text[sizeof line + 80];
+    line[length] = 0;
+    if (!is_within && !is_over && call_after("begins ")) {
+        met = 0;
+        is_within = 1;
+    } else if (is_within && call_after("ends ")) {
+        is_within = 0;
+        is_over = !getenv("EACH");
+        snprintf(text, sizeof text, "met %ld %s\n", met, call_after("ends "));
+        say(text);
+    }
+    length = 0;
+}
+
+static void read_lines(const char *bytes, size_t count) {
+    for (size_t i = 0; i < count; i++)
+        if (bytes[i] == '\n')
+            end_line();
+        else if (length + 1 < sizeof line)
+            line[length++] = bytes[i];
+}
+
+// Says who asked: the program in its first thread, a worker, or the system, which starts a thread
+// from the first one and a process from another one.
+static void tell_asker(int is_own) {
+    int is_first = syscall(SYS_gettid) == syscall(SYS_getpid);
+    const char *own = is_first ? "refused to the program\n" : "refused to a worker\n";
+    const char *thread = "refused to the start of a thread\n";
+    const char *process = "refused to the start of a process\n";
+    say(is_own ? own : is_first ? thread : process);
+}
+
+static int gives_none(const void *caller) {
+    if (!is_within)
+        return 0;
+    unsigned long at = (unsigned long)caller - base;
+    int is_own = (own[0] <= at && at < own[1]) || (own[2] <= at && at < own[3]);
+    if (++met != number)
+        return 0;
+    tell_asker(is_own);
+    errno = ENOMEM;
+    return 1;
+}
+
+void *__libc_malloc(size_t), *__libc_calloc(size_t, size_t), *__libc_realloc(void *, size_t);
+void *__libc_memalign(size_t, size_t);
+
+#define CALLER __builtin_return_address(0)
+void *malloc(size_t size) {
+    counts->asked += size;
+    return gives_none(CALLER) ? 0 : __libc_malloc(size);
+}
+void *calloc(size_t count, size_t size) {
+    return gives_none(CALLER) ? 0 : __libc_calloc(count, size);
+}
+void *realloc(void *block, size_t size) {
+    counts->asked += size;
+    return gives_none(CALLER) ? 0 : __libc_realloc(block, size);
+}
+void *aligned_alloc(size_t align, size_t size) {
+    return gives_none(CALLER) ? 0 : __libc_memalign(align, size);
+}
+int posix_memalign(void **block, size_t align, size_t size) {
+    *block = gives_none(CALLER) ? 0 : __libc_memalign(align, size);
+    return *block ? 0 : ENOMEM;
 }
 
 // The path of an open file, or of a name in an open folder.
@@ -161,14 +290,22 @@ static const char *path_of(int fd, const char *name, char *room) {
     return room;
 }
 
-#define REFUSE(kind, path, answer)              \
-    do {                                        \
-        int error_ = refused(kind, path);       \
-        if (error_) {                           \
-            errno = error_;                     \
-            return answer;                      \
-        }                                       \
+#define REFUSE(kind, path, answer)                         \
+    do {                                                   \
+        int error_ = is_watched ? refused(kind, path) : 0; \
+        if (error_) {                                      \
+            errno = error_;                                \
+            return answer;                                 \
+        }                                                  \
     } while (0)
+
+// A call that is refused or done.
+#define CALL(type, name, parameters, kind, path, ...) \
+    type name parameters {                            \
+        char room[LONG];                              \
+        REFUSE(kind, path, -1);                       \
+        return (type)syscall(__VA_ARGS__);            \
+    }
 
 static size_t least(size_t count) { return count < most ? count : most; }
 
@@ -176,41 +313,37 @@ static int open_at(int dir, const char *path, int flags, mode_t mode) {
     char room[LONG];
     const char *kind = flags & O_CREAT ? "create" : flags & O_DIRECTORY ? "open-folder" : "open";
     REFUSE(kind, path_of(dir, path, room), -1);
+    counts->opened = counts == &uncounted ? 0 : own_time();
     return (int)syscall(SYS_openat, dir, path, flags, mode);
 }
 
-static mode_t mode_of(int flags, va_list rest) {
-    return flags & O_CREAT ? va_arg(rest, mode_t) : 0;
-}
+// The permissions of a new file are the argument after the flags; of no other they are looked at.
+#define OPEN(dir, path, flags)                   \
+    do {                                         \
+        va_list rest_;                           \
+        va_start(rest_, flags);                  \
+        mode_t mode_ = va_arg(rest_, mode_t);    \
+        va_end(rest_);                           \
+        return open_at(dir, path, flags, mode_); \
+    } while (0)
 
-int open(const char *path, int flags, ...) {
-    va_list rest;
-    va_start(rest, flags);
-    mode_t mode = mode_of(flags, rest);
-    va_end(rest);
-    return open_at(AT_FDCWD, path, flags, mode);
-}
+int open(const char *path, int flags, ...) { OPEN(AT_FDCWD, path, flags); }
+int openat(int dir, const char *path, int flags, ...) { OPEN(dir, path, flags); }
 
-int openat(int dir, const char *path, int flags, ...) {
-    va_list rest;
-    va_start(rest, flags);
-    mode_t mode = mode_of(flags, rest);
-    va_end(rest);
-    return open_at(dir, path, flags, mode);
-}
-
-ssize_t read(int fd, void *bytes, size_t count) {
-    char room[LONG];
-    REFUSE("read", path_of(fd, 0, room), -1);
-    return syscall(SYS_read, fd, bytes, least(count));
-}
+CALL(ssize_t, read, (int fd, void *bytes, size_t count), "read", path_of(fd, 0, room), SYS_read, fd,
+     bytes, least(count))
 
 static const char *write_kind(int fd) { return fd == 1 ? "print" : fd == 2 ? "tell" : "write"; }
 
 ssize_t write(int fd, const void *bytes, size_t count) {
     char room[LONG];
     REFUSE(write_kind(fd), path_of(fd, 0, room), -1);
-    return syscall(SYS_write, fd, bytes, least(count));
+    if (fd == 1 && (getenv("CALL") || getenv("EACH")))
+        read_lines(bytes, count);
+    ssize_t taken = syscall(SYS_write, fd, bytes, least(count));
+    if (fd == 1 && counts != &uncounted)
+        counts->written = own_time();
+    return taken;
 }
 
 ssize_t writev(int fd, const struct iovec *parts, int count) {
@@ -221,78 +354,28 @@ ssize_t writev(int fd, const struct iovec *parts, int count) {
     return syscall(SYS_writev, fd, parts, count);
 }
 
-int fsync(int fd) {
-    char room[LONG];
-    REFUSE("sync", path_of(fd, 0, room), -1);
-    return (int)syscall(SYS_fsync, fd);
-}
-
-int fdatasync(int fd) {
-    char room[LONG];
-    REFUSE("sync", path_of(fd, 0, room), -1);
-    return (int)syscall(SYS_fdatasync, fd);
-}
-
-int fchmod(int fd, mode_t mode) {
-    char room[LONG];
-    REFUSE("permissions", path_of(fd, 0, room), -1);
-    return (int)syscall(SYS_fchmod, fd, mode);
-}
-
-int chmod(const char *path, mode_t mode) {
-    REFUSE("permissions", path, -1);
-    return (int)syscall(SYS_chmod, path, mode);
-}
-
-int flock(int fd, int operation) {
-    char room[LONG];
-    REFUSE("lock", path_of(fd, 0, room), -1);
-    return (int)syscall(SYS_flock, fd, operation);
-}
+CALL(int, fsync, (int fd), "sync", path_of(fd, 0, room), SYS_fsync, fd)
+CALL(int, fdatasync, (int fd), "sync", path_of(fd, 0, room), SYS_fdatasync, fd)
+CALL(int, fchmod, (int fd, mode_t mode), "permissions", path_of(fd, 0, room), SYS_fchmod, fd, mode)
+CALL(int, chmod, (const char *path, mode_t mode), "permissions", path, SYS_chmod, path, mode)
+CALL(int, flock, (int fd, int how), "lock", path_of(fd, 0, room), SYS_flock, fd, how)
+CALL(int, unlink, (const char *path), "remove", path, SYS_unlink, path)
+CALL(int, rmdir, (const char *path), "remove", path, SYS_rmdir, path)
+CALL(int, unlinkat, (int dir, const char *name, int flags), "remove", path_of(dir, name, room),
+     SYS_unlinkat, dir, name, flags)
+CALL(int, mkdir, (const char *path, mode_t mode), "make-folder", path, SYS_mkdir, path, mode)
+CALL(int, statx, (int dir, const char *path, int flags, unsigned mask, struct statx *found), "look",
+     path_of(dir, path, room), SYS_statx, dir, path, flags, mask, found)
+CALL(ssize_t, readlink, (const char *path, char *bytes, size_t count), "read-link", path,
+     SYS_readlinkat, AT_FDCWD, path, bytes, count)
+CALL(ssize_t, getdents64, (int fd, void *bytes, size_t count), "list", path_of(fd, 0, room),
+     SYS_getdents64, fd, bytes, count)
 
 int rename(const char *from, const char *to) {
     char both[LONG];
     snprintf(both, sizeof both, "%.3900s > %.3900s", from, to);
     REFUSE("rename", both, -1);
     return (int)syscall(SYS_rename, from, to);
-}
-
-ssize_t readlink(const char *path, char *bytes, size_t count) {
-    REFUSE("read-link", path, -1);
-    return syscall(SYS_readlinkat, AT_FDCWD, path, bytes, count);
-}
-
-int unlink(const char *path) {
-    REFUSE("remove", path, -1);
-    return (int)syscall(SYS_unlink, path);
-}
-
-int rmdir(const char *path) {
-    REFUSE("remove", path, -1);
-    return (int)syscall(SYS_rmdir, path);
-}
-
-int unlinkat(int dir, const char *name, int flags) {
-    char room[LONG];
-    REFUSE("remove", path_of(dir, name, room), -1);
-    return (int)syscall(SYS_unlinkat, dir, name, flags);
-}
-
-int mkdir(const char *path, mode_t mode) {
-    REFUSE("make-folder", path, -1);
-    return (int)syscall(SYS_mkdir, path, mode);
-}
-
-int statx(int dir, const char *path, int flags, unsigned mask, struct statx *found) {
-    char room[LONG];
-    REFUSE("look", path_of(dir, path, room), -1);
-    return (int)syscall(SYS_statx, dir, path, flags, mask, found);
-}
-
-ssize_t getdents64(int fd, void *bytes, size_t count) {
-    char room[LONG];
-    REFUSE("list", path_of(fd, 0, room), -1);
-    return syscall(SYS_getdents64, fd, bytes, count);
 }
 
 int fcntl(int fd, int command, ...) {
@@ -308,12 +391,12 @@ int fcntl(int fd, int command, ...) {
 
 int posix_spawn(pid_t *pid, const char *path, const posix_spawn_file_actions_t *actions,
                 const posix_spawnattr_t *attributes, char *const words[], char *const settings[]) {
-    NEXT(spawning *, "posix_spawn");
+    NEXT(posix_spawn);
     int error = refused("spawn", path);
     return error ? error : next(pid, path, actions, attributes, words, settings);
 }
 
-// Where the wait is refused the child has ended, so that nothing is done behind the program's back.
+// Where the wait is refused the child has ended, so that it does nothing later.
 pid_t waitpid(pid_t pid, int *status, int options) {
     siginfo_t ended;
     int error = refused("wait", "");
@@ -325,11 +408,9 @@ pid_t waitpid(pid_t pid, int *status, int options) {
     return (pid_t)syscall(SYS_wait4, pid, status, options, 0);
 }
 
-typedef int creating(pthread_t *, const pthread_attr_t *, void *(*)(void *), void *);
-
 int pthread_create(pthread_t *thread, const pthread_attr_t *attributes, void *(*run)(void *),
                    void *argument) {
-    NEXT(creating *, "pthread_create");
-    int error = refused("thread", "");
+    NEXT(pthread_create);
+    int error = refused("thread", "-");
     return error ? error : next(thread, attributes, run, argument);
 }

@@ -1,11 +1,11 @@
-"""The scenes of `tests/refused-calls` for `plan` and `realise`."""
+"""The scenes of `refused-calls` and `refused-growths` for `plan` and `realise`."""
 
 import os
 import re
 import shutil
 
-from refused_scenes import FIRST_LINE, JOURNAL, Scene
-from scenes import contents, draft, put
+from refused_scenes import FIRST_LINE, JOURNAL, LEAVES, Scene, variant
+from scenes import contents, draft, run
 
 SCRIPTS = {
     "first": "echo first > $out",
@@ -15,213 +15,170 @@ SCRIPTS = {
 }
 OUTPUTS = {"first": ["out"], "second": ["out"], "third": ["dev", "out"]}
 REASONS = '(NoStart|ReadFault|MissingOutput\\("out"\\)|ExitStatus\\(\\d+\\)|OutOfMemory|Killed)'
+OWN = re.compile(r"\.build-[012](/|$)|\.nix_realise-(left-)?[0-4](/|$)")
 
 
-class Runs(Scene):
-    """Three derivations: the second uses the first, and an old output of the third is there."""
+class Plan(Scene):
+    """`plan` of three derivations: the second uses the first, and an old output of the third is
+    there."""
 
-    scripts = SCRIPTS
+    subcommand = name = "plan"
+    scripts, options = SCRIPTS, ()
+    # Whether the first derivation is realised before, and those that are built then.
+    is_begun, builds = False, ()
 
     def prepare(self):
-        self.drv, self.out, self.paths = {}, {}, {}
+        self.drv, self.paths = {}, {}
         for name, script in self.scripts.items():
             inputs = [(self.drv["first"], "out")] if name == "second" else []
-            text = draft(script, OUTPUTS[name], inputs)
-            self.drv[name], outputs = put(self.program, self.store, name, text)
-            self.out[name] = outputs["out"]
+            self.drv[name], outputs = self.put(name, draft(script, OUTPUTS[name], inputs))
             self.paths[name] = [outputs[output] for output in OUTPUTS[name]]
-            base = os.path.basename(self.drv[name])
-            self.old_files[base] = open(self.drv[name]).read()
         self.old_files[JOURNAL] = FIRST_LINE + f"A {self.store}/{'a' * 32}-x -\n"
-        self.old_files[os.path.basename(self.out["third"]) + "/old/file"] = "old\n"
+        self.old_files[os.path.basename(self.paths["third"][-1]) + "/old/file"] = "old\n"
         self.old_files[".build-0/old/file"] = "old\n"
+        if self.is_begun:
+            run([self.program, "realise", "--store-dir", self.store, self.drv["first"]])
+            for path in (str(self.journal), *self.paths["first"]):
+                self.old_files[os.path.basename(path)] = open(path).read()
 
-    def drvs(self):
-        return list(self.drv.values())
-
-    def common(self):
-        """The words behind the subcommand's."""
-        return ["--store-dir", self.store, self.drv["second"], self.drv["third"]]
+    def command(self):
+        places = {"TRACE": self.folder / "trace", "LOGS": self.logs}
+        options = [places.get(word, word) for word in self.options]
+        return [*options, self.drv["second"], self.drv["third"]]
 
     def place_of(self, calls, at):
         path = calls[at].path
-        if path in self.drv.values():
+        if path in self.drvs:
             return "derivation"
         return "journal read" if path == str(self.journal) else ""
 
     def report(self, words):
         """The report where each derivation has such a line, and the roots such outputs."""
-        rows = sorted((self.drv[name], word) for name, word in words.items())
-        lines = []
-        for drv, word in rows:
-            word, colon, reason = word.partition(":")
-            lines.append(f"{word} {drv}{colon}{reason}\n")
+        rows = ((self.drv[name], word.partition(":")) for name, word in words.items())
+        lines = [f"{word} {drv}{colon}{reason}\n" for drv, (word, colon, reason) in sorted(rows)]
         for name in ("second", "third"):
-            if words[name].split(":")[0] in ("built", "reused", "build", "reuse"):
+            if words[name] in ("built", "build"):
                 lines += [f"output {path}\n" for path in self.paths[name]]
         return "".join(lines)
 
-
-class Plan(Runs):
-    """`plan` of all three."""
-
-    subcommand = name = "plan"
-
-    def command(self):
-        return ["plan", *self.common()]
-
     def good(self):
-        return 0, self.report({name: "build" for name in SCRIPTS}), ""
+        return 0, self.report(dict.fromkeys(SCRIPTS, "build")), ""
 
 
-class PlanDot(Plan):
-    """The same as a graph."""
-
-    name = "plan --dot"
-
-    def command(self):
-        return ["plan", "--dot", *self.common()]
-
-    def good(self):
-        lines = ["digraph plan {"]
-        for drv, name in sorted((drv, name) for name, drv in self.drv.items()):
-            border = "" if name == "first" else ", peripheries=2"
-            look = f'label="{name}.drv", style=filled, fillcolor=palegreen{border}'
-            lines.append(f'  "{drv}" [{look}];')
-        lines.append(f'  "{self.drv["second"]}" -> "{self.drv["first"]}";')
-        return 0, "\n".join([*lines, "}", ""]), ""
-
-
-class Realise(Runs):
+class Realise(Plan):
     """`realise` of all three by one worker."""
 
     subcommand = name = "realise"
-    jobs = 1
-
-    def command(self):
-        return ["realise", "--jobs", self.jobs, *self.common()]
+    options, builds = ("--jobs", "1"), {*SCRIPTS}
+    # The one that fails where a call is refused.
+    failed = None
 
     def good(self):
-        return 0, self.report({name: "built" for name in SCRIPTS}), ""
+        return 0, self.report(dict.fromkeys(SCRIPTS, "built")), ""
 
     def of_output(self, path):
-        """The derivation whose output, or a part of it, lies at a path."""
         for name, outputs in self.paths.items():
-            if any(path == output or path.startswith(output + "/") for output in outputs):
+            if any(f"{path}/".startswith(f"{output}/") for output in outputs):
                 return name
         return None
 
     def derivation_of(self, calls, at):
         """The derivation that a call's thread works for."""
-        for call in reversed(calls[: at + 1]):
-            if call.thread == calls[at].thread and self.of_output(call.path):
-                return self.of_output(call.path)
-        return None
+        own = (it.path for it in reversed(calls[: at + 1]) if it.thread == calls[at].thread)
+        return next(filter(None, map(self.of_output, own)), None)
 
     def has_started(self, calls, at):
         """Whether the call's thread has started the builder of its derivation."""
-        name = self.derivation_of(calls, at)
-        for call in reversed(calls[:at]):
+        for place in reversed(range(at)):
+            call = calls[place]
             if call.thread == calls[at].thread and call.kind == "spawn" and not call.is_refused:
-                return self.derivation_of(calls, calls.index(call)) == name
+                return self.derivation_of(calls, place) == self.derivation_of(calls, at)
         return False
 
     def place_of(self, calls, at):
-        call = calls[at]
-        path = call.path.split(" > ")[-1]
+        call, path = calls[at], calls[at].to
         if call.kind in ("print", "wait"):
             return {"print": "", "wait": "end"}[call.kind]
         if call.kind == "thread":
-            return self.thread_of(calls, at)
+            # The first one keeps the journal while the run goes on.
+            is_later = any(it.kind == "thread" for it in calls[:at])
+            return ("one of two" if "2" in self.options else "only") if is_later else "keeper"
         if self.is_of_lock(call):
             return "lock"
         if path.endswith("/var/nix/db/db.sqlite"):
             return "database of Nix"
-        if path in self.drv.values():
+        if path in self.drvs:
             return "derivation"
         if "/.nix_realise-left-" in path:
-            is_taken = self.is_taken_by_another(calls, at) != self.is_raced
+            is_taken = bool(self.moves_to(calls, at, True)) != self.is_raced
             return "folder aside" if is_taken or self.has_started(calls, at) else "name aside"
         if path.endswith(str(self.journal)) or "/.nix_realise-" in path:
-            # The journal is kept by a thread of its own while the run goes on.
-            if call.thread != calls[0].thread:
-                return "journal kept"
-        own = [c for c in calls[: at + 1] if c.thread == calls[0].thread]
-        made = [c.kind for c in own].count("create")
-        if path == str(self.journal) and call.kind != "rename":
-            looks = [c.path for c in own if c.kind == "look"].count(path)
-            return ("journal read", "journal tried", "journal written")[looks - 1]
-        if path == str(self.journal) or "/.nix_realise-" in path:
-            return "journal tried" if made == 1 else "journal written"
+            return self.place_of_journal(calls, at)
         if call.kind in ("make-folder", "spawn") or path == "/dev/null":
             return "start"
         if self.has_started(calls, at):
             return "output" if self.of_output(path) else "build folder"
-        return "taken place" if self.is_taken(path) else "free place"
+        is_taken = os.path.relpath(path, self.store).split("/")[0] in self.laid
+        return "taken place" if is_taken else "free place"
 
-    def is_taken_by_another(self, calls, at):
-        """Whether another worker moved something to the name of a refused rename, before the call's
-        thread looked at it again."""
-        own, to = calls[at].thread, calls[at].path.split(" > ")[-1]
-        looks = (
-            n
-            for n in range(at + 1, len(calls))
-            if calls[n].thread == own and calls[n].kind == "look"
-        )
-        moves = [it for it in calls[: next(looks, at)] if it.kind == "rename" and it.thread != own]
-        return calls[at].kind == "rename" and any(
-            it.path.split(" > ")[-1] == to for it in moves if not it.is_refused
-        )
+    def place_of_journal(self, calls, at):
+        """Where a call at the journal or its temporary file was made. It is kept by a thread of its
+        own while the run goes on."""
+        call, path = calls[at], calls[at].to
+        if call.thread != calls[0].thread:
+            return "journal kept"
+        own = [it for it in calls[: at + 1] if it.thread == call.thread]
+        if path == str(self.journal) and call.kind != "rename":
+            looks = [it.path for it in own if it.kind == "look"].count(path)
+            return ("journal read", "journal tried", "journal written")[looks - 1]
+        return "journal tried" if self.made_beside(own) == 1 else "journal written"
+
+    def moves_to(self, calls, at, is_before):
+        """What other workers moved to the name of a refused rename; or only what they did before
+        the call's thread looked at it again."""
+        call, end = calls[at], len(calls)
+        if call.kind != "rename":
+            return []
+        if is_before:
+            own = [n for n in range(at, end) if calls[n].thread == call.thread]
+            end = next((n for n in own if calls[n].kind == "look"), at)
+        moves = [it for it in calls[:end] if it.kind == "rename" and it.thread != call.thread]
+        return [it for it in moves if it.to == call.to and not it.is_refused]
 
     def races(self, calls, at):
         # A call is logged before it is made. So where two workers move something to one name, the
-        # log does not tell whether the look behind a refused rename saw what the other one moved.
-        own, to = calls[at].thread, calls[at].path.split(" > ")[-1]
-        moves = [it for it in calls if it.kind == "rename" and it.thread != own]
-        is_shared = any(it.path.split(" > ")[-1] == to for it in moves if not it.is_refused)
-        return [False, True] if calls[at].kind == "rename" and is_shared else [False]
+        # log does not tell whether the look after a refused rename saw what the other one moved.
+        return [False, True] if self.moves_to(calls, at, False) else [False]
 
-    def thread_of(self, calls, at):
-        """Whose thread a call starts. The first one keeps the journal while the run goes on."""
-        if not any(it.kind == "thread" for it in calls[:at]):
-            return "keeper"
-        return "only" if self.jobs == 1 else "one of two"
-
-    def wanted_paths(self):
-        """The paths of the outputs of both roots."""
-        return [*self.paths["second"], *self.paths["third"]]
-
-    def is_taken(self, path):
-        """Whether something lay at a place of the store folder before the run."""
-        return os.path.relpath(path, self.store).split("/")[0] in self.laid
-
-    def told_of(self, told, calls, at):
-        if told in ("NoStart", "ReadFault") and at is not None:
-            failed = self.derivation_of(calls, at)
-            words = {name: "built" for name in SCRIPTS}
-            words[failed] = f"failed: {told}"
-            if failed == "first":
-                words["second"] = f"refused: InputNotRealised({self.drv['first']})"
-            self.failed = failed
-            return 1, self.report(words), ""
+    def told_of(self, told, calls=(), at=None):
         self.failed = None
-        return super().told_of(told, calls, at)
+        if told not in ("NoStart", "ReadFault") or at is None:
+            return super().told_of(told, calls, at)
+        self.failed = self.derivation_of(calls, at)
+        words = {**dict.fromkeys(SCRIPTS, "built"), self.failed: f"failed: {told}"}
+        if self.failed == "first":
+            words["second"] = f"refused: InputNotRealised({self.drv['first']})"
+        return 1, self.report(words), ""
+
+    def rows(self, form):
+        """An expression for a report whose lines for derivations have a form."""
+        rows = [form.format(re.escape(drv)) for drv in sorted(self.drvs)]
+        paths = [*self.paths["second"], *self.paths["third"]]
+        return "".join(rows), [f"output {re.escape(path)}\n" for path in paths]
 
     def is_again(self, out):
         # The first one is not wanted where the second is valid.
-        rows = [f"((built|reused) {re.escape(drv)}\n)?" for drv in sorted(self.drv.values())]
-        rows += [f"output {re.escape(path)}\n" for path in self.wanted_paths()]
-        return re.fullmatch("".join(rows), out) is not None
+        rows, outputs = self.rows("((built|reused) {0}\n)?")
+        return re.fullmatch(rows + "".join(outputs), out) is not None
 
     def is_stated(self, told):
         status, out, err = told
-        row = f"((built|reused) {{0}}|failed {{0}}: {REASONS}"
-        row += "|refused {0}: InputNotRealised\\(.*\\))\n"
-        rows = [row.format(re.escape(drv)) for drv in sorted(self.drv.values())]
-        rows += [f"(output {re.escape(path)}\n)?" for path in self.wanted_paths()]
+        form = f"((built|reused) {{0}}|failed {{0}}: {REASONS}"
+        rows, outputs = self.rows(form + "|refused {0}: InputNotRealised\\(.*\\))\n")
         if out and not err:
             is_bad = re.search("^(failed|refused) ", out, re.M) is not None
-            return re.fullmatch("".join(rows), out) is not None and status == int(is_bad)
+            whole = rows + "".join(f"({output})?" for output in outputs)
+            return re.fullmatch(whole, out) is not None and status == int(is_bad)
         return super().is_stated(told)
 
     def journal_of(self, found):
@@ -229,35 +186,36 @@ class Realise(Runs):
         text = found[JOURNAL][1].decode() if JOURNAL in found else ""
         old = self.old_files[JOURNAL]
         entries = re.split("^(?=[AD] )", text[len(old) :], flags=re.M)
-        return text.startswith(old), sorted(entry for entry in entries if entry)
+        return text.startswith(old), [entry for entry in entries if entry]
+
+    def known(self, found):
+        """The derivations that the journal knows as an undisturbed run knows them."""
+        entries = self.journal_of(found)[1]
+        last = self.journal_of(self.last or contents(found))[1]
+        drv = {entry.split()[1]: entry for entry in last}
+        return {name for name in SCRIPTS if drv.get(self.drv[name]) in entries}
 
     def names_of(self, found, name):
-        """What stands at the outputs of a derivation."""
         bases = [os.path.basename(path) for path in self.paths[name]]
         return {n: e[:2] for n, e in found.items() if n.split("/")[0] in bases}
 
     def strays(self, found, stands):
-        is_last = isinstance(stands, dict)
+        is_last, last = isinstance(stands, dict), self.last or contents(found)
         stray = [name for name in self.rest(found, stands) if name not in self.left]
-        is_behind, entries = self.journal_of(found)
-        if not is_behind:
-            stray.append(JOURNAL)
-        last = self.last or contents(found)
-        _, all_entries = self.journal_of(last)
-        by_drv = {e.split()[1]: e for e in all_entries}
-        known = {name: by_drv.get(drv) in entries for name, drv in self.drv.items()}
-        if any(entry not in all_entries for entry in entries):
+        is_longer, entries = self.journal_of(found)
+        known, wanted = self.known(found), self.wanted(stands, is_last)
+        if not is_longer or not {*entries} <= {*self.journal_of(last)[1]}:
             stray.append(JOURNAL)
         for name in SCRIPTS:
-            held, new = self.names_of(found, name), self.names_of(last, name)
-            has_begun = stands in ("new", "moved", "outputs") or is_last or known[name]
-            if has_begun and held != new:
-                stray.append(self.out[name])
-            if stands in ("old", "left") and held != self.names_of(self.laid, name):
-                stray.append(self.out[name])
-        wanted = self.wanted(stands, is_last)
-        if wanted is not None and wanted != {name for name in SCRIPTS if known[name]}:
-            stray.append(f"{JOURNAL} registers {sorted(name for name in SCRIPTS if known[name])}")
+            held, *may = (self.names_of(it, name) for it in (found, self.laid, last))
+            if stands in ("new", "moved", "outputs") or is_last or name in known:
+                may = may[1:]
+            elif stands in ("old", "left"):
+                may = may[:1]
+            if held not in may and (held or len(may) == 1) and (stands or name in known):
+                stray.append(self.paths[name][-1])
+        if wanted not in (None, known):
+            stray.append(f"{JOURNAL} registers {sorted(known)}")
         return sorted(stray)
 
     def wanted(self, stands, is_last):
@@ -265,37 +223,24 @@ class Realise(Runs):
         if stands in ("old", "left", "outputs"):
             return set()
         if stands in ("new", "moved") or is_last:
-            return set(SCRIPTS)
-        if stands == "less":
-            lost = {"first", "second"} if self.failed == "first" else {self.failed}
-            return set(SCRIPTS) - lost
-        return None
+            return self.builds
+        lost = {"first", "second"} if self.failed == "first" else {self.failed}
+        return self.builds - lost if stands == "less" else None
 
     def rest(self, found, stands):
         """Names beside the outputs and the journal that are new, or gone, or changed."""
         stray = []
-        for name in set(found) | set(self.laid):
-            if name == JOURNAL or self.of_output(str(self.store / name)):
+        for name in {*found, *self.laid} - {JOURNAL}:
+            is_own = OWN.match(name)
+            if self.of_output(str(self.store / name)):
                 continue
-            is_own = re.match(r"\.build-[012](/|$)|\.nix_realise-(left-)?[0-4](/|$)", name)
-            if is_own and stands in (None, "left", "moved"):
-                if name in found:
-                    self.left.add(name)
+            if is_own and stands in LEAVES:
+                self.left |= {name} & {*found}
+            elif is_own and (name not in found or name in self.laid and stands == "old"):
                 continue
-            if is_own and name in self.laid and stands == "old":
-                continue
-            if is_own and name not in found:
-                continue
-            if found.get(name) != self.laid.get(name):
+            elif found.get(name) != self.laid.get(name):
                 stray.append(name)
         return stray
-
-
-class RealiseByTwo(Realise):
-    """The same by two workers."""
-
-    name = "realise by two"
-    jobs = 2
 
 
 class RealiseByRunner(Realise):
@@ -303,11 +248,8 @@ class RealiseByRunner(Realise):
 
     name = "realise by a runner"
     scripts = {**SCRIPTS, "third": SCRIPTS["third"] + "; ln -s d $dev/l"}
+    options = ("--keep-failed", "--outputs", "nix", "--logs", "LOGS", "--runner", "/usr/bin/env")
     kept = ""
-
-    def command(self):
-        words = ["--keep-failed", "--outputs", "nix", "--logs", self.logs]
-        return ["realise", *words, "--runner", "/usr/bin/env", *self.common()]
 
     def lay(self):
         super().lay()
@@ -322,7 +264,7 @@ class RealiseByRunner(Realise):
             return "logs" if call.path == str(self.logs) else "log"
         return super().place_of(calls, at)
 
-    def told_of(self, told, calls, at):
+    def told_of(self, told, calls=(), at=None):
         status, out, err = super().told_of(told, calls, at)
         if self.failed:
             drv = self.drv[self.failed]
@@ -346,3 +288,32 @@ class RealiseByRunner(Realise):
         kept = {name for name in found if self.kept and name.split("/")[0] == self.kept}
         self.left |= kept
         return [name for name in super().rest(found, stands) if name not in kept]
+
+
+class RealiseFailing(RealiseByRunner):
+    """`realise` with logs, a runner and kept folders, where a builder fails."""
+
+    name, has_calls = "realise of what fails", False
+    scripts, builds = {**SCRIPTS, "third": "exit 3"}, {"first", "second"}
+
+    def is_again(self, out):
+        return f"failed {self.drv['third']}: ExitStatus(3)\n" in out
+
+    def rest(self, found, stands):
+        return [name for name in super().rest(found, stands) if not name.startswith(".build-")]
+
+
+BEGUN = {"has_calls": False, "is_begun": True}
+TRACED = ("--trace", "TRACE", "--jobs", "2")
+RUNS = [
+    Plan,
+    # Rows and large-cases say what the graph is.
+    variant(Plan, "plan --dot", options=("--dot",), good=lambda self: None),
+    Realise,
+    variant(Realise, "realise by two", options=("--jobs", "2")),
+    RealiseByRunner,
+    variant(Plan, "plan of what is begun", **BEGUN),
+    variant(Realise, "realise of what is begun", **BEGUN, builds={"second", "third"}),
+    variant(Realise, "realise, traced, shown", options=TRACED, has_calls=False, is_shown=True),
+    RealiseFailing,
+]

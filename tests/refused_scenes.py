@@ -1,10 +1,11 @@
-"""The scenes of `tests/refused-calls`: what is laid, which command is run, what is stated of it."""
+"""The scenes of `refused-calls` and `refused-growths`: what is laid, which command is run, and what
+is stated of it. Those of `plan` and `realise` stand in `refused_runs.py`."""
 
 import hashlib
 import os
 import re
 
-from scenes import contents, draft, empty, put, snapshot, text_path
+from scenes import LOCK, contents, draft, empty, put, snapshot, text_path
 
 # What is told where a call is refused: the status, standard output, and what follows the program's
 # name on standard error. `ever` stands for what an undisturbed run tells.
@@ -36,7 +37,7 @@ READING = "look open read"
 ROWS = [
     ("check", READING, "derivation", "bad", "old"),
     ("add-text", "open read", "file", "file", "old"),
-    ("add-text realise", "open lock", "lock", "unlocked", "old"),
+    ("add-text realise", "create lock", "lock", "unlocked", "old"),
     ("add-text", READING, "journal read", "unread", "old"),
     ("add-text", "print", "", "unprinted", "old"),
     ("add-text", WRITING, "path", "no text", "old"),
@@ -76,15 +77,15 @@ ROWS = [
 JOURNAL = "realiser-journal"
 FIRST_LINE = "realiser-journal 2\n"
 DOTTED = re.compile(r"\.nix_realise-(left-)?\d+(/|$)|\.build-\d+(/|$)")
+# What stands after a run that may leave temporary files: nothing is stated, or each file is whole.
+LEAVES = (None, "whole", "left", "moved")
 KEPT_FOLDERS = (".nix_realise-left-5", ".build-9", "other")
 KEPT_FILES = (".nix_realise-7", ".build-9/file", "other/file", "file")
-
-
 MET = set()
 
 
 def row_of(subcommand, kind, place):
-    """The row of a refused call."""
+    """What is told where a call is refused, and what stands then."""
     for number, (names, kinds, where, told, stands) in enumerate(ROWS):
         if subcommand in names.split() and kind in kinds.split() and where == place:
             MET.add((number, kind))
@@ -93,99 +94,96 @@ def row_of(subcommand, kind, place):
 
 
 def rows_not_met():
-    """The kinds of call of the rows that no refused call was of."""
+    """The kinds of call of the rows that no refused call was of. A short run may end before its
+    journal is kept."""
     for number, (names, kinds, where, _, _) in enumerate(ROWS):
-        for kind in kinds.split():
-            # A short run may end before its journal is kept.
-            if (number, kind) not in MET and where != "journal kept":
-                yield f"{names}: {kind}, {where}"
+        left = [kind for kind in kinds.split() if (number, kind) not in MET]
+        yield from (f"{names}: {kind}, {where}" for kind in left if where != "journal kept")
 
 
 class Scene:
     """A store folder with files that no run may touch, and a command."""
 
-    subcommand = ""
-    name = ""
+    subcommand = name = ""
+    # Whether calls of the system are refused to it too, so that all that it tells is stated;
+    # whether standard error is a terminal.
+    has_calls, is_shown = True, False
+    # Whether two workers' calls were made in another order than they were logged.
+    is_raced = False
 
     def __init__(self, program, folder):
-        self.program = program
-        self.folder = folder
-        self.store = folder / "store"
+        self.program, self.folder, self.store = program, folder, folder / "store"
         self.store.mkdir(exist_ok=True)
-        self.journal = self.store / JOURNAL
-        self.old_files = {}
-        self.own = {}
-        self.path = ""
-        self.file = folder / "file"
-        self.logs = folder / "logs"
-        self.good_status, self.good_out, self.good_err = 0, "", ""
-        self.last = None
-        self.left = set()
         empty(self.store)
+        self.journal, self.file, self.logs = self.store / JOURNAL, folder / "file", folder / "logs"
+        # The files before a run, and what those that it writes were and become.
+        self.old_files, self.own = {}, {}
+        self.drvs, self.path, self.last = [], "", None
         self.prepare()
 
     def prepare(self):
         """Makes the derivations, and says which files stand before a run."""
 
+    def put(self, name, text):
+        """Makes a derivation that stands before a run. Gives its path and those of its outputs."""
+        path, outputs = put(self.program, self.store, name, text)
+        self.old_files[os.path.basename(path)] = open(path).read()
+        self.drvs.append(path)
+        return path, outputs
+
     def command(self):
-        """The words behind the program's."""
         return []
 
     def words(self):
-        """The command."""
-        return [self.program, *map(str, self.command())]
+        words = [self.subcommand, "--store-dir", self.store, *self.command()]
+        return [self.program, *map(str, words)]
 
     def lay(self):
-        """Puts all files as they are before a run."""
         empty(self.store)
         for name in KEPT_FOLDERS:
             (self.store / name).mkdir()
-        for name in KEPT_FILES:
-            (self.store / name).write_text("kept\n")
-        for name, text in self.old_files.items():
+        for name, text in {**dict.fromkeys(KEPT_FILES, "kept\n"), **self.old_files}.items():
             path = self.store / name
             path.parent.mkdir(exist_ok=True, parents=True)
             path.write_text(text)
-            path.chmod(0o640)
-        self.laid = snapshot(self.store)
-        self.left = set()
+            path.chmod(0o640 if name in self.old_files else 0o644)
+        self.laid, self.left = snapshot(self.store), set()
 
     def place_of(self, calls, at):
-        """Where a call was made."""
         return ""
-
-    def is_of_lock(self, call):
-        """Whether a call opens the store folder for its lock, or asks for that."""
-        return call.kind == "lock" or call.path == f"{self.store}/."
 
     def is_of_journal(self, call):
         """Whether a call opens the journal, which may be gone by then: it counts as empty."""
         return call.kind == "open" and call.path == str(self.journal)
 
+    def is_of_lock(self, call):
+        """Whether a call makes or opens the file that is locked, or asks for its lock."""
+        return call.kind == "lock" or call.path == f"{self.store}/{LOCK}"
+
+    def made_beside(self, calls):
+        """How many files these calls make, but for the file that is locked."""
+        return sum(call.kind == "create" and not self.is_of_lock(call) for call in calls)
+
     def passes(self, call, name):
         """Whether a run goes on as ever where a call is refused with an error."""
         if name == "EEXIST" and call.kind == "create":
-            return ".nix_realise-" in call.path
-        is_unlocked = name in ("EACCES", "ENOENT") and self.is_of_lock(call)
-        return name in ("EINTR", "EOPNOTSUPP") or is_unlocked
+            return ".nix_realise-" in call.path and not self.is_of_lock(call)
+        return name in ("EINTR", "EOPNOTSUPP")
 
-    def told_of(self, told, calls, at):
+    def told_of(self, told, calls=(), at=None):
         """What is told: status, standard output, standard error."""
         if told == "ever":
-            return self.good_status, self.good_out, self.good_err
+            return self.ample
         status, out, err = TOLD[told]
-        err = err.replace("FILE", str(self.file)).replace("PATH", self.path)
-        err = err.replace("STORE", str(self.store)).replace("LOGS", str(self.logs))
-        if at is not None:
-            err = err.replace("DRV", calls[at].path)
-        return status, out.replace("PATH", self.path), f"nix_realise: {err}\n" if err else ""
+        places = {"FILE": self.file, "PATH": self.path, "STORE": self.store, "LOGS": self.logs}
+        for word, path in places.items():
+            out, err = out.replace(word, str(path)), err.replace(word, str(path))
+        err = err.replace("DRV", calls[at].path) if at is not None else err
+        return status, out, f"nix_realise: {err}\n" if err else ""
 
     def good(self):
-        """What an undisturbed run tells."""
+        """What an undisturbed run tells; none if that is not stated."""
         return 0, self.path + "\n", ""
-
-    # Whether two workers' calls were made in another order than they were logged.
-    is_raced = False
 
     def races(self, calls, at):
         """The orders that are possible of the refused call and those of other workers."""
@@ -194,55 +192,45 @@ class Scene:
     def outcome(self, at, calls):
         """What is told where the call at this place is refused, and what stands then."""
         if at is None:
-            return *self.good(), "new"
+            return *self.ample, "new"
         told, stands = row_of(self.subcommand, calls[at].kind, self.place_of(calls, at))
         return *self.told_of(told, calls, at), stands
 
     def is_again(self, out):
-        """Whether the next run's standard output is as it has to be."""
-        return out == self.good_out
+        return out == self.ample[1]
 
     def is_stated(self, told):
         """Whether a run, in which many calls were refused, told what is stated."""
         status, out, err = told
         if not err:
-            return status in (self.good_status, 3) and self.good_out.startswith(out)
-        lines = {self.told_of(name, [], None)[2]: TOLD[name][0] for name in TOLD if TOLD[name]}
-        for drv in self.drvs():
-            lines[f"nix_realise: {drv}: Unreadable\n"] = 2
-        lines[self.good_err] = self.good_status
-        return lines.get(err) == status and self.good_out.startswith(out)
-
-    def drvs(self):
-        """The derivations that may be blamed."""
-        return []
+            return status in (self.ample[0], 3) and self.ample[1].startswith(out)
+        lines = {self.told_of(name)[2]: TOLD[name][0] for name in TOLD if TOLD[name]}
+        lines |= {f"nix_realise: {drv}: Unreadable\n": 2 for drv in self.drvs}
+        lines[self.ample[2]] = self.ample[0]
+        return lines.get(err) == status and self.ample[1].startswith(out)
 
     def permitted(self, stands):
         """What each own file may be, by its name."""
-        if stands == "old" or stands == "left":
-            return {name: (old,) for name, (old, _) in self.own.items()}
-        if stands in ("new", "moved"):
-            return {name: (new,) for name, (_, new) in self.own.items()}
+        if stands in ("old", "left", "new", "moved"):
+            place = int(stands in ("new", "moved"))
+            return {name: (texts[place],) for name, texts in self.own.items()}
         return self.own
 
     def strays(self, found, stands):
         """What stands though it must not, or does not though it must."""
-        stray = []
         if isinstance(stands, dict):
             held = contents(found)
-            names = {name for name in set(held) | set(stands) if held.get(name) != stands.get(name)}
-            return sorted(name for name in names if name not in self.left)
-        for name in set(found) | set(self.laid):
-            if name in self.own:
-                continue
-            if name not in self.laid and DOTTED.match(name) and stands in (None, "left", "moved"):
+            names = {name for name in {*held, *stands} if held.get(name) != stands.get(name)}
+            return sorted(names - self.left)
+        stray = []
+        for name in {*found, *self.laid} - {*self.own}:
+            if name not in self.laid and DOTTED.match(name) and stands in LEAVES:
                 self.left.add(name)
             elif found.get(name) != self.laid.get(name):
                 stray.append(name)
         for name, may in self.permitted(stands).items():
             held = found[name][1].decode(errors="replace") if name in found else None
-            if held not in may:
-                stray.append(name)
+            stray += [] if held in may else [name]
         return sorted(stray)
 
 
@@ -252,30 +240,27 @@ class Check(Scene):
     subcommand = name = "check"
 
     def prepare(self):
-        self.paths = []
         for name in ("one", "two"):
-            path, _ = put(self.program, self.store, name, draft("echo " + name + " > $out"))
-            self.paths.append(path)
-            self.old_files[os.path.basename(path)] = open(path).read()
+            self.put(name, draft("echo " + name + " > $out"))
 
     def command(self):
-        return ["check", "--store-dir", self.store, *self.paths]
+        return self.drvs
 
     def place_of(self, calls, at):
-        return "derivation" if calls[at].path in self.paths else ""
+        return "derivation" if calls[at].path in self.drvs else ""
 
     def good(self):
-        return 0, "".join(f"ok {path}\n" for path in self.paths), ""
+        return 0, "".join(f"ok {path}\n" for path in self.drvs), ""
 
-    def told_of(self, told, calls, at):
+    def told_of(self, told, calls=(), at=None):
         if told == "bad" and at is not None:
             bad = calls[at].path
-            rows = [f"bad {p}: Unreadable\n" if p == bad else f"ok {p}\n" for p in self.paths]
+            rows = [f"bad {p}: Unreadable\n" if p == bad else f"ok {p}\n" for p in self.drvs]
             return 2, "".join(rows), ""
         return super().told_of(told, calls, at)
 
     def is_stated(self, told):
-        rows = [f"(ok {re.escape(p)}|bad {re.escape(p)}: Unreadable)\n" for p in self.paths]
+        rows = [f"(ok {re.escape(p)}|bad {re.escape(p)}: Unreadable)\n" for p in self.drvs]
         if told[0] in (0, 2) and not told[2]:
             return re.fullmatch("".join(rows), told[1]) and (told[0] == 2) == ("bad" in told[1])
         return told[0] == 3 and told[1] == "" and told[2] in ("", "nix_realise: run: Unwritable\n")
@@ -285,41 +270,37 @@ class AddText(Scene):
     """`add-text` over an old file and a journal with an entry."""
 
     subcommand = name = "add-text"
-    is_old = True
-    held = JOURNAL
+    is_old, held = True, JOURNAL
 
     def prepare(self):
         text = "a text of its own\n"
         self.file.write_text(text)
         self.path = text_path(str(self.store), "greeting", text.encode())
         base = os.path.basename(self.path)
-        digest = hashlib.sha256(text.encode()).hexdigest()
-        entry = f"A {self.store}/{'a' * 32}-x -\n"
-        old = FIRST_LINE + entry
+        old = FIRST_LINE + f"A {self.store}/{'a' * 32}-x -\n"
         if self.is_old:
             self.old_files = {base: "an old text\n", self.held: old}
-        new = (old if self.is_old else FIRST_LINE) + f"A {self.path} sha256:{digest}\n"
+        new = old if self.is_old else FIRST_LINE
+        new += f"A {self.path} sha256:{hashlib.sha256(text.encode()).hexdigest()}\n"
         before = self.old_files.get
         self.own = {base: (before(base), text), self.held: (before(self.held), new)}
 
     def command(self):
-        return ["add-text", "--store-dir", self.store, "greeting", self.file]
+        return ["greeting", self.file]
 
     def place_of(self, calls, at):
-        call = calls[at]
-        made = [c.kind for c in calls[: at + 1]].count("create")
+        call, path = calls[at], os.path.abspath(calls[at].path)
         if call.kind == "print":
             return ""
         if self.is_of_lock(call):
             return "lock"
-        if os.path.abspath(call.path) == os.path.abspath(self.file):
+        if path == os.path.abspath(self.file):
             return "file"
-        if os.path.abspath(call.path) == os.path.abspath(self.journal):
+        if path == os.path.abspath(self.journal):
             looks = [c.path for c in calls[: at + 1] if c.kind == "look"].count(str(self.journal))
             return "journal read" if looks == 1 else "journal written"
-        if call.path == self.path or call.path.endswith("> " + self.path):
-            return "path"
-        return "path" if made == 1 else "journal written"
+        is_first = self.made_beside(calls[: at + 1]) == 1
+        return "path" if is_first or call.to == self.path else "journal written"
 
     def permitted(self, stands):
         if stands == "text":
@@ -327,26 +308,17 @@ class AddText(Scene):
         return super().permitted(stands)
 
 
-class AddTextFresh(AddText):
-    """`add-text` where nothing is yet."""
-
-    name = "add-text, no journal"
-    is_old = False
-
-
 class AddTextRelative(AddText):
     """`add-text` of a file, and by a journal, that are given by relative paths."""
 
-    name = "add-text, relative"
-    held = "journal"
+    name, held = "add-text, relative", "journal"
 
     def prepare(self):
         super().prepare()
         self.file, self.journal = map(os.path.relpath, (self.file, self.store / self.held))
 
     def command(self):
-        words = ["--journal", self.journal, "greeting", self.file]
-        return ["add-text", "--store-dir", self.store, *words]
+        return ["--journal", self.journal, *super().command()]
 
 
 class AddTextValid(AddText):
@@ -366,9 +338,8 @@ class AddDrv(AddText):
     subcommand = name = "add-drv"
 
     def prepare(self):
-        self.input, outputs = put(self.program, self.store, "low", draft("echo low > $out"))
-        self.old_files[os.path.basename(self.input)] = open(self.input).read()
-        text = draft(f"cat {outputs['out']} > $out", inputs=[(self.input, "out")])
+        path, outputs = self.put("low", draft("echo low > $out"))
+        text = draft(f"cat {outputs['out']} > $out", inputs=[(path, "out")])
         self.path, _ = put(self.program, self.store, "high", text)
         base = os.path.basename(self.path)
         self.file.write_text(text)
@@ -376,50 +347,52 @@ class AddDrv(AddText):
         self.own = {base: ("an old derivation", open(self.path).read())}
 
     def command(self):
-        return ["add-drv", "--store-dir", self.store, "high", self.file]
+        return ["high", self.file]
 
     def place_of(self, calls, at):
-        return "derivation" if calls[at].path == self.input else super().place_of(calls, at)
-
-    def drvs(self):
-        return [self.input]
+        return "derivation" if calls[at].path in self.drvs else super().place_of(calls, at)
 
 
 class Words(Scene):
-    """A name that is none, of which standard error is told."""
+    """Words of which a line is told, or what standard output refuses."""
 
-    subcommand = name = "words"
+    subcommand = "words"
+    given, told = [], None
 
     def prepare(self):
         self.file.write_text("a text\n")
 
-    def command(self):
-        return ["add-text", "--store-dir", self.store, "a/name", self.file]
+    def words(self):
+        places = {"STORE": str(self.store), "FILE": str(self.file)}
+        return [self.program, *(places.get(word, word) for word in self.given)]
 
     def place_of(self, calls, at):
         return "file" if calls[at].path == str(self.file) else ""
 
     def good(self):
-        return 2, "", "nix_realise: a/name: BadName\n"
+        return self.told
 
 
-class Help(Scene):
-    """The version, which standard output refuses."""
-
-    subcommand = name = "help"
-
-    def command(self):
-        return ["--version"]
-
-    def good(self):
-        return 0, "nix_realise 0.1.0\n", ""
+def variant(kind, name, **more):
+    """The same scene with another name, and with other settings."""
+    return type(name, (kind,), {"name": name, **more})
 
 
-def scenes(program, folder, only):
-    """All scenes, or those of these names, each laid anew in the one store folder."""
-    from refused_runs import Plan, PlanDot, Realise, RealiseByRunner, RealiseByTwo
-
-    kinds = [Check, AddText, AddTextFresh, AddTextRelative, AddTextValid, AddDrv, Plan, PlanDot]
-    for kind in [*kinds, Realise, RealiseByTwo, RealiseByRunner, Words, Help]:
-        if not only or kind.name in only:
-            yield kind(program, folder)
+NAMED = ["add-text", "--store-dir", "STORE", "a/name", "FILE"]
+ELSEWHERE = ["check", "--store-dir", "store", "x"]
+WRONG = (2, "", "nix_realise: a/name: BadName\n")
+FOLDER = (2, "", "nix_realise: store: BadStoreDir\n")
+VERSION = (0, "nix_realise 0.1.0\n", "")
+ALL = [
+    Check,
+    AddText,
+    variant(AddText, "add-text, no journal", is_old=False),
+    AddTextRelative,
+    AddTextValid,
+    AddDrv,
+    variant(Words, "words", given=NAMED, told=WRONG),
+    variant(Words, "words, a bad folder", given=ELSEWHERE, told=FOLDER),
+    variant(Words, "words, no option", given=["check", "--frob"]),
+    variant(Words, "words, no kind", given=["realise", "--outputs", "x", "x"]),
+    variant(Words, "help", subcommand="help", given=["--version"], told=VERSION),
+]

@@ -1,4 +1,5 @@
-"""Runs a program under a malloc that refuses, which is compiled by the kit's clang."""
+"""Runs a program under the library of `refused_calls.c`, which refuses calls of the system and
+growths of memory."""
 
 import collections
 import functools
@@ -6,9 +7,11 @@ import os
 import pathlib
 import struct
 import subprocess
+import sys
 
-from public_functions import Wrong
-from scenes import HERE
+from row_calls import compiled
+from row_runs import Stream
+from scenes import HERE, contents, run, snapshot
 
 # How a run ended: its status, and what it printed and said.
 Ran = collections.namedtuple("Ran", "status out err")
@@ -16,10 +19,8 @@ Ran = collections.namedtuple("Ran", "status out err")
 LONGEST = 100
 
 
-def kit():
-    """The kit's folder, which holds the page that `rt doc` names."""
-    page = subprocess.run(["rt", "doc"], check=True, capture_output=True, text=True).stdout
-    return pathlib.Path(page.strip()).parent
+class Wrong(Exception):
+    """What is not as it should be."""
 
 
 def functions_in(elf):
@@ -37,14 +38,12 @@ def functions_in(elf):
 
 
 class Refusing:
-    """The malloc that refuses, as a library in a folder."""
+    """The library, in a folder."""
 
     def __init__(self, folder):
-        self.library = pathlib.Path(folder) / "refuse.so"
-        flags = ["-O1", "-ffreestanding", "-nostdlib", "-fuse-ld=lld", "-shared", "-fPIC"]
-        clang = kit() / "toolchain/bin/clang"
-        source = HERE / "refused_growths.c"
-        subprocess.run([clang, *flags, "-o", self.library, source], check=True)
+        self.library = compiled(folder)
+        if self.library is None:
+            sys.exit("there is no C compiler")
 
     @functools.cache
     def own(self, program):
@@ -57,9 +56,8 @@ class Refusing:
             raise Wrong(f"{program} has no function {lacking}") from None
 
     def settings(self, program, **settings):
-        """The environment in which a program is refused memory."""
         chosen = {name: str(value) for name, value in settings.items()}
-        return os.environ | chosen | {"OWN": self.own(program), "LD_PRELOAD": str(self.library)}
+        return os.environ | chosen | {"OWN": self.own(program), "LD_PRELOAD": self.library}
 
     def run(self, program, script="", **settings):
         """Runs a program over lines of its standard input, in the folder of the tests."""
@@ -70,3 +68,51 @@ class Refusing:
         except subprocess.TimeoutExpired:
             raise Wrong(f"{program}: no end after {LONGEST} seconds: {settings}") from None
         return Ran(ran.returncode, ran.stdout.decode(), ran.stderr.decode())
+
+
+class Sweep:
+    """The runs over one scene, and what was wrong in them."""
+
+    def __init__(self, refusing, scene, folder):
+        self.refusing, self.scene = refusing, scene
+        self.log = folder / f"log of {scene.name}"
+        self.runs, self.wrong = 0, []
+
+    def ran(self, env):
+        """Lays the scene, and runs it; gives what was told and the lines of the log."""
+        self.scene.lay()
+        self.log.unlink(missing_ok=True)
+        self.runs += 1
+        told = self.shown(env) if self.scene.is_shown else run(self.scene.words(), env=env)
+        lines = self.log.read_text(errors="surrogateescape") if self.log.exists() else ""
+        return told, lines.splitlines()
+
+    def shown(self, env):
+        terminal = Stream(None, None, "tty")
+        how = {"env": env, "stderr": terminal.file, "timeout": LONGEST}
+        ran = subprocess.run(self.scene.words(), stdout=subprocess.PIPE, **how)
+        return ran.returncode, ran.stdout.decode(), terminal.text()
+
+    def blame(self, what, *how):
+        self.wrong.append(f"{self.scene.name} {what}: " + " ".join(map(str, how)))
+
+    def learn(self, env):
+        """The undisturbed run: what it tells, what it leaves, and what it logs."""
+        scene = self.scene
+        scene.ample, lines = self.ran(env)
+        scene.last = contents(snapshot(scene.store))
+        wanted = scene.good() if scene.has_calls else None
+        if wanted not in (None, scene.ample):
+            self.blame("undisturbed", "told", scene.ample, "and not", wanted)
+        return lines
+
+    def look(self, what, stands):
+        """Looks at what stands after a run, and at what comes of the same command then."""
+        scene = self.scene
+        if stray := scene.strays(snapshot(scene.store), stands):
+            self.blame(what, "there is", stray)
+        status, out, err = run(scene.words())
+        if status != scene.ample[0] or not scene.is_again(out):
+            self.blame(what, "the next run ended with", status, out, err)
+        if stray := scene.strays(snapshot(scene.store), scene.last):
+            self.blame(what, "after the next run there is", stray)

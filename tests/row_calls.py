@@ -2,12 +2,13 @@
 calls of the system, and keeps a log of them.
 
 A line of `before` is `N KIND PATH: COMMAND`: right before the Nth call of a kind at a path the
-shell runs the command. Where that fails the call is refused with its status as the error; `refuse
-EIO` stands for such an end. With `most N` each read and each write takes N bytes at most.
+shell runs the command. Where that fails the call is refused with its status as the error;
+`refuse EIO` stands for such an end. With `most N` each read and each write takes N bytes at most.
 
 `calls` are all calls of the run. A line has the kinds of those that follow one another at one path,
-and the path, which is `-` where there is none. `first calls` and `last calls` are the lines with
-which they begin and end. `calls by path` are those at some paths, with a line for all at one path.
+and the path, which is `-` where there is none; `; ` may stand between lines. `first calls` and
+`last calls` are the lines with which they begin and end. `calls by path` are those at some paths,
+with a line for all at one path.
 """
 
 import errno
@@ -49,9 +50,9 @@ def needs_library(step):
 
 
 def settings(scene, step):
-    """The environment of a run; none other than this process's if it has no library."""
+    """The environment of a run; that of this process if it has no library."""
     if not needs_library(step):
-        return None
+        return os.environ
     log = scene.folder / "calls"
     log.unlink(missing_ok=True)
     number_of = lambda found: f"exit {getattr(errno, found[1])}"
@@ -66,6 +67,11 @@ def grouped(calls):
     """Lines of the kinds of calls at one path, and that path."""
     groups = itertools.groupby(calls, key=lambda call: call[1])
     return [" ".join([*(kind for kind, _ in group), path]) for path, group in groups]
+
+
+def lines_of(text):
+    """The lines of a text, which are divided by semicolons too."""
+    return text.replace("; ", "\n").splitlines()
 
 
 def compare_calls(scene, step):
@@ -83,9 +89,9 @@ def compare_calls(scene, step):
         if done != "before"
     ]
     for label in PARTS.keys() & step.texts.keys():
-        wanted = scene.text(step, label).splitlines()
+        wanted = lines_of(scene.text(step, label))
         expect("\n".join(wanted), "\n".join(PARTS[label](grouped(calls), len(wanted))))
-    wanted = sorted(scene.text(step, "calls by path").splitlines())
+    wanted = sorted(lines_of(scene.text(step, "calls by path")))
     by_path = grouped(sorted(calls, key=lambda call: call[1]))
     paths = {line.rpartition(" ")[2] for line in wanted}
     found = sorted(line for line in by_path if line.rpartition(" ")[2] in paths)

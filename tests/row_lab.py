@@ -1,9 +1,9 @@
 """Takes the step `lab` of a row: calls of the libraries, by the program `crates/lab`.
 
-Each text with a label is kept under that name first. The lines of the text without a label are
-given to the program, and what it prints is compared with `out`, but for the lines that say where a
-call begins and ends. An answer of one line may stand behind its call, as `CALL => ANSWER`. The
-program runs in the folder of the tests, and `<xff>` stands for a byte of all ones.
+Each text with a label is kept under that name first; after `lab` stand the labels of journals, of
+which the first line is left out. The lines of the text without a label are given to the program,
+and what it prints is compared with `out`, but for the lines that say where a call begins and ends.
+The program runs in the folder of the tests, and `<xff>` stands for a byte of all ones.
 """
 
 import re
@@ -25,8 +25,9 @@ def bytes_of(text):
 
 def script_of(scene, step):
     """The lines that a step gives to the program."""
-    kept = [label for label in step.texts if label not in ("", "out")]
-    texts = [f"{label} = bytes {bytes_of(scene.text(step, label)).hex()}\n" for label in kept]
+    kept = {label: scene.text(step, label) for label in step.texts if label not in ("", "out")}
+    kept |= {label: f"realiser-journal 2\n{kept.get(label, '')}" for label in step.words}
+    texts = [f"{label} = bytes {bytes_of(text).hex()}\n" for label, text in kept.items()]
     return "".join(texts) + scene.text(step)
 
 
@@ -44,5 +45,4 @@ def answers_of(script):
 
 def take_lab(scene, step):
     """Gives the lines of a step to the program, and compares its answers."""
-    wanted = told(scene.text(step, "out"), "", step.numbers.get("status", 0))
-    expect(wanted, told(*answers_of(script_of(scene, step))))
+    expect(told(scene.text(step, "out"), "", 0), told(*answers_of(script_of(scene, step))))

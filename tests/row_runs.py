@@ -1,26 +1,24 @@
 """Runs of the program, and of shells, and what comes of them.
 
-Below `$ nix_realise WORD..` stand what it writes to standard output (`out`) and to standard error
-(`err`), and its status. Lines of `by path` come before those of `out`, in the order of the paths in
-them. With `tty` in place of `err` standard error is a terminal: `~` begins what follows the
-sequence that clears a line, which is cut at the last column. `out like`, `err like` and `tty like`
-are expressions for the whole. A word for which nothing stands yet, alone in `out`, stands for what
-came. `in` is the standard input. A line of `env` sets a variable, or names one that is not set.
-With `room N` standard output takes N bytes and refuses the next, with `err room N` standard error
-does; with `too much` the run is made with room for each number of bytes that is less than this
-text's. `limit N` is the greatest size of a file, and `ignore N` a signal that is ignored.
+Below `$ WORD..` stand what it writes to standard output (`out`) and to standard error (`err`), and
+its status. Lines of `by path`, as those of `=>` that tell of derivations, come before those of
+`out`, in the order of the paths in them. With `tty` in place of `err` standard error is a terminal:
+`~` begins what follows the sequence that clears a line, which is cut at the last column.
+`out like`, `err like` and `tty like` are expressions for the whole. A word for which nothing stands
+yet, alone in `out`, stands for what came. `in` is the standard input. A line of `env` sets a
+variable, or names one that is not set. With `room N` standard output takes N bytes and refuses the
+next, with `err room N` standard error does; with `too much` the run is made with room for each
+number of bytes that is less than this text's. `limit N` is the greatest size of a file, and
+`ignore N` a signal that is ignored.
 
-`built NAME WORD..` and `reused NAME WORD..` realise one derivation by these words, which comes to
-that; `failed NAME REASON WORD..` does so too, and `refused FAULT WORD..` is any run to which the
-store folder has that fault. `sh` has a shell take the text below, above the store folder;
-`nix_realise` is the program there, and a command that fails ends it.
-
-`start NAME nix_realise WORD..` lets a run go on, and `await NAME` waits for its end. `goes-on NAME`
-sees that it has not ended, and `kill NAME H` kills it after H hundredths of the time that the run
-before took. `until PATH` waits until something stands there. After `as-user` no run is the
-superuser's.
+`sh` has a shell take the text below, above the store folder; `nix_realise` is the program there,
+and a command that fails ends it. `start NAME WORD..` lets a run go on, and `await NAME` waits for
+its end. `goes-on NAME` sees that it has not ended, and `kill NAME H` kills it after H hundredths of
+the time that the run before took. `until PATH` waits until something stands there. After `as-user`
+no run is the superuser's.
 """
 
+import collections
 import os
 import pathlib
 import pty
@@ -31,6 +29,7 @@ import signal
 import subprocess
 import tempfile
 import time
+import types
 
 from row_calls import compare_calls, settings
 from row_faults import Fault, expect, told
@@ -46,24 +45,10 @@ NOBODY = 65534
 CLEAR, CUT = "\r\x1b[K", re.compile(r"\x1b\[\?7l(.*)\x1b\[\?7h")
 # A text that is one word.
 ALONE = re.compile(r"(<[a-z0-9.-]+>)\n?")
-
-
-class Ran:
-    """How a run ended: what it wrote, its status, and the label of standard error."""
-
-    def __init__(self, out, err, status, label="err"):
-        self.out, self.err, self.status, self.label = out, err, status, label
-
-    def told(self):
-        """All of it in one text."""
-        return told(self.out, self.err, self.status, self.label)
-
-
-class Parts:
-    """What stands below a step."""
-
-    def __init__(self, texts, numbers):
-        self.texts, self.numbers = texts, numbers
+# What stands below a step of which nothing is said.
+NOTHING = types.SimpleNamespace(texts={}, numbers={})
+# How a run ended: what it wrote, its status, and the label of standard error.
+Ran = collections.namedtuple("Ran", "out err status label")
 
 
 class Stream:
@@ -83,9 +68,9 @@ class Stream:
         """What was written."""
         if self.label == "tty":
             os.close(self.file)
-            return marked(decoded(read_all(self.ours)))
+            return marked(read_all(self.ours).decode(errors="backslashreplace"))
         self.file.seek(self.begin)
-        return decoded(self.file.read())
+        return self.file.read().decode(errors="backslashreplace")
 
 
 def read_all(terminal):
@@ -100,11 +85,6 @@ def read_all(terminal):
     return sent
 
 
-def decoded(text):
-    """Bytes as a text, also those that are none."""
-    return text.decode(errors="backslashreplace")
-
-
 def marked(sent):
     """What a terminal was sent, with marks in place of its sequences."""
     first, *lines = sent.replace("\r\n", "\n").split(CLEAR)
@@ -115,11 +95,13 @@ def marked(sent):
 class Run:
     """A run that was started as the parts of a step say."""
 
-    def __init__(self, scene, words, step, room=None):
+    def __init__(self, scene, words, step=NOTHING, room=None):
         self.begin, self.scene, numbers = time.monotonic(), scene, step.numbers
-        self.out = Stream(scene, numbers.get("room", room), "out")
+        self.out = Stream(scene, room, "out")
         is_shown = any(label.startswith("tty") for label in step.texts)
         self.err = Stream(scene, numbers.get("err room"), "tty" if is_shown else "err")
+        narrow = GREATEST_FILE if self.out.begin or self.err.begin else None
+        limits = numbers.get("limit", narrow), numbers.get("ignore")
         with tempfile.TemporaryFile(dir=scene.folder) as given:
             given.write(scene.said(step.texts.get("in", "")).encode())
             given.seek(0)
@@ -128,7 +110,7 @@ class Run:
                 executable=scene.program if words[0] == "nix_realise" else None,
                 cwd=scene.folder,
                 env=environment(scene, step),
-                preexec_fn=before(numbers, self.out.begin or self.err.begin),
+                preexec_fn=lambda: set_up(*limits),
                 start_new_session=True,
                 stdin=given,
                 stdout=self.out.file,
@@ -155,34 +137,21 @@ class Run:
 
 def environment(scene, step):
     """The variables of a run."""
-    found = dict(settings(scene, step) or os.environ)
-    lines = scene.said(step.texts.get("env", "")).splitlines()
-    for name, is_set, value in (line.partition("=") for line in lines):
-        if is_set:
-            found[name] = value
-        else:
-            found.pop(name, None)
-    return found
+    found = dict(settings(scene, step))
+    for line in scene.said(step.texts.get("env", "")).splitlines():
+        name, is_set, value = line.partition("=")
+        found[name] = value if is_set else None
+    return {name: value for name, value in found.items() if value is not None}
 
 
-def before(numbers, is_narrow):
-    """What a process does when it is about to become the program, if that is anything."""
-    limit = numbers.get("limit", GREATEST_FILE if is_narrow else None)
-
-    def set_up():
-        if limit is not None:
-            signal.signal(signal.SIGXFSZ, signal.SIG_IGN)
-            _, most = resource.getrlimit(resource.RLIMIT_FSIZE)
-            resource.setrlimit(resource.RLIMIT_FSIZE, (limit, most))
-        if "ignore" in numbers:
-            signal.signal(numbers["ignore"], signal.SIG_IGN)
-
-    return set_up if limit is not None or "ignore" in numbers else None
-
-
-def after_word(line):
-    """The text of a line after its first word."""
-    return line.partition(" ")[2] or line
+def set_up(limit, ignored):
+    """Limits the size of files and ignores a signal, where these are given."""
+    if limit is not None:
+        signal.signal(signal.SIGXFSZ, signal.SIG_IGN)
+        _, most = resource.getrlimit(resource.RLIMIT_FSIZE)
+        resource.setrlimit(resource.RLIMIT_FSIZE, (limit, most))
+    if ignored is not None:
+        signal.signal(ignored, signal.SIG_IGN)
 
 
 def wanted_of(scene, step, label, came):
@@ -191,56 +160,31 @@ def wanted_of(scene, step, label, came):
         like = scene.text(step, f"{label} like")
         return came if re.fullmatch(like, came) else like
     lines = scene.text(step, "by path").splitlines(keepends=True) if label == "out" else []
-    text = "".join(sorted(lines, key=after_word)) + scene.text(step, label)
+    text = "".join(sorted(lines, key=lambda line: line.partition(" ")[2])) + scene.text(step, label)
     alone = ALONE.fullmatch(text)
     if alone and alone[1] not in scene.names:
         scene.names[alone[1]] = came.removesuffix("\n") if text.endswith("\n") else came
     return scene.said(text)
 
 
-def compare(scene, step, ran):
-    """Compares how a run ended with what stands below a step."""
-    out, err = (wanted_of(scene, step, *it) for it in (("out", ran.out), (ran.label, ran.err)))
-    expect(Ran(out, err, step.numbers.get("status", 0), ran.label).told(), ran.told())
+def compare(scene, step, ran, room=None):
+    """Compares how a run ended with what stands below a step: what a standard output with room for
+    so many bytes got is left out."""
+    out = ran.out if room is not None else wanted_of(scene, step, "out", ran.out)
+    err = wanted_of(scene, step, ran.label, ran.err)
+    head = f"room {room}\n" if room is not None else ""
+    wanted = told(out, err, step.numbers.get("status", 0), ran.label)
+    expect(head + wanted, head + told(*ran))
     compare_calls(scene, step)
 
 
 def take_run(scene, step):
     """Runs a command line, and compares what it writes and its status."""
-    words = scene.words(step.words)
+    rooms = [step.numbers.get("room")]
     if "too much" in step.texts:
-        for room in range(len(scene.text(step, "too much").encode())):
-            compare_narrow(scene, step, words, room)
-    elif "room" in step.numbers:
-        compare_narrow(scene, step, words, step.numbers["room"])
-    else:
-        compare(scene, step, Run(scene, words, step).ended())
-
-
-def compare_narrow(scene, step, words, room):
-    """Runs with room for so many bytes, and compares the line of the fault and the status."""
-    ran = Run(scene, words, step, room).ended()
-    head = f"with room for {room} bytes on standard output:\n"
-    wanted = told("", scene.text(step, "err"), step.numbers.get("status", 0))
-    expect(head + wanted, head + told("", ran.err, ran.status))
-
-
-def take_outcome(scene, step):
-    """Realises a derivation, and compares the report with what a step says."""
-    name, *words = step.words
-    how = words.pop(0) if step.kind == "failed" else None
-    out = f"failed <{name}>: {how}\n" if how else f"{step.kind} <{name}>\noutput <{name}.out>\n"
-    parts = Parts({"out": out, **step.texts}, {"status": 1 if how else 0, **step.numbers})
-    words = ["nix_realise", "realise", "--store-dir", "<dir>", *words, f"<{name}>"]
-    compare(scene, parts, Run(scene, scene.words(words), parts).ended())
-
-
-def take_refused(scene, step):
-    """Makes a run which has a fault of the store folder."""
-    fault, subcommand, *words = scene.words(step.words)
-    words = ["nix_realise", subcommand, "--store-dir", str(scene.dir), *words]
-    parts = Parts({"err": f"nix_realise: <dir>: {fault}\n", **step.texts}, {"status": 3})
-    compare(scene, parts, Run(scene, words, parts).ended())
+        rooms = range(len(scene.text(step, "too much").encode()))
+    for room in rooms:
+        compare(scene, step, Run(scene, scene.words(step.words), step, room).ended(), room)
 
 
 def take_shell(scene, step):
@@ -294,10 +238,6 @@ def take_as_user(scene, _):
 
 RUNS = {
     "$": take_run,
-    "built": take_outcome,
-    "reused": take_outcome,
-    "failed": take_outcome,
-    "refused": take_refused,
     "sh": take_shell,
     "start": take_start,
     "await": lambda scene, step: compare(scene, step, scene.runs[step.words[0]].ended()),

@@ -2,24 +2,24 @@
 
 A word in angle brackets stands for a text: `<dir>` for the store folder, `<above>` for the folder
 above it, in which the program runs, `<bom>` for a byte order mark, `<tab>` and `<cr>` for a tab and
-a carriage return, `<xff>` and `<nul>` for bytes, and other words for what earlier steps
-name. `put any` writes a draft to `<dir>/file` and lets `add-drv` add it under the name `any`: then
-`<any>` stands for the derivation's path, `<any.out>` for the path of its output `out`, `<any.file>`
-for the name of its file, and `<any.name>` for that name without hash part and end. `script any
-<input>..` does so with a draft whose builder is a shell over the text, and which uses the output
-`out` of each input. `many N any MOST <input>..` adds N of them, `<any-0>` and so on, and `<any-*>`
-stands for all their paths: in their text `<n>` is the number, and `<inputs>` are the outputs of
-those before that one uses too, which are at most MOST and given by chance. `twins` adds two drafts,
-of which the second may name the first: `<try>` is the first number with which the first path is the
-lesser, so both paths have to vary with it. `rising` does as `put` does, with the first number with
-which the paths of the outputs rise. `order` names the lesser and the greater of two paths
-`<lesser>` and `<greater>`. `drv <any> any.drv` writes a derivation to its own path, which is
+a carriage return, `<xff>` and `<nul>` for bytes, and other words for what earlier steps name.
+
+`put any` writes a draft to `<dir>/file` and lets `add-drv` add it under the name `any`: then
+`<any>` stands for the derivation's path, `<any.out>` for that of its output `out`, `<any.file>` for
+the name of its file, and `<any.name>` for that name without hash part and end.
+`script any <input>..` does so with a draft whose builder is a shell over the text, and which uses
+the output `out` of each input. `many N any MOST <input>..` adds N of them, `<any-0>` and so on, and
+`<any-*>` stands for all their paths: in their text `<n>` is the number, and `<inputs>` are the
+outputs of those before that one uses too, at most MOST, given by chance.
+`twins any one TEXT other TEXT` adds two drafts, `rising` one: `<try>` is the first number with
+which the paths of the two, or of the outputs, rise. `order` names the lesser and the greater of two
+paths `<lesser>` and `<greater>`. `drv <any> any.drv` writes a derivation to its own path, which is
 computed here, as are those of `text-path`, `output-path` and `fixed-path`. `digest <word>` lets a
 word stand for the SHA-256 digest of a text.
 
-Steps of one line give a text to the program, and say what it tells of that (`row_texts.py`).
-`has-lines` compares the lines of a file in any order, `holds` its whole text. `unchanged` sees that
-the store folder is as it was at the last `note`. The steps of runs stand in `row_runs.py`.
+`has-lines` compares the lines of a file in any order, `holds` its whole text; `ran` compares those
+of the file to which builders add. `unchanged` sees that the store folder is as it was at the last
+`note`. The steps of runs stand in `row_runs.py`.
 """
 
 import hashlib
@@ -28,14 +28,14 @@ import pathlib
 import random
 import re
 import stat
+import types
 
 from reading import own_path
-from row_faults import Fault, expect
+from row_faults import Fault, expect, told
 from row_lab import take_lab
-from row_runs import RUNS, Parts, Ran, Run
-from row_texts import TEXTS
+from row_runs import RUNS, Run
 from row_traces import take_trace
-from scenes import draft, outputs_in, snapshot
+from scenes import LOCK, draft, outputs_in, snapshot
 from store_paths import make_path, text_path
 
 WORD = re.compile(r"<[^<>\s]+>")
@@ -94,191 +94,136 @@ class Scene:
 
     def take(self, step):
         """Takes a step. Fails where something else comes of it than it says."""
-        if step.kind in RUNS:
-            RUNS[step.kind](self, step)
-        elif step.kind == "lab":
-            take_lab(self, step)
-        elif step.kind in NAMING:
-            NAMING[step.kind](self, step)
-        elif step.kind in TEXTS:
-            TEXTS[step.kind](self, step)
-        else:
-            FILES[step.kind](self, self.path(step.words[0]), step)
+        TAKEN[step.kind](self, step)
 
-    def run(self, words):
-        """Runs the program, and gives how that ended."""
-        return Run(self, ["nix_realise", *map(str, words)], Parts({}, {})).ended()
-
-    # Words for paths.
-
-    def put(self, name, text):
-        """Puts the derivation of a draft into the store folder, and gives its path."""
+    def put(self, name, word, text):
+        """Puts the derivation of a draft into the store folder, and names its paths by a word."""
         file = self.dir / "file"
-        file.write_text(text, errors="surrogateescape", newline="")
-        ran = self.run(["add-drv", "--store-dir", self.dir, name, file])
-        expect(Ran(ran.out, "", 0).told(), ran.told())
-        return ran.out.rstrip("\n")
+        file.write_text(self.said(text), errors="surrogateescape", newline="")
+        words = ["nix_realise", "add-drv", "--store-dir", str(self.dir), name, str(file)]
+        ran = Run(self, words).ended()
+        expect(told(ran.out, "", 0), told(*ran))
+        path = self.names[f"<{word}>"] = ran.out.rstrip("\n")
+        self.names |= {f"<{word}.{output}>": found for output, found in outputs_at(path).items()}
+        return path
 
-    def name_drv(self, name, path):
-        """Names the path of a derivation and those of its outputs."""
-        self.names[f"<{name}>"] = path
-        text = pathlib.Path(path).read_text(errors="surrogateescape")
-        for output, found in outputs_in(text).items():
-            self.names[f"<{name}.{output}>"] = found
 
-    def take_put(self, step):
-        """Puts a derivation into the store folder, and names its paths."""
-        (name,) = step.words
-        self.put_named(name, name, step.texts.get("", ""))
+def outputs_at(path):
+    """The names and the paths of the outputs of the derivation at a path."""
+    return outputs_in(pathlib.Path(path).read_text(errors="surrogateescape"))
 
-    def take_script(self, step):
-        """Puts a derivation into the store folder, whose builder is a shell over a text."""
-        name, *inputs = step.words
-        self.put_script(name, self.text(step), map(self.said, inputs))
 
-    def put_script(self, name, text, inputs):
-        """Puts such a derivation into the store folder, which uses these inputs' outputs `out`."""
-        self.put_named(name, name, draft(text, inputs=[(path, "out") for path in inputs]))
+def take_script(scene, step):
+    """Puts a derivation into the store folder, whose builder is a shell over a text, and which uses
+    its inputs' outputs `out`."""
+    name, *inputs = map(scene.said, step.words)
+    scene.put(name, name, draft(scene.text(step), inputs=[(path, "out") for path in inputs]))
 
-    def take_many(self, step):
-        """Puts many such derivations into the store folder."""
-        count, name, most, *inputs = map(self.said, step.words)
-        chance, words = random.Random(1), [f"<{name}-{number}" for number in range(int(count))]
-        for number, word in enumerate(words):
-            before = words[max(0, number - WINDOW) : number]
-            used = chance.sample(before, min(len(before), chance.randint(0, int(most))))
-            self.names["<n>"] = str(number)
-            self.names["<inputs>"] = self.said(" ".join(f"{it}.out>" for it in used))
-            used = [*inputs, *(self.said(f"{it}>") for it in used)]
-            self.put_script(word[1:], self.text(step), used)
-        self.names[f"<{name}-*>"] = self.said(" ".join(f"{word}>" for word in words))
 
-    def take_twins(self, step):
-        """Puts two derivations into the store folder, the first at the lesser path."""
-        (name,) = step.words
-        for number in range(MOST_TRIES):
-            self.names["<try>"] = str(number)
-            first, second = [self.put_named(name, *named) for named in step.texts.items()]
-            if first < second:
-                return
-            os.remove(first)
-            os.remove(second)
-        raise Fault("a number with which the first path is the lesser", "none")
+def take_many(scene, step):
+    """Puts many such derivations into the store folder."""
+    count, name, most, *inputs = map(scene.said, step.words)
+    chance, words = random.Random(1), [f"<{name}-{number}" for number in range(int(count))]
+    for number, word in enumerate(words):
+        before = words[max(0, number - WINDOW) : number]
+        used = chance.sample(before, min(len(before), chance.randint(0, int(most))))
+        scene.names["<n>"] = str(number)
+        scene.names["<inputs>"] = scene.said(" ".join(f"{it}.out>" for it in used))
+        named = [word[1:], *inputs, *(f"{it}>" for it in used)]
+        take_script(scene, types.SimpleNamespace(words=named, texts=step.texts))
+    scene.names[f"<{name}-*>"] = scene.said(" ".join(f"{word}>" for word in words))
 
-    def take_rising(self, step):
-        """Puts a derivation into the store folder, whose outputs' paths rise."""
-        (name,) = step.words
-        for number in range(MOST_TRIES):
-            self.names["<try>"] = str(number)
-            path = self.put_named(name, name, step.texts.get("", ""))
-            paths = list(outputs_in(pathlib.Path(path).read_text()).values())
-            if paths == sorted(paths):
-                return
+
+def take_rising(scene, step):
+    """Puts two derivations into the store folder, whose paths rise, or one, whose outputs' do."""
+    (name,) = step.words
+    is_one = step.kind == "rising"
+    for number in range(MOST_TRIES):
+        scene.names["<try>"] = str(number)
+        paths = [scene.put(name, word or name, text) for word, text in step.texts.items()]
+        rising = list(outputs_at(paths[0]).values()) if is_one else paths
+        if rising == sorted(rising):
+            return
+        for path in paths:
             os.remove(path)
-        raise Fault("a number with which the outputs' paths rise", "none")
+    raise Fault("a number with which the paths rise", "none")
 
-    def put_named(self, name, word, text):
-        """Puts a derivation into the store folder, and names its paths by a word."""
-        path = self.put(name, self.said(text))
-        self.name_drv(word, path)
-        return path
 
-    def take_text_path(self, step):
-        """Names the path that a text gets under a name."""
-        word, name = step.words
-        self.names[word] = self.text_path(self.said(name), self.text(step))
+def naming(give):
+    """A step that lets its first word stand for what its text and its other words give."""
 
-    def text_path(self, name, text):
-        """The path that a text gets under a name."""
-        return text_path(str(self.dir), name, text.encode())
+    def take(scene, step):
+        word, *others = step.words
+        scene.names[word] = give(scene, scene.text(step), *map(scene.said, others))
 
-    def take_output_path(self, step):
-        """Names the path of an output, `out` if no other is given, of a draft without inputs."""
-        word, name, output = [*step.words, "out"][:3]
-        name = self.said(name) if output == "out" else f"{self.said(name)}-{output}"
-        digest = hashlib.sha256(self.text(step).encode()).hexdigest()
-        self.names[word] = make_path(f"output:{output}", digest, str(self.dir), name)
+    return take
 
-    def take_fixed_path(self, step):
-        """Names the path of the output `out` that is fixed by a method, a colon and a digest."""
-        _, name, fixed = map(self.said, step.words)
-        kind, digest = "source", fixed.removeprefix("r:sha256:")
-        if digest == fixed:
-            kind, digest = "output:out", hashlib.sha256(f"fixed:out:{fixed}:".encode()).hexdigest()
-        self.names[step.words[0]] = make_path(kind, digest, str(self.dir), name)
 
-    def take_drv(self, step):
-        """Writes a derivation to its own path, and names that."""
-        word, name = step.words
-        self.names[word] = self.write_drv(self.said(name), self.text(step))
+def output_path(scene, text, name, output="out"):
+    """The path of an output of a draft without inputs."""
+    name = name if output == "out" else f"{name}-{output}"
+    return make_path(f"output:{output}", sha256(text), str(scene.dir), name)
 
-    def write_drv(self, name, text):
-        """Writes a derivation to its own path under a name, and gives that path."""
-        path = own_path(os.fsencode(self.dir), name.encode(), text.encode()).decode()
-        pathlib.Path(path).write_text(text, newline="")
-        return path
 
-    def take_order(self, step):
-        """Names the lesser and the greater of two paths."""
-        self.names["<lesser>"], self.names["<greater>"] = sorted(map(self.said, step.words))
+def fixed_path(scene, _, name, fixed):
+    """The path of the output `out` that is fixed by a method, a colon and a digest."""
+    kind, digest = "source", fixed.removeprefix("r:sha256:")
+    if digest == fixed:
+        kind, digest = "output:out", sha256(f"fixed:out:{fixed}:")
+    return make_path(kind, digest, str(scene.dir), name)
 
-    def take_repeat(self, step):
-        """Lets a word stand for a letter that is repeated."""
-        word, count, letter = step.words
-        self.names[word] = self.said(letter) * int(count)
 
-    def take_digest(self, step):
-        """Lets a word stand for the SHA-256 digest of a text."""
-        (word,) = step.words
-        self.names[word] = hashlib.sha256(self.text(step).encode()).hexdigest()
+def write_drv(scene, text, name):
+    """Writes a derivation to its own path under a name, and gives that path."""
+    path = own_path(os.fsencode(scene.dir), name.encode(), text.encode()).decode()
+    pathlib.Path(path).write_text(text, newline="")
+    return path
 
-    # Files.
 
-    def write(self, path, step):
-        """Writes a file."""
-        path.write_text(self.text(step), errors="surrogateescape", newline="")
+def sha256(text):
+    """The SHA-256 digest of a text."""
+    return hashlib.sha256(text.encode()).hexdigest()
 
-    def take_note(self, _):
-        """Keeps what stands in the store folder."""
-        self.noted = snapshot(self.dir)
 
-    def unchanged(self, _):
-        """Compares what stands in the store folder with what stood there at the last note."""
-        found = snapshot(self.dir)
-        names = sorted({*found, *self.noted})
-        differs = [name for name in names if found.get(name) != self.noted.get(name)]
-        if differs:
-            raise Fault("what stood there before", f"others at {' '.join(differs)}")
+def take_order(scene, step):
+    """Names the lesser and the greater of two paths."""
+    scene.names["<lesser>"], scene.names["<greater>"] = sorted(map(scene.said, step.words))
 
-    def fill(self, path, step):
-        """Writes a file of one letter that is repeated."""
-        _, count, letter = step.words
-        with open(path, "wb") as file:
-            file.write(letter.replace("\\n", "\n").encode() * int(count))
 
-    def holds(self, path, step):
-        """Compares the text of a file."""
-        wanted = self.text(step)
-        expect(wanted, text_at(path, wanted))
+def unchanged(scene, _):
+    """Compares what stands in the store folder with what stood there at the last note."""
+    found = snapshot(scene.dir)
+    names = sorted({*found, *scene.noted})
+    differs = [name for name in names if found.get(name) != scene.noted.get(name)]
+    expect("", "".join(f"another {name}\n" for name in differs))
 
-    def has_lines(self, path, step):
-        """Compares the lines of a file, in any order."""
-        wanted = self.text(step)
-        expect(in_order(wanted), in_order(text_at(path, wanted)))
 
-    def ends(self, path, step):
-        """Compares the end of a file's text."""
-        wanted = self.text(step)
-        got = text_at(path, wanted)
-        if not got.endswith(wanted):
-            raise Fault("… " + wanted, got)
+def entries(scene, step):
+    """Counts the files and folders in the store folder, but for the file that is locked."""
+    wanted, found = scene.said(step.words[0]), sorted({*os.listdir(scene.dir)} - {LOCK})
+    if len(found) != int(wanted):
+        raise Fault(f"{wanted} files and folders", f"{len(found)}: {' '.join(found)}")
 
-    def entries(self, _, step):
-        """Counts the files and folders in the store folder."""
-        (wanted,) = step.words
-        found = sorted(os.listdir(self.dir))
-        if len(found) != int(wanted):
-            raise Fault(f"{wanted} files and folders", f"{len(found)}: {' '.join(found)}")
+
+def on_paths(take):
+    """A step that does the same at each of its paths."""
+
+    def take_all(scene, step):
+        for word in step.words:
+            take(scene.path(word))
+
+    return take_all
+
+
+def at_path(take):
+    """A step that does something with the file at its first path, and with its text."""
+    return lambda scene, step: take(scene.path(step.words[0]), scene.text(step))
+
+
+def fill(scene, step):
+    """Writes a file of one letter that is repeated."""
+    path, count, letter = step.words
+    scene.path(path).write_bytes(letter.replace("\\n", "\n").encode() * int(count))
 
 
 def in_order(text):
@@ -296,58 +241,58 @@ def text_at(path, wanted):
 
 def kind_of(path):
     """What lies at a path, where a link is one even if it leads nowhere."""
-    try:
-        mode = path.lstat().st_mode
-    except FileNotFoundError:
+    if not os.path.lexists(path):
         return "nothing"
-    kinds = {stat.S_ISLNK: "a link", stat.S_ISFIFO: "a pipe", stat.S_ISDIR: "a folder"}
-    return next((kind for is_kind, kind in kinds.items() if is_kind(mode)), "a file")
+    kinds = {stat.S_ISLNK: "link", stat.S_ISFIFO: "pipe", stat.S_ISDIR: "folder"}
+    mode = path.lstat().st_mode
+    return next((kind for is_kind, kind in kinds.items() if is_kind(mode)), "file")
 
 
-def mode_at(path):
-    """The permissions of a file or folder."""
-    return f"{stat.S_IMODE(path.lstat().st_mode) & 0o777:03o}"
+def has_mode(scene, step):
+    """Compares the permissions of a file or folder."""
+    path, wanted = step.words
+    expect(wanted, f"{stat.S_IMODE(scene.path(path).lstat().st_mode) & 0o777:03o}")
 
 
-def exists(_, path, __):
-    """Fails where nothing lies at a path."""
-    if kind_of(path) == "nothing":
-        raise Fault(f"something at {path}", "nothing")
+def is_kind(kind):
+    """A step that compares what lies at paths."""
+    return on_paths(lambda path: expect(kind, kind_of(path)))
 
 
-NAMING = {
-    "put": Scene.take_put,
-    "script": Scene.take_script,
-    "many": Scene.take_many,
-    "note": Scene.take_note,
-    "unchanged": Scene.unchanged,
+TAKEN = {
+    **RUNS,
+    "lab": take_lab,
     "trace": take_trace,
-    "twins": Scene.take_twins,
-    "text-path": Scene.take_text_path,
-    "output-path": Scene.take_output_path,
-    "fixed-path": Scene.take_fixed_path,
-    "drv": Scene.take_drv,
-    "order": Scene.take_order,
-    "repeat": Scene.take_repeat,
-    "digest": Scene.take_digest,
-    "rising": Scene.take_rising,
-}
-FILES = {
-    "write": Scene.write,
-    "fill": Scene.fill,
-    "folder": lambda scene, path, step: path.mkdir(parents=True, exist_ok=True),
-    "mode": lambda scene, path, step: path.chmod(int(step.words[1], 8)),
-    "link": lambda scene, path, step: path.symlink_to(scene.path(step.words[2])),
-    "move": lambda scene, path, step: path.rename(scene.path(step.words[2])),
-    "pipe": lambda scene, path, step: os.mkfifo(path),
-    "remove": lambda scene, path, step: path.unlink(),
-    "holds": Scene.holds,
-    "ends": Scene.ends,
-    "has-lines": Scene.has_lines,
-    "has-mode": lambda scene, path, step: expect(step.words[1], mode_at(path)),
-    "is-link": lambda scene, path, step: expect("a link", kind_of(path)),
-    "is-pipe": lambda scene, path, step: expect("a pipe", kind_of(path)),
-    "exists": exists,
-    "missing": lambda scene, path, step: expect("nothing", kind_of(path)),
-    "entries": Scene.entries,
+    "put": lambda scene, step: scene.put(*step.words * 2, step.texts.get("", "")),
+    "script": take_script,
+    "many": take_many,
+    "twins": take_rising,
+    "rising": take_rising,
+    "text-path": naming(lambda scene, text, name: text_path(str(scene.dir), name, text.encode())),
+    "output-path": naming(output_path),
+    "fixed-path": naming(fixed_path),
+    "drv": naming(write_drv),
+    "repeat": naming(lambda _, __, count, letter: letter * int(count)),
+    "digest": naming(lambda _, text: sha256(text)),
+    "order": take_order,
+    "note": lambda scene, _: setattr(scene, "noted", snapshot(scene.dir)),
+    "unchanged": unchanged,
+    "write": at_path(lambda path, text: path.write_text(text, "utf-8", "surrogateescape", "")),
+    "fill": fill,
+    "folder": on_paths(lambda path: path.mkdir(parents=True, exist_ok=True)),
+    "mode": lambda scene, step: scene.path(step.words[0]).chmod(int(step.words[1], 8)),
+    "link": lambda scene, step: scene.path(step.words[0]).symlink_to(scene.path(step.words[2])),
+    "move": lambda scene, step: scene.path(step.words[0]).rename(scene.path(step.words[2])),
+    "pipe": on_paths(os.mkfifo),
+    "remove": on_paths(os.unlink),
+    "holds": at_path(lambda path, wanted: expect(wanted, text_at(path, wanted))),
+    "has-lines": at_path(lambda path, text: expect(in_order(text), in_order(text_at(path, text)))),
+    "ends": at_path(lambda path, end: expect(end, text_at(path, end)[-len(end) :])),
+    "has-mode": has_mode,
+    "is-link": is_kind("link"),
+    "is-pipe": is_kind("pipe"),
+    "is-file": is_kind("file"),
+    "is-folder": is_kind("folder"),
+    "missing": is_kind("nothing"),
+    "entries": entries,
 }

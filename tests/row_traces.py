@@ -19,17 +19,17 @@ def take_trace(scene, step):
     file, jobs = step.words
     events = json.loads(scene.path(file).read_text())["traceEvents"]
     rows = [line.split(" ") for line in scene.text(step).splitlines()]
-    expect(named(row[0] for row in rows), named(event["name"] for event in events))
-    expect(named(range(len(rows))), named(event["args"]["lease"] for event in events))
-    expect(named(range(1, int(jobs) + 1)), named({event["tid"] for event in events}))
     found = {event["name"]: event for event in events}
+    expect(told(range(len(rows))), told(event["args"]["lease"] for event in events))
+    expect(told(range(1, int(jobs) + 1)), told({event["tid"] for event in events}))
+    wanted = []
     for name, ended, *_ in rows:
-        event = found[name]
-        args = {"lease": event["args"]["lease"], "ended": ended, "path": scene.names[f"<{name}>"]}
-        wanted = {"name": name, "ph": "X", "pid": 1, "args": args}
-        wanted |= {key: event[key] for key in ("tid", "ts", "dur")}
-        expect(json.dumps(wanted, sort_keys=True), json.dumps(event, sort_keys=True))
-    expect("", "".join(f"{fault}\n" for fault in faults_of(found, rows, scene.seconds)))
+        args = {"lease": found[name]["args"]["lease"], "ended": ended}
+        args["path"] = scene.names[f"<{name}>"]
+        times = {key: found[name][key] for key in ("tid", "ts", "dur")}
+        wanted.append({"name": name, "ph": "X", "pid": 1, "args": args, **times})
+    expect(*(told(json.dumps(it, sort_keys=True) for it in each) for each in (wanted, events)))
+    expect("", told(faults_of(found, rows, scene.seconds)))
 
 
 def faults_of(found, rows, seconds):
@@ -48,6 +48,6 @@ def faults_of(found, rows, seconds):
             yield f"{one}: at the time of {other} by the same worker"
 
 
-def named(values):
+def told(values):
     """Values in order, as a text."""
     return "".join(f"{value}\n" for value in sorted(map(str, values)))

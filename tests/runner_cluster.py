@@ -1,5 +1,6 @@
 """A cluster of Slurm's with two nodes, both on this machine, for as long as it is needed."""
 
+import contextlib
 import os
 import pathlib
 import shutil
@@ -39,9 +40,7 @@ KillWait=2
 MpiDefault=none
 PartitionName=all Nodes={nodes} Default=YES MaxTime=INFINITE State=UP
 """
-NODE = (
-    "NodeName={name} NodeHostname={host} NodeAddr=127.0.0.1 Port={port} CPUs={cpus} State=UNKNOWN\n"
-)
+NODE = "NodeName={} NodeHostname={} NodeAddr=127.0.0.1 Port={} CPUs={} State=UNKNOWN\n"
 
 
 def missing():
@@ -54,17 +53,13 @@ def missing():
 
 def free_ports(count):
     """As many ports on which nothing listens."""
-    places = [socket.socket() for _ in range(count)]
-    for place in places:
-        place.bind(("127.0.0.1", 0))
-    ports = [place.getsockname()[1] for place in places]
-    for place in places:
-        place.close()
-    return ports
+    with contextlib.ExitStack() as stack:
+        servers = [socket.create_server(("127.0.0.1", 0)) for _ in range(count)]
+        return [stack.enter_context(server).getsockname()[1] for server in servers]
 
 
 class Cluster:
-    """Two nodes with so many processors each, that take jobs between `with` and its end."""
+    """Two nodes with so many processors each, that take jobs from `begin` to `close`."""
 
     def __init__(self, cpus):
         self.cpus = cpus
@@ -72,20 +67,7 @@ class Cluster:
         self.configuration = self.folder / "slurm.conf"
         self.started = []
 
-    def __enter__(self):
-        try:
-            self.write()
-            self.start_all()
-        except BaseException:
-            self.close()
-            raise
-        return self
-
-    def __exit__(self, *_):
-        self.close()
-
     def write(self):
-        """Writes the configuration and the key, and makes the folders."""
         for name in ("munge", "state", "spool"):
             (self.folder / name).mkdir(mode=0o755)
         self.folder.chmod(0o755)
@@ -96,11 +78,12 @@ class Cluster:
         port, *ports = free_ports(1 + len(NODES))
         text = CONFIGURATION.format(host=host, port=port, folder=self.folder, nodes=",".join(NODES))
         for name, port in zip(NODES, ports):
-            text += NODE.format(name=name, host=host, port=port, cpus=self.cpus)
+            text += NODE.format(name, host, port, self.cpus)
         self.configuration.write_text(text)
 
-    def start_all(self):
+    def begin(self):
         """Starts what the cluster is made of, and waits until both nodes take jobs."""
+        self.write()
         place = self.folder / "munge"
         options = [f"--key-file={self.folder / 'key'}", f"--socket={place / 'socket'}"]
         options += [f"--{name}-file={place / name}" for name in ("pid", "log", "seed")]
@@ -118,7 +101,6 @@ class Cluster:
         log.close()
 
     def is_ready(self):
-        """Whether a job runs on each of the two nodes at once."""
         words = ["--quiet", "--immediate=1", f"--nodes={len(NODES)}", "/bin/true"]
         return self.ask(PROGRAMS[-1], *words) == ""
 
@@ -130,16 +112,13 @@ class Cluster:
         except subprocess.SubprocessError:
             return None
 
-    def is_idle(self):
-        """Whether no job runs or waits, so far as the cluster answers."""
-        return not self.ask(QUEUE, "--noheader")
-
     def cancel(self):
         """Ends the jobs of a run that was ended, with their builders: they would outlive the
-        cluster."""
-        if len(self.started) > 1 and not self.is_idle():
+        cluster. None runs or waits where it does not answer."""
+        is_idle = lambda: not self.ask(QUEUE, "--noheader")
+        if len(self.started) > 1 and not is_idle():
             self.ask(CANCEL, f"--user={os.getuid()}")
-            self.until("all jobs have ended", self.is_idle)
+            self.until("all jobs have ended", is_idle)
 
     def until(self, what, holds):
         """Waits until something holds; fails where a part of the cluster has ended."""
@@ -151,7 +130,6 @@ class Cluster:
             time.sleep(0.1)
 
     def launches(self):
-        """How many tasks each node has started."""
         logs = [(self.folder / f"{name}.log").read_text(errors="replace") for name in NODES]
         return [log.count("launch task StepId=") for log in logs]
 
@@ -162,7 +140,6 @@ class Cluster:
         return "\n".join(f"{name}: {text[-1000:]}" for name, text in texts)
 
     def close(self):
-        """Ends what was started, the last first, and removes the folder."""
         try:
             self.cancel()
         except AssertionError as fault:

@@ -1,25 +1,19 @@
 """Store folders in which builders run by a runner and without one, for `tests/runners`."""
 
-import ast
 import os
 import pathlib
 import re
 import signal
 import subprocess
-import sys
-import time
 
-sys.path.insert(0, str(pathlib.Path(__file__).resolve().parent))
-from reading import JournalReader  # noqa: E402
-from row_faults import Fault, expect  # noqa: E402
-from scenes import HERE, PATH, listed, outputs_in, quoted, run  # noqa: E402
+from reading import entries_of
+from row_faults import expect
+from scenes import HERE, draft, put, run
 
 RUNNERS = HERE.parent / "examples/runners"
 DRAFTS = HERE.parent / "examples/drafts"
 # The store folder that the drafts of the demo name.
 DEMO_PATH = re.compile(r"/tmp/nufreld-demo/store/[0-9a-z]{32}-([A-Za-z0-9+._?=-]+)")
-# The seconds after which something that has to happen counts as missing.
-PATIENCE = 60
 
 
 class Scene:
@@ -33,85 +27,55 @@ class Scene:
         self.journal = self.store / "realiser-journal"
 
     def put(self, name, script, inputs=(), more=(), builder="/bin/sh"):
-        """Puts a derivation into the store folder, whose builder runs a script with more entries of
-        the environment. In the script $F is the folder outside. Gives its path and its output's."""
-        known = dict([PATH, ("F", str(self.outside)), ("out", ""), *more])
-        return self.add_drv(name, draft(builder, script, inputs, known))
-
-    def add_drv(self, name, text):
-        """Puts a draft into the store folder."""
-        file = self.folder / "draft"
-        file.write_text(text, encoding="utf-8")
-        path = self.call("add-drv", name, file).strip()
-        return path, outputs_in(pathlib.Path(path).read_text(encoding="utf-8"))["out"]
+        """Puts a derivation into the store folder. In the script $F is the folder outside. Gives
+        its path and its output's."""
+        used, known = [(path, "out") for path in inputs], [("F", str(self.outside)), *more]
+        text = draft(script, inputs=used, builder=builder, more=known)
+        path, outputs = put(self.program, self.store, name, text)
+        return path, outputs["out"]
 
     def words(self, subcommand, *more):
-        """A command line of the program for the store folder."""
         return [self.program, subcommand, "--store-dir", str(self.store), *map(str, more)]
 
-    def call(self, subcommand, *more):
-        """What a subcommand prints that ends well."""
-        status, out, err = run(self.words(subcommand, *more))
-        expect("status 0\n", f"status {status}\n{err}")
-        return out
-
-    def realise(self, runner, paths, *options):
+    def run(self, runner, paths, *options, begin=b""):
         """What a run prints, and its status; by a runner where one is given. It finds no journal,
-        so that it builds all."""
+        so that it builds all, if none is given."""
         self.journal.unlink(missing_ok=True)
+        if begin:
+            self.journal.write_bytes(begin)
         given = ["--runner", runner] if runner else []
         status, out, err = run(self.words("realise", *given, *options, *paths))
         return f"{out}{err}status {status}\n"
 
+    def builds(self, what, name, script, runner, reason=None, **more):
+        """Sees that a run builds a derivation, or that it fails for a reason. Gives the paths."""
+        path, output = self.put(name, script, **more)
+        self.expect(what, report(path, output, reason), self.run(runner, [path]))
+        return path, pathlib.Path(output)
+
+    def expect(self, what, wanted, got):
+        expect(f"{what}\n{wanted}", f"{what}\n{got}")
+
     def entries(self):
-        """The entries of the journal, as a text, in an order of their own."""
-        read = JournalReader(str(self.store).encode(), self.journal.read_bytes()).read()
-        rows = sorted([row[:3] for row in entry] for entry in read)
+        rows = sorted(entries_of(str(self.store).encode(), self.journal.read_bytes()))
         return "".join(f"{row}\n" for row in rows)
 
     def demo(self):
         """Puts the demo's derivations into the store folder. Gives the paths that it realises."""
         text = HERE.parent / "examples/texts/greeting.txt"
-        known = {"greeting.txt": self.call("add-text", "greeting.txt", text).strip()}
+        known = {"greeting.txt": run(self.words("add-text", "greeting.txt", text))[1].strip()}
         for name in ("greet", "split", "user", "guide", "broken", "shelf"):
             text = DEMO_PATH.sub(lambda it: known[it[1]], (DRAFTS / f"{name}.drv").read_text())
-            path, _ = self.add_drv(name, in_order(text))
-            outputs = outputs_in(pathlib.Path(path).read_text()).values()
-            known |= {pathlib.Path(place).name[33:]: place for place in (path, *outputs)}
+            # Other paths have changed the order of the inputs.
+            front, inputs, rest = text.split("],[", 2)
+            rows = sorted(re.findall(r'\("[^"]*",\[[^]]*\]\)', inputs))
+            text = "],[".join([front, ",".join(rows), rest])
+            path, outputs = put(self.program, self.store, name, text)
+            known |= {pathlib.Path(it).name[33:]: it for it in (path, *outputs.values())}
         return [known[f"{name}.drv"] for name in ("user", "guide", "shelf")]
 
 
-def draft(builder, script, inputs, known):
-    """A draft with one output whose builder gets `-c` and a script; inputs are paths."""
-    parts = [
-        '[("out","","","")]',
-        listed(f'({quoted(path)},["out"])' for path in sorted(inputs)),
-        "[]",
-        quoted("x86_64-linux"),
-        quoted(builder),
-        listed([quoted("-c"), quoted(script)]),
-        listed(f"({quoted(key)},{quoted(value)})" for key, value in by_bytes(known.items())),
-    ]
-    return "Derive(" + ",".join(parts) + ")"
-
-
-def in_order(text):
-    """A draft whose inputs are brought into their order, which other paths have changed."""
-    inputs = text[text.index("],[") + 2 : text.index("],[", text.index("],[") + 3) + 1]
-    rows = ast.literal_eval(inputs)
-    listed_rows = listed(
-        f"({quoted(path)},{listed(map(quoted, names))})" for path, names in sorted(rows)
-    )
-    return text.replace(inputs, listed_rows, 1)
-
-
-def by_bytes(entries):
-    """Entries in the order of the bytes of their keys."""
-    return sorted(entries, key=lambda entry: entry[0].encode())
-
-
 def edited(name, folder, **values):
-    """A copy of a runner in which lines `NAME=..` have other values."""
     text = (RUNNERS / name).read_text()
     for key, value in values.items():
         text, count = re.subn(f"(?m)^{key}=.*$", f"{key}={value}", text)
@@ -130,7 +94,7 @@ def limited_run(words, seconds):
         try:
             out, err = started.communicate(timeout=seconds)
         except subprocess.TimeoutExpired:
-            raise Fault(f"an end within {seconds} s of {' '.join(words)}", "none") from None
+            return "none", "", f"no end within {seconds} s\n"
         finally:
             if started.poll() is None:
                 os.killpg(started.pid, signal.SIGKILL)
@@ -138,7 +102,6 @@ def limited_run(words, seconds):
 
 
 def last_lines(folder, count=5):
-    """The last lines of each log in a folder."""
     texts = [(file.name, file.read_text(errors="replace")) for file in sorted(folder.glob("*.log"))]
     return "".join("\n".join([f"{name}:", *text.splitlines()[-count:], ""]) for name, text in texts)
 
@@ -150,40 +113,11 @@ def report(path, output, reason=None):
     return f"built {path}\noutput {output}\nstatus 0\n"
 
 
-def expect_same(what, wanted, got):
-    """Fails where two texts differ, and says of what they are."""
-    if wanted != got:
-        raise Fault(f"{what}\n{wanted}", f"{what}\n{got}")
-
-
-def until(what, holds, seconds=PATIENCE):
-    """Waits until something holds."""
-    end = time.monotonic() + seconds
-    while not holds():
-        if time.monotonic() > end:
-            raise Fault(f"within {seconds} s: {what}", "nothing of it")
-        time.sleep(0.02)
-
-
-def is_running(pid):
-    """Whether a process runs; one that has ended and is not yet waited for does not."""
-    try:
-        return pathlib.Path(f"/proc/{pid}/stat").read_text().rsplit(")", 1)[1].split()[0] != "Z"
-    except OSError:
-        return False
-
-
-def absent(*programs):
-    """Which of some programs are not there, in words, or none."""
-    missing = [program for program in programs if not os.access(program, os.X_OK)]
-    return f"{' and '.join(missing)} not there" if missing else None
-
-
 def why_no_sandbox():
     """Why no sandbox can be made here, or none."""
-    why = absent("/usr/bin/bwrap", "/bin/busybox")
-    if why:
-        return why
+    missing = [it for it in ("/usr/bin/bwrap", "/bin/busybox") if not os.access(it, os.X_OK)]
+    if missing:
+        return f"{' and '.join(missing)} not there"
     options = "--unshare-all --cap-drop ALL --ro-bind / / --dev /dev --proc /proc".split()
     words = ["/usr/bin/bwrap", *options, "/bin/true"]
     ran = subprocess.run(words, capture_output=True, text=True, check=False)

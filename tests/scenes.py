@@ -8,15 +8,28 @@ import stat
 import subprocess
 import sys
 import tempfile
+import time
 
 HERE = pathlib.Path(__file__).resolve().parent
 sys.path.insert(0, str(HERE.parent / "bench"))
+from row_faults import Fault  # noqa: E402
 from store_paths import text_path  # noqa: E402,F401
 
 BUILT = HERE.parent / "crates/nix_realise/out/nix_realise"
 LAB = HERE.parent / "crates/lab/out/lab"
 PATH = ("PATH", "/usr/sbin:/usr/bin:/sbin:/bin")
 MEMORY = "/dev/shm"
+# The file of a store folder that is locked.
+LOCK = ".nix_realise-lock"
+# What a call says of a name that went away, or was another kind of file when it was looked at.
+CHANGED_MEANWHILE = {
+    errno.ENOENT,
+    errno.ENOTDIR,
+    errno.ENAMETOOLONG,
+    errno.EINVAL,
+    errno.ELOOP,
+    errno.EISDIR,
+}
 
 
 def program_of(words):
@@ -48,36 +61,36 @@ def room(need=2**28):
     return tempfile.gettempdir()
 
 
-def number_of(words, option, default):
-    """The number behind an option --NAME=NUMBER."""
-    for word in words:
-        if word.startswith(option + "="):
-            return int(word[len(option) + 1 :])
-    return default
+def option(words, name):
+    return next((it.partition("=")[2] for it in words if it.startswith(name + "=")), None)
+
+
+def number_of(words, name, default):
+    return int(option(words, name) or default)
 
 
 def quoted(text):
-    """A string of the derivations' language."""
     escapes = {'"': '\\"', "\\": "\\\\", "\n": "\\n", "\r": "\\r", "\t": "\\t"}
     return '"' + "".join(escapes.get(letter, letter) for letter in text) + '"'
 
 
 def listed(texts):
-    """A list of the derivations' language."""
     return "[" + ",".join(texts) + "]"
 
 
-def draft(script, outputs=("out",), inputs=()):
-    """A draft whose builder is a shell over a script; inputs are pairs of a path and an output."""
-    entries = dict([PATH, *((name, "") for name in outputs)])
+def draft(script, outputs=("out",), inputs=(), builder="/bin/sh", more=()):
+    """A draft whose builder gets a script; inputs are pairs of a path and an output. `more` are
+    entries of its environment."""
+    entries = {**dict([PATH, *((name, "") for name in outputs)]), **dict(more)}
+    pairs = sorted(entries.items(), key=lambda entry: entry[0].encode())
     parts = [
         listed(f'({quoted(name)},"","","")' for name in sorted(outputs)),
         listed(f"({quoted(path)},{listed([quoted(name)])})" for path, name in sorted(inputs)),
         "[]",
         quoted("x86_64-linux"),
-        quoted("/bin/sh"),
+        quoted(builder),
         listed([quoted("-c"), quoted(script)]),
-        listed(f"({quoted(key)},{quoted(value)})" for key, value in sorted(entries.items())),
+        listed(f"({quoted(key)},{quoted(value)})" for key, value in pairs),
     ]
     return "Derive(" + ",".join(parts) + ")"
 
@@ -90,17 +103,15 @@ def run(words, **more):
 
 
 def put(program, store, name, text):
-    """Writes a draft's derivation to the store folder; gives its path and those of its outputs."""
     file = store.parent / "draft"
-    file.write_text(text)
+    file.write_text(text, encoding="utf-8")
     status, out, err = run([program, "add-drv", "--store-dir", store, name, file])
     assert status == 0, (name, status, err)
     path = out.strip()
-    return path, outputs_in(pathlib.Path(path).read_text())
+    return path, outputs_in(pathlib.Path(path).read_text(encoding="utf-8"))
 
 
 def outputs_in(text):
-    """The names and the paths of the outputs in a derivation's text."""
     front = text.split("],[")[0]
     return {row.split('"')[1]: row.split('"')[3] for row in front.split("(")[2:]}
 
@@ -117,17 +128,33 @@ def entry_of(path):
     return found.st_mode, holds, found.st_ino, found.st_mtime_ns
 
 
+def is_running(pid):
+    """Whether a process runs; one that has ended and is not yet waited for does not."""
+    try:
+        return pathlib.Path(f"/proc/{pid}/stat").read_text().rsplit(")", 1)[1].split()[0] != "Z"
+    except OSError:
+        return False
+
+
+def until(what, holds, seconds=60):
+    end = time.monotonic() + seconds
+    while not holds():
+        if time.monotonic() > end:
+            raise Fault(f"within {seconds} s: {what}", "nothing of it")
+        time.sleep(0.02)
+
+
 def snapshot(folder):
-    """All that stands below a folder, by its path there, but what goes away meanwhile, and what
-    no path reaches."""
+    """All that stands below a folder, by its path there, but what goes away or becomes another
+    kind of file meanwhile, what no path reaches, and the file that is locked."""
     found = {}
     for place, folders, files in os.walk(folder):
-        for name in folders + files:
+        for name in {*folders, *files} - {LOCK}:
             path = os.path.join(place, name)
             try:
                 found[os.path.relpath(path, folder)] = entry_of(path)
             except OSError as error:
-                if error.errno not in (errno.ENOENT, errno.ENOTDIR, errno.ENAMETOOLONG):
+                if error.errno not in CHANGED_MEANWHILE:
                     raise
     return found
 
@@ -138,7 +165,6 @@ def contents(found):
 
 
 def empty(folder):
-    """Removes all that is in a folder."""
     for name in os.listdir(folder):
         path = os.path.join(folder, name)
         if os.path.isdir(path) and not os.path.islink(path):
