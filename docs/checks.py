@@ -5,10 +5,29 @@ import functools
 import re
 
 from items import anchor
-from sources import CRATES, TOP, WORD, Definitions, body_lines, taken
+from sources import CRATES, TOP, WORD, Definitions, body_lines, functions_of, taken
 
-# A row of the table of what is trusted by reading: its first two cells, and that of the lines.
-TRUSTED = re.compile(r"(?m)^(\| `(\w+)::(\w+)` \| `([\w:]+)` \| )([\w ]*) \|")
+# A row of the table of what is trusted by reading: its module, and the cell of its functions.
+TRUSTED = re.compile(r"(?m)^\| `([a-z_]+)::([a-z_]+)` \| (`[^|]*) \|")
+
+# A function in that cell, and its lines: all of its body, or so many of these.
+TRUSTED_FUNCTION = re.compile(r"`([\w:]+)`(?: (?:(\d+) of )?\d+)?")
+
+# The most words that all documents have, but for those that `make` writes whole.
+MOST_WORDS = 35_000
+
+# How a body reaches the system by itself: by a function of these modules and types of std, or by
+# one of these methods of a handle, of what a handle opened, of a lock or of a condition. `read` and
+# `write_all` are left out: what they move, a clause can say.
+REACHES = re.compile(
+    r"\b(?:fs|env|net|thread|File|Instant|SystemTime)::\w+\(|\bio::(?:writer|stdin|stdout|stderr)\("
+    r"|\.(?:wait|wait_timeout|notify_one|notify_all|try_lock|spawn|scope|monotonic|elapsed|forever"
+    r"|open_dir|read_to_end|flush|sync_all|set_permissions|try_clone|stderr|is_terminal)\("
+    r"|\.lock\(\w*\)"
+)
+
+# A body that only stores what it is given, beside new cells of memory.
+STORES = re.compile(r"\s*[A-Z]\w*\s*\{(?:[^{};()]|(?:Cell|Mutex|Condvar)::new\(\w*\))*\}\s*")
 
 
 def undocumented(crates):
@@ -24,25 +43,12 @@ def undocumented(crates):
             yield f"{owner}/specs/{file}.antt does not define {name}"
 
 
-def entries(text):
-    """The entries of a document's crates: crate, files and names in code type."""
-    for section in re.split(r"(?m)^## ", text)[1:]:
-        heading = re.match(rf"`({WORD})`", section)
-        for entry in re.split(r"(?m)^- (?=\*\*)", section)[1:]:
-            files = re.findall(r"`(?:(\w+)/)?specs/([\w/]+)\.antt`", entry)
-            yield heading and heading[1], files, set(re.findall(rf"`({WORD})`", entry))
-
-
 def listed(crates):
-    """What is wrong with the list of files in DEFINITIONS.md: a file that public contracts cite and
-    that it lacks, or its order."""
-    order = [
-        (crate, file)
-        for crate, files, _ in entries((TOP / "docs/DEFINITIONS.md").read_text())
-        if crate
-        for _, file in files
-    ]
-    for crate, file in sorted({it[:2] for crate in crates for it in crate.cited} - {*order}):
+    """What is wrong with the table of files in DEFINITIONS.md: a file on which public contracts rest
+    and that it lacks, or its order."""
+    row = r"(?m)^\[`[^`]*`\]\(\.\./crates/(\w+)/specs/([\w/]+)\.antt\) \| \S"
+    order = re.findall(row, (TOP / "docs/DEFINITIONS.md").read_text())
+    for crate, file in sorted(relied_on(crates) - {*order}):
         yield f"DEFINITIONS.md does not list {crate}/specs/{file}.antt"
     places = {it: order.index(it) for it in order}
     for crate, file in places:
@@ -79,30 +85,76 @@ def in_wrong_folder(crates):
                 yield f"{path.relative_to(TOP)} stands in the wrong folder"
 
 
-def misplaced(name):
-    """The files that a document gives and that are not there, and the names of an entry that none
-    of its files has."""
-    for crate, files, names in entries((TOP / "docs" / name).read_text()):
-        given = [(own or crate, file) for own, file in files]
-        texts = [CRATES / str(owner) / "specs" / f"{file}.antt" for owner, file in given]
-        yield from (f"{name}: there is no {it.relative_to(TOP)}" for it in texts if not it.exists())
-        text = "\n".join(re.sub(r"--[^\n]*", "", it.read_text()) for it in texts if it.exists())
-        for it in sorted(names):
-            if (
-                given
-                and re.match(r"Is[A-Z]|Are[A-Z]|Has[A-Z]", it)
-                and not re.search(rf"\b{it}\b", text)
-            ):
-                yield f"{name}: {it} is in none of the files {given}"
+def misplaced():
+    """The definitions that GLOSSARY.md names and that are not in the file to which it leads. That the
+    file is there is seen by the links."""
+    link = r"\[`([\w']+)`\]\(\.\./crates/(\w+)/specs/([\w/]+)\.antt\)"
+    for name, crate, file in re.findall(link, (TOP / "docs/GLOSSARY.md").read_text()):
+        path = CRATES / crate / "specs" / f"{file}.antt"
+        text = re.sub(r"--[^\n]*", "", path.read_text()) if path.exists() else name
+        if not re.search(rf"(?<![\w'])pub (?:record |data )?{name}(?![\w'])", text):
+            yield f"GLOSSARY.md: {path.relative_to(TOP)} does not define {name}"
+
+
+def trusted():
+    """The functions that PROVED.md says are trusted by reading: crate, module and name."""
+    for row in TRUSTED.finditer((TOP / "docs/PROVED.md").read_text()):
+        for found in TRUSTED_FUNCTION.finditer(row[3]):
+            yield row[1], row[2], found[1]
 
 
 def lost():
-    """The functions that PROVED.md says are trusted by reading, and that are not there."""
-    for found in TRUSTED.finditer((TOP / "docs/PROVED.md").read_text()):
+    """The functions of that list that are not there."""
+    for place in trusted():
         try:
-            body_lines(*found.group(2, 3, 4))
+            body_lines(*place)
         except LookupError as error:
             yield f"PROVED.md: {error}"
+
+
+def program_crates():
+    """The crates of which the program is made, by crates.txt."""
+    rests = dict(re.findall(r"(?m)^(\w+): (.*)$", (TOP / "crates.txt").read_text()))
+    found, left = set(), ["nix_realise"]
+    while left:
+        crate = left.pop()
+        if crate in rests and crate not in found:
+            found.add(crate)
+            left += rests[crate].split()
+    return sorted(found)
+
+
+def unlisted():
+    """The functions of the program that have to be trusted by reading, and that PROVED.md does not
+    list: those that reach the system by themselves, since no clause says what it did; and those of
+    which no clause speaks, neither one of their own nor one of their trait, unless they do nothing
+    or only store what they are given. The traits of std have ghost members in place of clauses."""
+    functions = [it for crate in program_crates() for it in functions_of(crate)]
+    silent = {it.name for it in functions if not it.has_body and not it.has_clause}
+    known = {*trusted()}
+    for it in functions:
+        method = f"{it.of.partition('<')[0]}::{it.name.rpartition('::')[2]}"
+        is_bound = it.has_clause or (it.of and method not in silent)
+        does_more = it.body.strip() and not STORES.fullmatch(it.body)
+        if it.has_body and (REACHES.search(it.body) or (does_more and not is_bound)):
+            if (it.crate, it.module, it.name) not in known:
+                yield f"PROVED.md does not list {it.crate}::{it.module} {it.name}, which no clause binds"
+
+
+def unnamed():
+    """The laws that PROVED.md does not name."""
+    text = (TOP / "docs/PROVED.md").read_text()
+    for it in (it for crate in program_crates() for it in functions_of(crate)):
+        if it.module.endswith("laws") and f"`{it.name}`" not in text:
+            yield f"PROVED.md does not name the law {it.crate}::{it.module}::{it.name}"
+
+
+def wordy():
+    """Whether the documents have too many words; those of docs/calls/ are made whole."""
+    paths = [*TOP.glob("*.md"), *TOP.glob("*/*.md")]
+    words = sum(len(it.read_text().split()) for it in paths)
+    if words > MOST_WORDS:
+        yield f"the documents have {words:,} words, and may have {MOST_WORDS:,}"
 
 
 @functools.cache

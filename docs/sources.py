@@ -1,6 +1,7 @@
 """Reads the sources for the pages that `make` writes: modules with their contracts, and files of
 definitions."""
 
+import functools
 import pathlib
 import re
 import textwrap
@@ -142,21 +143,40 @@ class Module:
             ] == "pub trait", found.start(), block_end(self.code, found.start())
 
 
+class Function:
+    """A function with a body: its name with that of its type, the trait that it is of, if it is of
+    one, its clauses, the code of its body, and how many lines that has without comments."""
+
+    def __init__(self, module, found, blocks):
+        self.crate, self.module = module.crate, module.name
+        clauses, _, opens = module.clauses(found.end())
+        inside = [it for it in blocks if it[3] <= found.start() < it[4]]
+        self.of, owner, *_ = inside[0] if inside else ("", "")
+        self.name = f"{owner}::{found[1]}" if owner else found[1]
+        self.is_free, self.has_body = not owner, module.code[opens] == "{"
+        self.has_clause = any(word == "ensures" for word, _ in clauses)
+        end = block_end(module.code, opens) if self.has_body else opens
+        self.body = module.code[opens + 1 : end - 1]
+        lines = module.raw[opens + 1 : end - 1].split("\n")
+        self.lines = sum(bool(it.strip()) and not it.lstrip().startswith("//") for it in lines)
+
+
+@functools.cache
+def functions_of(crate):
+    """The functions of a crate, module by module, those of traits without a body too."""
+    modules = [Module(it, set(), True) for it in sorted((CRATES / crate / "src").glob("**/*.rt"))]
+    return [
+        Function(module, it, [*module.blocks()])
+        for module in modules
+        for it in re.finditer(rf"(?m)^ *(?:pub(?:\(crate\))? )?fn ({WORD})", module.code)
+    ]
+
+
 def body_lines(crate, module, name):
     """How many lines the body of a function has, without comments."""
-    owner, _, own = name.rpartition("::")
-    path = next((CRATES / crate / "src").glob(f"**/{module}.rt"), None)
-    if path is None:
-        raise LookupError(f"there is no module {crate}::{module}")
-    found = Module(path, set(), True)
-    spans = [(start, end) for _, of, _, start, end in found.blocks() if of == owner]
-    for it in re.finditer(rf"(?m)^ *(?:pub(?:\(crate\))? )?fn {own}\b", found.code):
-        opens = found.clauses(it.end())[2]
-        if found.code[opens] == "{" and (
-            not owner or any(start <= it.start() < end for start, end in spans)
-        ):
-            body = found.raw[opens + 1 : block_end(found.code, opens) - 1].split("\n")
-            return sum(bool(line.strip()) and not line.lstrip().startswith("//") for line in body)
+    for it in functions_of(crate) if (CRATES / crate / "src").exists() else ():
+        if (it.module, it.name, it.has_body) == (module, name, True):
+            return it.lines
     raise LookupError(f"{crate}::{module} has no function {name}")
 
 
