@@ -8,7 +8,7 @@ from items import anchor
 from sources import CRATES, TOP, WORD, Definitions, body_lines, functions_of, taken
 
 # A row of the table of what is trusted by reading: its module, and the cell of its functions.
-TRUSTED = re.compile(r"(?m)^\| `([a-z_]+)::([a-z_]+)` \| (`[^|]*) \|")
+TRUSTED = re.compile(r"(?m)^\| `([a-z_]+)::(?:[a-z_]+::)?([a-z_]+)` \| (`[^|]*) \|")
 
 # A function in that cell, and its lines: all of its body, or so many of these.
 TRUSTED_FUNCTION = re.compile(r"`([\w:]+)`(?: (?:(\d+) of )?\d+)?")

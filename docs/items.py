@@ -206,18 +206,33 @@ def items(modules):
     return [[*it.values(), *free_functions(module)] for module, it in zip(modules, own)]
 
 
+def root_of(crate):
+    """The root file of a crate: of a library, or of a program."""
+    roots = [CRATES / crate / "src" / it for it in ("lib.rt", "main.rt")]
+    return next(it for it in roots if it.exists())
+
+
+def tabled(text):
+    """The modules that the table at the head of a file names, in their order."""
+    rows = re.findall(r"(?m)^//! \| (`[^|]*) \|", text)
+    return [it for row in rows for it in re.findall(r"`(\w+)`", row)]
+
+
 class Crate:
     """A crate: its modules in the order of its root file, with their public items."""
 
     def __init__(self, name):
-        self.name, self.root = name, (CRATES / name / "src/lib.rt").read_text()
+        self.name, self.root = name, root_of(name).read_text()
         self.about = [
             re.sub(r"^//! ?", "", it) for it in self.root.split("\n") if re.match(r"//!(?! \|)", it)
         ]
         exported, public = self.exported()
         files = {it.stem: it for it in sorted((CRATES / name / "src").glob("**/*.rt"))}
-        table = re.findall(r"(?m)^//! \| (`[^|]*) \|", self.root)
-        order = [it for row in table for it in re.findall(r"`(\w+)`", row)]
+        order = [
+            module
+            for it in tabled(self.root)
+            for module in [*(tabled(files[it].read_text()) if it in files else ()), it]
+        ]
         order += [it for it in files if it not in order]
         modules = [Module(files[it], exported.get(it, set()), it in public) for it in order]
         self.modules = [*zip(modules, items(modules))]
@@ -228,8 +243,10 @@ class Crate:
     def exported(self):
         """The names that the root file exports of each module, and the modules that are public."""
         code, names = blanked(self.root), {}
-        for module, listed in re.findall(r"pub use (\w+)::(\{[^}]*\}|\w+);", code):
-            if f"mod {module};" in code:
+        for first, module, listed in re.findall(
+            r"pub use (\w+::)?(\w+)::(\{[^}]*\}|\w+);", code
+        ):
+            if f"mod {first[:-2] or module};" in code:
                 names.setdefault(module, set()).update(re.findall(r"\w+", listed))
         return names, set(re.findall(r"pub mod (\w+);", code))
 
@@ -242,11 +259,6 @@ class Crate:
 
 
 def all_crates():
-    """The crates of crates.txt in their order, less those of tests, what these share, and the
-    programs."""
+    """The crates of crates.txt in their order, less those of tests."""
     listed = re.findall(r"(?m)^(\w+):", (TOP / "crates.txt").read_text())
-    return [
-        Crate(it)
-        for it in listed
-        if not it.endswith("_tests") and (CRATES / it / "src/lib.rt").exists()
-    ]
+    return [Crate(it) for it in listed if it != "lab" and not it.endswith("_tests")]

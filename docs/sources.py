@@ -86,6 +86,7 @@ class Module:
             path.relative_to(CRATES).parts[0],
             path.read_text(),
         )
+        self.path = path
         self.code, self.lines = blanked(self.raw), self.raw.split("\n")
         self.names, self.is_public = names, is_public
         self.taken = self.imports()

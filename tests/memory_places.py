@@ -24,28 +24,28 @@ valid_view/src/writer_end.rt reader | match self . writer . factory ( ) . reader
 process_build/src/failures.rt from
     | ErrorKind :: OutOfMemory if error . raw_os_error ( ) . is_none ( ) => Failure :: NoMemory
     # an error of std's without a number of the system's is that std was refused memory
-process_build/src/processes.rt may_have_run
+process_build/src/process/processes.rt may_have_run
     | ! matches ! ( left , Err ( Reason :: NoStart | Reason :: OutOfMemory ) )
     # a test of a reason, which makes none
-subcommands/src/program.rt print_usage
+nix_realise/src/cli/program.rt print_usage
     | if fault . kind ( ) == ErrorKind :: OutOfMemory { return print_no_memory ( err ) ; }
     # clap was refused memory
-subcommands/src/program.rt refuse_words | Err ( _ ) => print_no_memory ( err )
+nix_realise/src/cli/program.rt refuse_words | Err ( _ ) => print_no_memory ( err )
     # the fault of a call whose only fault is AllocError
-subcommands/src/program.rt print_stop | Err ( refused ) => return print_no_line ( refused , err )
+nix_realise/src/cli/program.rt print_stop | Err ( refused ) => return print_no_line ( refused , err )
     # there was no memory for the line; its call's fault is handed over
-subcommands/src/program.rt print_no_line
-    | match print_bytes ( NO_MEMORY_LINE , err ) { Ok ( ( ) ) => Ending :: NoMemory
+nix_realise/src/cli/program.rt print_no_line
+    | match print_bytes ( NO_MEMORY_LINE , err ) { Ok ( ( ) ) => Exit :: NoMemory
     # what the call means
-subcommands/src/program.rt print_no_memory | print_bytes ( NO_MEMORY_LINE , err )
+nix_realise/src/cli/program.rt print_no_memory | print_bytes ( NO_MEMORY_LINE , err )
     # what the call means
-subcommands/src/realise.rt keep | Err ( refused ) => JournalOutcome :: no_memory ( refused )
+nix_realise/src/building/realise.rt keep | Err ( refused ) => JournalOutcome :: no_memory ( refused )
     # the only fault of the call is want of memory
-subcommands/src/process.rt run_process | Err ( _ ) => print_no_memory ( err )
+nix_realise/src/cli/process.rt run_process | Err ( _ ) => print_no_memory ( err )
     # there was no memory for the buffer of standard output
-subcommands/src/process.rt run_arguments | Err ( _ ) => print_no_memory ( err )
+nix_realise/src/cli/process.rt run_arguments | Err ( _ ) => print_no_memory ( err )
     # arguments that are text can be refused for want of memory alone
-subcommands/src/process.rt run_texts | Err ( _ ) => print_no_memory ( err )
+nix_realise/src/cli/process.rt run_texts | Err ( _ ) => print_no_memory ( err )
     # the fault of a call whose only fault is AllocError
 store_run/src/run.rt run_workers
     | let _ = scope . spawn ( move || work ( rt , alloc , locked , reader , & builder ) )
@@ -53,9 +53,9 @@ store_run/src/run.rt run_workers
 store_run/src/kept_run.rt run_beside
     | let _ = scope . spawn ( move || keep_on ( rt , alloc , locked , text , place ) )
     # without its thread nothing is kept while the run goes on, and the run ends as ever
-process_build/src/trace.rt text | Err ( AllocError )
+process_build/src/observe/trace.rt text | Err ( AllocError )
     # memory was refused when a lease was noted, so that the trace has a gap
-process_build/src/start.rt start | match command . spawn ( processes ) {
+process_build/src/process/start.rt start | match command . spawn ( processes ) {
     # starts a process; its error is std's, and goes through Failure
 """
 )
@@ -65,19 +65,19 @@ SIZES = listed(
     """
 nix_names/src/base32.rt base32_text | len # the characters of the text of some bytes
 nix_names/src/base32.rt bytes_of | n # at most the characters of a text (`within`)
-process_build/src/kept_folders.rt new | count # the derivations of a plan
-process_build/src/reading.rt - | MAX_PIECE # the bytes of a piece, 65,536
-process_build/src/reading.rt new | MAX_PIECE # the same
-process_build/src/reading.rt names | NAMES_AT_ONCE # 4,096 bytes of names
-process_build/src/counts.rt new | unsettled : usize :: MAX # no size: no count reaches it
-process_build/src/time.rt micros_of | unwrap_or ( u64 :: MAX
+process_build/src/disk/kept_folders.rt new | count # the derivations of a plan
+process_build/src/disk/outputs.rt - | MAX_PIECE # the bytes of a piece, 65,536
+process_build/src/disk/outputs.rt new | MAX_PIECE # the same
+process_build/src/disk/outputs.rt names | NAMES_AT_ONCE # 4,096 bytes of names
+process_build/src/observe/counts.rt new | unsettled : usize :: MAX # no size: no count reaches it
+process_build/src/observe/time.rt micros_of | unwrap_or ( u64 :: MAX
     # no size: the greatest time that is told
 ref_scan/src/index.rt sieve_of | slots # the slots of a sieve, at most 1,048,576
 build_outcome/src/links.rt no_links | count # a list for each output of a derivation
 run_states/src/users.rt open | pairs_in ( plan , twins ) # derivations with who waits for them
-valid_table/src/row_set.rt new | count / 64 + 1 # a bit for each row
+valid_table/src/path_table/row_set.rt new | count / 64 + 1 # a bit for each row
 valid_table/src/journal.rt reserve | paths # what the caller asks for
-valid_table/src/table.rt reserve | paths # what the caller asks for
+valid_table/src/path_table/table.rt reserve | paths # what the caller asks for
 valid_view/src/prefix.rt len | self . count # the entries of a list that is there
 valid_view/src/opening.rt make_readers | count # the number of readers, at most 64
 """

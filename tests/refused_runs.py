@@ -109,6 +109,8 @@ class Realise(Plan):
             return "database of Nix"
         if path in self.drvs:
             return "derivation"
+        if path == str(self.store):
+            return "store folder"
         if "/.nix_realise-left-" in path:
             is_taken = bool(self.moves_to(calls, at, True)) != self.is_raced
             return "folder aside" if is_taken or self.has_started(calls, at) else "name aside"

@@ -50,6 +50,7 @@ ROWS = [
     ("plan realise", READING, "journal read", "unread", "old"),
     ("check plan", "print", "", "unprinted", "old"),
     ("realise", "look", "database of Nix", "ever", "new"),
+    ("realise", "open-folder list", "store folder", "ever", "new"),
     ("realise", "look create", "journal tried", "unwritten", "old"),
     ("realise", "remove", "journal tried", "unwritten", "left"),
     ("realise", "look", "runner", "no runner", "old"),
@@ -79,7 +80,7 @@ FIRST_LINE = "realiser-journal 2\n"
 DOTTED = re.compile(r"\.nix_realise-(left-)?\d+(/|$)|\.build-\d+(/|$)")
 # What stands after a run that may leave temporary files: nothing is stated, or each file is whole.
 LEAVES = (None, "whole", "left", "moved")
-KEPT_FOLDERS = (".nix_realise-left-5", ".build-9", "other")
+KEPT_FOLDERS = (".build-9", "other")
 KEPT_FILES = (".nix_realise-7", ".build-9/file", "other/file", "file")
 MET = set()
 

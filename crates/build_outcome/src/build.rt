@@ -23,7 +23,7 @@ pub trait Build {
 /// Hears of the jobs that a worker runs. This is no part of building, and nothing is promised of
 /// it. The calls have no default bodies, so that a builder around another builder can't forget to
 /// pass them on.
-pub trait Watch {
+pub trait LeaseObserver {
     /// Hears that a job is run next. `unsettled` is the number of wanted derivations that were
     /// blocked, ready or building once its lease was taken. No lock is held. Calls of other workers
     /// may come before this one, with newer numbers.

@@ -20,7 +20,7 @@ mod reason;
 mod verdict;
 mod walk;
 
-pub use build::{Build, Watch};
+pub use build::{Build, LeaseObserver};
 pub use checked::Checked;
 pub use cycle::is_cyclic;
 pub use job::{Answer, Job, JobOutput};

@@ -61,7 +61,7 @@ is_yes None = false
 abbrev pub is_flagged : (name : Name) → List Row → Bool
 is_flagged name rows = is_yes (first_of name rows)
 
--- the text is this number in decimal, without a sign or behind a plus
+-- the text is this number in decimal, without a sign or after a plus
 abbrev pub IsNumber : (text : Bytes) → ℕ → Type 0
 IsNumber text number =
     let digits : Bytes = without_leading_plus text in

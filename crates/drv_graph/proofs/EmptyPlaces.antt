@@ -34,7 +34,7 @@ place_set (x ∷ os) [] i o p at_o at_p = absurd (none-some p at_p)
 place_set (x ∷ os) (q ∷ ps) zero o p at_o at_p = search (rules, same_Some)
 place_set (x ∷ os) (q ∷ ps) (suc i) o p at_o at_p = search (rules, place_set os ps i o p at_o at_p)
 
--- the outputs behind are as they were
+-- the outputs after are as they were
 unplaced : (os : List Output) (ps : List (List ℕ)) (i : ℕ)
     → slice_get (placed_outputs os (take i ps)) i ≡ slice_get os i
 unplaced os [] zero = refl

@@ -78,7 +78,7 @@ module _ {X : Type 0} (p : X → Bool) where
       (⊎_elim (λ same. absurd (false≢true (sym fails ∙ ap p same ∙ passes))) (λ later. later)
       (Contains-cons_cases z _ x has)) passes)
 
-  -- where there is none, the first stands behind the list, as one that is added does
+  -- where there is none, the first stands after the list, as one that is added does
   pub position_push : (xs : List X) (x : X) → p x ≡ true → position_or_len p (xs ++ x ∷ [])
       ≡ position_or_len p xs
   position_push [] x passes = at x [] true passes

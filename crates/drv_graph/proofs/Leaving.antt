@@ -99,7 +99,7 @@ lawful_push dir nodes node all one before (x ∷ xs) other parts =
     ∙ sym (append_assoc before (other ∷ rest.0) (rest.1 ∷ [])) in
     all before rest.0 other (same_from_push _ _ _ _ whole).0
 
--- what is kept stays right as nodes are added behind its first twin
+-- what is kept stays right as nodes are added after its first twin
 kept_grows : (nodes more : List Node) (kept : PlanNode) → IsPlanNode nodes kept
     → position_or_len (λ (n : Node). are_twins n.drv kept.drv) (nodes ++ more)
     ≡ position_or_len (λ (n : Node). are_twins n.drv kept.drv) nodes

@@ -117,7 +117,7 @@ loading_more dir G H roots done found after numbers next root number same some v
       once = once;
     }
 
--- behind all roots
+-- after all roots
 pub loading_ends : (dir : List ℕ) (gives : List ℕ → Answer → Type 0) (roots : List (List ℕ))
     (place : ℕ) (found : WalkState) (numbers : List ℕ) → length roots ≤ place
     → IsReachedSome dir gives roots (take place roots) found numbers

@@ -27,7 +27,7 @@ use Rattle.drv_graph.specs.declared.kinds.Kind.TheVariants.{Addressed, Fixed}
 use Rattle.drv_graph.proofs.PathLists.{other_path}
 use Rattle.nix_names.proofs.Lists.{All-from_contains, Contains-cons_cases, Contains-first, Contains-later, Contains-map, Contains-nothing}
 
--- a text isn't itself with more behind it
+-- a text isn't itself with more after it
 no_more : (a b : List ℕ) → a ≡ a ++ codes "-" ++ b → ⊥
 no_more a b same =
     let lengths : length a ≡ length (a ++ codes "-" ++ b) = ap length same in

@@ -269,7 +269,7 @@ gathered_appended given gathered input are ordered other = record {
               ]
         ]
 
--- a path behind others in sorted paths is not less than they
+-- a path after others in sorted paths is not less than they
 not_less : (paths : List (List ℕ)) (i : ℕ) (path earlier : List ℕ)
     → IsSorted (slice_cmp nat_cmp) paths → slice_get paths i ≡ Some path
     → Contains (take i paths) earlier

@@ -255,7 +255,7 @@ meeting_fault dir gives roots root start found visits path fault has_root walk w
     by (Draft found_fault) at = absurd at
     by Name at = absurd at
 
--- what the check of the innermost open derivation may answer behind what was left
+-- what the check of the innermost open derivation may answer after what was left
 checked_behind :
     (dir : List ℕ) (gives : List ℕ → Answer → Type 0) (roots : List (List ℕ)) (root : List ℕ)
     (start : List Node) (found : WalkState) (visit : Visit) (visits : List Visit)

@@ -1,4 +1,4 @@
--- The texts behind *Modulo hash* (Nix manual, "Derivation paths: hash modulo"; Dolstra's thesis,
+-- The texts of *Modulo hash* (Nix manual, "Derivation paths: hash modulo"; Dolstra's thesis,
 -- section 5.4): a derivation's text in which each input's path is replaced by its modulo hash, with
 -- or without the paths of the outputs. That inputs of one hash become one entry is this product's
 -- own.

@@ -121,7 +121,7 @@ pub enum GraphFault {
     /// Something is wrong with the draft that is to be filled, or with its filled text.
     #[error("{0}")]
     Draft(NodeFault),
-    /// The name for the draft, or it with `.drv` behind it, is no name of a store path.
+    /// The name for the draft, or it with `.drv` after it, is no name of a store path.
     #[error("the name is no derivation's name")]
     Name,
 }

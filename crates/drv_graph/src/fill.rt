@@ -18,7 +18,7 @@ ghost use Rattle.drv_graph.specs.private.UsedInputs.{drvs_of_uses, hashes_of, pa
 use crate::fault::{GraphFault, NodeFault, OutputFault};
 use crate::outputs::{UsedInput, expected_outputs};
 use crate::paths::known_paths;
-use crate::placing::place;
+use crate::places::place;
 use crate::plan::Plan;
 use crate::walk_state::used_inputs;
 use nix_drv::{Derivation, DrvFault, DrvSource, MAX_LEN, named_text_path, references, write};
@@ -35,7 +35,7 @@ struct Target {
 /// The derivation of a draft under a name, and the path of its text in the folder. The draft's
 /// empty output paths, and the empty values under outputs' names in its environment, become the
 /// paths that are expected; nothing else is changed. In this order: `Name` where the name, or it
-/// with `.drv` behind it, is no name; `Draft` with `BadReference` for the first input or source
+/// with `.drv` after it, is no name; `Draft` with `BadReference` for the first input or source
 /// that is no path of the folder; the faults of `Plan::load` of its inputs as roots; `Draft` with
 /// the first fault of its outputs, where a value that is neither empty nor the expected path is
 /// `OutputMismatch` or `EnvMismatch`; `Draft` with `TooLong` where the filled text has more than

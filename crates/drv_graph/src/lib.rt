@@ -7,7 +7,7 @@
 //! | `load` | how all that some roots reach is found |
 //! | `walk` | how derivations are walked, depth first |
 //! | `walk_state` | the state of a walk, and how it leaves a derivation |
-//! | `owning` | which derivation owns an output path |
+//! | `output_owners` | which derivation owns an output path |
 //! | `node` | a derivation of a plan, and what is kept beside it |
 //! | `kinds`, `kind_of` | the kinds of outputs, and a derivation's kind |
 //! | `modulo` | the texts behind modulo hashes |
@@ -15,7 +15,7 @@
 //! | `values` | whether the paths in a text are the expected ones |
 //! | `outputs` | what is wrong with a derivation's outputs |
 //! | `fill` | drafts, filled with the expected paths |
-//! | `placing` | paths put into a draft's empty places |
+//! | `places` | paths put into a draft's empty places |
 //! | `paths` | store paths parsed and copied |
 //! | `laws` | laws over the definitions that contracts cite |
 //! | `fault` | why derivations make no plan |
@@ -30,10 +30,10 @@ pub mod laws;
 mod load;
 mod modulo;
 mod node;
+mod output_owners;
 mod outputs;
-mod owning;
 mod paths;
-mod placing;
+mod places;
 mod plan;
 mod plan_eq;
 mod values;

@@ -12,8 +12,8 @@ ghost use Rattle.drv_graph.specs.private.Walks.{HasAllNumbers, IsOutputsChecking
 use crate::fault::{GraphFault, NodeFault, OutputFault};
 use crate::kinds::Kind;
 use crate::node::PlanNode;
+use crate::output_owners::own;
 use crate::outputs::{UsedInput, check_outputs, modulo_hash};
-use crate::owning::own;
 use crate::paths::known_paths;
 use indexmap::IndexMap;
 use nix_drv::Derivation;

@@ -9,8 +9,8 @@ use Rattle.run_states.specs.States.{Idle, IsInOrder, Rows, by_first, by_hindranc
 use Rattle.run_states.specs.declared.state.Refusal.{Refusal}
 use Rattle.run_states.specs.declared.state.State.{State}
 use Rattle.run_states.specs.declared.state.State.TheVariants.{Blocked, Done, Refused, Reused}
-use Rattle.run_states.specs.declared.standing.Standing.{Standing}
-use Rattle.run_states.specs.declared.standing.Standing.TheVariants.{AllValid, Hindered, Free}
+use Rattle.run_states.specs.declared.precondition.Precondition.{Precondition}
+use Rattle.run_states.specs.declared.precondition.Precondition.TheVariants.{AllValid, Hindered, Free}
 use Rattle.run_states.proofs.ClosedStates.{closed_is_good}
 use Rattle.run_states.proofs.NearestTwins.{none_from}
 use Rattle.run_states.proofs.PlanInputs.{rows_in_order}
@@ -122,7 +122,7 @@ closed_aside rows f d inputs twins = by (rows.standing d)
         → IsClosed (built_if_ready (by_twins f (rows.twins d) other))
     beside other closed = search (rules, closed_by_twins, none_open)
 
-    by : (s : Standing) → IsClosed (built_if_ready (by_validity s (by_twins f (rows.twins d)
+    by : (s : Precondition) → IsClosed (built_if_ready (by_validity s (by_twins f (rows.twins d)
         (by_hindrance s (by_inputs f (rows.inputs d))))))
     by AllValid = inr (inl refl)
     by (Hindered cause) = search (rules, beside)

@@ -8,13 +8,13 @@ use Rattle.std.proofs.lemmas.Option.{slice_get_past}
 use Rattle.drv_graph.specs.Nodes.{Node}
 use Rattle.drv_graph.specs.Plans.{Graph}
 use Rattle.valid_table.specs.declared.entry.Entry.{Entry}
-use Rattle.run_states.specs.Courses.{AreStandings, AreWanted}
+use Rattle.run_states.specs.StateTables.{AreStandings, AreWanted}
 use Rattle.run_report.specs.Listing.{IsMarked}
 use Rattle.run_report.specs.Reports.{lines_if_some, output_lines, outputs_at}
 use Rattle.run_states.specs.Runs.{IsWanted, Run}
 use Rattle.run_states.specs.States.{is_good}
 use Rattle.run_states.specs.declared.state.State.{State}
-use Rattle.run_states.specs.declared.standing.Standing.{Standing}
+use Rattle.run_states.specs.declared.precondition.Precondition.{Precondition}
 use Rattle.run_report.proofs.RunReports.{by_path_moved, marks_told, same_texts}
 use Rattle.run_states.proofs.StateLaws.{length_states, state_at as state_among}
 use Rattle.run_states.proofs.Tests.{all_pass}
@@ -106,7 +106,7 @@ held_text run opening wanted prospects text held is = record {
 -- ---- a new forecast
 
 pub are_held : (graph : Graph) (system : List ℕ) (opening : List Entry)
-    (standings : List Standing) (wanted : List Bool) (prospects : List Prospect)
+    (standings : List Precondition) (wanted : List Bool) (prospects : List Prospect)
     → AreStandings system opening graph.nodes standings
     → ((run : Run) (first : List Entry) → run.graph ≡ graph
     → AreStandings run.system first graph.nodes standings → AreWanted run first wanted)

@@ -11,14 +11,14 @@ use Rattle.drv_graph.specs.Plans.{Graph}
 use Rattle.drv_graph.specs.SoundGraphs.{IsSound}
 use Rattle.drv_graph.specs.Twins.{are_twins_at, first_twin_of}
 use Rattle.valid_table.specs.declared.entry.Entry.{Entry}
-use Rattle.run_states.specs.Courses.{AreStandings, AreWanted}
+use Rattle.run_states.specs.StateTables.{AreStandings, AreWanted}
 use Rattle.run_states.specs.Runs.{Run, earlier_twins, inputs_at, is_wanted, rows_of, standing_at}
 use Rattle.run_states.specs.States.{by_hindrance, by_inputs, by_twins, by_validity, is_bad, is_done, is_good, is_open, states_by}
 use Rattle.run_states.specs.declared.state.State.{State}
 use Rattle.run_states.specs.declared.state.State.TheVariants.{Blocked, Done, Refused, Reused}
 use Rattle.run_states.specs.declared.state.Refusal.TheVariants.{InputNotRealised}
-use Rattle.run_states.specs.declared.standing.Standing.{Standing}
-use Rattle.run_states.specs.declared.standing.Standing.TheVariants.{Free}
+use Rattle.run_states.specs.declared.precondition.Precondition.{Precondition}
+use Rattle.run_states.specs.declared.precondition.Precondition.TheVariants.{Free}
 use Rattle.run_states.proofs.ClosedStates.{good_not_bad, all_from, none_bad}
 use Rattle.run_states.proofs.EarlierTwins.{twins_from}
 use Rattle.run_states.proofs.NearestTwins.{none_from}
@@ -220,13 +220,13 @@ module _ (nodes : List Node) (wanted : List Bool) (prospects : List Prospect) (p
 -- ---- the states of the first derivations
 
 -- The prospects so far foretell the states of the first derivations.
-pub record AreFirst (graph : Graph) (standings : List Standing) (wanted : List Bool)
+pub record AreFirst (graph : Graph) (standings : List Precondition) (wanted : List Bool)
     (prospects : List Prospect) : Type 0 where
   pub each : (run : Run) (opening : List Entry) → run.graph ≡ graph
       → AreStandings run.system opening graph.nodes standings → AreWanted run opening wanted
       → states_of prospects ≡ states_by (built_table (rows_of run opening [])) (length prospects)
 
-pub none_first : (graph : Graph) (standings : List Standing) (wanted : List Bool)
+pub none_first : (graph : Graph) (standings : List Precondition) (wanted : List Bool)
     (prospects : List Prospect) → prospects ≡ [] → AreFirst graph standings wanted prospects
 unfolding states_by
 none_first graph standings wanted prospects none = record {
@@ -288,7 +288,7 @@ module _ (run : Run) (opening : List Entry) (sound : IsSound run.graph) (wanted 
       (λ t has. closed_at prospects t (is_earlier_twin run opening here t has).earlier)
 
   -- what the table of foretold states says of the next derivation
-  pub table_here : (standing : Standing)
+  pub table_here : (standing : Precondition)
       → standing ≡ standing_at run.system opening (slice_get nodes here)
       → built_table (rows_of run opening []) (state_at prospects) here
       ≡ built_if_ready (by_validity standing
@@ -310,8 +310,8 @@ module _ (run : Run) (opening : List Entry) (sound : IsSound run.graph) (wanted 
       inputs = by_inputs (state_at prospects) (inputs_at nodes (slice_get nodes here))
 
 -- the next derivation's prospect foretells its state
-pub first_more : (graph : Graph) (standings : List Standing) (wanted : List Bool)
-    (prospects : List Prospect) (built : List Bool) (p : Prospect) (standing : Standing)
+pub first_more : (graph : Graph) (standings : List Precondition) (wanted : List Bool)
+    (prospects : List Prospect) (built : List Bool) (p : Prospect) (standing : Precondition)
     (marked : Bool) (inputs : List ℕ) → IsSound graph → length prospects < length graph.nodes
     → standing ≡ slice_index_or standings (length prospects) Free
     → marked ≡ slice_index_or built (first_twin_of graph.nodes (length prospects)) false
@@ -361,9 +361,9 @@ first_more graph standings wanted prospects built p standing marked inputs sound
 
 -- ---- one derivation more, by its number
 
-pub first_next : (graph : Graph) (standings : List Standing) (wanted : List Bool)
+pub first_next : (graph : Graph) (standings : List Precondition) (wanted : List Bool)
     (prospects more : List Prospect) (built : List Bool) (d : ℕ) (p : Prospect)
-    (standing : Standing) (marked : Bool) (inputs : List ℕ) → IsSound graph
+    (standing : Precondition) (marked : Bool) (inputs : List ℕ) → IsSound graph
     → length prospects ≡ d → d < length graph.nodes → standing ≡ slice_index_or standings d Free
     → marked ≡ slice_index_or built (first_twin_of graph.nodes d) false
     → inputs ≡ inputs_at graph.nodes (slice_get graph.nodes d)
@@ -401,7 +401,7 @@ kept_next nodes wanted prospects more built after d p count neither added same a
     (λ is done. neither (ap (λ n. slice_index_or wanted n false) (sym count) ∙ is) done) are))
 
 -- in the end they foretell all states
-pub all_first : (graph : Graph) (standings : List Standing) (wanted : List Bool)
+pub all_first : (graph : Graph) (standings : List Precondition) (wanted : List Bool)
     (prospects : List Prospect) → length prospects ≡ length graph.nodes
     → AreFirst graph standings wanted prospects
     → (run : Run) (opening : List Entry) → run.graph ≡ graph

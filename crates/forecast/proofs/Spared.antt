@@ -6,7 +6,7 @@ use Rattle.std.proofs.lemmas.List.Elements.{All-contains}
 use Rattle.nix_names.proofs.Lists.{Contains-first, Contains-later}
 use Rattle.drv_graph.specs.SoundGraphs.{IsSound}
 use Rattle.valid_table.specs.declared.entry.Entry.{Entry}
-use Rattle.run_states.specs.Courses.{IsOpen}
+use Rattle.run_states.specs.StateTables.{IsOpen}
 use Rattle.run_states.specs.Runs.{History, IsWanted, Run, earlier_twins, rows_of, state_in, wanted_input, wanted_root}
 use Rattle.run_states.specs.States.{Begun, Broken, Ended, Idle, Phase, Rows, by_phase, later, phase_by, phase_of}
 use Rattle.run_states.specs.declared.state.Event.{Event}
@@ -14,7 +14,7 @@ use Rattle.run_states.specs.declared.state.Event.TheVariants.{Begin, Done as Fin
 use Rattle.build_outcome.specs.declared.reason.Reason.{Reason}
 use Rattle.run_states.specs.declared.state.State.{State}
 use Rattle.run_states.specs.declared.state.State.TheVariants.{Blocked, Building, Done, Failed, Ready, Refused, Reused}
-use Rattle.run_states.specs.declared.standing.Standing.TheVariants.{Free}
+use Rattle.run_states.specs.declared.precondition.Precondition.TheVariants.{Free}
 use Rattle.run_states.proofs.PlanInputs.{inputs_first, rows_in_order}
 use Rattle.run_states.proofs.EarlierTwins.{twins_first}
 use Rattle.run_states.proofs.Seeds.{same_number}

@@ -2,7 +2,7 @@
 use Rattle.std.specs.Prelude.{◌≡◌, Bool, ℕ, List, [], length, map}
 use Rattle.std.specs.List.{slice_index_or}
 use Rattle.valid_table.specs.declared.entry.Entry.{Entry}
-use Rattle.run_states.specs.Courses.{AreWanted}
+use Rattle.run_states.specs.StateTables.{AreWanted}
 use Rattle.run_states.specs.Runs.{Run, rows_of}
 use Rattle.run_states.specs.States.{states_by}
 use Rattle.run_states.specs.declared.state.State.{State}

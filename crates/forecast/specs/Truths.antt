@@ -4,7 +4,7 @@ use Rattle.std.specs.Prelude.{◌≡◌, ℕ, List, codes, flat_map, slice_get, 
 use Rattle.std.specs.List.{list_all}
 use Rattle.nix_names.specs.Bytes.{Bytes, Path}
 use Rattle.drv_graph.specs.SoundGraphs.{IsSound}
-use Rattle.run_states.specs.Courses.{IsRunSettled}
+use Rattle.run_states.specs.StateTables.{IsRunSettled}
 use Rattle.run_states.specs.Legal.{IsLegal}
 use Rattle.run_report.specs.Reports.{IsReportIn, path_line, why_line}
 use Rattle.run_states.specs.Runs.{History, IsWanted, Run, earlier_twins, inputs_at, state_in}

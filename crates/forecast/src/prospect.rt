@@ -5,7 +5,7 @@ ghost use Rattle.run_states.specs.declared.state.State.TheVariants.{Reused};
 ghost use Rattle.forecast.specs.Forecasts.{built_if_ready};
 ghost use Rattle.forecast.specs.Holding.{state_at, state_of};
 
-use run_states::{Refusal, Standing};
+use run_states::{Precondition, Refusal};
 
 /// What becomes of a derivation, if each builder that is started makes its outputs.
 #[derive(Clone, Copy, Debug, PartialEq, Eq)]
@@ -45,7 +45,7 @@ pub(crate) fn prospect_at(prospects: &[Prospect], number: usize) -> Prospect
 // The prospect of a derivation with this standing and these inputs, by whether an earlier twin is
 // built, and by the prospects of the derivations before it.
 pub(crate) fn prospect_of(
-    standing: Standing,
+    standing: Precondition,
     has_built_twin: bool,
     inputs: &[usize],
     earlier: &[Prospect],
@@ -55,10 +55,10 @@ pub(crate) fn prospect_of(
         else by_hindrance standing (by_inputs (state_at earlier.now) inputs.now))) }
 {
     match standing {
-        Standing::AllValid => Prospect::Reuse,
+        Precondition::AllValid => Prospect::Reuse,
         _ if has_built_twin => Prospect::Reuse,
-        Standing::Hindered(cause) => Prospect::Refuse(cause),
-        Standing::Free => prospect_by_inputs(inputs, earlier),
+        Precondition::Hindered(cause) => Prospect::Refuse(cause),
+        Precondition::Free => prospect_by_inputs(inputs, earlier),
     }
 }
 

@@ -1,14 +1,14 @@
 //! What is foretold of all derivations of a plan.
 ghost use Rattle.std.specs.Prelude.{◌≡◌, ◌<◌, All, IfErr, IfOk, List, length, slice_get, vec_capacity};
 ghost use Rattle.valid_table.specs.declared.entry.Entry.{Entry};
-ghost use Rattle.run_states.specs.Courses.{AreStandings, AreWanted};
+ghost use Rattle.run_states.specs.StateTables.{AreStandings, AreWanted};
 ghost use Rattle.run_states.specs.Runs.{Run, inputs_at};
 ghost use Rattle.run_states.specs.declared.fault.BookFault.TheVariants.{NoMemory};
 ghost use Rattle.forecast.specs.Holding.{AreForetold};
 
 use crate::prospect::{Prospect, prospect_of};
 use drv_graph::Plan;
-use run_states::{BookFault, Standing};
+use run_states::{BookFault, Precondition};
 use std::alloc::Global;
 
 // The prospects of a plan's derivations, by their standings and by which of them are wanted. Costs
@@ -16,7 +16,7 @@ use std::alloc::Global;
 pub(crate) fn prospects_of(
     alloc: Global,
     plan: &Plan,
-    standings: &[Standing],
+    standings: &[Precondition],
     wanted: &[bool],
 ) -> Result<Vec<Prospect>, BookFault>
     requires standings { length standings.now ≡ length plan.now.nodes }

@@ -9,7 +9,7 @@
 //! calls. Then comes the answer, or the name of the fault with its values. Where a call answers want
 //! of memory, a line says so and whether what was lent to it is as it was, and the call is made
 //! again. A call that may not be made with its arguments is answered `not allowed`, and a line that
-//! means nothing ends the program with status 1. With the argument `--times` a line behind the second
+//! means nothing ends the program with status 1. With the argument `--times` a line after the second
 //! one says how long the call took: `took N ns`.
 //!
 //! | Module | What is in it |

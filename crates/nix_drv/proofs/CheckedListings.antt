@@ -89,7 +89,7 @@ pub bytes_found : (test : List ℕ → Bool) (entries : List (Vec ℕ × Vec ℕ
     ≡ lookup test (entries_of entries)
 bytes_found test entries found e = search (rules, lookup_mapped)
 
--- files in front decide before the one behind them
+-- files in front decide before the one after them
 lookup_push : (test : List ℕ → Bool) (files : List (List ℕ × List ℕ)) (path bytes : List ℕ)
     (other : Option (List ℕ))
     → or_else (lookup test (files ++ (path, bytes) ∷ [])) other

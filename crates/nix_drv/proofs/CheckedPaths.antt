@@ -36,7 +36,7 @@ stray_alone dir text spelled same stray = record {
   is = subst (λ (t : List ℕ). IsPathOf dir t → ⊥) (sym same) stray;
 }
 
--- the first stray text behind good ones
+-- the first stray text after good ones
 pub stray_behind : (dir text : List ℕ) (before after : List (List ℕ)) (spelled : List ℕ)
     → All (IsPathOf dir) before → IsFirstStray dir (text ∷ []) spelled
     → IsFirstStray dir (before ++ text ∷ after) spelled

@@ -60,7 +60,7 @@ elements_open one h s =
 
 -- ---- what is read
 
--- elements and the bracket behind them
+-- elements and the bracket after them
 abbrev pub elements_text : {A : Type 0} → (A → List ℕ) → List A → List ℕ
 elements_text text_of vs = separated text_of vs ++ 93 ∷ []
 
@@ -105,7 +105,7 @@ told_comma text_of IsPrefixOf v s (Err left) told = record {
   is_left = told.is_left;
 }
 
--- behind an element stands neither a comma nor the bracket
+-- after an element stands neither a comma nor the bracket
 stops_there : {A : Type 0} (text_of : A → List ℕ) (IsPrefixOf : List ℕ → Type 0) (v : A)
     (t : List ℕ) → StopsAt (PrefixOfSome text_of IsPrefixOf) (text_of v ++ t) (length t)
 stops_there text_of IsPrefixOf v t = record {
@@ -167,7 +167,7 @@ elements-again {A} {text_of} {IsPrefixOf} {one} r v (w ∷ ws) rest =
     )
     (ap (before (v ∷ [])) (elements-again r w _ _))
 
--- reading goes on behind an element
+-- reading goes on after an element
 open_again : {A : Type 0} {text_of : A → List ℕ} {IsPrefixOf : List ℕ → Type 0}
     {one : List ℕ → Result (A × List ℕ) ℕ} → IsReader text_of IsPrefixOf one → (v : A) (t : List ℕ)
     → elements_of one (text_of v ++ t) ≡ next_at (elements_of one) v t

@@ -1,4 +1,4 @@
--- Reading by a grammar answers with the one value, or stops behind the longest prefix.
+-- Reading by a grammar answers with the one value, or stops after the longest prefix.
 use Rattle.std.proofs.Common.{◌≡◌, ◌≢◌, ℕ, ◌-◌, ◌≤◌, List, [], ◌∷◌, ◌++◌, length, Result, Ok, Err, refl, sym, ap, subst, ◌∙◌, rules}
 use Rattle.std.proofs.lemmas.Bool.{ne_eqb}
 use Rattle.std.proofs.lemmas.List.{append-nil, length-append, nil_from_length}
@@ -73,7 +73,7 @@ pub read_whole : (g : Grammar) → IsClear g → (s : List ℕ) (v : Value g) (r
     ≡ Ok (v, rest) → length rest ≡ 0 → IsText g v s
 read_whole g clear s v rest e none = search (rules, reader, nil_from_length, append-nil)
 
--- what leaves bytes is no text, and stands behind the longest prefix
+-- what leaves bytes is no text, and stands after the longest prefix
 pub surplus_no_text : (g : Grammar) → IsClear g → (s : List ℕ) (w : Value g) (rest : List ℕ)
     → read g s ≡ Ok (w, rest) → length rest ≢ 0 → (v : Value g) → IsText g v s → ⊥
 surplus_no_text g clear s w rest e some v is = search (rules, rest_is, read-text)

@@ -9,7 +9,7 @@ use Rattle.nix_drv.specs.private.Reading.{◌>>=◌, fixed_at, read}
 use Rattle.nix_drv.specs.private.Behind.{string_behind, strings_behind, list_behind}
 use Rattle.nix_drv.specs.private.ParseFaults.{Fails}
 
--- a value that was read, behind others
+-- a value that was read, after others
 abbrev with_one : {A B : Type 0} → A → B × List ℕ → Result ((A × B) × List ℕ) ℕ
 with_one v z = Ok ((v, z.0), z.1)
 
@@ -19,7 +19,7 @@ with_fixed z = Ok ((tt, z.0), z.1)
 abbrev with_two : {A B : Type 0} → A → B × List ℕ → Result ((Unit {0} × (A × B)) × List ℕ) ℕ
 with_two v z = Ok ((tt, (v, z.0)), z.1)
 
--- a part and the one behind it, both behind fixed bytes
+-- a part and the one after it, both after fixed bytes
 abbrev then_of : {A B : Type 0} → Result (A × List ℕ) ℕ → (List ℕ → Result (B × List ℕ) ℕ)
     → Result ((Unit {0} × (A × B)) × List ℕ) ℕ
 then_of first second = first >>= λ y. second y.1 >>= with_two y.0

@@ -15,7 +15,7 @@ use Rattle.nix_drv.proofs.Readers.{reader_shrinks}
 use Rattle.nix_drv.proofs.Elements.{elements_open}
 use Rattle.nix_drv.proofs.Exact.{reader}
 
--- what follows an element by the sign behind it
+-- what follows an element by the sign after it
 abbrev follow : {A : Type 0} → (List ℕ → Result (List A × List ℕ) ℕ) → A → Next × List ℕ
     → Result (List A × List ℕ) ℕ
 follow others v (Comma, rest) = before (v ∷ []) (others rest)
@@ -68,7 +68,7 @@ after_element : {A : Type 0} (one : List ℕ → Result (A × List ℕ) ℕ)
     → before items (sign_at after >>= follow (elements_of one) v) ≡ total
 after_element {A} one h items s v after total so_far e = search (rules, open_sign, with_sign)
 
--- neither a comma nor the end stands behind the element
+-- neither a comma nor the end stands after the element
 pub sign_fails : {A : Type 0} (one : List ℕ → Result (A × List ℕ) ℕ)
     → ((s : List ℕ) → left_of (one s) ≤ length s)
     → (stop : ParseFault) (items : List A) (s : List ℕ) (v : A) (after : List ℕ)

@@ -1,4 +1,4 @@
--- A list behind its first bracket is read exactly, where its elements don't begin with the last
+-- A list after its first bracket is read exactly, where its elements don't begin with the last
 -- bracket.
 use Rattle.std.proofs.Common.{◌≡◌, ℕ, suc, ◌≤◌, List, [], ◌∷◌, ◌++◌, length, Result, Ok, Err, refl, ap, arith, inl, inr, rules}
 use Rattle.std.proofs.lemmas.Bool.{eqb-true, cond_both}

@@ -22,7 +22,7 @@ same_passes : (P Q : ℕ → Type 0) (end : ℕ) (x : Result ℕ ℕ) → ((r : 
 same_passes P Q end (Ok q) to back h = search rules
 same_passes P Q end (Err q) to back h = search rules
 
--- the second part comes behind the first
+-- the second part comes after the first
 both_pass : (P Q : ℕ → Type 0) (mid end : ℕ) (x : Result ℕ ℕ) (next : ℕ → Result ℕ ℕ)
     → ((r : ℕ) → P r → r ≤ mid) → ((r : ℕ) → Q r → mid ≤ r)
     → Passes P mid x → Passes Q end (next (capped mid)) → Passes (λ r. P r ⊎ Q r) end (x >>= next)
@@ -181,7 +181,7 @@ list_passes order key_of text_of Within one each p (v ∷ vs) =
     (pass_among order key_of one None q (v ∷ vs))) (sym after)
     (among_passes order key_of text_of Within one each None (p + 1) (v ∷ vs)))
 
--- going over a value answers the least place of a violation, or the place behind the text where
+-- going over a value answers the least place of a violation, or the place after the text where
 -- there is none
 pub pass-exact : (g : Grammar) (p : ℕ) (v : Value g)
     → Passes (IsViolation g p v) (p + length (text g v)) (pass g (capped p) v)

@@ -51,7 +51,7 @@ begins_bytes (b ∷ v) more rest e =
       )
     ]
 
--- behind the text of an element stands a comma, and a beginning of the others
+-- after the text of an element stands a comma, and a beginning of the others
 begins_behind : {A : Type 0} (text_of : A → List ℕ) (IsPrefixOf : List ℕ → Type 0) (v w : A)
     (vs : List A) (behind rest : List ℕ) → 44 ∷ separated text_of (w ∷ vs) ++ 93 ∷ [] ≡ behind
     ++ rest
@@ -163,7 +163,7 @@ bytes_begin more (at0, at1, at2, inr at) = (
   ),
 )
 
--- elements with one more behind them
+-- elements with one more after them
 separated-last : {A : Type 0} (text_of : A → List ℕ) (whole : List A) (v : A)
     → separated text_of (whole ++ v ∷ []) ≡ each_with_comma text_of whole ++ text_of v
 separated-last text_of [] v = refl

@@ -1,4 +1,4 @@
--- Readers that are exact: of fixed bytes, of something behind one byte, and of two parts in order.
+-- Readers that are exact: of fixed bytes, of something after one byte, and of two parts in order.
 use Rattle.std.proofs.Common.{◌≡◌, ℕ, ◌≤◌, false, List, [], ◌∷◌, ◌++◌, length, Result, Ok, Err, refl, sym, ap, ◌∙◌, append_assoc, arith, inl, inr, ◌⊎◌, rules}
 use Rattle.std.proofs.lemmas.List.{append-nil}
 use Rattle.nix_drv.specs.Grammar.{Begins, IsPrefixOfBytes}
@@ -7,7 +7,7 @@ use Rattle.nix_drv.proofs.Steps.{Told, told_shrinks, bind_shrinks}
 use Rattle.nix_drv.proofs.Fixed.{fixed-told, fixed-again, fixed-longest}
 use Rattle.nix_drv.proofs.Strings.{bytes_text, bytes-told, bytes-again, bytes-longest}
 
--- reading answers with the value of the text before the rest, or stops behind the longest prefix
+-- reading answers with the value of the text before the rest, or stops after the longest prefix
 pub record IsReader {A : Type 0} (text_of : A → List ℕ) (IsPrefixOf : List ℕ → Type 0)
     (reading : List ℕ → Result (A × List ℕ) ℕ) : Type 0 where
   pub told : (s : List ℕ) → Told text_of IsPrefixOf s (reading s)
@@ -41,7 +41,7 @@ bytes_reader = record {
   none = ([], [], refl, inr (34 ∷ [], refl));
 }
 
--- ---- behind one byte
+-- ---- after one byte
 
 abbrev pub PrefixBehind : ℕ → (List ℕ → Type 0) → List ℕ → Type 0
 PrefixBehind b IsPrefixOf prefix = Begins prefix (b ∷ [])

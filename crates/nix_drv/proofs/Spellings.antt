@@ -58,7 +58,7 @@ rest_behind : (s : List ℕ) → 1 ≤ length s → get_or s 0 0 ∷ take (lengt
 rest_behind [] long = absurd (omega arith)
 rest_behind (b ∷ s) long = search (rules, take_all)
 
--- a run and the byte behind it
+-- a run and the byte after it
 run_spelled : (part rest run special : List ℕ) (n byte : ℕ) (total : List ℕ) → n ≤ length rest
     → ((k : ℕ) → k < n → is_plain (get_or rest k 0) ≡ true)
     → part ++ flat_map spelling rest ≡ total → run ≡ take n rest → special ≡ drop n rest → 1
@@ -68,7 +68,7 @@ run_spelled : (part rest run special : List ℕ) (n byte : ℕ) (total : List �
 run_spelled part rest run special n byte total fits plain so_far run_is special_is long byte_is =
     search (rules, rest_behind, append_assoc, spelled_run)
 
--- the last run, with nothing behind it
+-- the last run, with nothing after it
 last_spelled : (part rest run special : List ℕ) (n : ℕ) (total : List ℕ) → n ≤ length rest
     → ((k : ℕ) → k < n → is_plain (get_or rest k 0) ≡ true)
     → part ++ flat_map spelling rest ≡ total → run ≡ take n rest → special ≡ drop n rest
@@ -79,7 +79,7 @@ last_spelled part rest run special n total fits plain so_far run_is special_is s
     ∙ ap (λ (t : List ℕ). take n rest ++ flat_map spelling t) none ∙ append-nil (take n rest) in
     ap (λ (t : List ℕ). part ++ t) (run_is ∙ sym whole) ∙ so_far
 
--- a run and the byte behind it were added
+-- a run and the byte after it were added
 pub run_written : (old added new rest run special : List ℕ) (n byte : ℕ) (total : List ℕ)
     → old ++ flat_map spelling rest ≡ total → n ≤ length rest
     → ((k : ℕ) → k < n → is_plain (get_or rest k 0) ≡ true)
@@ -90,7 +90,7 @@ run_written old added new rest run special n byte total begun fits plain run_is 
     byte_is added_is new_is = rw (new_is, added_is)
     (run_spelled _ _ _ _ n _ _ fits plain begun run_is special_is long byte_is)
 
--- the last run and the quote behind it are the string's
+-- the last run and the quote after it are the string's
 pub last_written : (base old added rest bytes run special : List ℕ) (n : ℕ)
     → old ++ flat_map spelling rest ≡ base ++ (34 ∷ flat_map spelling bytes) → n ≤ length rest
     → ((k : ℕ) → k < n → is_plain (get_or rest k 0) ≡ true)

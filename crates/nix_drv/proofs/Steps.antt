@@ -11,7 +11,7 @@ pub record StopsAt (Prefix : List ℕ → Type 0) (s : List ℕ) (left : ℕ) : 
   pub is_prefix : Prefix prefix
   pub is_left : length rest ≡ left
 
--- what was read is the text before the rest, and a fault stands behind a prefix
+-- what was read is the text before the rest, and a fault stands after a prefix
 abbrev pub Told : {A : Type 0} → (A → List ℕ) → (List ℕ → Type 0) → List ℕ → Result (A × List ℕ) ℕ
     → Type 0
 Told text_of Prefix s (Ok x) = s ≡ text_of x.0 ++ x.1

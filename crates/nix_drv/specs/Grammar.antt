@@ -50,14 +50,14 @@ IsText g v bytes = bytes ≡ text g v
 abbrev pub Begins : (prefix whole : Bytes) → Type 0
 Begins prefix whole = (rest : Bytes) × (whole ≡ prefix ++ rest)
 
--- a prefix of a string behind its first quote: the texts of some bytes, and then a beginning of the
+-- a prefix of a string after its first quote: the texts of some bytes, and then a beginning of the
 -- text of one more byte or of the last quote
 abbrev pub IsPrefixOfBytes : Bytes → Type 0
 IsPrefixOfBytes prefix =
     (whole last : Bytes) × (prefix ≡ flat_map spelling whole ++ last)
     × (((byte : ℕ) × Begins last (spelling byte)) ⊎ Begins last (34 ∷ []))
 
--- a prefix of a list behind its first bracket: the texts of some elements with a comma after each,
+-- a prefix of a list after its first bracket: the texts of some elements with a comma after each,
 -- and then a prefix of one more; or the texts of all elements, and then a beginning of the last
 -- bracket
 abbrev pub IsPrefixOfElements : {A : Type 0} → (A → Bytes) → (Bytes → Type 0) → Bytes → Type 0

@@ -8,7 +8,7 @@ use Rattle.nix_names.specs.Rising.{IsRising}
 use Rattle.nix_names.specs.StorePaths.{store_path}
 use Rattle.nix_drv.specs.Derivation.{Drv}
 
--- the type of a text path: `text`, then each reference behind a colon
+-- the type of a text path: `text`, then each reference after a colon
 abbrev pub text_kind : List Path → Bytes
 text_kind refs = codes "text" ++ flat_map (λ ref. 58 ∷ ref) refs
 

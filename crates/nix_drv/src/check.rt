@@ -16,7 +16,7 @@ use nix_names::{NameFault, StoreDir, StorePath, is_drv_name, parse_path};
 use std::alloc::Global;
 
 /// The derivation whose text the bytes at this path are. Tests these in order, and answers the
-/// first fault: `NotADrvName` where the path's name does not end in `.drv` behind at least one
+/// first fault: `NotADrvName` where the path's name does not end in `.drv` after at least one
 /// byte; `TooLong`, `Syntax` and `Order` as `read` does; `BadReference` with the first input
 /// derivation or source that is no path of the folder; `TextPathMismatch` with the text's own path
 /// where that is another path. Costs one reading, one SHA-256 over the bytes and one sort of the

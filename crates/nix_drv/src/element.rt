@@ -24,11 +24,11 @@ pub(crate) trait Element {
     fn key(&self) -> &[u8]
         ensures { result.now ≡ key_of form (value self.now) };
 
-    // The element at the head of the bytes, and the bytes behind it.
+    // The element at the head of the bytes, and the bytes after it.
     fn read(alloc: Global, bytes: &[u8]) -> Result<(Self, &[u8]), ParseFault>
         ensures { Gives (λ x. (value x.0, x.1.now)) result (read_of form bytes.now) };
 
-    // The place behind the element's text, which begins at this place, or the place of the first
+    // The place after the element's text, which begins at this place, or the place of the first
     // element within it that breaks the order of its list.
     fn pass(&self, place: usize) -> Result<usize, usize>
         ensures { result ≡ pass_of form place (value self.now) };
@@ -58,7 +58,7 @@ enum Next {
     End,
 }
 
-// What the head of the bytes is, and the bytes behind it.
+// What the head of the bytes is, and the bytes after it.
 fn next_of(bytes: &[u8]) -> Result<(Next, &[u8]), ParseFault>
     ensures { Gives (λ x. (x.0, x.1.now)) result (sign_at bytes.now) }
 {
@@ -70,7 +70,7 @@ fn next_of(bytes: &[u8]) -> Result<(Next, &[u8]), ParseFault>
     }
 }
 
-// The list at the head of the bytes, and the bytes behind it.
+// The list at the head of the bytes, and the bytes after it.
 pub(crate) fn read_list<T: Element + Drop>(
     alloc: Global,
     bytes: &[u8],
@@ -85,8 +85,8 @@ pub(crate) fn read_list<T: Element + Drop>(
     }
 }
 
-// The elements of a list of one or more elements, and the bytes behind the list. The bytes begin
-// behind the list's first bracket.
+// The elements of a list of one or more elements, and the bytes after the list. The bytes begin
+// after the list's first bracket.
 fn read_elements<T: Element + Drop>(
     alloc: Global,
     bytes: &[u8],
@@ -117,7 +117,7 @@ fn breaks(order: KeyOrder, before: Option<&[u8]>, key: &[u8]) -> bool
     }
 }
 
-// The place behind the list's text, which begins at this place, or the place of the first element
+// The place after the list's text, which begins at this place, or the place of the first element
 // that breaks the order of its list. A place above `usize::MAX` counts as `usize::MAX`.
 #[tactic(auto, unfolding(crate::specs::private::Passing::pass))]
 pub(crate) fn pass_list<T: Element>(

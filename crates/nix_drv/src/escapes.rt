@@ -39,7 +39,7 @@ fn escape_place(bytes: &[u8]) -> Option<usize>
 }
 
 // The number of bytes before the first that has an escape, or of all bytes where none has one.
-// Looks at no byte behind that first one.
+// Looks at no byte after that first one.
 pub(crate) fn plain_len(bytes: &[u8]) -> usize
     ensures within { result ≤ length bytes.now }
     ensures plain { (k : ℕ) → k < result → is_plain (slice_index bytes.now k) ≡ true }

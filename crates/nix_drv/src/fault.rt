@@ -80,7 +80,7 @@ impl<T: Drop> From<AllocFailed<T>> for DrvFault {
 pub(crate) enum ParseFault {
     // Memory was refused.
     NoMemory,
-    // The bytes are no text. This is the number of bytes behind the longest beginning that more
+    // The bytes are no text. This is the number of bytes after the longest beginning that more
     // bytes can complete to a text.
     Left(usize),
 }

@@ -19,7 +19,7 @@ use crate::reading::{fixed_of, str_of};
 use crate::writing::{pass_str, write_string};
 use std::alloc::{AllocError, Global};
 
-// The string behind the wanted bytes, and the bytes behind it.
+// The string after the wanted bytes, and the bytes after it.
 #[tactic(auto, unfolding(crate::specs::private::Behind::string_behind))]
 fn read_str<'a>(
     alloc: Global,
@@ -32,7 +32,7 @@ fn read_str<'a>(
     str_of(alloc, rest)
 }
 
-// Two strings, with a comma between them, behind the wanted bytes, and the bytes behind them.
+// Two strings, with a comma between them, after the wanted bytes, and the bytes after them.
 #[tactic(auto, unfolding(crate::specs::private::Behind::strings_behind))]
 fn read_strs<'a>(
     alloc: Global,
@@ -47,7 +47,7 @@ fn read_strs<'a>(
     Ok(((first, second), rest))
 }
 
-// The list behind the wanted bytes, and the bytes behind it.
+// The list after the wanted bytes, and the bytes after it.
 #[tactic(auto, unfolding(crate::specs::private::Behind::list_behind))]
 fn read_items<'a, T: Element + Drop>(
     alloc: Global,
@@ -269,7 +269,7 @@ struct BuildParts {
     env: Vec<EnvEntry>,
 }
 
-// The system, builder, arguments and environment behind a comma, and the bytes behind them.
+// The system, builder, arguments and environment after a comma, and the bytes after them.
 fn read_build(alloc: Global, bytes: &[u8]) -> Result<(BuildParts, &[u8]), ParseFault>
     ensures { Gives
         (λ x. ((tt, build_of x.0), x.1.now)) result (read_of (Then comma build_form) bytes.now) }
@@ -287,7 +287,7 @@ fn read_build(alloc: Global, bytes: &[u8]) -> Result<(BuildParts, &[u8]), ParseF
     Ok((build, rest))
 }
 
-// The parts at the head of the bytes, and the bytes behind them.
+// The parts at the head of the bytes, and the bytes after them.
 pub(crate) fn read_parts(alloc: Global, bytes: &[u8]) -> Result<(Parts, &[u8]), ParseFault>
     ensures { Gives (λ x. (parts_value x.0, x.1.now)) result (read_of derivation_form bytes.now) }
 {
@@ -307,7 +307,7 @@ pub(crate) fn read_parts(alloc: Global, bytes: &[u8]) -> Result<(Parts, &[u8]), 
     Ok((parts, rest))
 }
 
-// The place behind the text of the system, builder, arguments and environment, which begins at this
+// The place after the text of the system, builder, arguments and environment, which begins at this
 // place, or the place in it of the first element that breaks the order of its list.
 #[tactic(auto, unfolding(crate::specs::private::Passing::pass))]
 fn pass_build(parts: &Parts, place: usize) -> Result<usize, usize>
@@ -320,7 +320,7 @@ fn pass_build(parts: &Parts, place: usize) -> Result<usize, usize>
     Ok(at.saturating_add(1))
 }
 
-// The place behind the parts' text, or the place in it of the first element that breaks the order
+// The place after the parts' text, or the place in it of the first element that breaks the order
 // of its list.
 #[tactic(auto, unfolding(crate::specs::private::Passing::pass))]
 pub(crate) fn pass_parts(parts: &Parts) -> Result<usize, usize>

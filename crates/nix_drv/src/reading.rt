@@ -15,7 +15,7 @@ use std::alloc::Global;
 /// The greatest number of bytes that a derivation's text may have.
 pub const MAX_LEN: usize = 4_194_304;
 
-// The bytes behind the wanted ones, with which the bytes must begin.
+// The bytes after the wanted ones, with which the bytes must begin.
 pub(crate) fn fixed_of<'a>(bytes: &'a [u8], wanted: &[u8]) -> Result<&'a [u8], ParseFault>
     ensures { Gives (λ rest. (tt, rest.now)) result (fixed_at wanted.now bytes.now) }
 {
@@ -32,7 +32,7 @@ pub(crate) fn fixed_of<'a>(bytes: &'a [u8], wanted: &[u8]) -> Result<&'a [u8], P
     Ok(rest)
 }
 
-// The byte whose escape has the letter at the head of the bytes, and the bytes behind the letter.
+// The byte whose escape has the letter at the head of the bytes, and the bytes after the letter.
 fn escape_of(bytes: &[u8]) -> Result<(Option<u8>, &[u8]), ParseFault>
     ensures { Gives (λ x. (x.0, x.1.now)) result (escape_at bytes.now) }
 {
@@ -45,7 +45,7 @@ fn escape_of(bytes: &[u8]) -> Result<(Option<u8>, &[u8]), ParseFault>
     }
 }
 
-// The first byte of the rest of a string, or none at its last quote, and the bytes behind it.
+// The first byte of the rest of a string, or none at its last quote, and the bytes after it.
 fn byte_of(bytes: &[u8]) -> Result<(Option<u8>, &[u8]), ParseFault>
     ensures { Gives (λ x. (x.0, x.1.now)) result (byte_at bytes.now) }
 {
@@ -60,7 +60,7 @@ fn byte_of(bytes: &[u8]) -> Result<(Option<u8>, &[u8]), ParseFault>
     }
 }
 
-// The string at the head of the bytes, and the bytes behind it.
+// The string at the head of the bytes, and the bytes after it.
 #[tactic(auto, unfolding(crate::specs::private::Reading::read))]
 pub(crate) fn str_of(alloc: Global, bytes: &[u8]) -> Result<(Vec<u8>, &[u8]), ParseFault>
     ensures { Gives (λ x. (x.0.items, x.1.now)) result (read Str bytes.now) }
@@ -69,7 +69,7 @@ pub(crate) fn str_of(alloc: Global, bytes: &[u8]) -> Result<(Vec<u8>, &[u8]), Pa
     spelled_of(alloc, rest)
 }
 
-// The string whose first quote is just before the bytes, and the bytes behind its last quote.
+// The string whose first quote is just before the bytes, and the bytes after its last quote.
 fn spelled_of(alloc: Global, bytes: &[u8]) -> Result<(Vec<u8>, &[u8]), ParseFault>
     ensures { Gives (λ x. (x.0.items, x.1.now)) result (bytes_at false bytes.now) }
 {

@@ -47,7 +47,7 @@ pub fn named_text_path(
     make_named_path(alloc, &kind, &Sha256::digest(bytes), dir, name)
 }
 
-// The type of a text path: `text`, then each reference behind a colon.
+// The type of a text path: `text`, then each reference after a colon.
 fn text_kind(alloc: Global, refs: &[StorePath]) -> Result<Vec<u8>, AllocError>
     ensures { IfOk result (λ kind. kind.items ≡ text_kind refs.now) }
 {

@@ -49,7 +49,7 @@ fn escapes_in(bytes: &[u8]) -> usize
         .count()
 }
 
-// The place behind the string's text, which begins at this place. A place above `usize::MAX` counts
+// The place after the string's text, which begins at this place. A place above `usize::MAX` counts
 // as `usize::MAX`.
 pub(crate) fn pass_str(bytes: &[u8], place: usize) -> usize
     ensures { result ≡ behind place (length (string_text bytes.now)) }

@@ -72,7 +72,7 @@ component_passes : (part : List ℕ) → is_component part ≡ true
 unfolding is_component
 component_passes part h = search (rules, and_parts)
 
--- components, each behind a slash, are ASCII
+-- components, each after a slash, are ASCII
 components_are_ascii : (parts : List (List ℕ)) → All (λ part. IsTrue (is_component part)) parts
     → All IsAsciiByte (flat_map (λ part. 47 ∷ part) parts)
 components_are_ascii [] each = All-nil IsAsciiByte

@@ -8,7 +8,7 @@ use Rattle.nix_names.proofs.Lists.{Contains-middle, split_get}
 use Rattle.std.proofs.lemmas.List.FromFn.{get_or-range_with_len, length-range_with_len}
 
 module _ {X : Type 0} (Other Kind : X → Type 0) where
-  -- the element at a place behind others
+  -- the element at a place after others
   pub first_at : (list : List X) (n : ℕ) (x : X) → slice_get list n ≡ Some x
       → All Other (take n list) → Kind x → IsFirst Other Kind list x
   first_at list n x at others is = search (rules, split_get)

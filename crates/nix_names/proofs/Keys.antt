@@ -16,7 +16,7 @@ use Rattle.nix_names.proofs.PathTexts.{hash_part_is, hash_part_len, hash_part_of
 
 -- ---- numbers of equally many bytes compare as these do
 
--- the number that bytes spell behind a number, of which the first byte counts most
+-- the number that bytes spell after a number, of which the first byte counts most
 abbrev pub spelt : ℕ → List ℕ → ℕ
 spelt n [] = n
 spelt n (b ∷ bs) = spelt (n * 256 + b) bs

@@ -78,7 +78,7 @@ module _ {X : Type 0} where
   element_at (x ∷ xs) zero low = (x, refl)
   element_at (x ∷ xs) (suc n) low = element_at xs n (omega arith)
 
-  -- what stands in front stays behind what is added
+  -- what stands in front stays after what is added
   pub get_grows : (xs ys : List X) (n : ℕ) (x : X) → slice_get xs n ≡ Some x
       → slice_get (xs ++ ys) n ≡ Some x
   get_grows [] ys n x is = absurd (none-some x is)

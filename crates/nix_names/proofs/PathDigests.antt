@@ -17,7 +17,7 @@ use Rattle.nix_names.proofs.Base32Texts.{length_base32}
 use Rattle.nix_names.proofs.PathTexts.{path_of_parts}
 use Rattle.sha2.specs.Sha256.{sha256}
 
--- a byte of the fold, where the digest is behind
+-- a byte of the fold, where the digest is after
 pub folded_past : (x j i : ℕ) (digest : List ℕ) → length digest ≤ i
     → bit_xor x (folded_at j i (drop i digest)) ≡ folded_at j 0 digest → x ≡ folded_at j 0 digest
 folded_past x j i digest past held =

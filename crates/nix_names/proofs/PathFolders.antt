@@ -13,7 +13,7 @@ some_parts : (parts : List ℕ) → slice_split (λ b. b == 47) parts ≢ []
 some_parts parts none =
     absurd (omega (arith, length-slice_split (λ b. b == 47) parts, ap length none))
 
--- a byte put before the first of some parts is put behind the first slash
+-- a byte put before the first of some parts is put after the first slash
 joined_more : (x : ℕ) (parts : List (List ℕ)) (xs : List ℕ) → parts ≢ [] → 47 ∷ xs
     ≡ flat_map (λ part. 47 ∷ part) parts → 47 ∷ x ∷ xs
     ≡ flat_map (λ part. 47 ∷ part) (onto_first x parts)
@@ -57,14 +57,14 @@ cut_components part (next ∷ parts) first rest =
     (no_slash_in_component part first) refl
     ∙ ap (λ ps. part ∷ ps) (cut_components next parts both.0 both.1)
 
--- what some components, each with a slash before it, are cut into behind the first slash
+-- what some components, each with a slash before it, are cut into after the first slash
 components_cut : (text : List ℕ) (parts : List (List ℕ)) → parts ≢ [] → 47 ∷ text
     ≡ flat_map (λ p. 47 ∷ p) parts → list_all is_component parts ≡ true
     → slice_split (λ b. b == 47) text ≡ parts
 components_cut text [] some joined each = absurd (some refl)
 components_cut text (part ∷ parts) some joined each = search (rules, and_parts, cut_components)
 
--- the parts of a store folder behind its first slash are components
+-- the parts of a store folder after its first slash are components
 pub parts_of_dir : (parts : List ℕ) → IsStoreDir (47 ∷ parts)
     → list_all is_component (slice_split (λ b. b == 47) parts) ≡ true
 parts_of_dir parts dir = search (rules, list_all-from_AllPass, components_cut)

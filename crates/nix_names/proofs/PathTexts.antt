@@ -11,13 +11,13 @@ use Rattle.nix_names.specs.Names.{IsStoreDir, is_name}
 use Rattle.nix_names.specs.StorePaths.{IsPathOf, IsStorePath, base_of, hash_part_of, is_hash_part, name_of, path_text}
 use Rattle.nix_names.proofs.PathBytes.{no_slash_in_name, no_slash_in_digit, all_no_slash}
 
--- what stands behind the place n, where the element before n is the last that passes
+-- what stands after the place n, where the element before n is the last that passes
 after_last_from : (p : ℕ → Bool) (xs : List ℕ) (n : ℕ) → n ≤ length xs
     → ((k : ℕ) → n ≤ k → k < length xs → not (p (get_or xs k 0)) ≡ true)
     → not (p (get_or xs (n - 1) 0)) ≡ false → after_last p xs ≡ drop n xs
 after_last_from p xs n within from before = search (rules, not, suffix_len_is)
 
--- an element behind the front and one more
+-- an element after the front and one more
 behind : (front back : List ℕ) (x k : ℕ) → length front + 1 ≤ k → get_or (front ++ x ∷ back) k 0
     ≡ get_or back (k - (length front + 1)) 0
 behind front back x k low = search (rules, get_or-append_right)
@@ -32,7 +32,7 @@ drop_front_more front back x =
     sym (drop-drop 1 (length front) (front ++ x ∷ back))
     ∙ ap (drop 1) (drop_at front (x ∷ back) (length front) refl)
 
--- what stands behind the last element that passes, where none of what follows one that passes does
+-- what stands after the last element that passes, where none of what follows one that passes does
 after_last_at : (p : ℕ → Bool) (front back : List ℕ) (x : ℕ) → p x ≡ true
     → AllPass (λ b. not (p b)) back → after_last p (front ++ x ∷ back) ≡ back
 after_last_at p front back x passes others =
@@ -72,7 +72,7 @@ base_of_path dir hash name is_hash named =
     (all_pass_join (λ b. not (b == 47)) hash name 45 (hash_part_bytes hash is_hash) refl
     (name_bytes name named))
 
--- a base name behind a hash part and a dash
+-- a base name after a hash part and a dash
 record Parts (base : List ℕ) : Type 0 where
   pub hash : List ℕ
   pub name : List ℕ
@@ -95,7 +95,7 @@ hash_of_parts : (base : List ℕ) (p : Parts base) → take 32 base ≡ p.hash
 hash_of_parts base p = ap (take 32) p.parts ∙ take_at p.hash (45 ∷ p.name) 32
     (hash_part_len p.hash p.is_hash)
 
--- all behind the first 33 bytes of such a base name is its name
+-- all after the first 33 bytes of such a base name is its name
 name_of_parts : (base : List ℕ) (p : Parts base) → drop 33 base ≡ p.name
 name_of_parts base p =
     let long = hash_part_len p.hash p.is_hash in
@@ -165,7 +165,7 @@ unmet : (b : Bool) → (b ≡ true → ⊥) → not b ≡ true
 unmet true none = absurd (none refl)
 unmet false none = refl
 
--- the base name begins behind the last slash
+-- the base name begins after the last slash
 pub behind_last_slash : (text : List ℕ) (slash : ℕ) → IsLastByte (is_byte 47) text (Some slash)
     → drop (slash + 1) text ≡ base_of text
 behind_last_slash text slash last = search (rules, after_last_from, unmet, not_from_true)

@@ -36,7 +36,7 @@ is_component part =
     nat_le 1 (length part) && list_all is_name_char part
     && not (same_bytes part (codes ".")) && not (same_bytes part (codes ".."))
 
--- A store folder: one or more components, each behind a slash, in at most 255 bytes.
+-- A store folder: one or more components, each after a slash, in at most 255 bytes.
 pub record IsStoreDir (dir : Dir) : Type 0 where
   pub components : List Bytes
   pub some : components ≢ []

@@ -51,7 +51,7 @@ pub record IsStorePath (text : Path) : Type 0 where
   pub is_dir : IsStoreDir dir
   pub is_path : IsPathOf dir text
 
--- a path's base name: all behind its last slash
+-- a path's base name: all after its last slash
 abbrev pub base_of : Path → Bytes
 base_of text = after_last (λ b. b == 47) text
 
@@ -59,7 +59,7 @@ base_of text = after_last (λ b. b == 47) text
 abbrev pub hash_part_of : Path → Bytes
 hash_part_of text = take 32 (base_of text)
 
--- a path's name: all of its base name behind the dash
+-- a path's name: all of its base name after the dash
 abbrev pub name_of : Path → Name
 name_of text = drop 33 (base_of text)
 

@@ -153,7 +153,7 @@ fn same_bytes(bytes: &[u8]) -> &[u8]
     bytes
 }
 
-// The bytes before the first colon, and those behind it.
+// The bytes before the first colon, and those after it.
 fn halves(text: &[u8]) -> Option<(&[u8], &[u8])>
     ensures { MatchOption result (All (λ b. b ≢ 58) text.now)
         (λ x. All (λ b. b ≢ 58) x.0.now × (text.now ≡ x.0.now ++ 58 ∷ x.1.now)) }

@@ -84,7 +84,7 @@ impl StorePath {
         &self.base()[..HASH_PART_LEN]
     }
 
-    /// The name, behind the hash part and a dash. Costs a search for the last slash.
+    /// The name, after the hash part and a dash. Costs a search for the last slash.
     #[tactic(auto, using(crate::proofs::PathTexts::base_long, crate::proofs::PathTexts::name_of_is))]
     pub fn name(&self) -> &[u8]
         ensures value { result.now ≡ name_of self.now }
@@ -259,7 +259,7 @@ fn add_reserved(bytes: &[u8], text: &mut Vec<u8>)
     }
 }
 
-// Where the base name begins, behind the last slash.
+// Where the base name begins, after the last slash.
 fn base_place(text: &[u8]) -> usize
     ensures within { result ≤ length text.now }
     ensures place { drop result text.now ≡ base_of text.now }

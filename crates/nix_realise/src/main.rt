@@ -1,22 +1,46 @@
 //! The program `nix_realise`: its terminal, and the builders and the locks of a run.
+//!
+//! | Module | What is in it |
+//! |---|---|
+//! | `building` | the subcommand `realise` |
+//! | `asking` | the subcommands `check` and `plan`, which change nothing |
+//! | `adding` | the subcommands `add-text` and `add-drv` |
+//! | `io` | files, folders and locks |
+//! | `words` | the words of faults, and the last lines of a run |
+//! | `cli` | the command line of the program, and how a run of it ends |
 #![tactic(auto)]
 
-use process_build::{ByProcesses, ProgressLine, Watching};
+mod adding;
+mod asking;
+mod building;
+mod cli;
+mod io;
+mod words;
+
+pub use asking::check::check_lines;
+pub use cli::exit::{Exit, Status};
+pub use cli::process::run_process;
+pub use cli::program::{print_no_memory, refuse_words, run};
+pub use io::announced_locks::AnnouncedLocks;
+pub use io::folder::FolderSource;
+pub use io::journal_keeper::{InJournal, JournalSinks};
+pub use io::lock_call::LockFault;
+pub use io::locks::{FileLock, LockProof, Locks, Unlocked};
+use process_build::{ProcessBuilders, ProgressLine, WithProgress};
 use std::io::IsTerminal;
 use std::process::ExitCode;
 use std::rt::Env;
 use std::{env, thread};
-use subcommands::{Telling, run_process};
 
 fn main(rt: HostRuntime) -> ExitCode {
-    let make = ByProcesses::new(&rt, &rt);
+    let make = ProcessBuilders::new(&rt, &rt);
     let mut err = rt.stderr();
     let ending = if err.is_terminal() && !is_dumb(&rt) {
         let progress = ProgressLine::new(rt.alloc(), columns(&rt), err);
-        let make = Watching::new(&rt, &make, &progress);
+        let make = WithProgress::new(&rt, &make, &progress);
         let keep = || progress.keep(&rt);
         let run = || {
-            let ending = run_process(&rt, &make, &Telling::new(&rt, err), &mut err);
+            let ending = run_process(&rt, &make, &AnnouncedLocks::new(&rt, err), &mut err);
             progress.end(&rt);
             ending
         };

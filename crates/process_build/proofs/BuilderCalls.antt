@@ -13,7 +13,7 @@ use Rattle.std.specs.declared.alloc.Global.{Global}
 use Rattle.std.specs.declared.process.command.Command.{Command}
 use Rattle.nix_drv.specs.Derivation.{EnvEntry}
 use Rattle.process_build.specs.private.BuilderCalls.{entry_of_setting, value_of}
-use Rattle.process_build.specs.declared.call.Setting.{Setting}
+use Rattle.process_build.specs.declared.process.call.EnvVar.{EnvVar}
 
 -- what an entry makes of the value of a key
 after : List ℕ → Option (List ℕ) → EnvEntry → Option (List ℕ)
@@ -35,7 +35,7 @@ set_one old new key value k before false d set others was =
     others k (λ same. false≢true (d.1 (sym same))) ∙ was
 
 -- what a command says of each variable after one more of some settings is set
-pub set_more : (old new : Command Global) (settings : List Setting) (i : ℕ) (d : Setting)
+pub set_more : (old new : Command Global) (settings : List EnvVar) (i : ℕ) (d : EnvVar)
     → i < length settings
     → command_var new (get_or settings i d).key.now ≡ Some (Some (get_or settings i d).value.now)
     → SameOtherVars old new (get_or settings i d).key.now
@@ -45,7 +45,7 @@ pub set_more : (old new : Command Global) (settings : List Setting) (i : ℕ) (d
     ≡ option_map Some (value_of k (map entry_of_setting (take (i + 1) settings)))
 unfolding after
 set_more old new settings i d below set others was k =
-    let s : Setting = get_or settings i d in
+    let s : EnvVar = get_or settings i d in
     let before : List EnvEntry = map entry_of_setting (take i settings) in
     set_one old new s.key.now s.value.now k (value_of k before) (bytes_eq s.key.now k)
     (bytes_eq-Decides s.key.now k) set others (was k)

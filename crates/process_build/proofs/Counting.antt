@@ -8,7 +8,7 @@ use Rattle.std.proofs.lemmas.List.Elements.{All-contains, All-push, All-weaker, 
 use Rattle.std.proofs.lemmas.List.Sorted.{All-permutation, Contains-permutation, IsPermutation-cons, IsPermutation-map, sum_by-IsPermutation}
 use Rattle.std.proofs.lemmas.List.Sums.{sum_by-cons, sum_by_push}
 use Rattle.process_build.specs.Progress.{AllNeverFalls, Began, Ended, Heard, IsAllOf, IsGreatest, IsLeast, IsUnsettledOf, NumbersAddUp, OrderIsNoMatter, UnsettledNeverRises, begins, count_of, ends, ends_badly, ends_well, most, unsettled_at}
-use Rattle.process_build.specs.declared.counts.JobCounts.{JobCounts}
+use Rattle.process_build.specs.declared.observe.counts.JobCounts.{JobCounts}
 
 greatest_new : (numbers : List ℕ) (n m : ℕ) → IsGreatest numbers n → n < m
     → IsGreatest (numbers ++ m ∷ []) m

@@ -2,9 +2,9 @@
 use Rattle.std.specs.Prelude.{◌≡◌, ◌⊎◌, ◌<◌, ◌≤◌, ◌-◌, ℕ, ◌==◌, not, Bool, true, List, [], ◌∷◌, ◌++◌, All, Contains, Option, Some, None, filter, length, take}
 use Rattle.nix_names.specs.Bytes.{Name, Path}
 use Rattle.nix_names.specs.StorePaths.{name_of}
-use Rattle.process_build.specs.declared.lease.EndedLease.{EndedLease}
-use Rattle.process_build.specs.declared.lease.RunningLease.{RunningLease}
-use Rattle.process_build.specs.declared.trace.NotedLeases.{NotedLeases}
+use Rattle.process_build.specs.declared.process.lease.EndedLease.{EndedLease}
+use Rattle.process_build.specs.declared.process.lease.RunningLease.{RunningLease}
+use Rattle.process_build.specs.declared.observe.trace.NotedLeases.{NotedLeases}
 
 -- the lease that a running one is once a worker ended it at this time, well or not
 abbrev pub ended_lease_of : RunningLease → (worker : ℕ) → (at : ℕ) → (is_good : Bool) → EndedLease

@@ -1,7 +1,7 @@
 -- What public contracts cite, and what that rests on.
 pub mod Errors
 pub mod Leases
-pub mod Manners
+pub mod Options
 pub mod Progress
 pub mod Traces
 pub mod private

@@ -6,11 +6,11 @@ use Rattle.std.specs.Global.{Vec}
 use Rattle.std.specs.List.Sorted.{IsPermutation}
 use Rattle.nix_names.specs.Bytes.{Bytes}
 use Rattle.process_build.specs.Leases.{drv_name}
-use Rattle.process_build.specs.declared.counts.JobCounts.{JobCounts}
-use Rattle.process_build.specs.declared.counts.Numbers.{Numbers}
-use Rattle.process_build.specs.declared.lease.RunningLease.{RunningLease}
-use Rattle.process_build.specs.declared.line.LineContent.{LineContent}
-use Rattle.process_build.specs.declared.shown_numbers.ShownNumbers.{ShownNumbers}
+use Rattle.process_build.specs.declared.observe.counts.JobCounts.{JobCounts}
+use Rattle.process_build.specs.declared.observe.counts.Numbers.{Numbers}
+use Rattle.process_build.specs.declared.process.lease.RunningLease.{RunningLease}
+use Rattle.process_build.specs.declared.observe.line.LineContent.{LineContent}
+use Rattle.process_build.specs.declared.observe.shown_numbers.ShownNumbers.{ShownNumbers}
 
 -- a call that the line hears: a job began, or a job ended, well or not; with the number of
 -- derivations that were unsettled then

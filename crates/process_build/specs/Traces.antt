@@ -4,7 +4,7 @@ use Rattle.std.specs.Prelude.{◌≢◌, ◌<◌, ◌≤◌, ◌++◌, ℕ, Bool
 use Rattle.nix_names.specs.Bytes.{Bytes, Path}
 use Rattle.nix_names.specs.StorePaths.{IsStorePath}
 use Rattle.process_build.specs.Leases.{drv_name}
-use Rattle.process_build.specs.declared.lease.EndedLease.{EndedLease}
+use Rattle.process_build.specs.declared.process.lease.EndedLease.{EndedLease}
 
 -- the word for how a lease ended
 unfoldable pub end_word : (is_good : Bool) → Bytes

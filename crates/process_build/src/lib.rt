@@ -2,67 +2,29 @@
 //!
 //! | Module | What is in it |
 //! |---|---|
-//! | `builders` | what makes the builders of a run |
-//! | `processes` | a builder that runs a job's program as a process |
-//! | `call` | the texts of a job that a process is started with |
-//! | `drv_paths` | the paths of a run's derivations, by number |
-//! | `environment` | the environment that a builder finds |
-//! | `ended` | how a builder ended, which nothing but waiting for it tells |
-//! | `start` | a builder that is started and waited for |
-//! | `folders` | the store folder, the build folder of a lease, and what is cleared for it |
-//! | `removal` | what lies at a path of the store folder, taken away |
-//! | `reading` | what lies at the outputs' paths, read within the limits of an output |
-//! | `logs` | the log of a builder |
-//! | `manner` | how the builders of a run build |
-//! | `kept_folders` | the build folders of builders that failed, which are kept |
+//! | `disk` | build folders, logs and outputs on disk |
+//! | `observe` | what is seen of leases: their trace, and the line of progress |
+//! | `process` | builders as processes |
 //! | `failures`, `reasons` | what an error of the system means at a path, and for a build |
-//! | `progress` | the line of progress |
-//! | `shown_numbers` | the numbers that the line's terminal was shown last |
-//! | `counts`, `line` | the numbers of that line; its text |
-//! | `watching` | builders whose builds the line tells |
-//! | `trace`, `traces` | the trace of a run, which its builders note; its text |
-//! | `tracing` | builders whose leases a trace notes |
-//! | `lease`, `time` | a lease, running or ended; what a clock reads |
-//! | `longest` | the leases that run, and the one of them that runs longest |
 //! | `laws` | what holds of these numbers, over the definitions |
 #![tactic(auto)]
 
-mod builders;
-mod call;
-mod counts;
-mod drv_paths;
-mod ended;
-mod environment;
+mod disk;
 mod failures;
-mod folders;
-mod kept_folders;
 pub mod laws;
-mod lease;
-mod line;
-mod logs;
-mod longest;
-mod manner;
-mod processes;
-mod progress;
-mod reading;
+mod observe;
+mod process;
 mod reasons;
-mod removal;
-mod shown_numbers;
-mod start;
-mod time;
-mod trace;
-mod traces;
-mod tracing;
-mod watching;
 
-pub use builders::Builders;
-pub use drv_paths::DrvPaths;
+pub use disk::kept_folders::{KeptFolder, KeptFolders};
+pub use disk::left_paths::remove_left;
+pub use disk::logs::Logs;
 pub use failures::Failure;
-pub use kept_folders::{KeptFolder, KeptFolders};
-pub use logs::Logs;
-pub use manner::Manner;
-pub use processes::{ByProcesses, ProcessBuild};
-pub use progress::ProgressLine;
-pub use trace::{Trace, TraceText};
-pub use tracing::Tracing;
-pub use watching::Watching;
+pub use observe::progress::ProgressLine;
+pub use observe::trace::{Trace, TraceText};
+pub use observe::with_progress::WithProgress;
+pub use observe::with_trace::WithTrace;
+pub use process::builders::Builders;
+pub use process::drv_paths::DrvPaths;
+pub use process::options::BuildOptions;
+pub use process::processes::{ProcessBuild, ProcessBuilders};

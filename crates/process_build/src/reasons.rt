@@ -10,7 +10,7 @@ use build_outcome::Reason;
 use std::io;
 
 /// The reason of a failure before the builder has started.
-pub fn no_room(failure: Failure) -> Reason
+pub fn reason_before_start(failure: Failure) -> Reason
     ensures no_memory { failure ≡ Failure.NoMemory → result ≡ OutOfMemory }
     ensures other { failure ≢ Failure.NoMemory → result ≡ NoStart }
     ensures one { IsRoomFault result }
@@ -27,7 +27,7 @@ pub fn no_start(error: io::Error) -> Reason
     ensures other { ¬ IsNoMemory error → result ≡ NoStart }
     ensures one { IsRoomFault result }
 {
-    no_room(Failure::from(error))
+    reason_before_start(Failure::from(error))
 }
 
 /// The reason of an error after the builder has started: in the wait for it, or in the reading of

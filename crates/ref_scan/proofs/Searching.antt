@@ -10,7 +10,7 @@ use Rattle.ref_scan.specs.Scan.{Within}
 use Rattle.ref_scan.proofs.Windows.{within_past, within_next, within_window, within_few, within_of_drop}
 
 -- The marks are those of before and of parts within the bytes; a part within them is marked or
--- stands behind the start.
+-- stands after the start.
 pub record Searching (parts : List (List ℕ)) (old met : List Bool) (bytes : List ℕ) (start : ℕ)
     : Type 0 where
   pub count : length met ≡ length old

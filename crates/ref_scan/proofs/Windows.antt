@@ -9,7 +9,7 @@ use Rattle.nix_names.specs.StorePaths.{is_hash_part}
 use Rattle.ref_scan.specs.Scan.{Within}
 use Rattle.ref_scan.proofs.HashParts.{hash_part_long, hash_part_digit}
 
--- A part stays within bytes behind which or before which more come.
+-- A part stays within bytes after which or before which more come.
 pub within_left : (part a b : List ℕ) → Within part a → Within part (a ++ b)
 within_left part a b (x, y, is) = (
   x,
@@ -22,14 +22,14 @@ pub within_right : (part a b : List ℕ) → Within part b → Within part (a ++
 within_right part a b (x, y, is) =
     (a ++ x, y, ap (λ l. a ++ l) is ∙ sym (append_assoc a x (part ++ y)))
 
--- A part that stands somewhere stands behind n bytes, or begins before.
+-- A part that stands somewhere stands after n bytes, or begins before.
 pub within_behind :
     (part bytes : List ℕ) (n : ℕ) (x y : List ℕ) → bytes ≡ x ++ (part ++ y) → n ≤ length x
     → Within part (drop n bytes)
 within_behind part bytes n x y is le =
     (drop n x, y, ap (drop n) is ∙ drop-append-le n x (part ++ y) le)
 
--- the byte of a part that stands behind x
+-- the byte of a part that stands after x
 byte_of_part :
     (part bytes : List ℕ) (x y : List ℕ) (i : ℕ) → bytes ≡ x ++ (part ++ y) → i < length part
     → get_or bytes (length x + i) 0 ≡ get_or part i 0

@@ -18,10 +18,10 @@ const NONE: u8 = 0;
 
 const ALL: u8 = 255;
 
-// The hash parts of some paths, behind a sieve that few other windows pass. Where the keys of the
-// paths rise strictly, as those of one folder's paths nearly always do, a part is found by its key,
-// and a path's text is looked at only where a window has its key. Else the parts stand apart,
-// sorted.
+// The hash parts of some paths. A table of bytes, the sieve, is asked first: few windows pass it that
+// are no hash part. Where the keys of the paths rise strictly, as those of one folder's paths nearly
+// always do, a part is found by its key, and a path's text is looked at only where a window has its
+// key. Else the parts are kept in a sorted list of their own.
 #[derive(Drop)]
 pub(crate) struct Index {
     paths: Vec<StorePath>,
@@ -132,7 +132,7 @@ impl Index {
         self.place_behind(window)
     }
 
-    // The same of a window that passed the sieve, as few do.
+    // Which path's hash part a window is that passed the sieve, as few do.
     #[cold]
     #[inline(never)]
     fn place_behind(&self, window: &[u8; 32]) -> Option<usize>

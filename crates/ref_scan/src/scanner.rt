@@ -14,7 +14,7 @@ use std::marker::Model;
 /// A scan of lists of bytes, each of which may come in pieces, for the hash parts of store paths. A
 /// contract sees the permitted paths, the lists that a cut ended, and the list that goes on.
 ///
-/// It looks at each window of 32 bytes from its end and goes on behind a byte that no hash part
+/// It looks at each window of 32 bytes from its end and goes on after a byte that no hash part
 /// has, so most bytes of a program are not looked at. A window of base-32 digits alone is looked up
 /// among all hash parts at once. It keeps at most 31 bytes from one piece to the next.
 #[derive(Drop)]

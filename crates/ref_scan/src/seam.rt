@@ -18,7 +18,7 @@ fn tail_of(bytes: &[u8]) -> ArrayVec<u8, KEPT>
     tail
 }
 
-// The tail behind a piece, of which the seam has the tail before it and the first 31 bytes.
+// The tail after a piece, of which the seam has the tail before it and the first 31 bytes.
 pub(crate) fn tail_behind(seam: &[u8], piece: &[u8]) -> ArrayVec<u8, KEPT>
     ensures { (bytes : List ℕ) → seam.now ≡ last_bytes bytes ++ take 31 piece.now
         → result.items ≡ last_bytes (bytes ++ piece.now) }
@@ -30,7 +30,7 @@ pub(crate) fn tail_behind(seam: &[u8], piece: &[u8]) -> ArrayVec<u8, KEPT>
     }
 }
 
-// A tail and the first 31 bytes of the piece behind it.
+// A tail and the first 31 bytes of the piece after it.
 pub(crate) fn seam(tail: &[u8], piece: &[u8]) -> ArrayVec<u8, SEAM>
     requires { length tail.now ≤ 31 }
     ensures { result.items ≡ tail.now ++ take 31 piece.now }

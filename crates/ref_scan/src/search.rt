@@ -7,7 +7,7 @@ use crate::alphabet::last_foreign;
 use crate::index::Index;
 
 // Marks each part that stands somewhere within the bytes. Looks at each window of 32 bytes from its
-// end, goes on behind a byte outside the alphabet, and looks at no byte twice.
+// end, goes on after a byte outside the alphabet, and looks at no byte twice.
 pub(crate) fn search(index: &Index, met: &mut [bool], bytes: &[u8])
     requires are_parts { AreHashParts index.now.parts }
     requires count { length met.old ≡ length index.now.parts }

@@ -4,7 +4,7 @@ use Rattle.std.specs.Prelude.{◌↔◌, Bool, flat_map}
 use Rattle.drv_graph.specs.Nodes.{Node}
 use Rattle.drv_graph.specs.Plans.{Graph}
 use Rattle.valid_table.specs.declared.entry.Entry.{Entry}
-use Rattle.run_states.specs.Courses.{AreWanted, Course, course_state}
+use Rattle.run_states.specs.StateTables.{AreWanted, StateTable, course_state}
 use Rattle.run_report.specs.Listing.{IsMarked}
 use Rattle.run_report.specs.Reports.{AreByPath, IsReport, IsReportIn, IsReportOf}
 use Rattle.run_states.specs.Runs.{History, IsWanted, Run, state_in}
@@ -39,7 +39,7 @@ report_moved graph is_wanted is_wanted' state state' text wanted_same states_sam
     search (rules, by_path_moved, same_texts)
 
 -- where a course says of each derivation of a run whether it is wanted, and has its state
-pub report_in : (run : Run) (history : History) (course : Course) (text : List ℕ) → course.graph
+pub report_in : (run : Run) (history : History) (course : StateTable) (text : List ℕ) → course.graph
     ≡ run.graph → AreWanted run history.opening course.wanted
     → ((d : ℕ) → course_state course d ≡ state_in run history d) → IsReportOf course text
     → IsReportIn run history text

@@ -7,7 +7,7 @@ use Rattle.nix_names.specs.Rising.{IsRising}
 use Rattle.drv_graph.specs.Nodes.{Node, paths_of}
 use Rattle.drv_graph.specs.PlanNodes.{output_paths_of}
 use Rattle.drv_graph.specs.Plans.{Graph}
-use Rattle.run_states.specs.Courses.{Course, course_state}
+use Rattle.run_states.specs.StateTables.{StateTable, course_state}
 use Rattle.run_states.specs.Runs.{History, IsWanted, Run, state_in}
 use Rattle.run_states.specs.States.{is_good}
 use Rattle.run_report.specs.Words.{reason_words, refusal_words}
@@ -71,12 +71,12 @@ pub record IsReport (graph : Graph) (is_wanted : ℕ → Type 0) (state : ℕ �
       ++ flat_map (outputs_at graph.nodes state) graph.roots
 
 -- a derivation of a course is wanted
-abbrev pub IsWantedIn : Course → ℕ → Type 0
+abbrev pub IsWantedIn : StateTable → ℕ → Type 0
 IsWantedIn course d = (d < length course.graph.nodes)
     × (slice_index_or course.wanted d false ≡ true)
 
 -- the text is the report of a course
-abbrev pub IsReportOf : Course → (text : Bytes) → Type 0
+abbrev pub IsReportOf : StateTable → (text : Bytes) → Type 0
 IsReportOf course text = IsReport course.graph (IsWantedIn course) (course_state course) text
 
 -- the text is the report of a run with this history

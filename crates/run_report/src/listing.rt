@@ -1,4 +1,4 @@
-//! The derivations of a plan of which a text tells, by path.
+//! The derivations of a plan that have lines in a report, ordered by path.
 ghost use Rattle.std.specs.Prelude.{◌≡◌, IfOk, length, vec_capacity};
 ghost use Rattle.drv_graph.specs.SoundGraphs.{IsSound};
 ghost use Rattle.run_report.specs.Listing.{AreListed, AreWithin, IsMarked, listed_behind, numbers_of};

@@ -1,7 +1,7 @@
 //! The report of a run: what became of each wanted derivation, and the outputs of the roots.
 ghost use Rattle.std.specs.Prelude.{◌≡◌, ◌<◌, ◌++◌, IfErr, IfOk, OnOk, codes, flat_map, length};
 ghost use Rattle.drv_graph.specs.SoundGraphs.{IsSound};
-ghost use Rattle.run_states.specs.Courses.{course_state};
+ghost use Rattle.run_states.specs.StateTables.{course_state};
 ghost use Rattle.run_report.specs.Listing.{AreWithin};
 ghost use Rattle.run_report.specs.Reports.{IsReportOf, line_at, outputs_at, why_line};
 ghost use Rattle.run_report.specs.Words.{reason_words};
@@ -15,7 +15,7 @@ use build_outcome::Reason;
 use drv_graph::Plan;
 use nix_drv::Derivation;
 use nix_names::StorePath;
-use run_states::{BookFault, Course, State};
+use run_states::{BookFault, State, StateTable};
 use std::alloc::{AllocError, Global};
 
 /// The report of a course. For each wanted derivation, by path, a line `built P`, `reused P`,
@@ -23,7 +23,7 @@ use std::alloc::{AllocError, Global};
 /// each root that was built or reused, in the order of the roots, a line `output O` for each of its
 /// outputs. Answers `NoMemory` where memory is refused, and no other fault. Costs one sort of the
 /// wanted derivations by path, and else time in proportion to the plan's derivations and the text.
-pub fn report_of(alloc: Global, course: &Course) -> Result<Vec<u8>, BookFault>
+pub fn report_of(alloc: Global, course: &StateTable) -> Result<Vec<u8>, BookFault>
     ensures ok { IfOk result (λ text. IsReportOf course.now text.items) }
     ensures err { IfErr result (λ fault. fault ≡ NoMemory) }
 {
@@ -36,7 +36,11 @@ pub fn report_of(alloc: Global, course: &Course) -> Result<Vec<u8>, BookFault>
 }
 
 // Adds the lines of some derivations.
-fn write_lines(course: &Course, listed: &[Listed<'_>], out: &mut Vec<u8>) -> Result<(), AllocError>
+fn write_lines(
+    course: &StateTable,
+    listed: &[Listed<'_>],
+    out: &mut Vec<u8>,
+) -> Result<(), AllocError>
     requires { AreWithin (length course.now.graph.nodes) listed.now }
     ensures { OnOk result (out.new.items ≡ out.old.items
         ++ flat_map
@@ -50,7 +54,7 @@ fn write_lines(course: &Course, listed: &[Listed<'_>], out: &mut Vec<u8>) -> Res
 }
 
 // Adds the lines of the roots' outputs.
-fn write_roots(course: &Course, out: &mut Vec<u8>) -> Result<(), AllocError>
+fn write_roots(course: &StateTable, out: &mut Vec<u8>) -> Result<(), AllocError>
     ensures { OnOk result (out.new.items ≡ out.old.items
         ++ flat_map (outputs_at course.now.graph.nodes (course_state course.now))
         course.now.graph.roots) }

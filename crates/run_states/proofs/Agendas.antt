@@ -6,20 +6,20 @@ use Rattle.std.proofs.lemmas.Bool.{false≢true}
 use Rattle.std.proofs.lemmas.List.{append-nil, get_or-map, length-append, length-set, length-take-le, length_push, take_all, take_more}
 use Rattle.std.proofs.lemmas.List.Elements.{All-append, All-drop, All-nil, All-push, All-weaker, Contains-append_left, Contains-push}
 use Rattle.std.proofs.lemmas.Option.{get_or_from_slice_get, slice_get-get_or, slice_get_within}
-use Rattle.run_states.specs.Agendas.{Agenda, IsAgenda, IsWantedAt, alone_if, ends, frees, is_blocked, is_ready, is_unsettled, noted, settles, memo_count}
+use Rattle.run_states.specs.Agendas.{WorkQueues, IsAgenda, IsWantedAt, alone_if, ends, frees, is_blocked, is_ready, is_unsettled, noted, settles, memo_count}
 use Rattle.run_states.specs.Coursing.{kept}
 use Rattle.run_states.specs.States.{is_open}
-use Rattle.run_states.specs.Memos.{Turns, states_in, turns_begun, turns_done, turns_failed, turns_freed, turns_named, turns_refused, turns_reused, turns_stays}
+use Rattle.run_states.specs.NodeStates.{Turns, states_in, turns_begun, turns_done, turns_failed, turns_freed, turns_named, turns_refused, turns_reused, turns_stays}
 use Rattle.run_states.specs.declared.state.State.{State}
 use Rattle.run_states.specs.declared.state.State.TheVariants.{Done, Failed, Building, Reused, Refused, Ready, Blocked}
-use Rattle.run_states.specs.declared.memo.Memo.{Memo}
+use Rattle.run_states.specs.declared.node_states.NodeState.{NodeState}
 use Rattle.build_outcome.proofs.Places.{set_cases, set_other, set_same}
 
 abbrev pub one : Bool → ℕ
 one is = if is then 1 else 0
 
 -- counts, as a memo changes or comes at the end
-pub count_set : (test : Memo → Bool) (memos : List Memo) (d : ℕ) (before after : Memo)
+pub count_set : (test : NodeState → Bool) (memos : List NodeState) (d : ℕ) (before after : NodeState)
     → slice_get memos d ≡ Some before
     → memo_count test (set memos d after) + one (test before)
     ≡ memo_count test memos + one (test after)
@@ -28,7 +28,7 @@ count_set test (memo ∷ memos) zero before after at = search (rules, one)
 count_set test (memo ∷ memos) (suc d) before after at =
     omega (arith, count_set test memos d before after at)
 
-pub count_push : (test : Memo → Bool) (memos : List Memo) (memo : Memo)
+pub count_push : (test : NodeState → Bool) (memos : List NodeState) (memo : NodeState)
     → memo_count test (memos ++ memo ∷ []) ≡ memo_count test memos + one (test memo)
 count_push test [] memo = omega arith
 count_push test (t ∷ memos) memo = omega (arith, count_push test memos memo)
@@ -37,22 +37,22 @@ one_most : (is : Bool) → one is ≤ 1
 one_most true = omega arith
 one_most false = omega arith
 
-pub count_most : (test : Memo → Bool) (memos : List Memo) → memo_count test memos
+pub count_most : (test : NodeState → Bool) (memos : List NodeState) → memo_count test memos
     ≤ length memos
 count_most test [] = omega arith
 count_most test (memo ∷ memos) =
     omega (arith, one_most (test memo), count_most test memos)
 
 -- none passes where the count is 0, and the other way round
-pub count_none : (test : Memo → Bool) (memos : List Memo) (d : ℕ) (memo : Memo)
+pub count_none : (test : NodeState → Bool) (memos : List NodeState) (d : ℕ) (memo : NodeState)
     → memo_count test memos ≡ 0 → slice_get memos d ≡ Some memo → test memo ≡ true → ⊥
 count_none test [] d memo none at is = cc
 count_none test (t ∷ memos) zero memo none at is = search (rules, one, is)
 count_none test (t ∷ memos) (suc d) memo none at is =
     count_none test memos d memo (omega arith) at is
 
-pub none_counted : (test : Memo → Bool) (memos : List Memo)
-    → ((d : ℕ) (memo : Memo) → slice_get memos d ≡ Some memo → test memo ≡ true → ⊥)
+pub none_counted : (test : NodeState → Bool) (memos : List NodeState)
+    → ((d : ℕ) (memo : NodeState) → slice_get memos d ≡ Some memo → test memo ≡ true → ⊥)
     → memo_count test memos ≡ 0
 none_counted test [] none = refl
 none_counted test (t ∷ memos) none =
@@ -145,7 +145,7 @@ all_alone : (P : ℕ → Type 0) (is : Bool) (d : ℕ) → (is ≡ true → P d)
 all_alone P true d here = All-push P [] d (All-nil P) (here refl)
 all_alone P false d here = All-nil P
 
-wanted_set : (memos : List Memo) (d e : ℕ) (before after : Memo)
+wanted_set : (memos : List NodeState) (d e : ℕ) (before after : NodeState)
     → slice_get memos d ≡ Some before → after.wanted ≡ before.wanted → IsWantedAt memos e
     → IsWantedAt (set memos d after) e
 wanted_set memos d e before after at same (memo, there, is) =
@@ -162,7 +162,7 @@ wanted_set memos d e before after at same (memo, there, is) =
     by (inr apart) = search (rules, set_other, apart, is)
 
 -- what is to be done once a memo changed
-pub noted_agenda : (memos : List Memo) (agenda : Agenda) (d : ℕ) (before after : Memo)
+pub noted_agenda : (memos : List NodeState) (agenda : WorkQueues) (d : ℕ) (before after : NodeState)
     → slice_get memos d ≡ Some before → Turns before.state after.state
     → after.wanted ≡ before.wanted → IsAgenda memos agenda
     → IsAgenda (set memos d after) (noted agenda d before after)
@@ -214,7 +214,7 @@ noted_agenda memos agenda d before after at turns same is = record {
         by true freed = refl
         by false freed = absurd (false≢true freed)
 
-    ready_now : (e : ℕ) (memo : Memo) → slice_get (set memos d after) e ≡ Some memo
+    ready_now : (e : ℕ) (memo : NodeState) → slice_get (set memos d after) e ≡ Some memo
         → memo.wanted ≡ true → memo.state ≡ Ready
         → Contains (agenda.ring ++ alone_if (frees before after) d) e
     ready_now e memo there wanted now = ⊎_elim here elsewhere
@@ -248,7 +248,7 @@ noted_agenda memos agenda d before after at turns same is = record {
         )
 
 -- there is room to note it
-pub settles_most : (memos : List Memo) (agenda : Agenda) (d : ℕ) (before after : Memo)
+pub settles_most : (memos : List NodeState) (agenda : WorkQueues) (d : ℕ) (before after : NodeState)
     → slice_get memos d ≡ Some before → Turns before.state after.state
     → after.wanted ≡ before.wanted → IsAgenda memos agenda
     → one (settles before after) ≤ agenda.unsettled
@@ -264,7 +264,7 @@ settles_most memos agenda d before after at turns same is =
     )
 
 -- what is to be told, now or once it is known, doesn't grow
-pub noted_measure : (memos : List Memo) (agenda : Agenda) (d : ℕ) (before after : Memo)
+pub noted_measure : (memos : List NodeState) (agenda : WorkQueues) (d : ℕ) (before after : NodeState)
     → slice_get memos d ≡ Some before → Turns before.state after.state
     → length (noted agenda d before after).work
     + memo_count (λ memo. is_open memo.state) (set memos d after)
@@ -291,7 +291,7 @@ length_rest [] = omega arith
 length_rest (x ∷ xs) = omega arith
 
 -- the first goes from the ring where it can't be begun
-pub ring_falls : (memos : List Memo) (agenda : Agenda) (d : ℕ) (memo : Memo)
+pub ring_falls : (memos : List NodeState) (agenda : WorkQueues) (d : ℕ) (memo : NodeState)
     → slice_get agenda.ring 0 ≡ Some d → slice_get memos d ≡ Some memo
     → is_ready memo.state ≡ false → IsAgenda memos agenda
     → IsAgenda memos (record agenda { ring = drop 1 agenda.ring })
@@ -299,7 +299,7 @@ ring_falls memos agenda d memo first at waits is = record {
   ready = λ e other there wanted now. in_rest _ d e first
       (λ same.
       let both : other ≡ memo = cc in
-      let told : is_ready memo.state ≡ true = ap (λ (t : Memo). is_ready t.state) (sym both)
+      let told : is_ready memo.state ≡ true = ap (λ (t : NodeState). is_ready t.state) (sym both)
       ∙ ap is_ready now in
       false≢true (sym waits ∙ told))
       (is.ready e other there wanted now);
@@ -310,7 +310,7 @@ ring_falls memos agenda d memo first at waits is = record {
   unsettled = is.unsettled;
 }
 
-pub ring_falls_at : (memos : List Memo) (agenda : Agenda) (d : ℕ) (default : Memo)
+pub ring_falls_at : (memos : List NodeState) (agenda : WorkQueues) (d : ℕ) (default : NodeState)
     → slice_get agenda.ring 0 ≡ Some d → is_ready (get_or memos d default).state ≡ false
     → IsAgenda memos agenda → IsAgenda memos (record agenda { ring = drop 1 agenda.ring })
 ring_falls_at memos agenda d default first waits is =
@@ -321,7 +321,7 @@ ring_falls_at memos agenda d default first waits is =
     low = search (rules, get_or_from_slice_get, slice_get_within)
 
 -- The first d memos were looked at, and what can be begun of them is in the ring.
-pub record IsOpening (memos : List Memo) (d : ℕ) (ring : List ℕ) (unsettled : ℕ) : Type 0 where
+pub record IsOpening (memos : List NodeState) (d : ℕ) (ring : List ℕ) (unsettled : ℕ) : Type 0 where
   pub is : IsAgenda (take d memos) (record {
     ring = ring;
     room = d;
@@ -331,25 +331,25 @@ pub record IsOpening (memos : List Memo) (d : ℕ) (ring : List ℕ) (unsettled 
   })
   pub ready : All (λ e. kept (states_in memos) e ≡ Ready) ring
 
-push_cases : (xs : List Memo) (x y : Memo) (e : ℕ) → slice_get (xs ++ x ∷ []) e ≡ Some y
+push_cases : (xs : List NodeState) (x y : NodeState) (e : ℕ) → slice_get (xs ++ x ∷ []) e ≡ Some y
     → ((e ≡ length xs) × (y ≡ x)) ⊎ (slice_get xs e ≡ Some y)
 push_cases [] x y zero at = inl (refl, cc)
 push_cases [] x y (suc e) at = absurd cc
 push_cases (z ∷ xs) x y zero at = inr at
 push_cases (z ∷ xs) x y (suc e) at = search (rules, push_cases xs x y e at)
 
-push_old : (xs : List Memo) (x y : Memo) (e : ℕ) → slice_get xs e ≡ Some y
+push_old : (xs : List NodeState) (x y : NodeState) (e : ℕ) → slice_get xs e ≡ Some y
     → slice_get (xs ++ x ∷ []) e ≡ Some y
 push_old [] x y e at = absurd cc
 push_old (z ∷ xs) x y zero at = at
 push_old (z ∷ xs) x y (suc e) at = push_old xs x y e at
 
-push_new : (xs : List Memo) (x : Memo) → slice_get (xs ++ x ∷ []) (length xs) ≡ Some x
+push_new : (xs : List NodeState) (x : NodeState) → slice_get (xs ++ x ∷ []) (length xs) ≡ Some x
 push_new [] x = refl
 push_new (z ∷ xs) x = push_new xs x
 
 -- one more memo
-agenda_more : (xs : List Memo) (ring : List ℕ) (unsettled : ℕ) (x : Memo)
+agenda_more : (xs : List NodeState) (ring : List ℕ) (unsettled : ℕ) (x : NodeState)
     → IsAgenda xs (record {
       ring = ring;
       room = length xs;
@@ -367,9 +367,9 @@ agenda_more : (xs : List Memo) (ring : List ℕ) (unsettled : ℕ) (x : Memo)
 agenda_more xs ring unsettled x is = record {
   ready = λ e memo at wanted now. ⊎_elim
       (λ both.
-      let w : x.wanted ≡ true = ap (λ (t : Memo). t.wanted) (sym both.1) ∙ wanted in
+      let w : x.wanted ≡ true = ap (λ (t : NodeState). t.wanted) (sym both.1) ∙ wanted in
       let r : is_ready x.state ≡ true =
-      ap (λ (t : Memo). is_ready t.state) (sym both.1) ∙ ap is_ready now in
+      ap (λ (t : NodeState). is_ready t.state) (sym both.1) ∙ ap is_ready now in
       let both_are : (x.wanted && is_ready x.state) ≡ true = cc in
       subst (λ b. Contains (ring ++ alone_if b (length xs)) e) (sym both_are)
       (subst (λ n. Contains (ring ++ length xs ∷ []) n) (sym both.0)
@@ -413,8 +413,8 @@ agenda_more xs ring unsettled x is = record {
     ready_or_blocked : (w : Bool) (s : State) → one (w && is_ready s) + one (is_blocked s) ≤ 1
     ready_or_blocked w s = apart w (is_ready s) (is_blocked s) (ready_not_blocked s)
 
-opening_more : (memos : List Memo) (d : ℕ) (ring : List ℕ) (unsettled : ℕ) (x : Memo)
-    (default : Memo) → d < length memos → get_or memos d default ≡ x
+opening_more : (memos : List NodeState) (d : ℕ) (ring : List ℕ) (unsettled : ℕ) (x : NodeState)
+    (default : NodeState) → d < length memos → get_or memos d default ≡ x
     → IsOpening memos d ring unsettled
     → IsOpening memos (d + 1) (ring ++ alone_if (x.wanted && is_ready x.state) d)
     (unsettled + one (is_unsettled x))
@@ -454,8 +454,8 @@ opening_more memos d ring unsettled x default low read before =
       ready = All-append (λ e. kept (states_in memos) e ≡ Ready) _
           _ before.ready
           (all_alone (λ e. kept (states_in memos) e ≡ Ready) _ d
-          (λ both. get_or-map (λ (t : Memo). t.state) _ d _ _ low
-          ∙ ap (λ (t : Memo). t.state) read
+          (λ both. get_or-map (λ (t : NodeState). t.state) _ d _ _ low
+          ∙ ap (λ (t : NodeState). t.state) read
           ∙ ready_is _ (second_of_two x.wanted (is_ready x.state) both)));
     }
   where
@@ -464,8 +464,8 @@ opening_more memos d ring unsettled x default low read before =
     second_of_two false r both = absurd (false≢true both)
 
 -- one more memo was looked at: it can be begun; it still has something before it; neither
-pub opening_ready : (memos : List Memo) (d : ℕ) (ring : List ℕ) (unsettled : ℕ)
-    (default : Memo) (now : List ℕ) (count : ℕ) → d < length memos
+pub opening_ready : (memos : List NodeState) (d : ℕ) (ring : List ℕ) (unsettled : ℕ)
+    (default : NodeState) (now : List ℕ) (count : ℕ) → d < length memos
     → (get_or memos d default).wanted ≡ true
     → is_open (get_or memos d default).state ≡ true
     → is_ready (get_or memos d default).state ≡ true
@@ -483,8 +483,8 @@ opening_ready memos d ring unsettled default now count low w o r ring_is count_i
     (subst (λ n. IsOpening memos (d + 1) (ring ++ alone_if (x.wanted && is_ready x.state) d) n)
     (sym count_was) (opening_more _ d _ _ x _ low refl before))
 
-pub opening_open : (memos : List Memo) (d : ℕ) (ring : List ℕ) (unsettled : ℕ)
-    (default : Memo) (now : List ℕ) (count : ℕ) → d < length memos
+pub opening_open : (memos : List NodeState) (d : ℕ) (ring : List ℕ) (unsettled : ℕ)
+    (default : NodeState) (now : List ℕ) (count : ℕ) → d < length memos
     → (get_or memos d default).wanted ≡ true
     → is_open (get_or memos d default).state ≡ true
     → is_ready (get_or memos d default).state ≡ false
@@ -511,8 +511,8 @@ ready_open Reused is = refl
 ready_open (Failed reason) is = refl
 ready_open (Refused cause) is = refl
 
-pub opening_passed : (memos : List Memo) (d : ℕ) (ring : List ℕ) (unsettled : ℕ)
-    (default : Memo) (now : List ℕ) (count : ℕ) → d < length memos
+pub opening_passed : (memos : List NodeState) (d : ℕ) (ring : List ℕ) (unsettled : ℕ)
+    (default : NodeState) (now : List ℕ) (count : ℕ) → d < length memos
     → ((get_or memos d default).wanted ≡ false)
     ⊎ (is_open (get_or memos d default).state ≡ false)
     → now ≡ ring → count ≡ unsettled → IsOpening memos d ring unsettled
@@ -538,7 +538,7 @@ opening_passed memos d ring unsettled default now count low either ring_is count
     and_false false = refl
 
 -- all were looked at
-pub opening_done : (memos : List Memo) (d : ℕ) (ring : List ℕ) (unsettled room space : ℕ)
+pub opening_done : (memos : List NodeState) (d : ℕ) (ring : List ℕ) (unsettled room space : ℕ)
     (work : List ℕ) → length memos ≤ d → d ≤ length memos → room ≡ length memos
     → space ≡ length memos → work ≡ [] → IsOpening memos d ring unsettled
     → IsAgenda memos (record {
@@ -551,7 +551,7 @@ pub opening_done : (memos : List Memo) (d : ℕ) (ring : List ℕ) (unsettled ro
 opening_done memos d ring unsettled room space work past low room_is space_is none before =
     search (rules, take_all, low)
 
-pub opening_fresh : (memos : List Memo) (d : ℕ) (ring : List ℕ) (unsettled : ℕ)
+pub opening_fresh : (memos : List NodeState) (d : ℕ) (ring : List ℕ) (unsettled : ℕ)
     → IsOpening memos d ring unsettled → (e : ℕ) → slice_get ring 0 ≡ Some e
     → kept (states_in memos) e ≡ Ready
 opening_fresh memos d ring unsettled before e at =
@@ -561,11 +561,11 @@ opening_fresh memos d ring unsettled before e at =
 pub all_kept : (xs : List ℕ) (room : ℕ) → length xs ≤ room → drop (length xs - room) xs ≡ xs
 all_kept xs room low = search (rules, low)
 
-pub room_for : (memos : List Memo) (d : ℕ) (ring : List ℕ) (unsettled room : ℕ)
+pub room_for : (memos : List NodeState) (d : ℕ) (ring : List ℕ) (unsettled room : ℕ)
     → d < length memos → room ≡ length memos → IsOpening memos d ring unsettled
     → length (ring ++ d ∷ []) ≤ room
 room_for memos d ring unsettled room low wide before = search (rules, length_push)
 
-pub few_unsettled : (memos : List Memo) (d : ℕ) (ring : List ℕ) (unsettled : ℕ)
+pub few_unsettled : (memos : List NodeState) (d : ℕ) (ring : List ℕ) (unsettled : ℕ)
     → d < length memos → IsOpening memos d ring unsettled → unsettled ≤ d
 few_unsettled memos d ring unsettled low before = search (rules, count_most, length-take-le, low)

@@ -3,8 +3,8 @@ use Rattle.std.proofs.Common.{◌≡◌, ℕ, List, refl, rules}
 use Rattle.std.specs.Prelude.{Contains}
 use Rattle.run_states.specs.States.{IsInOrder, Phase, Rows, by_hindrance, by_inputs, by_phase, by_twins, by_validity, is_done, is_open, state, table}
 use Rattle.run_states.specs.declared.state.State.{State}
-use Rattle.run_states.specs.declared.standing.Standing.{Standing}
-use Rattle.run_states.specs.declared.standing.Standing.TheVariants.{AllValid, Hindered, Free}
+use Rattle.run_states.specs.declared.precondition.Precondition.{Precondition}
+use Rattle.run_states.specs.declared.precondition.Precondition.TheVariants.{AllValid, Hindered, Free}
 use Rattle.run_states.proofs.StateLaws.{all_same, any_same, find_same, states_agree}
 
 -- by its standing, its earlier twins and its inputs, in these states
@@ -38,7 +38,7 @@ pub aside_same : (rows : Rows) (f g : ℕ → State) (d : ℕ)
     → ((t : ℕ) → Contains (rows.twins d) t → f t ≡ g t) → aside rows f d ≡ aside rows g d
 aside_same rows f g d inputs twins = by (rows.standing d) refl
   where
-    by : (s : Standing) → rows.standing d ≡ s
+    by : (s : Precondition) → rows.standing d ≡ s
         → by_validity s (by_twins f (rows.twins d) (by_hindrance s (by_inputs f (rows.inputs d))))
         ≡ by_validity s (by_twins g (rows.twins d) (by_hindrance s (by_inputs g (rows.inputs d))))
     by AllValid is = refl

@@ -6,8 +6,8 @@ use Rattle.std.proofs.lemmas.Bool.{cases_lt, false≢true, or_cases, or_left, or
 use Rattle.run_states.specs.States.{Begun, Broken, Ended, Idle, Phase, Rows, by_first, by_hindrance, by_inputs, by_phase, by_twins, by_validity, is_bad, is_done, is_good, is_open, state, table}
 use Rattle.run_states.specs.declared.state.State.{State}
 use Rattle.run_states.specs.declared.state.State.TheVariants.{Blocked, Building, Done, Failed, Ready, Refused, Reused}
-use Rattle.run_states.specs.declared.standing.Standing.{Standing}
-use Rattle.run_states.specs.declared.standing.Standing.TheVariants.{AllValid, Free, Hindered}
+use Rattle.run_states.specs.declared.precondition.Precondition.{Precondition}
+use Rattle.run_states.specs.declared.precondition.Precondition.TheVariants.{AllValid, Free, Hindered}
 use Rattle.run_states.proofs.StateLaws.{reads_at, state_at, state_past}
 use Rattle.nix_names.proofs.Lists.{Contains-first, Contains-later}
 
@@ -124,7 +124,7 @@ module _ (f g : ℕ → State) (stay : (i : ℕ) → Stays (f i) (g i)) where
   first_stays None y true more found closed = absurd (true≢false closed)
   first_stays None y false more found closed = absurd (true≢false closed)
 
-  hindrance_stays : (s : Standing) (numbers : List ℕ)
+  hindrance_stays : (s : Precondition) (numbers : List ℕ)
       → Stays (by_hindrance s (by_inputs f numbers)) (by_hindrance s (by_inputs g numbers))
   hindrance_stays (Hindered cause) numbers closed = (refl, refl, refl)
   hindrance_stays AllValid numbers closed = search (rules, first_stays, bad_stays)
@@ -146,7 +146,7 @@ twins_stay false false o false true o' kept none stay closed =
 twins_stay false false o false false o' kept none stay closed = stay closed
 
 -- where a derivation stands by its last event as before
-table_stays : (f g : ℕ → State) → ((i : ℕ) → Stays (f i) (g i)) → (p : Phase) (s : Standing)
+table_stays : (f g : ℕ → State) → ((i : ℕ) → Stays (f i) (g i)) → (p : Phase) (s : Precondition)
     (twins inputs : List ℕ)
     → Stays (by_phase p (by_validity s (by_twins f twins (by_hindrance s (by_inputs f inputs)))))
     (by_phase p (by_validity s (by_twins g twins (by_hindrance s (by_inputs g inputs)))))
@@ -154,7 +154,7 @@ table_stays f g stay p s twins inputs =
     by_event p (by_validity s (by_twins f twins (by_hindrance s (by_inputs f inputs))))
     (by_validity s (by_twins g twins (by_hindrance s (by_inputs g inputs)))) (valid s)
   where
-    others : (t : Standing) → Stays (by_twins f twins (by_hindrance t (by_inputs f inputs)))
+    others : (t : Precondition) → Stays (by_twins f twins (by_hindrance t (by_inputs f inputs)))
         (by_twins g twins (by_hindrance t (by_inputs g inputs)))
     others t =
         twins_stay (list_any (λ u. is_done (f u)) twins) (list_any (λ u. is_open (f u)) twins)
@@ -163,7 +163,7 @@ table_stays f g stay p s twins inputs =
         (done_stays f g stay twins) (none_stays f g stay twins)
         (hindrance_stays f g stay t inputs)
 
-    valid : (t : Standing)
+    valid : (t : Precondition)
         → Stays (by_validity t (by_twins f twins (by_hindrance t (by_inputs f inputs))))
         (by_validity t (by_twins g twins (by_hindrance t (by_inputs g inputs))))
     valid AllValid closed = (refl, refl, refl)

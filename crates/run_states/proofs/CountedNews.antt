@@ -7,8 +7,8 @@ use Rattle.std.proofs.lemmas.List.Sums.{position_or_len_is}
 use Rattle.run_states.specs.Coursing.{kept}
 use Rattle.run_states.specs.States.{is_bad, is_good}
 use Rattle.run_states.specs.Nearest.{News, Open, Good, Bad, news_of}
-use Rattle.run_states.specs.Memos.{is_bad_news, is_good_news, news_in, states_in, waiting}
-use Rattle.run_states.specs.declared.memo.Memo.{Memo}
+use Rattle.run_states.specs.NodeStates.{is_bad_news, is_good_news, news_in, states_in, waiting}
+use Rattle.run_states.specs.declared.node_states.NodeState.{NodeState}
 use Rattle.run_states.proofs.KnownNews.{bad_news, good_news}
 
 -- Up to a place: `waits` counts the news that aren't good, as if all from there on weren't; `first`
@@ -98,7 +98,7 @@ all_counted heard place waits first past within are = (
 
 -- ---- news that are read
 
-module _ (memos : List Memo) (inputs : List ℕ) (place : ℕ) (any : Memo)
+module _ (memos : List NodeState) (inputs : List ℕ) (place : ℕ) (any : NodeState)
     (low : place < length inputs) (below : get_or inputs place 0 < length memos) where
   abbrev heard : News
   heard = slice_index_or (news_in (kept (states_in memos)) inputs) place Open
@@ -106,7 +106,7 @@ module _ (memos : List Memo) (inputs : List ℕ) (place : ℕ) (any : Memo)
   read : heard ≡ news_of (get_or memos (get_or inputs place 0) any).state
   read = get_or-map (λ i. news_of (kept (states_in memos) i)) _ _ 0 _ low
       ∙ ap news_of
-      (get_or-map (λ (t : Memo). t.state) _ _ _ _ below)
+      (get_or-map (λ (t : NodeState). t.state) _ _ _ _ below)
 
   pub good_read : (served result : Bool)
       → served ≡ is_good (get_or memos (get_or inputs place 0) any).state → served ≡ result

@@ -5,7 +5,7 @@ use Rattle.std.specs.List.Sorted.{IsStrictlyIncreasing}
 use Rattle.nix_names.proofs.Lists.{All-from_contains, Contains-cons_cases, Contains-first, Contains-later, Contains-nothing}
 use Rattle.run_states.specs.Agendas.{memo_count}
 use Rattle.run_states.specs.Counts.{HasCount}
-use Rattle.run_states.specs.declared.memo.Memo.{Memo}
+use Rattle.run_states.specs.declared.node_states.NodeState.{NodeState}
 use Rattle.run_states.proofs.Agendas.{one}
 
 -- a number before others, if it is to stand there
@@ -14,11 +14,11 @@ before_if true d others = d ∷ others
 before_if false d others = others
 
 -- the places of memos that pass, where the first stands at this one
-abbrev places : (Memo → Bool) → (from : ℕ) → List Memo → List ℕ
+abbrev places : (NodeState → Bool) → (from : ℕ) → List NodeState → List ℕ
 places test from [] = []
 places test from (memo ∷ memos) = before_if (test memo) from (places test (suc from) memos)
 
-places_count : (test : Memo → Bool) (from : ℕ) (memos : List Memo)
+places_count : (test : NodeState → Bool) (from : ℕ) (memos : List NodeState)
     → memo_count test memos ≡ length (places test from memos)
 places_count test from [] = refl
 places_count test from (memo ∷ memos) =
@@ -30,12 +30,12 @@ places_count test from (memo ∷ memos) =
     by false others counted = omega (arith, counted)
 
 -- a memo that passes stands at this place after a number
-abbrev IsPlace : (Memo → Bool) → (from : ℕ) → List Memo → (d : ℕ) → Type 0
-IsPlace test from memos d = (i : ℕ) × (memo : Memo) × (slice_get memos i ≡ Some memo)
+abbrev IsPlace : (NodeState → Bool) → (from : ℕ) → List NodeState → (d : ℕ) → Type 0
+IsPlace test from memos d = (i : ℕ) × (memo : NodeState) × (slice_get memos i ≡ Some memo)
     × (test memo ≡ true) × (d ≡ from + i)
 
 -- a place that is listed is that of a memo that passes
-places_hold : (test : Memo → Bool) (from : ℕ) (memos : List Memo) (d : ℕ)
+places_hold : (test : NodeState → Bool) (from : ℕ) (memos : List NodeState) (d : ℕ)
     → Contains (places test from memos) d → IsPlace test from memos d
 places_hold test from [] d has = absurd (Contains-nothing d has)
 places_hold test from (memo ∷ memos) d has =
@@ -52,7 +52,7 @@ places_hold test from (memo ∷ memos) d has =
     by false passes rest has = rest has
 
 -- and the place of each that passes is listed
-places_have : (test : Memo → Bool) (from : ℕ) (memos : List Memo) (i : ℕ) (memo : Memo)
+places_have : (test : NodeState → Bool) (from : ℕ) (memos : List NodeState) (i : ℕ) (memo : NodeState)
     → slice_get memos i ≡ Some memo → test memo ≡ true
     → Contains (places test from memos) (from + i)
 places_have test from [] i memo at passes = absurd cc
@@ -73,7 +73,7 @@ rising_more : (x : ℕ) (xs : List ℕ) → All (λ d. x < d) xs → IsStrictlyI
 rising_more x xs above rising zero low = above 0 0 (omega (arith, low))
 rising_more x xs above rising (suc k) low = search rules
 
-places_rise : (test : Memo → Bool) (from : ℕ) (memos : List Memo)
+places_rise : (test : NodeState → Bool) (from : ℕ) (memos : List NodeState)
     → IsStrictlyIncreasing (places test from memos)
 places_rise test from [] = search rules
 places_rise test from (memo ∷ memos) = by (test memo) (places_rise test (suc from) memos)
@@ -88,10 +88,10 @@ places_rise test from (memo ∷ memos) = by (test memo) (places_rise test (suc f
     by false rise = rise
 
 -- a count of memos is the count of a property, if exactly the places of the memos have it
-pub memos_counted : (test : Memo → Bool) (memos : List Memo) (is_such : ℕ → Type 0)
-    → ((d : ℕ) (memo : Memo) → slice_get memos d ≡ Some memo → test memo ≡ true → is_such d)
+pub memos_counted : (test : NodeState → Bool) (memos : List NodeState) (is_such : ℕ → Type 0)
+    → ((d : ℕ) (memo : NodeState) → slice_get memos d ≡ Some memo → test memo ≡ true → is_such d)
     → ((d : ℕ) → is_such d
-    → (memo : Memo) × (slice_get memos d ≡ Some memo) × (test memo ≡ true))
+    → (memo : NodeState) × (slice_get memos d ≡ Some memo) × (test memo ≡ true))
     → HasCount is_such (memo_count test memos)
 memos_counted test memos is_such such its = record {
   numbers = places test 0 memos;

@@ -12,7 +12,7 @@ use Rattle.run_states.specs.Runs.{Run, by_cause, earlier_twins, is_valid, is_wan
 use Rattle.run_states.specs.States.{Rows}
 use Rattle.drv_graph.specs.Twins.{are_twins_at}
 use Rattle.run_states.specs.declared.state.Event.{Event}
-use Rattle.run_states.specs.declared.standing.Standing.TheVariants.{AllValid}
+use Rattle.run_states.specs.declared.precondition.Precondition.TheVariants.{AllValid}
 use Rattle.run_states.proofs.Seeds.{standing_all}
 use Rattle.run_states.proofs.Tests.{all_pass, list_all_has, range_more, same_test}
 use Rattle.run_states.proofs.TwinLaws.{IsEarlierTwin, is_earlier_twin, through, turned, twins_path}

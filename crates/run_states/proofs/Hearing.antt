@@ -6,17 +6,17 @@ use Rattle.std.proofs.lemmas.Bool.{cases_Bool, eqb-false}
 use Rattle.std.proofs.lemmas.List.{ext_get_or, get_or-map, get_or-set_other, get_or-set_same, get_or_append_left, length-map, map-append, map-set}
 use Rattle.std.proofs.lemmas.Option.{get_or_from_slice_get, none-some, same_Some, slice_get-get_or, slice_get_within}
 use Rattle.nix_names.proofs.Lists.{Contains-from_get, element_at, get_mapped, get_push_cases, same_element}
-use Rattle.run_states.specs.Courses.{Awaited, all_of}
+use Rattle.run_states.specs.StateTables.{Awaited, all_of}
 use Rattle.run_states.specs.Coursing.{AreStatesOf, kept, phase_in}
 use Rattle.run_states.specs.Nearest.{News, Open, Good, Bad, by_twin_news, near_table, news_of}
 use Rattle.run_states.specs.States.{Idle, IsInOrder, Rows, by_hindrance, by_phase, by_validity}
 use Rattle.run_states.proofs.KnownNews.{by_news_in}
 use Rattle.run_states.proofs.StateLaws.{near_are_one}
-use Rattle.run_states.specs.Memos.{CanHear, HaveHeard, Hears, IsMemo, Knows, Turns, turns_begun, turns_done, turns_failed, turns_freed, turns_named, turns_refused, turns_reused, turns_stays, are_news, by_heard, by_news, news_in, of_inputs, of_twins, states_in, to_tell}
+use Rattle.run_states.specs.NodeStates.{CanHear, HaveHeard, Hears, IsMemo, Knows, Turns, turns_begun, turns_done, turns_failed, turns_freed, turns_named, turns_refused, turns_reused, turns_stays, are_news, by_heard, by_news, news_in, of_inputs, of_twins, states_in, to_tell}
 use Rattle.run_states.specs.Users.{AreUsers, times, users_of}
 use Rattle.run_states.specs.declared.state.State.{State}
 use Rattle.run_states.specs.declared.state.State.TheVariants.{Blocked, Building, Done, Failed, Ready, Refused, Reused}
-use Rattle.run_states.specs.declared.memo.Memo.{Memo}
+use Rattle.run_states.specs.declared.node_states.NodeState.{NodeState}
 use Rattle.run_states.specs.declared.users.Edge.{Edge}
 
 -- ---- how often an edge is in a list
@@ -94,7 +94,7 @@ knows_more : (known now : News) (left more : ℕ) → more ≡ 0 → Knows known
 knows_more known now left more none knows = search rules
 
 -- a memo that is right for some states is right for others where so much is left to tell
-hears_others : (inputs : Awaited) (before after : ℕ → State) (left more : ℕ → ℕ) (memo : Memo)
+hears_others : (inputs : Awaited) (before after : ℕ → State) (left more : ℕ → ℕ) (memo : NodeState)
     → ((place input : ℕ) (known : News) → slice_get (all_of inputs) place ≡ Some input
     → Knows known (news_of (before input)) (left place)
     → Knows known (news_of (after input)) (more place))
@@ -108,11 +108,11 @@ hears_others inputs before after left more memo step hears = record {
 
 -- ---- one memo that changes
 
-module _ (inputs : ℕ → Awaited) (count : ℕ) (users : List (List Edge)) (memos : List Memo)
-    (d : ℕ) (memo new : Memo) (left : List Edge)
+module _ (inputs : ℕ → Awaited) (count : ℕ) (users : List (List Edge)) (memos : List NodeState)
+    (d : ℕ) (memo new : NodeState) (left : List Edge)
     (long : length memos ≡ count) (are : AreUsers (λ e. all_of (inputs e)) count users)
     (at : slice_get memos d ≡ Some memo) (turns : Turns memo.state new.state) where
-  abbrev state_of : Memo → State
+  abbrev state_of : NodeState → State
   state_of memo = memo.state
 
   abbrev before : ℕ → State
@@ -127,7 +127,7 @@ module _ (inputs : ℕ → Awaited) (count : ℕ) (users : List (List Edge)) (me
   abbrev more : List Edge
   more = left ++ to_tell memo.state new.state (users_of users d)
 
-  in_plan : (u : ℕ) (t : Memo) → slice_get memos u ≡ Some t → u < count
+  in_plan : (u : ℕ) (t : NodeState) → slice_get memos u ≡ Some t → u < count
   in_plan u t is = search (rules, slice_get_within)
 
   state_at : slice_get (states_in memos) d ≡ Some memo.state
@@ -207,7 +207,7 @@ module _ (inputs : ℕ → Awaited) (count : ℕ) (users : List (List Edge)) (me
 
 -- the state of a derivation becomes Building, Done or Failed
 pub heard_turned : (inputs : ℕ → Awaited) (count : ℕ) (users : List (List Edge))
-    (memos : List Memo) (d : ℕ) (memo : Memo) (after : State) (left : List Edge)
+    (memos : List NodeState) (d : ℕ) (memo : NodeState) (after : State) (left : List Edge)
     → length memos ≡ count → AreUsers (λ e. all_of (inputs e)) count users
     → slice_get memos d ≡ Some memo
     → Turns memo.state after → (phase_in after ≡ Idle → ⊥)
@@ -245,7 +245,7 @@ heard_turned inputs count users memos d memo after left long are at turns begun 
 
 -- ---- a user that is told along the first edge that is left
 
-module _ (inputs : ℕ → Awaited) (memos : List Memo) (edge : Edge) (w : ℕ) (memo : Memo)
+module _ (inputs : ℕ → Awaited) (memos : List NodeState) (edge : Edge) (w : ℕ) (memo : NodeState)
     (left : List Edge) (at : slice_get memos edge.user ≡ Some memo)
     (it : slice_get (all_of (inputs edge.user)) edge.place ≡ Some w)
     (have : HaveHeard inputs memos (edge ∷ left)) where
@@ -301,14 +301,14 @@ module _ (inputs : ℕ → Awaited) (memos : List Memo) (edge : Edge) (w : ℕ) 
       (times-other_place _ _ _ _ apart) (hears.knows place input is)))
       (cases_Bool (place == edge.place))
 
-  pub hears_told : (new : Memo)
+  pub hears_told : (new : NodeState)
       → ((heard : List News) → CanHear (inputs edge.user) heard memo edge.place w
       → IsMemo (inputs edge.user) (slice_set heard edge.place (news_of (state w))) new)
       → Hears (inputs edge.user) state (λ place. times edge.user place left) new
   hears_told new told = search (rules, told_news, hearing, knows_told)
 
 pub heard_told : (inputs : ℕ → Awaited) (count : ℕ) (users : List (List Edge))
-    (memos : List Memo) (edge : Edge) (w : ℕ) (memo new : Memo) (left : List Edge)
+    (memos : List NodeState) (edge : Edge) (w : ℕ) (memo new : NodeState) (left : List Edge)
     → length memos ≡ count → AreUsers (λ e. all_of (inputs e)) count users
     → slice_get memos edge.user ≡ Some memo
     → slice_get (all_of (inputs edge.user)) edge.place ≡ Some w
@@ -326,7 +326,7 @@ heard_told inputs count users memos edge w memo new left long are at it have tol
 
 -- ---- one more memo, in plan order
 
-pub heard_more : (inputs : ℕ → Awaited) (memos : List Memo) (memo : Memo)
+pub heard_more : (inputs : ℕ → Awaited) (memos : List NodeState) (memo : NodeState)
     → ((d i : ℕ) → Contains (all_of (inputs d)) i → i < d) → HaveHeard inputs memos []
     → Hears (inputs (length memos)) (kept (states_in memos)) (λ place. 0) memo
     → HaveHeard inputs (memos ++ memo ∷ []) []
@@ -347,11 +347,11 @@ heard_more inputs memos memo first have hears = record {
 
     stays : (i : ℕ) → i < length memos → after i ≡ kept (states_in memos) i
     stays i low =
-        ap (λ ss. get_or ss i Blocked) (map-append (λ (t : Memo). t.state) memos (memo ∷ []))
+        ap (λ ss. get_or ss i Blocked) (map-append (λ (t : NodeState). t.state) memos (memo ∷ []))
         ∙ get_or_append_left (states_in memos) (memo.state ∷ []) Blocked i
-        (omega (arith, low, length-map memos (λ (t : Memo). t.state)))
+        (omega (arith, low, length-map memos (λ (t : NodeState). t.state)))
 
-    grown : (d : ℕ) (t : Memo) → d ≤ length memos
+    grown : (d : ℕ) (t : NodeState) → d ≤ length memos
         → Hears (inputs d) (kept (states_in memos)) (λ place. 0) t
         → Hears (inputs d) after (λ place. 0) t
     grown d t low =
@@ -379,8 +379,8 @@ news_of_parts : (state : ℕ → State) (xs ys : List ℕ)
 news_of_parts state [] ys = (refl, refl)
 news_of_parts state (x ∷ xs) ys = search (rules, state, news_of_parts state xs ys)
 
-pub heard_states : (rows : Rows) (memos : List Memo) → IsInOrder rows
-    → ((d : ℕ) (memo : Memo) → slice_get memos d ≡ Some memo
+pub heard_states : (rows : Rows) (memos : List NodeState) → IsInOrder rows
+    → ((d : ℕ) (memo : NodeState) → slice_get memos d ≡ Some memo
     → (memo.standing ≡ rows.standing d) × (phase_in memo.state ≡ rows.phase d))
     → HaveHeard (λ d. record { inputs = rows.inputs d; twins = rows.twins d }) memos []
     → AreStatesOf rows (length memos) (states_in memos)
@@ -395,12 +395,12 @@ heard_states rows memos first stand have = near_are_one _ state _ first
     awaited : ℕ → Awaited
     awaited d = record { inputs = rows.inputs d; twins = rows.twins d }
 
-    by_table : (d : ℕ) (memo : Memo) → slice_get memos d ≡ Some memo
+    by_table : (d : ℕ) (memo : NodeState) → slice_get memos d ≡ Some memo
         → Hears (awaited d) state (λ place. 0) memo → state d ≡ near_table rows state d
     by_table d memo at hears =
         let is : state d ≡ memo.state =
         get_or_from_slice_get _ d _ _
-        (get_mapped (λ (t : Memo). t.state) memos d memo at) in
+        (get_mapped (λ (t : NodeState). t.state) memos d memo at) in
         let known : (place one : ℕ) → slice_get (all_of (awaited d)) place ≡ Some one
         → slice_index_or hears.heard place Open ≡ news_of (state one) =
         λ place one it. ⊎_elim (λ heard. heard.0) (λ unheard. absurd (omega (arith, unheard.2)))

@@ -8,7 +8,7 @@ use Rattle.std.proofs.lemmas.List.Folds.{find_at}
 use Rattle.std.proofs.lemmas.Option.{slice_get_past}
 use Rattle.run_states.specs.States.{by_first, by_inputs, is_bad, is_good}
 use Rattle.run_states.specs.Nearest.{News, Open, Good, Bad, news_of}
-use Rattle.run_states.specs.Memos.{by_news, input_at, is_bad_news, is_good_news, news_by, news_in, waiting}
+use Rattle.run_states.specs.NodeStates.{by_news, input_at, is_bad_news, is_good_news, news_by, news_in, waiting}
 use Rattle.run_states.specs.declared.state.State.{State}
 use Rattle.run_states.specs.declared.state.State.TheVariants.{Blocked, Building, Done, Failed, Ready, Refused, Reused}
 

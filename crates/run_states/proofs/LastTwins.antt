@@ -12,7 +12,7 @@ use Rattle.drv_graph.specs.Nodes.{Node}
 use Rattle.drv_graph.specs.Plans.{Graph}
 use Rattle.drv_graph.specs.SoundGraphs.{IsSound}
 use Rattle.valid_table.specs.declared.entry.Entry.{Entry}
-use Rattle.run_states.specs.Courses.{AreNearest, AreWanted, listed}
+use Rattle.run_states.specs.StateTables.{AreNearest, AreWanted, listed}
 use Rattle.run_states.specs.Nearest.{last_alone}
 use Rattle.run_states.specs.Runs.{Run, earlier_twins, is_wanted}
 use Rattle.drv_graph.specs.Twins.{are_twins_at, first_twin_of}

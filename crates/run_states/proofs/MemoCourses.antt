@@ -9,23 +9,23 @@ use Rattle.std.proofs.lemmas.Option.{get_or_from_slice_get, slice_get-get_or, sl
 use Rattle.nix_names.proofs.Lists.{Contains-nothing}
 use Rattle.drv_graph.specs.Plans.{Graph}
 use Rattle.drv_graph.specs.SoundGraphs.{IsSound}
-use Rattle.run_states.specs.Agendas.{Agenda, AreOpening, IsAgenda, IsCourse, IsFresh, IsSteady, course_by, is_unsettled, phases_in, standings_in, twins_in, wanted_in}
+use Rattle.run_states.specs.Agendas.{WorkQueues, AreOpening, IsAgenda, IsCourse, IsFresh, IsSteady, course_by, is_unsettled, phases_in, standings_in, twins_in, wanted_in}
 use Rattle.run_states.specs.Counts.{HasCount}
-use Rattle.run_states.specs.Courses.{Awaited, Course, IsNext, IsOpen, IsSettled, IsUnsettledIn, all_of, awaited_at, course_rows, course_state, listed}
+use Rattle.run_states.specs.StateTables.{Awaited, StateTable, IsNext, IsOpen, IsSettled, IsUnsettledIn, all_of, awaited_at, course_rows, course_state, listed}
 use Rattle.run_states.specs.Coursing.{kept, phase_in}
 use Rattle.run_states.specs.Nearest.{near_state, near_table}
 use Rattle.run_states.specs.Runs.{inputs_at}
 use Rattle.run_states.specs.States.{Begun, Idle, IsInOrder, is_open}
 use Rattle.run_states.specs.Steps.{edges_ahead, total}
-use Rattle.run_states.specs.Memos.{HaveHeard, Hears, states_in}
+use Rattle.run_states.specs.NodeStates.{HaveHeard, Hears, states_in}
 use Rattle.run_states.specs.FollowedEdges.{HasFollowed, course_ahead, course_followed, open_edges, sizes}
 use Rattle.run_states.specs.UserSpans.{uses}
 use Rattle.run_states.specs.Users.{AreUsers, users_of_all}
 use Rattle.run_states.specs.declared.state.State.{State}
 use Rattle.run_states.specs.declared.state.State.TheVariants.{Done, Failed, Building, Reused, Refused, Ready, Blocked}
-use Rattle.run_states.specs.declared.standing.Standing.{Standing}
-use Rattle.run_states.specs.declared.standing.Standing.TheVariants.{Free}
-use Rattle.run_states.specs.declared.memo.Memo.{Memo}
+use Rattle.run_states.specs.declared.precondition.Precondition.{Precondition}
+use Rattle.run_states.specs.declared.precondition.Precondition.TheVariants.{Free}
+use Rattle.run_states.specs.declared.node_states.NodeState.{NodeState}
 use Rattle.run_states.specs.declared.users.Edge.{Edge}
 use Rattle.run_states.proofs.Agendas.{count_none, none_counted}
 use Rattle.run_states.proofs.Counts.{memos_counted}
@@ -36,21 +36,21 @@ use Rattle.run_states.proofs.Totals.{total_below}
 use Rattle.run_states.proofs.Wanting.{any_default}
 
 -- a part of the memos, read at a memo
-part_at : {X : Type 0} (part : Memo → X) (memos : List Memo) (d : ℕ) (memo : Memo)
+part_at : {X : Type 0} (part : NodeState → X) (memos : List NodeState) (d : ℕ) (memo : NodeState)
     (default : X) → slice_get memos d ≡ Some memo
     → get_or (map part memos) d default ≡ part memo
 part_at part memos d memo default at =
     get_or-map part _ d memo _ (slice_get_within memos d memo at)
     ∙ ap part (get_or_from_slice_get _ d _ _ at)
 
-phase_at : (memos : List Memo) (d : ℕ) (memo : Memo) → slice_get memos d ≡ Some memo
+phase_at : (memos : List NodeState) (d : ℕ) (memo : NodeState) → slice_get memos d ≡ Some memo
     → get_or (phases_in memos) d Idle ≡ phase_in memo.state
 phase_at [] d memo at = absurd cc
 phase_at (t ∷ memos) zero memo at = search rules
 phase_at (t ∷ memos) (suc d) memo at = phase_at memos d memo at
 
 -- what is read past the end of the memos
-abbrev unknown : Memo
+abbrev unknown : NodeState
 unknown = record {
   standing = Free;
   wanted = false;
@@ -63,9 +63,9 @@ unknown = record {
   held = false;
 }
 
-module _ (graph : Graph) (memos : List Memo) (users : List (List Edge)) (agenda : Agenda)
+module _ (graph : Graph) (memos : List NodeState) (users : List (List Edge)) (agenda : WorkQueues)
     (is : IsCourse graph memos users agenda) where
-  abbrev course : Course
+  abbrev course : StateTable
   course = course_by graph memos
 
   abbrev awaited : ℕ → Awaited
@@ -87,14 +87,14 @@ module _ (graph : Graph) (memos : List Memo) (users : List (List Edge)) (agenda 
       → kept (states_in memos) d ≡ course_state course d
   state_kept d low = search (rules, heard_states, course, in_order, part_at, phase_at, heard)
 
-  pub state_told : (d : ℕ) (none : Memo) → d < length graph.nodes
+  pub state_told : (d : ℕ) (none : NodeState) → d < length graph.nodes
       → (get_or memos d none).state ≡ course_state course d
   state_told d none low =
-      sym (get_or-map (λ (t : Memo). t.state) _ d none Blocked
+      sym (get_or-map (λ (t : NodeState). t.state) _ d none Blocked
       (omega (arith, low, is.count)))
       ∙ state_kept d low
 
-  pub wanted_told : (d : ℕ) (none : Memo) → d < length graph.nodes
+  pub wanted_told : (d : ℕ) (none : NodeState) → d < length graph.nodes
       → (get_or memos d none).wanted ≡ slice_index_or course.wanted d false
   wanted_told d none low = search (rules, get_or-map, none)
 
@@ -110,7 +110,7 @@ module _ (graph : Graph) (memos : List Memo) (users : List (List Edge)) (agenda 
       none : (d : ℕ) → IsNext course d → ⊥
       none d next =
           let low : d < length memos = omega (arith, next.0, is.count) in
-          let memo : Memo = get_or memos d unknown in
+          let memo : NodeState = get_or memos d unknown in
           Contains-nothing d (subst (λ l. Contains l d) (empty agenda.ring at)
           (is.steady.told.listed.ready d memo (slice_get-get_or _ d _ low)
           (wanted_told d _ next.0 ∙ next.1) (state_told d _ next.0 ∙ next.2)))
@@ -122,7 +122,7 @@ module _ (graph : Graph) (memos : List Memo) (users : List (List Edge)) (agenda 
       let low : d < length graph.nodes =
       omega (arith, is.count, slice_get_within memos d has.0 there) in (
         low,
-        part_at (λ (t : Memo). t.wanted) _ d _ _ there ∙ has.2,
+        part_at (λ (t : NodeState). t.wanted) _ d _ _ there ∙ has.2,
         sym (state_kept d low) ∙ is.steady.fresh d (sym at),
       )
 
@@ -146,17 +146,17 @@ module _ (graph : Graph) (memos : List Memo) (users : List (List Edge)) (agenda 
 
   -- a memo says whether its derivation is wanted and has something before it
   unsettled_at : (d : ℕ) → IsUnsettledIn course d
-      → (memo : Memo) × (slice_get memos d ≡ Some memo) × (is_unsettled memo ≡ true)
+      → (memo : NodeState) × (slice_get memos d ≡ Some memo) × (is_unsettled memo ≡ true)
   unsettled_at d still =
       let within : d < length memos = omega (arith, still.0, is.count) in
-      let memo : Memo = get_or memos d unknown in
+      let memo : NodeState = get_or memos d unknown in
       let w : memo.wanted ≡ true = wanted_told d _ still.0 ∙ still.1 in
       let o : is_open memo.state ≡ true = ap is_open (state_told d _ still.0)
       ∙ is_open_of _ still.2 in
       let both : is_unsettled memo ≡ true = cc in
       (memo, slice_get-get_or _ d _ within, both)
 
-  unsettled_of : (d : ℕ) (memo : Memo) → slice_get memos d ≡ Some memo
+  unsettled_of : (d : ℕ) (memo : NodeState) → slice_get memos d ≡ Some memo
       → is_unsettled memo ≡ true → IsUnsettledIn course d
   unsettled_of d memo at both =
       let within : d < length memos = slice_get_within memos d memo at in
@@ -165,9 +165,9 @@ module _ (graph : Graph) (memos : List Memo) (users : List (List Edge)) (agenda 
       get_or_from_slice_get _ d _ _ at in
       let parts = both_true _ _ both in
       let wanted : slice_index_or course.wanted d false ≡ true =
-      sym (wanted_told d _ low) ∙ ap (λ (t : Memo). t.wanted) read ∙ parts.0 in
+      sym (wanted_told d _ low) ∙ ap (λ (t : NodeState). t.wanted) read ∙ parts.0 in
       let same : memo.state ≡ course_state course d =
-      ap (λ (t : Memo). t.state) (sym read) ∙ state_told d _ low in
+      ap (λ (t : NodeState). t.state) (sym read) ∙ state_told d _ low in
       (low, wanted, subst IsOpen same (open_is _ parts.1))
 
   -- what the number of unsettled ones says
@@ -198,7 +198,7 @@ pub ahead_same : (inputs : ℕ → List ℕ) (a b : ℕ → State) (count : ℕ)
     → edges_ahead inputs a count ≡ edges_ahead inputs b count
 ahead_same inputs a b count same = search (rules, total_below, count)
 
-edges_most : (size : ℕ → ℕ) (memos : List Memo)
+edges_most : (size : ℕ → ℕ) (memos : List NodeState)
     → open_edges size memos ≤ total size (length memos)
 edges_most size [] = omega arith
 edges_most size (memo ∷ memos) =
@@ -208,8 +208,8 @@ edges_most size (memo ∷ memos) =
     here true = omega arith
     here false = omega arith
 
-edges_by : (size other : ℕ → ℕ) (ahead : ℕ → Bool) (memos : List Memo)
-    → ((d : ℕ) (memo : Memo) → slice_get memos d ≡ Some memo
+edges_by : (size other : ℕ → ℕ) (ahead : ℕ → Bool) (memos : List NodeState)
+    → ((d : ℕ) (memo : NodeState) → slice_get memos d ≡ Some memo
     → (is_open memo.state ≡ ahead d) × (size d ≡ other d))
     → open_edges size memos ≡ total (λ d. if ahead d then other d else 0) (length memos)
 edges_by size other ahead [] same = refl
@@ -225,7 +225,7 @@ edges_by size other ahead (memo ∷ memos) same =
           (λ d t at. same (suc d) t at),
     )
 
-module _ (graph : Graph) (memos : List Memo) (users : List (List Edge)) (agenda : Agenda)
+module _ (graph : Graph) (memos : List NodeState) (users : List (List Edge)) (agenda : WorkQueues)
     (is : IsCourse graph memos users agenda)
     (size : (d : ℕ) → d < length graph.nodes → sizes users d
     ≡ uses (λ e. all_of (awaited_at graph (twins_in memos) e)) (length graph.nodes) d) where
@@ -237,7 +237,7 @@ module _ (graph : Graph) (memos : List Memo) (users : List (List Edge)) (agenda 
       (λ d memo at.
       let low : d < length graph.nodes =
       omega (arith, slice_get_within memos d memo at, is.count) in (
-        ap (λ (t : Memo). is_open t.state)
+        ap (λ (t : NodeState). is_open t.state)
             (sym (get_or_from_slice_get _ d _ _ at))
             ∙ ap is_open (state_told _ _ users agenda is d memo low),
         size d low,
@@ -251,13 +251,13 @@ module _ (graph : Graph) (memos : List Memo) (users : List (List Edge)) (agenda 
       → total (sizes users) (length graph.nodes) < 2 ^ 63 → HasFollowed graph memos users 0
   followed_none idle few = search (rules, edges_most, open_ahead, ahead_same, near_same, idle)
 
-pub edges_followed : (graph : Graph) (memos : List Memo) (users : List (List Edge))
-    (agenda : Agenda) → IsCourse graph memos users agenda → (followed : ℕ)
+pub edges_followed : (graph : Graph) (memos : List NodeState) (users : List (List Edge))
+    (agenda : WorkQueues) → IsCourse graph memos users agenda → (followed : ℕ)
     → HasFollowed graph memos users followed → followed ≡ course_followed (course_by graph memos)
 edges_followed graph memos users agenda is followed has = search (rules, open_ahead)
 
 -- after an event
-pub followed_more : (graph : Graph) (before after : List Memo) (users : List (List Edge))
+pub followed_more : (graph : Graph) (before after : List NodeState) (users : List (List Edge))
     (followed more now : ℕ) → HasFollowed graph before users followed
     → standings_in after ≡ standings_in before → wanted_in after ≡ wanted_in before
     → twins_in after ≡ twins_in before
@@ -266,13 +266,13 @@ pub followed_more : (graph : Graph) (before after : List Memo) (users : List (Li
 followed_more graph before after users followed more now has stand want twin fell sum_is =
     search (rules, stand)
 
-pub same_length : (before after : List Memo) → standings_in after ≡ standings_in before
+pub same_length : (before after : List NodeState) → standings_in after ≡ standings_in before
     → length before ≡ length after
 same_length before after stand = search (rules, length-map, stand)
 
 -- the memos of a plan after an event
-pub noted_course : (graph : Graph) (before after : List Memo) (users : List (List Edge))
-    (agenda later : Agenda) → IsCourse graph before users agenda
+pub noted_course : (graph : Graph) (before after : List NodeState) (users : List (List Edge))
+    (agenda later : WorkQueues) → IsCourse graph before users agenda
     → standings_in after ≡ standings_in before → twins_in after ≡ twins_in before
     → IsSteady (awaited_at graph (twins_in before)) users after later
     → IsCourse graph after users later
@@ -283,14 +283,14 @@ noted_course graph before after users agenda later is stand twin steady = record
 
 -- ---- what has begun
 
-pub is_building : (course : Course) (d lease : ℕ)
+pub is_building : (course : StateTable) (d lease : ℕ)
     → slice_index_or course.phases d Idle ≡ Begun lease → course_state course d ≡ Building lease
 unfolding near_state near_table
 is_building course d lease is = rw is refl
 
 -- ---- a plan on which nothing has begun
 
-idle_push : (memos : List Memo) (memo : Memo)
+idle_push : (memos : List NodeState) (memo : NodeState)
     → ((e : ℕ) → get_or (phases_in memos) e Idle ≡ Idle) → phase_in memo.state ≡ Idle
     → (e : ℕ) → get_or (phases_in (memos ++ memo ∷ [])) e Idle ≡ Idle
 idle_push [] memo idle new zero = new
@@ -300,8 +300,8 @@ idle_push (t ∷ memos) memo idle new (suc e) =
     idle_push memos memo (λ f. idle (suc f)) new e
 
 -- The first d memos of a plan on which nothing has begun.
-pub record AreOpened (graph : Graph) (standings : List Standing) (wanted : List Bool)
-    (twins : List (Option ℕ)) (d : ℕ) (memos : List Memo) : Type 0 where
+pub record AreOpened (graph : Graph) (standings : List Precondition) (wanted : List Bool)
+    (twins : List (Option ℕ)) (d : ℕ) (memos : List NodeState) : Type 0 where
   pub count : length memos ≡ d
   pub stand : standings_in memos ≡ take d standings
   pub are_wanted : wanted_in memos ≡ take d wanted
@@ -319,11 +319,11 @@ awaited_first graph twins sound smaller d i has = ⊎_elim
     (Contains-append_cases _
     _ i has)
 
-module _ (graph : Graph) (standings : List Standing) (wanted : List Bool)
+module _ (graph : Graph) (standings : List Precondition) (wanted : List Bool)
     (twins : List (Option ℕ)) (sound : IsSound graph)
     (smaller : (d : ℕ) → All (λ t. t < d) (listed (slice_index_or twins d None))) where
-  pub opened_more : (d : ℕ) (memos now : List Memo) (memo : Memo) (inputs : List ℕ)
-      (no_standing : Standing) (not_wanted : Bool) (no_twin : Option ℕ)
+  pub opened_more : (d : ℕ) (memos now : List NodeState) (memo : NodeState) (inputs : List ℕ)
+      (no_standing : Precondition) (not_wanted : Bool) (no_twin : Option ℕ)
       → d < length standings → d < length wanted → d < length twins
       → memo.standing ≡ get_or standings d no_standing
       → memo.wanted ≡ get_or wanted d not_wanted → memo.twin ≡ get_or twins d no_twin
@@ -336,15 +336,15 @@ module _ (graph : Graph) (standings : List Standing) (wanted : List Bool)
       wants twin_is are hears idle pushed before =
       subst (AreOpened graph standings wanted twins (d + 1)) (sym pushed) (record {
         count = omega (arith, before.count, length_push memos memo);
-        stand = map_push (λ (t : Memo). t.standing) _ _
+        stand = map_push (λ (t : NodeState). t.standing) _ _
             ∙ ap (λ l. l ++ memo.standing ∷ []) before.stand
             ∙ ap (λ s. take d standings ++ s ∷ []) stands
             ∙ sym (take_more _ d _ low);
-        are_wanted = map_push (λ (t : Memo). t.wanted) _ _
+        are_wanted = map_push (λ (t : NodeState). t.wanted) _ _
             ∙ ap (λ l. l ++ memo.wanted ∷ []) before.are_wanted
             ∙ ap (λ w. take d wanted ++ w ∷ []) wants
             ∙ sym (take_more _ d _ within);
-        are_twins = map_push (λ (t : Memo). t.twin) _ _
+        are_twins = map_push (λ (t : NodeState). t.twin) _ _
             ∙ ap (λ l. l ++ memo.twin ∷ []) before.are_twins
             ∙ ap (λ w. take d twins ++ w ∷ []) twin_is
             ∙ sym (take_more _ d _ inside);
@@ -362,7 +362,7 @@ module _ (graph : Graph) (standings : List Standing) (wanted : List Bool)
           (awaited_at graph twins d)
       here = search (rules, any_default)
 
-  pub opened_all : (d : ℕ) (memos : List Memo) → d ≡ length graph.nodes
+  pub opened_all : (d : ℕ) (memos : List NodeState) → d ≡ length graph.nodes
       → length standings ≡ length graph.nodes → length wanted ≡ length graph.nodes
       → length twins ≡ length graph.nodes
       → AreOpened graph standings wanted twins d memos
@@ -378,8 +378,8 @@ module _ (graph : Graph) (standings : List Standing) (wanted : List Bool)
   }
 
 -- the first course of a plan
-pub opening_course : (graph : Graph) (standings : List Standing) (wanted : List Bool)
-    (twins : List (Option ℕ)) (memos : List Memo) (users : List (List Edge)) (agenda : Agenda)
+pub opening_course : (graph : Graph) (standings : List Precondition) (wanted : List Bool)
+    (twins : List (Option ℕ)) (memos : List NodeState) (users : List (List Edge)) (agenda : WorkQueues)
     → AreOpening graph standings wanted twins memos
     → AreUsers (λ d. all_of (awaited_at graph twins d)) (length graph.nodes) users
     → IsAgenda memos agenda → IsFresh memos agenda → agenda.work ≡ []

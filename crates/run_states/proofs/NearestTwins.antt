@@ -15,8 +15,8 @@ use Rattle.run_states.specs.declared.state.Event.{Event}
 use Rattle.run_states.specs.declared.state.Event.TheVariants.{Begin, Done as Finish, Fail}
 use Rattle.run_states.specs.declared.state.State.{State}
 use Rattle.run_states.specs.declared.state.State.TheVariants.{Blocked, Ready, Reused}
-use Rattle.run_states.specs.declared.standing.Standing.{Standing}
-use Rattle.run_states.specs.declared.standing.Standing.TheVariants.{AllValid, Free, Hindered}
+use Rattle.run_states.specs.declared.precondition.Precondition.{Precondition}
+use Rattle.run_states.specs.declared.precondition.Precondition.TheVariants.{AllValid, Free, Hindered}
 use Rattle.run_states.proofs.ClosedStates.{bad_is_closed, bad_is_not_done, states_stay}
 use Rattle.run_states.proofs.EarlierTwins.{HaveTwins, run_twins}
 use Rattle.run_states.proofs.Histories.{building_from_begun}
@@ -27,7 +27,7 @@ use Rattle.run_states.proofs.StateLaws.{any_same, reads_at, state_at, states_ali
 -- ---- what the table says, by what it reads
 
 -- by whether one of the earlier twins was built, and whether one is open
-abbrev pub stands_by : Phase → Standing → (built still : Bool) → Option ℕ → (all : Bool) → State
+abbrev pub stands_by : Phase → Precondition → (built still : Bool) → Option ℕ → (all : Bool) → State
 stands_by p s built still first all =
     by_phase p (by_validity s (if built then Reused else if still then Blocked
     else by_hindrance s (by_first first all)))
@@ -78,7 +78,7 @@ HaveEnded rows = (d t : ℕ) → (rows.phase d ≡ Idle → ⊥) → Contains (r
     → is_bad (state rows t) ≡ true
 
 -- which of the states that aren't open are bad
-bad_by : (p : Phase) (s : Standing) (built still : Bool) (first : Option ℕ) (all : Bool)
+bad_by : (p : Phase) (s : Precondition) (built still : Bool) (first : Option ℕ) (all : Bool)
     → (s ≡ AllValid → ⊥) → built ≡ false → is_done (stands_by p s built still first all) ≡ false
     → is_open (stands_by p s built still first all) ≡ false
     → is_bad (stands_by p s built still first all) ≡ true
@@ -186,7 +186,7 @@ legal_ended run _ (legal_fail history e lease reason legal phase) =
 -- ---- the nearest earlier twin alone
 
 -- the nearest, in this state, says what it and its own earlier twins say
-one_twin : (p : Phase) (s : Standing) (built still : Bool) (first : Option ℕ) (all : Bool)
+one_twin : (p : Phase) (s : Precondition) (built still : Bool) (first : Option ℕ) (all : Bool)
     (other : State) → (s ≡ AllValid → ⊥)
     → ((p ≡ Idle → ⊥) → (built ≡ false) × (still ≡ false))
     → (if built || is_done (stands_by p s built still first all) then Reused
@@ -267,7 +267,7 @@ module _ (rows : Rows) (twins : HaveTwins rows) (ended : HaveEnded rows) where
       reads : ℕ → State
       reads = reads_at (table rows) d
 
-      by : (s : Standing) → rows.standing d ≡ s
+      by : (s : Precondition) → rows.standing d ≡ s
           → by_validity s (by_twins reads (rows.twins d)
           (by_hindrance s (by_inputs reads (rows.inputs d))))
           ≡ by_validity s

@@ -4,13 +4,13 @@ use Rattle.std.proofs.Common.{◌≡◌, ℕ, Bool, true, false, List, [], ◌�
 use Rattle.run_states.specs.Coursing.{phase_in}
 use Rattle.run_states.specs.Nearest.{News, Open, Good, Bad}
 use Rattle.run_states.specs.States.{by_first, by_hindrance, by_phase}
-use Rattle.run_states.specs.Memos.{Turns, turns_freed, turns_refused, turns_stays, by_all, news_by}
+use Rattle.run_states.specs.NodeStates.{Turns, turns_freed, turns_refused, turns_stays, by_all, news_by}
 use Rattle.run_states.specs.declared.state.Refusal.{Refusal}
 use Rattle.run_states.specs.declared.state.Refusal.TheVariants.{InputNotRealised}
 use Rattle.run_states.specs.declared.state.State.{State}
 use Rattle.run_states.specs.declared.state.State.TheVariants.{Blocked, Building, Done, Failed, Ready, Refused, Reused}
-use Rattle.run_states.specs.declared.standing.Standing.{Standing}
-use Rattle.run_states.specs.declared.standing.Standing.TheVariants.{AllValid, Free, Hindered}
+use Rattle.run_states.specs.declared.precondition.Precondition.{Precondition}
+use Rattle.run_states.specs.declared.precondition.Precondition.TheVariants.{AllValid, Free, Hindered}
 
 -- what the inputs alone would make doesn't matter to one that has begun
 begun_else : (state before after : State)
@@ -25,7 +25,7 @@ begun_else Ready before after is same = same is
 begun_else Blocked before after is same = same is
 
 -- good news of an input change nothing of one that isn't Blocked
-pub not_freed : (state : State) (standing : Standing) (twins : List News) (first : Option ℕ)
+pub not_freed : (state : State) (standing : Precondition) (twins : List News) (first : Option ℕ)
     (all : Bool) → (state ≡ Blocked → ⊥)
     → state ≡ by_phase (phase_in state) (by_all standing twins (by_first first false))
     → state ≡ by_phase (phase_in state) (by_all standing twins (by_first first all))
@@ -33,7 +33,7 @@ not_freed state standing twins first all apart is =
     begun_else _ _
     _ is (by standing twins first)
   where
-    by : (standing : Standing) (twins : List News) (first : Option ℕ)
+    by : (standing : Precondition) (twins : List News) (first : Option ℕ)
         → state ≡ by_all standing twins (by_first first false)
         → state ≡ by_all standing twins (by_first first all)
     by AllValid twins first now = now
@@ -49,7 +49,7 @@ not_freed state standing twins first all apart is =
     by Free (Bad ∷ more) None now = absurd (apart now)
 
 -- they change nothing of one that stands free and is neither
-pub not_refused : (state : State) (standing : Standing) (twins : List News) (first : Option ℕ)
+pub not_refused : (state : State) (standing : Precondition) (twins : List News) (first : Option ℕ)
     (input : ℕ) → standing ≡ Free → (state ≡ Blocked → ⊥)
     → ((cause : Refusal) → state ≡ Refused cause → ⊥)
     → state ≡ by_phase (phase_in state) (by_all standing twins (by_first first false))
@@ -71,7 +71,7 @@ not_refused state Free twins first input free apart known is =
     by (Bad ∷ more) None now = absurd (apart now)
 
 -- nor of one that doesn't stand free
-pub hindered_stays : (state : State) (standing : Standing) (twins : List News)
+pub hindered_stays : (state : State) (standing : Precondition) (twins : List News)
     (before after : State) → (standing ≡ Free → ⊥)
     → state ≡ by_phase (phase_in state) (by_all standing twins before)
     → state ≡ by_phase (phase_in state) (by_all standing twins after)
@@ -81,7 +81,7 @@ hindered_stays state Free twins before after apart is = absurd (apart refl)
 
 -- what its twin's end makes of one that is Blocked: it is reused, or decided by its own cause and
 -- its inputs
-pub released_now : (standing : Standing) (more : List News) (before : State) (good : Bool)
+pub released_now : (standing : Precondition) (more : List News) (before : State) (good : Bool)
     → Blocked ≡ by_all standing (Open ∷ more) before
     → ◌≡◌ {A = State} (if good then Reused else by_hindrance standing before)
     (by_all standing (news_by good ∷ more) before)
@@ -92,7 +92,7 @@ released_now Free more before true is = refl
 released_now Free more before false is = refl
 
 -- and of one that isn't
-pub not_released : (state : State) (standing : Standing) (more : List News) (before : State)
+pub not_released : (state : State) (standing : Precondition) (more : List News) (before : State)
     (good : Bool) → (state ≡ Blocked → ⊥)
     → state ≡ by_phase (phase_in state) (by_all standing (Open ∷ more) before)
     → state ≡ by_phase (phase_in state) (by_all standing (news_by good ∷ more) before)
@@ -100,7 +100,7 @@ not_released state standing more before good apart is =
     begun_else _ _
     _ is (by standing)
   where
-    by : (standing : Standing) → state ≡ by_all standing (Open ∷ more) before
+    by : (standing : Precondition) → state ≡ by_all standing (Open ∷ more) before
         → state ≡ by_all standing (news_by good ∷ more) before
     by AllValid now = now
     by (Hindered cause) now = absurd (apart now)
@@ -112,7 +112,7 @@ first_turns None true = turns_freed
 first_turns None false = turns_stays Blocked
 
 -- how its own cause and its inputs turn one that was Blocked
-pub own_turns : (standing : Standing) (first : Option ℕ) (all : Bool)
+pub own_turns : (standing : Precondition) (first : Option ℕ) (all : Bool)
     → Turns Blocked (by_hindrance standing (by_first first all))
 own_turns AllValid first all = first_turns _ _
 own_turns (Hindered cause) first all = turns_refused cause

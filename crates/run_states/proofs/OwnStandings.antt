@@ -18,8 +18,8 @@ use Rattle.valid_table.specs.Valid.{IsValid}
 use Rattle.valid_table.specs.declared.entry.Entry.{Entry}
 use Rattle.run_states.specs.Runs.{cause_at, is_unsupported, is_valid, left_out, own_cause, standing_at}
 use Rattle.run_states.specs.declared.state.Refusal.TheVariants.{MissingSource}
-use Rattle.run_states.specs.declared.standing.Standing.{Standing}
-use Rattle.run_states.specs.declared.standing.Standing.TheVariants.{Free}
+use Rattle.run_states.specs.declared.precondition.Precondition.{Precondition}
+use Rattle.run_states.specs.declared.precondition.Precondition.TheVariants.{Free}
 use Rattle.nix_names.proofs.Lists.{get_mapped}
 
 -- what a look-up tells of a path
@@ -38,7 +38,7 @@ told_valid false entries path (there, back) = by (is_valid entries path) refl
 
 -- The first `count` standings.
 pub record AreFirst (system : List ℕ) (entries : List Entry) (nodes : List Node)
-    (standings : List Standing) (count : ℕ) : Type 0 where
+    (standings : List Precondition) (count : ℕ) : Type 0 where
   pub length_is : length standings ≡ count
   pub each : (k : ℕ) → k < count → slice_index_or standings k Free
       ≡ standing_at system entries (slice_get nodes k)

@@ -37,8 +37,8 @@ use Rattle.run_states.proofs.Dones.{output_registered, part_with, records_for_pa
 use Rattle.run_states.proofs.StateLaws.{state_at, state_past}
 use Rattle.run_states.proofs.Tests.{list_all_has, one_passes}
 use Rattle.run_states.proofs.TwinLaws.{IsEarlierTwin, is_earlier_twin, is_there, path_of_twin}
-use Rattle.run_states.specs.declared.standing.Standing.{Standing}
-use Rattle.run_states.specs.declared.standing.Standing.TheVariants.{AllValid, Hindered, Free}
+use Rattle.run_states.specs.declared.precondition.Precondition.{Precondition}
+use Rattle.run_states.specs.declared.precondition.Precondition.TheVariants.{AllValid, Hindered, Free}
 use Rattle.nix_names.proofs.Lists.{Contains-cons_cases, Contains-first, Contains-from_map, Contains-later, Contains-map, Contains-nothing}
 
 -- ---- where a derivation stands after one event more
@@ -147,7 +147,7 @@ opening_stays_valid run history legal path is =
 
 -- ---- what it takes to be ready
 
-pub record IsReadyBy (p : Phase) (s : Standing) (built still : Bool) (o : State) : Type 0 where
+pub record IsReadyBy (p : Phase) (s : Precondition) (built still : Bool) (o : State) : Type 0 where
   pub idle : p ≡ Idle
   pub free : s ≡ Free
   pub none_built : built ≡ false
@@ -155,7 +155,7 @@ pub record IsReadyBy (p : Phase) (s : Standing) (built still : Bool) (o : State)
   pub open_is : o ≡ Ready
 
 -- by whether an earlier twin was built, and whether one is open
-pub ready_by : (p : Phase) (s : Standing) (built still : Bool) (o : State)
+pub ready_by : (p : Phase) (s : Precondition) (built still : Bool) (o : State)
     → by_phase p (by_validity s (if built then Reused else if still then Blocked
     else by_hindrance s o)) ≡ Ready
     → IsReadyBy p s built still o
@@ -182,7 +182,7 @@ not_good_by_first None true is = cc
 not_good_by_first None false is = cc
 
 -- who is good was built, or its outputs were all valid, or an earlier twin was built
-pub good_by : (p : Phase) (s : Standing) (built still : Bool) (first : Option ℕ) (all : Bool)
+pub good_by : (p : Phase) (s : Precondition) (built still : Bool) (first : Option ℕ) (all : Bool)
     → is_good (by_phase p (by_validity s (if built then Reused else if still then Blocked
     else by_hindrance s (by_first first all)))) ≡ true
     → (p ≡ Ended) ⊎ (s ≡ AllValid) ⊎ (built ≡ true)
@@ -203,7 +203,7 @@ not_done_by_first None true is = cc
 not_done_by_first None false is = cc
 
 -- only an event makes a derivation one that was built
-done_by : (p : Phase) (s : Standing) (built still : Bool) (first : Option ℕ) (all : Bool)
+done_by : (p : Phase) (s : Precondition) (built still : Bool) (first : Option ℕ) (all : Bool)
     → is_done (by_phase p (by_validity s (if built then Reused else if still then Blocked
     else by_hindrance s (by_first first all)))) ≡ true
     → p ≡ Ended

@@ -3,21 +3,21 @@ use Rattle.std.proofs.Common.{◌≡◌, ℕ, true, false, Bool, Option, Some, N
 use Rattle.run_states.specs.Coursing.{phase_in}
 use Rattle.run_states.specs.States.{Idle, by_first, by_hindrance, by_validity}
 use Rattle.run_states.specs.declared.state.State.TheVariants.{Blocked}
-use Rattle.run_states.specs.declared.standing.Standing.{Standing}
-use Rattle.run_states.specs.declared.standing.Standing.TheVariants.{AllValid, Free, Hindered}
+use Rattle.run_states.specs.declared.precondition.Precondition.{Precondition}
+use Rattle.run_states.specs.declared.precondition.Precondition.TheVariants.{AllValid, Free, Hindered}
 
 first_is_idle : (first : Option ℕ) (all : Bool) → phase_in (by_first first all) ≡ Idle
 first_is_idle (Some input) all = refl
 first_is_idle None true = refl
 first_is_idle None false = refl
 
-pub own_is_idle : (standing : Standing) (first : Option ℕ) (all : Bool)
+pub own_is_idle : (standing : Precondition) (first : Option ℕ) (all : Bool)
     → phase_in (by_hindrance standing (by_first first all)) ≡ Idle
 own_is_idle AllValid first all = first_is_idle _ _
 own_is_idle (Hindered cause) first all = refl
 own_is_idle Free first all = first_is_idle _ _
 
-pub opening_is_idle : (standing : Standing) (held : Bool) (first : Option ℕ) (all : Bool)
+pub opening_is_idle : (standing : Precondition) (held : Bool) (first : Option ℕ) (all : Bool)
     → phase_in (by_validity standing
     (if held then Blocked else by_hindrance standing (by_first first all))) ≡ Idle
 opening_is_idle AllValid held first all = refl

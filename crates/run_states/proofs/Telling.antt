@@ -7,17 +7,17 @@ use Rattle.std.proofs.lemmas.List.{append-nil, append_assoc, drop_more, get_or-m
 use Rattle.std.proofs.lemmas.List.Elements.{All-drop}
 use Rattle.std.proofs.lemmas.Option.{get_or_from_slice_get, slice_get-get_or, slice_get_within}
 use Rattle.nix_names.proofs.Lists.{Contains-from_get}
-use Rattle.run_states.specs.Agendas.{Agenda, AreSameElse, IsAgenda, IsFresh, IsSpreading, IsSteady, alone_if, ends, noted, phases_in, settles, standings_in, to_end, twins_in, wanted_in}
-use Rattle.run_states.specs.Courses.{Awaited, all_of}
+use Rattle.run_states.specs.Agendas.{WorkQueues, AreSameElse, IsAgenda, IsFresh, IsSpreading, IsSteady, alone_if, ends, noted, phases_in, settles, standings_in, to_end, twins_in, wanted_in}
+use Rattle.run_states.specs.StateTables.{Awaited, all_of}
 use Rattle.run_states.specs.Coursing.{kept, phase_in}
 use Rattle.run_states.specs.Nearest.{News, Open, news_of}
 use Rattle.run_states.specs.States.{Idle, is_good, is_open}
-use Rattle.run_states.specs.Memos.{CanHear, HaveHeard, IsSameElse, IsMemo, Turns, are_news, news_by, states_in, to_tell}
+use Rattle.run_states.specs.NodeStates.{CanHear, HaveHeard, IsSameElse, IsMemo, Turns, are_news, news_by, states_in, to_tell}
 use Rattle.run_states.specs.FollowedEdges.{open_edges, sizes}
 use Rattle.run_states.specs.Users.{AreUsers, once_at, times, users_of, users_of_all}
 use Rattle.run_states.specs.declared.state.State.{State}
 use Rattle.run_states.specs.declared.state.State.TheVariants.{Done, Failed, Building, Reused, Refused, Ready, Blocked}
-use Rattle.run_states.specs.declared.memo.Memo.{Memo}
+use Rattle.run_states.specs.declared.node_states.NodeState.{NodeState}
 use Rattle.run_states.specs.declared.users.Edge.{Edge}
 use Rattle.run_states.proofs.Agendas.{noted_agenda, noted_measure, one, settles_most, turn_open}
 use Rattle.run_states.proofs.Hearing.{can_hear, heard_told, heard_turned}
@@ -64,7 +64,7 @@ users_alone users true u = append-nil (users_of users u)
 users_alone users false u = refl
 
 -- the edges that lead from those with something before them, as a memo changes
-edges_set : (size : ℕ → ℕ) (memos : List Memo) (d : ℕ) (before after : Memo)
+edges_set : (size : ℕ → ℕ) (memos : List NodeState) (d : ℕ) (before after : NodeState)
     → slice_get memos d ≡ Some before
     → open_edges size (set memos d after) + (if is_open before.state then size d else 0)
     ≡ open_edges size memos + (if is_open after.state then size d else 0)
@@ -86,8 +86,8 @@ length_of_alone users true u = ap length (append-nil (users_of users u))
 length_of_alone users false u = refl
 
 -- those that lead from what is on the work come in their place
-pub noted_edges : (users : List (List Edge)) (memos : List Memo) (agenda : Agenda) (u : ℕ)
-    (before after : Memo) → slice_get memos u ≡ Some before → Turns before.state after.state
+pub noted_edges : (users : List (List Edge)) (memos : List NodeState) (agenda : WorkQueues) (u : ℕ)
+    (before after : NodeState) → slice_get memos u ≡ Some before → Turns before.state after.state
     → open_edges (sizes users) (set memos u after)
     + length (users_of_all users (noted agenda u before after).work)
     ≡ open_edges (sizes users) memos + length (users_of_all users agenda.work)
@@ -141,7 +141,7 @@ news_end (Failed reason) t = refl
 news_end (Refused cause) t = refl
 
 -- what is left to tell once a memo was noted
-left_noted : (users : List (List Edge)) (agenda : Agenda) (u : ℕ) (before after : Memo)
+left_noted : (users : List (List Edge)) (agenda : WorkQueues) (u : ℕ) (before after : NodeState)
     (left : List Edge)
     → (left ++ users_of_all users agenda.work) ++ to_tell before.state after.state
     (users_of users u) ≡ left ++ users_of_all users (noted agenda u before after).work
@@ -150,11 +150,11 @@ left_noted users agenda u before after left =
 
 -- ---- what telling leaves as it was
 
-pub same_then : (a b c : List Memo) → AreSameElse a b → AreSameElse b c → AreSameElse a c
+pub same_then : (a b c : List NodeState) → AreSameElse a b → AreSameElse b c → AreSameElse a c
 same_then a b c first second = search rules
 
 -- a part of memos that a new memo has as the old one
-part_stays : {X : Type 0} (part : Memo → X) (memos : List Memo) (u : ℕ) (before after : Memo)
+part_stays : {X : Type 0} (part : NodeState → X) (memos : List NodeState) (u : ℕ) (before after : NodeState)
     → slice_get memos u ≡ Some before → part after ≡ part before
     → map part (set memos u after) ≡ map part memos
 part_stays part [] u before after at same = refl
@@ -162,12 +162,12 @@ part_stays part (t ∷ memos) zero before after at same = search (rules, before)
 part_stays part (t ∷ memos) (suc u) before after at same =
     ap (λ l. part t ∷ l) (part_stays part memos u _ _ at same)
 
-phases_are : (memos : List Memo)
-    → phases_in memos ≡ map (λ (t : Memo). phase_in t.state) memos
+phases_are : (memos : List NodeState)
+    → phases_in memos ≡ map (λ (t : NodeState). phase_in t.state) memos
 phases_are [] = refl
 phases_are (t ∷ memos) = ap (λ l. phase_in t.state ∷ l) (phases_are memos)
 
-pub same_set : (memos : List Memo) (u : ℕ) (before after : Memo)
+pub same_set : (memos : List NodeState) (u : ℕ) (before after : NodeState)
     → slice_get memos u ≡ Some before → IsSameElse before after
     → AreSameElse memos (set memos u after)
 same_set memos u before after at same =
@@ -175,14 +175,14 @@ same_set memos u before after at same =
 
 -- ---- one user is told
 
-module _ (inputs : ℕ → Awaited) (users : List (List Edge)) (memos : List Memo)
-    (agenda : Agenda) (w i : ℕ) (no_edge : Edge) (no_memo : Memo) (row : List Edge)
+module _ (inputs : ℕ → Awaited) (users : List (List Edge)) (memos : List NodeState)
+    (agenda : WorkQueues) (w i : ℕ) (no_edge : Edge) (no_memo : NodeState) (row : List Edge)
     (low : w < length memos) (row_is : row ≡ users_of users w) (here : i < length row)
     (is : IsSpreading inputs users memos agenda (drop i (users_of users w))) where
   abbrev edge : Edge
   edge = get_or row i no_edge
 
-  abbrev before : Memo
+  abbrev before : NodeState
   before = get_or memos edge.user no_memo
 
   its : (edge.user < length memos) × (slice_get (all_of (inputs edge.user)) edge.place ≡ Some w)
@@ -221,7 +221,7 @@ module _ (inputs : ℕ → Awaited) (users : List (List Edge)) (memos : List Mem
       (λ unheard. unheard.1 none)
       ((heard.each edge.user before at).knows edge.place w its.1)
 
-  module _ (after : Memo) (turns : Turns before.state after.state)
+  module _ (after : NodeState) (turns : Turns before.state after.state)
       (same : IsSameElse before after) where
     -- the agenda, noted
     pub told_agenda : IsAgenda (set memos edge.user after)
@@ -279,8 +279,8 @@ first_work : (xs : List ℕ) (w : ℕ) → slice_get xs 0 ≡ Some w → xs ≡ 
 first_work [] w at = absurd cc
 first_work (x ∷ xs) w at = search rules
 
-pub work_taken : (inputs : ℕ → Awaited) (users : List (List Edge)) (memos : List Memo)
-    (agenda : Agenda) (w : ℕ) → slice_get agenda.work 0 ≡ Some w
+pub work_taken : (inputs : ℕ → Awaited) (users : List (List Edge)) (memos : List NodeState)
+    (agenda : WorkQueues) (w : ℕ) → slice_get agenda.work 0 ≡ Some w
     → IsSpreading inputs users memos agenda []
     → IsSpreading inputs users memos (record agenda { work = drop 1 agenda.work })
     (users_of users w)
@@ -300,7 +300,7 @@ work_taken inputs users memos agenda w at is = record {
 }
 
 -- its edges are followed
-pub work_edges : (users : List (List Edge)) (agenda : Agenda) (w : ℕ)
+pub work_edges : (users : List (List Edge)) (agenda : WorkQueues) (w : ℕ)
     → slice_get agenda.work 0 ≡ Some w → length (users_of_all users agenda.work)
     ≡ sizes users w + length (users_of_all users (drop 1 agenda.work))
 work_edges users agenda w at = search (rules, first_work, at, length-append)
@@ -308,16 +308,16 @@ work_edges users agenda w at = search (rules, first_work, at, length-append)
 -- ---- an event
 
 -- what is known of a derivation's state by the memos
-pub state_read : (memos : List Memo) (d : ℕ) (none : Memo) → d < length memos
+pub state_read : (memos : List NodeState) (d : ℕ) (none : NodeState) → d < length memos
     → kept (states_in memos) d ≡ (get_or memos d none).state
 state_read memos d none low = search (rules, get_or-map)
 
-module _ (memos : List Memo) (agenda : Agenda) (d : ℕ) (none : Memo) (state : State)
+module _ (memos : List NodeState) (agenda : WorkQueues) (d : ℕ) (none : NodeState) (state : State)
     (low : d < length memos) (turns : Turns (kept (states_in memos) d) state) where
-  abbrev old : Memo
+  abbrev old : NodeState
   old = get_or memos d none
 
-  abbrev now : Memo
+  abbrev now : NodeState
   now = record old { state = state }
 
   old_at : slice_get memos d ≡ Some old
@@ -370,8 +370,8 @@ module _ (memos : List Memo) (agenda : Agenda) (d : ℕ) (none : Memo) (state : 
   }
 
 -- all users were told, and what has begun was taken off the ring's front
-pub steady_after : (inputs : ℕ → Awaited) (users : List (List Edge)) (memos : List Memo)
-    (agenda later : Agenda) → IsSpreading inputs users memos agenda [] → agenda.work ≡ []
+pub steady_after : (inputs : ℕ → Awaited) (users : List (List Edge)) (memos : List NodeState)
+    (agenda later : WorkQueues) → IsSpreading inputs users memos agenda [] → agenda.work ≡ []
     → IsAgenda memos later → IsFresh memos later → later.work ≡ agenda.work
     → IsSteady inputs users memos later
 steady_after inputs users memos agenda later is none listed fresh same = search (rules, heard)

@@ -8,15 +8,15 @@ use Rattle.std.proofs.lemmas.List.{append-nil, drop-set, drop_more, get_or-map, 
 use Rattle.std.proofs.lemmas.List.Folds.{position_or_len-set}
 use Rattle.std.proofs.lemmas.List.Sums.{fails_before_first, passes_at_first, position_or_len_is}
 use Rattle.std.proofs.lemmas.Option.{get_or_from_slice_get, none-some, same_Some, slice_get_past, slice_get_read, slice_get_within}
-use Rattle.run_states.specs.Courses.{Awaited, all_of, listed}
+use Rattle.run_states.specs.StateTables.{Awaited, all_of, listed}
 use Rattle.run_states.specs.Coursing.{kept, phase_in}
 use Rattle.run_states.specs.Nearest.{News, Open, Good, Bad, news_of}
 use Rattle.run_states.specs.States.{Idle, by_first, by_hindrance, by_phase, by_validity, is_good, is_open}
-use Rattle.run_states.specs.Memos.{CanHear, Hears, IsMemo, by_all, by_news, is_bad_news, is_held, news_by, news_in, of_inputs, of_twins, states_in, waiting}
+use Rattle.run_states.specs.NodeStates.{CanHear, Hears, IsMemo, by_all, by_news, is_bad_news, is_held, news_by, news_in, of_inputs, of_twins, states_in, waiting}
 use Rattle.run_states.specs.declared.state.State.{State}
 use Rattle.run_states.specs.declared.state.State.TheVariants.{Blocked, Building, Done, Failed, Ready, Refused, Reused}
-use Rattle.run_states.specs.declared.standing.Standing.{Standing}
-use Rattle.run_states.specs.declared.memo.Memo.{Memo}
+use Rattle.run_states.specs.declared.precondition.Precondition.{Precondition}
+use Rattle.run_states.specs.declared.node_states.NodeState.{NodeState}
 use Rattle.run_states.proofs.CountedNews.{AreCounted, all_counted}
 use Rattle.run_states.proofs.KnownNews.{by_news_counted}
 use Rattle.run_states.proofs.OneStates.{not_released, released_now}
@@ -121,12 +121,12 @@ module _ (heard : List News) (place : ℕ) (at : slice_get heard place ≡ Some 
 -- ---- a memo by what it counts
 
 -- the state that it has by its counts
-abbrev pub IsCounted : (awaited : Awaited) → List News → Memo → Type 0
+abbrev pub IsCounted : (awaited : Awaited) → List News → NodeState → Type 0
 IsCounted awaited heard memo = memo.state
     ≡ by_phase (phase_in memo.state) (by_all memo.standing (of_twins awaited heard)
     (by_first (slice_get awaited.inputs memo.first) (memo.waits == 0)))
 
-by_counts : (inputs : List ℕ) (heard : List News) (memo : Memo) → length heard ≡ length inputs
+by_counts : (inputs : List ℕ) (heard : List News) (memo : NodeState) → length heard ≡ length inputs
     → memo.waits ≡ waiting heard → memo.first ≡ position_or_len is_bad_news heard
     → by_news inputs heard ≡ by_first (slice_get inputs memo.first) (memo.waits == 0)
 by_counts inputs heard memo same waits first = search (rules, by_news_counted, same)
@@ -140,7 +140,7 @@ count_of_inputs : (awaited : Awaited) (heard : List News) → length heard ≡ l
     → length (of_inputs awaited heard) ≡ length awaited.inputs
 count_of_inputs awaited heard count = search (rules, length_taken, inputs_known, count)
 
-pub memo_from_counts : (awaited : Awaited) (heard : List News) (memo : Memo)
+pub memo_from_counts : (awaited : Awaited) (heard : List News) (memo : NodeState)
     → length awaited.twins ≤ 1 → length heard ≡ length (all_of awaited)
     → memo.inputs ≡ length awaited.inputs → memo.waits ≡ waiting (of_inputs awaited heard)
     → memo.first ≡ position_or_len is_bad_news (of_inputs awaited heard)
@@ -159,7 +159,7 @@ read_at xs i (Some x) lent = search (rules, slice_get_read)
 -- ---- a memo that is told of an input
 
 -- a place that isn't the twin's is an input's
-pub is_input : (memo : Memo) (awaited : Awaited) (heard : List News) (place one : ℕ)
+pub is_input : (memo : NodeState) (awaited : Awaited) (heard : List News) (place one : ℕ)
     → CanHear awaited heard memo place one → (place ≡ memo.inputs → ⊥) → place < memo.inputs
 is_input memo awaited heard place one can apart =
     let within : place < length (all_of awaited) =
@@ -182,7 +182,7 @@ is_input memo awaited heard place one can apart =
     either (suc a) zero = inr (inr (omega arith))
     either (suc a) (suc b) = search (rules, either a b)
 
-module _ (memo : Memo) (awaited : Awaited) (heard : List News) (place input : ℕ)
+module _ (memo : NodeState) (awaited : Awaited) (heard : List News) (place input : ℕ)
     (can : CanHear awaited heard memo place input) (low : place < memo.inputs) where
   abbrev ins : List News
   ins = of_inputs awaited heard
@@ -294,7 +294,7 @@ module _ (memo : Memo) (awaited : Awaited) (heard : List News) (place input : �
 
 -- ---- a memo that is told of its twin
 
-module _ (memo : Memo) (awaited : Awaited) (heard : List News) (twin : ℕ)
+module _ (memo : NodeState) (awaited : Awaited) (heard : List News) (twin : ℕ)
     (can : CanHear awaited heard memo memo.inputs twin) where
   abbrev n : ℕ
   n = length awaited.inputs
@@ -385,7 +385,7 @@ module _ (memo : Memo) (awaited : Awaited) (heard : List News) (twin : ℕ)
 
 -- ---- a memo that was counted
 
-module _ (standing : Standing) (wanted : Bool) (twin : Option ℕ) (inputs : List ℕ)
+module _ (standing : Precondition) (wanted : Bool) (twin : Option ℕ) (inputs : List ℕ)
     (state_of : ℕ → State) (place waits first : ℕ) (state : State) (held : Bool)
     (past : length inputs ≤ place) (within : place ≤ length inputs)
     (are : AreCounted (news_in state_of inputs) place waits first)
@@ -465,7 +465,7 @@ module _ (standing : Standing) (wanted : Bool) (twin : Option ℕ) (inputs : Lis
       (sym idle))
 
 -- where all is known, each place has the news of what stands there
-pub hears_all : (awaited : Awaited) (state_of : ℕ → State) (heard : List News) (memo : Memo)
+pub hears_all : (awaited : Awaited) (state_of : ℕ → State) (heard : List News) (memo : NodeState)
     → IsMemo awaited heard memo → heard ≡ news_in state_of (all_of awaited)
     → Hears awaited state_of (λ place. 0) memo
 hears_all awaited state_of heard memo is all = record {
@@ -520,7 +520,7 @@ news_open (Building lease) is = refl
 news_open Ready is = refl
 news_open Blocked is = refl
 
-module _ (inputs : List ℕ) (t : ℕ) (state_of : ℕ → State) (memo : Memo)
+module _ (inputs : List ℕ) (t : ℕ) (state_of : ℕ → State) (memo : NodeState)
     (is : IsMemo (record { inputs = inputs; twins = t ∷ [] })
     (news_in state_of inputs ++ Open ∷ []) memo) where
   abbrev with_twin : Awaited
@@ -541,7 +541,7 @@ module _ (inputs : List ℕ) (t : ℕ) (state_of : ℕ → State) (memo : Memo)
       (ap (λ n. news_in state_of inputs ++ n ∷ []) (news_open (state_of t) still)
       ∙ news_push state_of inputs t)
 
-  pub hears_released : (good : Bool) (result : Memo) → good ≡ is_good (state_of t)
+  pub hears_released : (good : Bool) (result : NodeState) → good ≡ is_good (state_of t)
       → is_open (state_of t) ≡ false
       → ((awaited : Awaited) (heard : List News) (twin : ℕ)
       → CanHear awaited heard memo memo.inputs twin
@@ -556,13 +556,13 @@ module _ (inputs : List ℕ) (t : ℕ) (state_of : ℕ → State) (memo : Memo)
       ∙ news_push state_of inputs t)
 
 -- one that waits for its inputs alone
-pub hears_inputs : (inputs : List ℕ) (state_of : ℕ → State) (memo : Memo)
+pub hears_inputs : (inputs : List ℕ) (state_of : ℕ → State) (memo : NodeState)
     → IsMemo (record { inputs = inputs; twins = [] }) (news_in state_of inputs ++ []) memo
     → Hears (record { inputs = inputs; twins = [] }) state_of (λ place. 0) memo
 hears_inputs inputs state_of memo is = search (rules, hears_all, append-nil)
 
 -- the state that a memo holds, as it is kept
-pub memo_state : (memos : List Memo) (t : ℕ) (none : Memo) → t < length memos
+pub memo_state : (memos : List NodeState) (t : ℕ) (none : NodeState) → t < length memos
     → (get_or memos t none).state ≡ kept (states_in memos) t
 memo_state memos t none low = search (rules, get_or-map, low)
 

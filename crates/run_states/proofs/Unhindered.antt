@@ -9,7 +9,7 @@ use Rattle.run_states.specs.States.{Begun, Idle, Phase, Rows, by_inputs, is_bad,
 use Rattle.run_states.specs.declared.state.Event.{Event}
 use Rattle.run_states.specs.declared.state.Event.TheVariants.{Begin, Done as Finish, Fail}
 use Rattle.run_states.specs.declared.state.State.TheVariants.{Ready}
-use Rattle.run_states.specs.declared.standing.Standing.TheVariants.{Free}
+use Rattle.run_states.specs.declared.precondition.Precondition.TheVariants.{Free}
 use Rattle.run_states.proofs.ClosedStates.{bad_is_closed, bad_is_not_done, closed_is_good, good_is_closed, good_not_bad, states_stay, all_from, none_bad}
 use Rattle.run_states.proofs.EarlierTwins.{run_twins}
 use Rattle.run_states.proofs.NearestTwins.{none_from, ready_ended}

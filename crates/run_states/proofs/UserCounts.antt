@@ -5,7 +5,7 @@ use Rattle.std.proofs.Math.ListN.{set}
 use Rattle.std.proofs.lemmas.Bool.{cases_eq, cases_lt, eq-eqb, ne_eqb}
 use Rattle.std.proofs.lemmas.List.{drop_more, get_or-set_other, get_or-set_same}
 use Rattle.nix_names.proofs.Lists.{taken_more}
-use Rattle.run_states.specs.Courses.{listed}
+use Rattle.run_states.specs.StateTables.{listed}
 use Rattle.run_states.specs.UserSpans.{often, pairs, uses}
 
 pub often_both : (n : ℕ) (xs ys : List ℕ) → often n (xs ++ ys) ≡ often n xs + often n ys

@@ -11,11 +11,11 @@ use Rattle.drv_graph.specs.Nodes.{Node, inputs_of}
 use Rattle.drv_graph.specs.Plans.{AreNumbers, Graph}
 use Rattle.drv_graph.specs.SoundGraphs.{IsSound}
 use Rattle.valid_table.specs.declared.entry.Entry.{Entry}
-use Rattle.run_states.specs.Courses.{AreStandings, AreWanted}
+use Rattle.run_states.specs.StateTables.{AreStandings, AreWanted}
 use Rattle.run_states.specs.PlanLaws.{WantedIsTold}
 use Rattle.run_states.specs.Runs.{IsWanted, Run, inputs_at, is_free, is_one_of, is_used_by, is_wanted_over, standing_at, wanted_input, wanted_root}
-use Rattle.run_states.specs.declared.standing.Standing.{Standing}
-use Rattle.run_states.specs.declared.standing.Standing.TheVariants.{AllValid, Free, Hindered}
+use Rattle.run_states.specs.declared.precondition.Precondition.{Precondition}
+use Rattle.run_states.specs.declared.precondition.Precondition.TheVariants.{AllValid, Free, Hindered}
 use Rattle.run_states.proofs.PlanInputs.{inputs_first, numbers_at}
 use Rattle.run_states.proofs.Tests.{any_passes, in_range, is_among, is_found, one_passes}
 use Rattle.nix_names.proofs.Lists.{Contains-nothing, either_side}
@@ -37,7 +37,7 @@ grows n (suc m) run opening d no_more is =
     (grows n m _ _ d within is))
     (cases_lt m n)
 
-free_stands : (s : Standing) → is_free s ≡ true → s ≡ Free
+free_stands : (s : Precondition) → is_free s ≡ true → s ≡ Free
 free_stands Free is = refl
 free_stands AllValid is = absurd (false≢true is)
 free_stands (Hindered cause) is = absurd (false≢true is)
@@ -124,7 +124,7 @@ marks_none old = record {
 
 -- The marked derivations are wanted, the roots and all inputs of wanted ones from a number on among
 -- them.
-pub record AreMarked (graph : Graph) (standings : List Standing) (wanted : List Bool) (rest : ℕ)
+pub record AreMarked (graph : Graph) (standings : List Precondition) (wanted : List Bool) (rest : ℕ)
     : Type 0 where
   pub count : length wanted ≡ length graph.nodes
   pub roots : (d : ℕ) → Contains graph.roots d → IsMarked wanted d
@@ -144,7 +144,7 @@ pub none_marked : (n d : ℕ) → slice_index_or (replicate n false) d false ≡
 none_marked n d = search (rules, get_or-replicate, get_or_past, length-replicate, cases_lt)
 
 -- the roots are marked
-pub roots_marked : (graph : Graph) (standings : List Standing) (old new : List Bool) (n : ℕ) → n
+pub roots_marked : (graph : Graph) (standings : List Precondition) (old new : List Bool) (n : ℕ) → n
     ≡ length graph.nodes → old ≡ replicate n false → Marks old new graph.roots
     → AreMarked graph standings new n
 roots_marked graph standings old new n all none marks =
@@ -164,7 +164,7 @@ roots_marked graph standings old new n all none marks =
     unmarked d = search (rules, none_marked)
 
 -- a derivation whose inputs aren't wanted for it is passed
-pub passed_over : (graph : Graph) (standings : List Standing) (wanted : List Bool) (rest d : ℕ)
+pub passed_over : (graph : Graph) (standings : List Precondition) (wanted : List Bool) (rest d : ℕ)
     → rest ≡ d + 1
     → (IsMarked wanted d → slice_index_or standings d Free ≡ Free → ⊥)
     → AreMarked graph standings wanted rest → AreMarked graph standings wanted d
@@ -183,7 +183,7 @@ passed_over graph standings wanted rest d next none before = record {
 }
 
 -- the inputs of a wanted derivation are marked
-pub inputs_marked : (graph : Graph) (standings : List Standing) (old new : List Bool)
+pub inputs_marked : (graph : Graph) (standings : List Precondition) (old new : List Bool)
     (numbers : List ℕ) (rest d : ℕ) → IsSound graph → d < length graph.nodes → rest ≡ d + 1
     → IfSome (slice_get graph.nodes d) (λ node. AreNumbers graph.nodes numbers (inputs_of node.drv))
     → IsMarked old d → slice_index_or standings d Free ≡ Free → Marks old new numbers
@@ -243,14 +243,14 @@ pub written : (new rest : List Bool) (n : ℕ) → n ≡ length new → take n (
 written new rest n size = search (rules, take-append_seam)
 
 -- all are marked that are wanted
-all_wanted : (run : Run) (opening : List Entry) (standings : List Standing) (wanted : List Bool)
+all_wanted : (run : Run) (opening : List Entry) (standings : List Precondition) (wanted : List Bool)
     → AreStandings run.system opening run.graph.nodes standings
     → AreMarked run.graph standings wanted 0 → (d : ℕ) → IsWanted run opening d → IsMarked wanted d
 all_wanted run opening standings wanted standing marked d (wanted_root _ has) = marked.roots d has
 all_wanted run opening standings wanted standing marked d (wanted_input user _ by_user free has) =
     search (rules, by_user, marked_within, all_wanted _ _ _ _ standing marked _ by_user)
 
-pub wanted_are : (graph : Graph) (standings : List Standing) (wanted : List Bool)
+pub wanted_are : (graph : Graph) (standings : List Precondition) (wanted : List Bool)
     → AreMarked graph standings wanted 0
     → (run : Run) (opening : List Entry) → run.graph ≡ graph
     → AreStandings run.system opening graph.nodes standings → AreWanted run opening wanted
@@ -267,7 +267,7 @@ wanted_are graph standings wanted marked run opening same standing =
     }
 
 -- of each derivation it is said whether it is wanted
-pub wanted_count : (run : Run) (entries : List Entry) (standings : List Standing)
+pub wanted_count : (run : Run) (entries : List Entry) (standings : List Precondition)
     (wanted : List Bool) → AreStandings run.system entries run.graph.nodes standings
     → ((other : Run) (first : List Entry) → other.graph ≡ run.graph
     → AreStandings other.system first run.graph.nodes standings → AreWanted other first wanted)

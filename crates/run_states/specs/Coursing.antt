@@ -2,12 +2,12 @@
 use Rattle.std.specs.Prelude.{◌≡◌, ◌<◌, Bool, ℕ, List, Option, map}
 use Rattle.std.specs.List.{slice_index_or}
 use Rattle.drv_graph.specs.Plans.{Graph}
-use Rattle.run_states.specs.Courses.{Course}
+use Rattle.run_states.specs.StateTables.{StateTable}
 use Rattle.run_states.specs.Nearest.{near_state}
 use Rattle.run_states.specs.States.{Phase, Idle, Begun, Ended, Broken, Rows}
 use Rattle.run_states.specs.declared.state.State.{State}
 use Rattle.run_states.specs.declared.state.State.TheVariants.{Building, Done, Failed, Blocked}
-use Rattle.run_states.specs.declared.standing.Standing.{Standing}
+use Rattle.run_states.specs.declared.precondition.Precondition.{Precondition}
 
 -- the phase of a derivation in this state
 abbrev pub phase_in : State → Phase
@@ -17,8 +17,8 @@ phase_in (Failed reason) = Broken reason
 phase_in state = Idle
 
 -- the course of a plan whose derivations have these states
-abbrev pub course_of : Graph → List Standing → (wanted : List Bool) → (twins : List (Option ℕ))
-    → List State → Course
+abbrev pub course_of : Graph → List Precondition → (wanted : List Bool) → (twins : List (Option ℕ))
+    → List State → StateTable
 course_of graph standings wanted twins states = record {
   graph = graph;
   standings = standings;

@@ -2,12 +2,12 @@
 use Rattle.std.specs.Prelude.{◌≡◌, ◌<◌, ◌+◌, ◌-◌, ◌^◌, ℕ, suc, List, [], ◌∷◌, length, if◌then◌else◌}
 use Rattle.drv_graph.specs.Plans.{Graph}
 use Rattle.run_states.specs.Agendas.{course_by, twins_in}
-use Rattle.run_states.specs.Courses.{Course, all_of, awaited_at, course_state}
+use Rattle.run_states.specs.StateTables.{StateTable, all_of, awaited_at, course_state}
 use Rattle.run_states.specs.States.{is_open}
 use Rattle.run_states.specs.Steps.{edges_ahead}
 use Rattle.run_states.specs.UserSpans.{uses}
 use Rattle.run_states.specs.Users.{users_of}
-use Rattle.run_states.specs.declared.memo.Memo.{Memo}
+use Rattle.run_states.specs.declared.node_states.NodeState.{NodeState}
 use Rattle.run_states.specs.declared.users.Edge.{Edge}
 
 -- how many edges lead from a derivation to its users
@@ -15,13 +15,13 @@ abbrev pub sizes : List (List Edge) → ℕ → ℕ
 sizes users d = length (users_of users d)
 
 -- how many edges lead to users from derivations that are Blocked, Ready or Building
-abbrev pub open_edges : (size : ℕ → ℕ) → List Memo → ℕ
+abbrev pub open_edges : (size : ℕ → ℕ) → List NodeState → ℕ
 open_edges size [] = 0
 open_edges size (memo ∷ memos) =
     (if is_open memo.state then size 0 else 0) + open_edges (λ d. size (suc d)) memos
 
 -- the course before anything has begun
-abbrev pub rested : Course → Course
+abbrev pub rested : StateTable → StateTable
 rested course = record {
   graph = course.graph;
   standings = course.standings;
@@ -31,17 +31,17 @@ rested course = record {
 }
 
 -- the number of edges to users from derivations of a course that are Blocked, Ready or Building
-abbrev pub course_ahead : Course → ℕ
+abbrev pub course_ahead : StateTable → ℕ
 course_ahead course = edges_ahead (λ d. all_of (awaited_at course.graph course.twins d))
     (course_state course) (length course.graph.nodes)
 
 -- along how many edges users were told
-abbrev pub course_followed : Course → ℕ
+abbrev pub course_followed : StateTable → ℕ
 course_followed course = course_ahead (rested course) - course_ahead course
 
 -- So many edges were followed: all from derivations that were Blocked, Ready or Building before
 -- anything had begun, but for those that still are.
-pub record HasFollowed (graph : Graph) (memos : List Memo) (users : List (List Edge)) (followed : ℕ)
+pub record HasFollowed (graph : Graph) (memos : List NodeState) (users : List (List Edge)) (followed : ℕ)
     : Type 0 where
   pub few : followed + open_edges (sizes users) memos < 2 ^ 64
   pub size : (d : ℕ) → d < length graph.nodes → sizes users d

@@ -1,12 +1,12 @@
 -- What public contracts cite, and what that rests on.
 pub mod Agendas
 pub mod Counts
-pub mod Courses
+pub mod StateTables
 pub mod Coursing
 pub mod FollowedEdges
 pub mod Headline
 pub mod Legal
-pub mod Memos
+pub mod NodeStates
 pub mod Nearest
 pub mod Numbers
 pub mod PlanLaws

@@ -16,8 +16,8 @@ use Rattle.run_states.specs.declared.state.Event.{Event}
 use Rattle.run_states.specs.declared.state.Refusal.{Refusal}
 use Rattle.run_states.specs.declared.state.Refusal.TheVariants.{WrongSystem, Unsupported, MissingSource, PartlyValid}
 use Rattle.run_states.specs.declared.state.State.{State}
-use Rattle.run_states.specs.declared.standing.Standing.{Standing}
-use Rattle.run_states.specs.declared.standing.Standing.TheVariants.{AllValid, Hindered, Free}
+use Rattle.run_states.specs.declared.precondition.Precondition.{Precondition}
+use Rattle.run_states.specs.declared.precondition.Precondition.TheVariants.{AllValid, Hindered, Free}
 
 -- What a run is over: the plan, and the system for which it builds.
 pub record Run : Type 0 where
@@ -70,13 +70,13 @@ own_cause system opening drv =
     (cause_at MissingSource (position (λ path. not (is_valid opening path)) drv.sources))))
 
 -- the standing of a derivation with this cause, if it has one
-abbrev pub by_cause : Option Refusal → Standing
+abbrev pub by_cause : Option Refusal → Precondition
 by_cause (Some cause) = Hindered cause
 by_cause None = Free
 
 -- a derivation's standing after these entries: all its outputs are valid, else it has a cause for
 -- which it can't be begun, else neither
-abbrev pub standing_of : (system : Bytes) → (opening : List Entry) → Drv → Standing
+abbrev pub standing_of : (system : Bytes) → (opening : List Entry) → Drv → Precondition
 standing_of system opening drv =
     if list_all (is_valid opening) (output_paths_of drv) then AllValid
     else by_cause (own_cause system opening drv)
@@ -92,7 +92,7 @@ inputs_at nodes (Some node) = input_numbers nodes node.drv
 inputs_at nodes None = []
 
 -- a node's standing; Free where there is no node
-abbrev pub standing_at : (system : Bytes) → (opening : List Entry) → Option Node → Standing
+abbrev pub standing_at : (system : Bytes) → (opening : List Entry) → Option Node → Precondition
 standing_at system opening (Some node) = standing_of system opening node.drv
 standing_at system opening None = Free
 
@@ -106,7 +106,7 @@ pub data IsWanted (run : Run) (opening : List Entry) : ℕ → Type 0 where
       → IsWanted run opening d
 
 -- whether a standing is Free
-abbrev pub is_free : Standing → Bool
+abbrev pub is_free : Precondition → Bool
 is_free Free = true
 is_free standing = false
 

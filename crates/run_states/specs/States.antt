@@ -8,8 +8,8 @@ use Rattle.build_outcome.specs.declared.reason.Reason.{Reason}
 use Rattle.run_states.specs.declared.state.Refusal.TheVariants.{InputNotRealised}
 use Rattle.run_states.specs.declared.state.State.{State}
 use Rattle.run_states.specs.declared.state.State.TheVariants.{Done, Failed, Building, Reused, Refused, Ready, Blocked}
-use Rattle.run_states.specs.declared.standing.Standing.{Standing}
-use Rattle.run_states.specs.declared.standing.Standing.TheVariants.{AllValid, Hindered}
+use Rattle.run_states.specs.declared.precondition.Precondition.{Precondition}
+use Rattle.run_states.specs.declared.precondition.Precondition.TheVariants.{AllValid, Hindered}
 
 -- the phase of a derivation, by its last event: it has none; it began under this lease; it was
 -- built; it failed
@@ -40,7 +40,7 @@ phase_of (event ∷ events) d = later (phase_by event d) (phase_of events d)
 pub record Rows : Type 0 where
   pub inputs : ℕ → List ℕ
   pub twins : ℕ → List ℕ
-  pub standing : ℕ → Standing
+  pub standing : ℕ → Precondition
   pub phase : ℕ → Phase
 
 -- whether a user can be begun after an input in this state
@@ -80,7 +80,7 @@ by_inputs state inputs = by_first (find (λ i. is_bad (state i)) inputs)
     (list_all (λ i. is_good (state i)) inputs)
 
 -- the state by the derivation's own cause, if it has one
-abbrev pub by_hindrance : Standing → State → State
+abbrev pub by_hindrance : Precondition → State → State
 by_hindrance (Hindered cause) other = Refused cause
 by_hindrance standing other = other
 
@@ -93,7 +93,7 @@ by_twins state twins other =
     else other
 
 -- the state by whether all outputs of the derivation were valid
-abbrev pub by_validity : Standing → State → State
+abbrev pub by_validity : Precondition → State → State
 by_validity AllValid other = Reused
 by_validity standing other = other
 

@@ -3,34 +3,34 @@
 //! | Module | What is in it |
 //! |---|---|
 //! | `state` | why a derivation is not begun, its state, and events |
-//! | `standing` | what is known of a derivation before anything is begun |
-//! | `course` | the state of each derivation of a plan |
-//! | `memo`, `states` | what is kept of a derivation, and what its state says to those that wait for it |
+//! | `precondition` | what is known of a derivation before anything is begun |
+//! | `state_table` | the state of each derivation of a plan |
+//! | `node_states`, `states` | what is kept of a derivation, and what its state says to those that wait for it |
 //! | `users` | the edges from each derivation to those that wait for it |
-//! | `agenda` | which derivations can be begun, and which ends are still to be told |
-//! | `spreading` | how an event changes a state, and those that wait are told of it |
-//! | `standings` | the standings of a plan's derivations |
+//! | `work_queues` | which derivations can be begun, and which ends are still to be told |
+//! | `propagate` | how an event changes a state, and those that wait are told of it |
+//! | `preconditions` | the standings of a plan's derivations |
 //! | `wanted`, `twins` | which derivations of a plan are wanted, and their nearest earlier twins |
 //! | `fault` | why a call of a book refuses |
 #![tactic(auto)]
 
-mod agenda;
-mod course;
 mod fault;
-mod memo;
-mod spreading;
-mod standing;
-mod standings;
+mod node_states;
+mod precondition;
+mod preconditions;
+mod propagate;
 mod state;
+mod state_table;
 mod states;
 mod twins;
 mod users;
 mod wanted;
+mod work_queues;
 
-pub use course::Course;
 pub use fault::BookFault;
-pub use standing::Standing;
-pub use standings::standings_of;
+pub use precondition::Precondition;
+pub use preconditions::standings_of;
 pub use state::{Event, Refusal, State};
+pub use state_table::StateTable;
 pub use twins::nearest_twins;
 pub use wanted::{mark, wanted_of};

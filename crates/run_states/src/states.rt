@@ -15,7 +15,7 @@ pub(crate) fn inputs_of(plan: &Plan, d: usize) -> &[usize]
     plan.inputs(d)
 }
 
-// Whether a user can be begun after an input in this state.
+// Whether the outputs of a derivation in this state are valid, so that its users may begin.
 pub(crate) fn serves(state: State) -> bool
     ensures { result ≡ is_good state }
 {

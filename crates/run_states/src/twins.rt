@@ -3,7 +3,7 @@ ghost use Rattle.std.specs.Prelude.{◌≡◌, ◌<◌, ◌≤◌, ℕ, All, IfE
 ghost use Rattle.std.specs.List.{slice_index_or};
 ghost use Rattle.drv_graph.specs.SoundGraphs.{IsSound};
 ghost use Rattle.valid_table.specs.declared.entry.Entry.{Entry};
-ghost use Rattle.run_states.specs.Courses.{AreNearest, AreWanted, listed};
+ghost use Rattle.run_states.specs.StateTables.{AreNearest, AreWanted, listed};
 ghost use Rattle.run_states.specs.Runs.{Run};
 ghost use Rattle.drv_graph.specs.Twins.{first_twin_of};
 

@@ -1,7 +1,7 @@
 //! Reverse edges: from each derivation of a plan to those that wait for it.
 ghost use Rattle.std.specs.Prelude.{◌≡◌, ◌<◌, ◌+◌, ◌++◌, ◌^◌, ℕ, [], ◌∷◌, All, IfOk, List, None, length, slice_index, vec_capacity};
 ghost use Rattle.std.specs.List.{slice_index_or, sum};
-ghost use Rattle.run_states.specs.Courses.{all_of, awaited_at, listed};
+ghost use Rattle.run_states.specs.StateTables.{all_of, awaited_at, listed};
 ghost use Rattle.run_states.specs.Steps.{total};
 ghost use Rattle.run_states.specs.FollowedEdges.{sizes};
 ghost use Rattle.run_states.specs.UserSpans.{AddsUser, HaveRoom, often, pairs, parts, uses};

@@ -2,17 +2,21 @@
 ghost use Rattle.std.specs.Prelude.{◌≡◌, ◌<◌, ◌↔◌, ◌⊎◌, All, Contains, IfErr, IfOk, IsTrue, List, false, length, true};
 ghost use Rattle.std.specs.List.{slice_index_or};
 ghost use Rattle.valid_table.specs.declared.entry.Entry.{Entry};
-ghost use Rattle.run_states.specs.Courses.{AreStandings, AreWanted};
+ghost use Rattle.run_states.specs.StateTables.{AreStandings, AreWanted};
 ghost use Rattle.run_states.specs.Runs.{Run};
 
 use crate::fault::BookFault;
-use crate::standing::Standing;
+use crate::precondition::Precondition;
 use drv_graph::Plan;
 use std::alloc::{AllocError, Global};
 
 /// Whether each derivation is wanted, by the standings of all. `NoMemory`, the only fault, where
 /// memory is refused. Linear in the pairs of a user and an input.
-pub fn wanted_of(alloc: Global, plan: &Plan, standings: &[Standing]) -> Result<Vec<bool>, BookFault>
+pub fn wanted_of(
+    alloc: Global,
+    plan: &Plan,
+    standings: &[Precondition],
+) -> Result<Vec<bool>, BookFault>
     requires { length standings.now ≡ length plan.now.nodes }
     ensures ok { IfOk result (λ wanted. (run : Run) (opening : List Entry) → run.graph ≡ plan.now
         → AreStandings run.system opening plan.now.nodes standings.now
@@ -30,10 +34,10 @@ pub fn wanted_of(alloc: Global, plan: &Plan, standings: &[Standing]) -> Result<V
 }
 
 // Whether a standing is `Free`.
-fn is_free(standing: Standing) -> bool
-    ensures { IsTrue result ↔ (standing ≡ Standing.Free) }
+fn is_free(standing: Precondition) -> bool
+    ensures { IsTrue result ↔ (standing ≡ Precondition.Free) }
 {
-    matches!(standing, Standing::Free)
+    matches!(standing, Precondition::Free)
 }
 
 /// Sets the marks at these numbers, and no others. Costs a step for each number.

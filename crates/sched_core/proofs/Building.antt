@@ -6,7 +6,7 @@ use Rattle.nix_drv.proofs.Fixed.{eqb_same}
 use Rattle.nix_names.proofs.Lists.{All-from_contains}
 use Rattle.valid_table.specs.declared.entry.Entry.{Entry}
 use Rattle.sched_core.specs.Books.{BuildsOver, IsBooksLease}
-use Rattle.run_states.specs.Courses.{CanBegin}
+use Rattle.run_states.specs.StateTables.{CanBegin}
 use Rattle.build_outcome.specs.Jobs.{IsJob}
 use Rattle.run_states.specs.Legal.{IsLegal, legal_begin, begins, begun, ended, failed, is_begin}
 use Rattle.run_states.specs.Runs.{History, Run}

@@ -15,22 +15,22 @@ use Rattle.valid_table.specs.PathInfos.{PathInfo}
 use Rattle.valid_table.specs.Valid.{IsJournal}
 use Rattle.valid_table.specs.declared.entry.Entry.{Entry}
 use Rattle.sched_core.specs.private.Booking.{IsRunKept, events_left, history_of, run_over}
-use Rattle.run_states.specs.Courses.{CanBegin}
+use Rattle.run_states.specs.StateTables.{CanBegin}
 use Rattle.sched_core.specs.Books.{IsDone}
-use Rattle.run_states.specs.Courses.{AreNearest, AreStandings, AreWanted, Course, HasBegun}
+use Rattle.run_states.specs.StateTables.{AreNearest, AreStandings, AreWanted, StateTable, HasBegun}
 use Rattle.run_states.specs.Legal.{IsLegal, legal_begin, legal_opening, legal_done, legal_fail, begins, is_begin}
 use Rattle.run_states.specs.Runs.{History, Run}
 use Rattle.run_states.specs.States.{Phase, Idle, Begun, Ended, Broken, later, phase_by, phase_of}
 use Rattle.run_states.specs.declared.state.Event.{Event}
 use Rattle.run_states.specs.declared.state.Event.TheVariants.{Begin, Done as Finish, Fail}
 use Rattle.build_outcome.specs.declared.reason.Reason.{Reason}
-use Rattle.run_states.specs.declared.standing.Standing.{Standing}
+use Rattle.run_states.specs.declared.precondition.Precondition.{Precondition}
 use Rattle.run_states.proofs.Histories.{ready_is_idle}
 use Rattle.run_states.proofs.Seeds.{phase_push}
 
 -- ---- what has begun
 
-pub has_begun : (system : List ℕ) (history : History) (course : Course) (given room : ℕ)
+pub has_begun : (system : List ℕ) (history : History) (course : StateTable) (given room : ℕ)
     → IsRunKept system history course given room
     → (d lease : ℕ) → phase_of history.events d ≡ Begun lease → HasBegun course d
 has_begun system history course given room kept d lease is = search (rules, get_or_past, cases_lt)
@@ -59,7 +59,7 @@ room_set : (phases : List Phase) (events : List Event) (d room : ℕ) (event : E
 room_set phases events d room event p within less fits = search (rules, sum_by-set, length_push)
 
 -- what is kept after one event more
-behind_event : (system : List ℕ) (before after : History) (course : Course) (given more room d : ℕ)
+behind_event : (system : List ℕ) (before after : History) (course : StateTable) (given more room d : ℕ)
     (event : Event) (p : Phase)
     → IsRunKept system before course given room → IsLegal (run_over course system) after
     → after.opening ≡ before.opening → after.events ≡ before.events ++ event ∷ [] → more
@@ -95,7 +95,7 @@ begins_by : (events : List Event) (event : Event) → begins (events ++ event �
 begins_by events event = search (rules, sum_by_push)
 
 pub begin_kept : (system : List ℕ) (opening : ℕ) (entries : List Entry) (events after : List Event)
-    (course later_course : Course) (given room later_room d : ℕ)
+    (course later_course : StateTable) (given room later_room d : ℕ)
     → IsRunKept system (history_of opening entries events) course given room
     → CanBegin (run_over course system) (history_of opening entries events) d
     → after ≡ events ++ Begin d given ∷ [] → later_course
@@ -120,7 +120,7 @@ begin_kept system opening entries events after course later_course given room la
     (rw idle (omega arith)))
 
 pub fail_kept : (system : List ℕ) (opening : ℕ) (entries : List Entry) (events after : List Event)
-    (course later_course : Course) (given room later_room d lease : ℕ) (reason : Reason)
+    (course later_course : StateTable) (given room later_room d lease : ℕ) (reason : Reason)
     → IsRunKept system (history_of opening entries events) course given room → phase_of events d
     ≡ Begun lease
     → after ≡ events ++ Fail d lease reason ∷ [] → later_course
@@ -143,7 +143,7 @@ fail_kept system opening entries events after course later_course given room lat
     (rw is (omega arith)))
 
 pub finish_kept : (system : List ℕ) (opening : ℕ) (entries more : List Entry)
-    (events after : List Event) (course later_course : Course) (given room later_room d lease : ℕ)
+    (events after : List Event) (course later_course : StateTable) (given room later_room d lease : ℕ)
     (infos : List PathInfo) (entry : Entry)
     → IsRunKept system (history_of opening entries events) course given room
     → opening ≤ length entries
@@ -179,7 +179,7 @@ finish_kept system opening entries more events after course later_course given r
     (omega (arith, within, kept.count)) (rw is (omega arith)))
 
 -- there is room for the event of a derivation that can still have one
-room_for : (system : List ℕ) (history : History) (course : Course) (given room : ℕ)
+room_for : (system : List ℕ) (history : History) (course : StateTable) (given room : ℕ)
     → IsRunKept system history course given room
     → (d : ℕ) → d < length course.graph.nodes → 0 < events_left (phase_of history.events d)
     → length history.events < room
@@ -195,14 +195,14 @@ room_for system history course given room kept d within some =
           (omega (arith, kept.count)),
     )
 
-pub room_to_begin : (system : List ℕ) (history : History) (course : Course) (given room : ℕ)
+pub room_to_begin : (system : List ℕ) (history : History) (course : StateTable) (given room : ℕ)
     → IsRunKept system history course given room
     → (d : ℕ) → CanBegin (run_over course system) history d → length history.events < room
 room_to_begin system history course given room kept d can =
     let idle = ready_is_idle (run_over course system) history d can.ready in
     room_for _ _ _ _ _ kept d can.within (rw idle (omega arith))
 
-pub room_to_end : (system : List ℕ) (history : History) (course : Course) (given room : ℕ)
+pub room_to_end : (system : List ℕ) (history : History) (course : StateTable) (given room : ℕ)
     → IsRunKept system history course given room
     → (d lease : ℕ) → phase_of history.events d ≡ Begun lease → length history.events < room
 room_to_end system history course given room kept d lease is =
@@ -220,7 +220,7 @@ room_of_idle (p ∷ ps) idle =
     omega (arith, rest, own, sum_by-cons events_left p ps)
 
 pub opening_kept : (system : List ℕ) (opening room : ℕ) (entries : List Entry) (events : List Event)
-    (course : Course) (graph : Graph) (standings : List Standing) (wanted : List Bool)
+    (course : StateTable) (graph : Graph) (standings : List Precondition) (wanted : List Bool)
     (twins : List (Option ℕ)) → IsJournal entries → opening ≡ length entries → events ≡ []
     → AreStandings system entries graph.nodes standings
     → ((run : Run) (first : List Entry) → run.graph ≡ graph

@@ -9,10 +9,10 @@ use Rattle.std.proofs.lemmas.List.{get_or_past}
 use Rattle.std.proofs.lemmas.Option.{slice_get_past}
 use Rattle.nix_drv.proofs.Fixed.{eqb_same}
 use Rattle.sched_core.specs.private.Booking.{IsRunKept, run_over}
-use Rattle.run_states.specs.Courses.{CanBegin, IsRunSettled, IsUnsettled}
+use Rattle.run_states.specs.StateTables.{CanBegin, IsRunSettled, IsUnsettled}
 use Rattle.run_states.specs.Runs.{opened}
 use Rattle.run_states.specs.Counts.{HasCount}
-use Rattle.run_states.specs.Courses.{Course, IsNext, IsOpen, IsSettled, IsUnsettledIn, all_of, awaited_at, course_rows, course_state, listed}
+use Rattle.run_states.specs.StateTables.{StateTable, IsNext, IsOpen, IsSettled, IsUnsettledIn, all_of, awaited_at, course_rows, course_state, listed}
 use Rattle.run_states.specs.Nearest.{last_alone, nearest}
 use Rattle.run_report.specs.Reports.{IsReportIn, IsReportOf}
 use Rattle.run_states.specs.Runs.{History, Run, earlier_twins, inputs_at, rows_of, standing_at, state_in}
@@ -21,8 +21,8 @@ use Rattle.run_states.specs.Steps.{awaited_by, edges_ahead, edges_ahead_in, foll
 use Rattle.run_states.specs.FollowedEdges.{course_ahead, course_followed, rested}
 use Rattle.run_states.specs.declared.state.State.{State}
 use Rattle.run_states.specs.declared.state.State.TheVariants.{Blocked, Building, Reused}
-use Rattle.run_states.specs.declared.standing.Standing.{Standing}
-use Rattle.run_states.specs.declared.standing.Standing.TheVariants.{AllValid, Hindered, Free}
+use Rattle.run_states.specs.declared.precondition.Precondition.{Precondition}
+use Rattle.run_states.specs.declared.precondition.Precondition.TheVariants.{AllValid, Hindered, Free}
 use Rattle.run_states.proofs.Counts.{same_count}
 use Rattle.run_states.proofs.EarlierTwins.{run_twins, twins_past}
 use Rattle.run_states.proofs.Histories.{building_from_begun, opening_legal}
@@ -32,14 +32,14 @@ use Rattle.run_states.proofs.StateLaws.{AreSame, near_same}
 
 -- ---- states follow from rows that are the same
 
-twins_same : (system : List ℕ) (history : History) (course : Course) (given room : ℕ)
+twins_same : (system : List ℕ) (history : History) (course : StateTable) (given room : ℕ)
     → IsRunKept system history course given room
     → (d : ℕ) → listed (slice_index_or course.twins d None)
     ≡ last_alone (earlier_twins (run_over course system) history.opening d)
 twins_same system history course given room kept d =
     search (rules, get_or_past, twins_past, slice_get_past, cases_lt)
 
-rows_same : (system : List ℕ) (history : History) (course : Course) (given room : ℕ)
+rows_same : (system : List ℕ) (history : History) (course : StateTable) (given room : ℕ)
     → IsRunKept system history course given room
     → AreSame (course_rows course)
     (nearest (rows_of (run_over course system) history.opening history.events))
@@ -58,7 +58,7 @@ rows_same system history course given room kept =
     }
 
 -- a course tells the states
-pub states_told : (system : List ℕ) (history : History) (course : Course) (given room : ℕ)
+pub states_told : (system : List ℕ) (history : History) (course : StateTable) (given room : ℕ)
     → IsRunKept system history course given room
     → (d : ℕ) → course_state course d ≡ state_in (run_over course system) history d
 states_told system history course given room kept d =
@@ -66,7 +66,7 @@ states_told system history course given room kept d =
 
 -- ---- what can be begun
 
-pub can_begin : (system : List ℕ) (history : History) (course : Course) (given room : ℕ)
+pub can_begin : (system : List ℕ) (history : History) (course : StateTable) (given room : ℕ)
     → IsRunKept system history course given room
     → (d : ℕ) → IsNext course d → CanBegin (run_over course system) history d
 can_begin system history course given room kept d next =
@@ -76,7 +76,7 @@ can_begin system history course given room kept d next =
       ready = sym (states_told _ _ _ _ _ kept d) ∙ next.2;
     }
 
-pub is_next : (system : List ℕ) (history : History) (course : Course) (given room : ℕ)
+pub is_next : (system : List ℕ) (history : History) (course : StateTable) (given room : ℕ)
     → IsRunKept system history course given room
     → (d : ℕ) → CanBegin (run_over course system) history d → IsNext course d
 is_next system history course given room kept d can = (
@@ -86,7 +86,7 @@ is_next system history course given room kept d can = (
       ∙ can.ready,
 )
 
-pub unsettled_told : (system : List ℕ) (history : History) (course : Course) (given room : ℕ)
+pub unsettled_told : (system : List ℕ) (history : History) (course : StateTable) (given room : ℕ)
     → IsRunKept system history course given room
     → (count : ℕ) → HasCount (IsUnsettledIn course) count
     → HasCount (IsUnsettled (run_over course system) history) count
@@ -103,7 +103,7 @@ unsettled_told system history course given room kept count =
       subst IsOpen (sym (states_told _ _ _ _ _ kept d)) still.2,
     ))
 
-pub settled_told : (system : List ℕ) (history : History) (course : Course) (given room : ℕ)
+pub settled_told : (system : List ℕ) (history : History) (course : StateTable) (given room : ℕ)
     → IsRunKept system history course given room
     → IsSettled course ↔ IsRunSettled (run_over course system) history
 settled_told system history course given room kept = (
@@ -134,14 +134,14 @@ not_by_twins true still other lease none is = absurd cc
 not_by_twins false true other lease none is = absurd cc
 not_by_twins false false other lease none is = none is
 
-not_by_standing : (standing : Standing) (built still : Bool) (found : Option ℕ) (all : Bool)
+not_by_standing : (standing : Precondition) (built still : Bool) (found : Option ℕ) (all : Bool)
     (lease : ℕ) → by_validity standing (if built then Reused else if still then Blocked
     else by_hindrance standing (by_first found all)) ≡ Building lease → ⊥
 not_by_standing AllValid built still found all lease is = absurd cc
 not_by_standing (Hindered cause) built still found all lease is = search (rules, not_by_twins)
 not_by_standing Free built still found all lease is = search (rules, not_by_twins, not_by_first)
 
-begun_by_phase : (p : Phase) (standing : Standing) (built still : Bool) (found : Option ℕ)
+begun_by_phase : (p : Phase) (standing : Precondition) (built still : Bool) (found : Option ℕ)
     (all : Bool) (lease : ℕ) → stands_by p standing built still found all ≡ Building lease
     → p ≡ Begun lease
 begun_by_phase Idle standing built still found all lease is = search (rules, not_by_standing)
@@ -159,7 +159,7 @@ begun_from_building run history d lease is =
 
 -- ---- whether a lease is out
 
-pub building_told : (system : List ℕ) (history : History) (course : Course) (given room : ℕ)
+pub building_told : (system : List ℕ) (history : History) (course : StateTable) (given room : ℕ)
     → IsRunKept system history course given room
     → (d lease number : ℕ) → course_state course d ≡ Building lease → IsTrue (eqb lease number)
     ↔ (phase_of history.events d ≡ Begun number)
@@ -172,7 +172,7 @@ building_told system history course given room kept d lease number is =
           ≡ number = cc in subst (λ n. IsTrue (eqb lease n)) one (eqb_same _),
     )
 
-pub not_building : (system : List ℕ) (history : History) (course : Course) (given room : ℕ)
+pub not_building : (system : List ℕ) (history : History) (course : StateTable) (given room : ℕ)
     → IsRunKept system history course given room
     → (d number : ℕ) → ((lease : ℕ) → course_state course d ≡ Building lease → ⊥)
     → phase_of history.events d ≡ Begun number → ⊥
@@ -182,7 +182,7 @@ not_building system history course given room kept d number none is =
 
 -- ---- the report
 
-pub report_told : (system : List ℕ) (history : History) (course : Course) (given room : ℕ)
+pub report_told : (system : List ℕ) (history : History) (course : StateTable) (given room : ℕ)
     → IsRunKept system history course given room
     → (text : List ℕ) → IsReportOf course text → IsReportIn (run_over course system) history text
 report_told system history course given room kept text report =
@@ -190,7 +190,7 @@ report_told system history course given room kept text report =
 
 -- ---- along how many edges users were told
 
-pub followed_kept : (system : List ℕ) (history : History) (course : Course) (given room : ℕ)
+pub followed_kept : (system : List ℕ) (history : History) (course : StateTable) (given room : ℕ)
     → IsRunKept system history course given room
     → course_followed course ≡ followed_in (run_over course system) history
 followed_kept system history course given room kept =

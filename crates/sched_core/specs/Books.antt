@@ -9,7 +9,7 @@ use Rattle.valid_table.specs.Valid.{IsValid}
 use Rattle.valid_table.specs.declared.entry.Entry.{Entry}
 use Rattle.valid_table.specs.declared.fault.OutletFault.{OutletFault}
 use Rattle.valid_table.specs.declared.fault.OutletFault.TheVariants as outlet
-use Rattle.run_states.specs.Courses.{IsOpen}
+use Rattle.run_states.specs.StateTables.{IsOpen}
 use Rattle.build_outcome.specs.Jobs.{IsJob}
 use Rattle.run_states.specs.Legal.{AreNewOutputs, AreOutputRecords, ArePermitted, IsAllowed, IsEntryOf, MayRefer, begins, begun, ended, failed}
 use Rattle.run_states.specs.Runs.{History, IsWanted, Run, state_in}
@@ -20,7 +20,7 @@ use Rattle.run_states.specs.declared.fault.BookFault.TheVariants.{NoMemory, NoVi
 use Rattle.build_outcome.specs.declared.job.Job.{Job}
 use Rattle.build_outcome.specs.declared.reason.Reason.{Reason}
 use Rattle.run_states.specs.declared.state.State.TheVariants.{Ready}
-use Rattle.run_states.specs.Courses.{CanBegin}
+use Rattle.run_states.specs.StateTables.{CanBegin}
 
 -- A book, as contracts see it: a run, its history, the entries that the outlet shows, and those
 -- that wait there to be published.

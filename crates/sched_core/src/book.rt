@@ -2,7 +2,7 @@
 ghost use Rattle.std.specs.Prelude.{◌≡◌, ◌<◌, ◌%◌, ◌^◌, ◌↔◌, ◌⊎◌, ◌++◌, ℕ, [], IfErr, IfOk, IsTrue, MatchOption, OnErr, OnOk, length, take, ⊤};
 ghost use Rattle.valid_table.specs.Valid.{IsJournal};
 ghost use Rattle.sched_core.specs.Books.{ArePermittedPaths, AreSeedsValid, BuildsOver, IsBeginning, IsBooksLease, IsFailing, IsFinishFault, IsFinishing, IsSameRun, MayAllRefer};
-ghost use Rattle.run_states.specs.Courses.{CanBegin, IsRunSettled, IsUnsettled};
+ghost use Rattle.run_states.specs.StateTables.{CanBegin, IsRunSettled, IsUnsettled};
 ghost use Rattle.run_states.specs.Runs.{opened};
 ghost use Rattle.run_states.specs.Counts.{HasCount};
 ghost use Rattle.run_states.specs.Legal.{IsLegal};

@@ -5,7 +5,7 @@
 //! |---|---|
 //! | `book`, `lease` | the book, and derivations that it gave out to be built |
 //! | `progress` | a run's history, and the states of its derivations |
-//! | `permitted`, `uniting` | to what outputs may refer |
+//! | `permitted`, `union` | to what outputs may refer |
 //! | `done_entry` | the entry of a derivation that was built |
 //! | `job_of`, `seeds_of` | the job of a derivation, and the paths that it is built from |
 //! | `is_job`, `has_seeds` | whether a job is that of a derivation |
@@ -22,14 +22,16 @@ mod lease;
 mod permitted;
 mod progress;
 mod seeds_of;
-mod uniting;
+mod union;
 
 pub use book::Book;
-pub use build_outcome::{Answer, Build, Checked, Job, JobOutput, Reason, Watch, examine};
+pub use build_outcome::{Answer, Build, Checked, Job, JobOutput, LeaseObserver, Reason, examine};
 pub use lease::Lease;
 pub use permitted::permitted_beside;
 pub use run_report::{
     Listed, marked_by_path, write_name, write_outputs, write_path_line, write_refusal,
     write_refused, write_with_number, write_with_string, write_with_value,
 };
-pub use run_states::{BookFault, Event, Refusal, Standing, State, mark, standings_of, wanted_of};
+pub use run_states::{
+    BookFault, Event, Precondition, Refusal, State, mark, standings_of, wanted_of,
+};

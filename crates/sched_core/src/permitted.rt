@@ -9,7 +9,7 @@ ghost use Rattle.valid_table.specs.Valid.{IsValid};
 ghost use Rattle.build_outcome.specs.Verdicts.{outputs_of};
 ghost use Rattle.run_states.specs.declared.fault.BookFault.TheVariants.{NoMemory};
 
-use crate::uniting::union_of;
+use crate::union::union_of;
 use build_outcome::Job;
 use nix_names::StorePath;
 use run_states::BookFault;

@@ -4,7 +4,7 @@ ghost use Rattle.valid_table.specs.Entries.{registered_by};
 ghost use Rattle.valid_table.specs.PathInfos.{PathInfo};
 ghost use Rattle.valid_table.specs.Valid.{HasDrvPath, IsJournal};
 ghost use Rattle.sched_core.specs.Books.{ArePermittedPaths, IsBooksLease, IsDone};
-ghost use Rattle.run_states.specs.Courses.{CanBegin, IsRunSettled, IsUnsettled};
+ghost use Rattle.run_states.specs.StateTables.{CanBegin, IsRunSettled, IsUnsettled};
 ghost use Rattle.run_states.specs.Runs.{opened};
 ghost use Rattle.run_states.specs.Counts.{HasCount};
 ghost use Rattle.sched_core.specs.private.Dones.{IsDoneEntry, IsDoneFault};
@@ -24,7 +24,7 @@ use build_outcome::{Checked, Job, Reason};
 use drv_graph::Plan;
 use nix_names::StorePath;
 use run_report::report_of;
-use run_states::{BookFault, Course, Event, State, nearest_twins, standings_of, wanted_of};
+use run_states::{BookFault, Event, State, StateTable, nearest_twins, standings_of, wanted_of};
 use std::alloc::Global;
 use std::marker::Model;
 use valid_table::{Entry, Journal};
@@ -33,7 +33,7 @@ use valid_table::{Entry, Journal};
 // of each derivation.
 #[derive(Debug, Drop)]
 pub(crate) struct Progress {
-    course: Course,
+    course: StateTable,
     system: Vec<u8>,
     journal: Journal,
     // How many entries the journal opened with.
@@ -86,7 +86,7 @@ impl Progress {
         let wanted = wanted_of(alloc, &plan, &standings)?;
         let twins = nearest_twins(alloc, &plan, &wanted)?;
         let events = Vec::with_capacity(alloc, 2 * standings.len())?;
-        let course = Course::open(alloc, plan, standings, wanted, twins)?;
+        let course = StateTable::open(alloc, plan, standings, wanted, twins)?;
         let opening = journal.entries().len();
         Ok(Progress {
             course,

@@ -19,7 +19,7 @@ use Rattle.valid_table.specs.declared.entry.Entry.{Entry}
 use Rattle.valid_table.specs.declared.entry.Registration.{Registration}
 use Rattle.valid_table.proofs.Following.{one_info}
 use Rattle.valid_table.proofs.JournalLists.{registered-append}
-use Rattle.run_states.specs.Courses.{IsRunSettled}
+use Rattle.run_states.specs.StateTables.{IsRunSettled}
 use Rattle.build_outcome.specs.Jobs.{named_outputs, seeds_of}
 use Rattle.run_states.specs.Legal.{IsEntryOf}
 use Rattle.run_states.specs.Runs.{History, IsWanted, Run, earlier_twins, input_numbers, inputs_at, is_valid, standing_at, state_in}

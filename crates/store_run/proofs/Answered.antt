@@ -13,8 +13,8 @@ use Rattle.build_outcome.specs.declared.reason.Reason.{Reason}
 use Rattle.build_outcome.specs.declared.reason.Reason.TheVariants.{OutOfMemory}
 use Rattle.sched_core.proofs.ExaminedRecords.{verdicts_may_refer}
 use Rattle.store_run.specs.Builders.{IsAnswered, IsOutcomeVerdict, IsVerdictBehind, MayComeTo, answered_begin, answered_done, answered_fail}
-use Rattle.store_run.specs.private.Finding.{IsFoundBy, IsToldOfSeeds, MayBeFound, StaysPermitted}
-use Rattle.store_run.specs.declared.finding.Finding.TheVariants.{Examined, Unanswered}
+use Rattle.store_run.specs.private.JobVerdicts.{IsFoundBy, IsToldOfSeeds, MayBeFound, StaysPermitted}
+use Rattle.store_run.specs.declared.job_verdict.JobVerdict.TheVariants.{Examined, Unanswered}
 
 pub after_beginning : (may : Job → Result Answer Reason → Type 0) (before after : Ledger)
     (job : Job) (number : ℕ) → IsAnswered may before.run before.history
@@ -91,7 +91,7 @@ same_reason : (reason : Reason) → ◌≡◌ {A = Result Answer Reason} (Err re
 same_reason reason is = cc
 
 -- a verdict that was found by a list comes of an outcome that may be given, where what is permitted
--- by that list is permitted behind the entries, or memory was refused
+-- by that list is permitted after the entries, or memory was refused
 pub examined_comes : {P : Type 0} (may : Job → Result Answer Reason → Type 0)
     (seen entries : List Entry) (job : Job) (verdict : Result (List PathInfo) Reason)
     → MayBeFound may seen job (Examined verdict)

@@ -7,18 +7,18 @@ use Rattle.run_states.specs.Runs.{Run}
 use Rattle.build_outcome.specs.declared.job.Job.{Job}
 use Rattle.build_outcome.specs.declared.reason.Reason.{Reason}
 
-pub over_beginning : (is_over : Run → List Entry → Type 0) (before after : Ledger) (job : Job)
-    (number : ℕ) → is_over before.run before.history.opening
-    → IsBeginning before after job number → is_over after.run after.history.opening
-over_beginning is_over before after job number over begins = rw (begins.run, begins.history) over
+pub over_beginning : (is_this_run : Run → List Entry → Type 0) (before after : Ledger) (job : Job)
+    (number : ℕ) → is_this_run before.run before.history.opening
+    → IsBeginning before after job number → is_this_run after.run after.history.opening
+over_beginning is_this_run before after job number over begins = rw (begins.run, begins.history) over
 
-pub over_finishing : (is_over : Run → List Entry → Type 0) (before after : Ledger) (job : Job)
-    (number : ℕ) (infos : List PathInfo) → is_over before.run before.history.opening
-    → IsFinishing before after job number infos → is_over after.run after.history.opening
-over_finishing is_over before after job number infos over finishes =
+pub over_finishing : (is_this_run : Run → List Entry → Type 0) (before after : Ledger) (job : Job)
+    (number : ℕ) (infos : List PathInfo) → is_this_run before.run before.history.opening
+    → IsFinishing before after job number infos → is_this_run after.run after.history.opening
+over_finishing is_this_run before after job number infos over finishes =
     rw (finishes.run, finishes.history) over
 
-pub over_failing : (is_over : Run → List Entry → Type 0) (before after : Ledger) (job : Job)
-    (number : ℕ) (reason : Reason) → is_over before.run before.history.opening
-    → IsFailing before after job number reason → is_over after.run after.history.opening
-over_failing is_over before after job number reason over fails = rw (fails.run, fails.history) over
+pub over_failing : (is_this_run : Run → List Entry → Type 0) (before after : Ledger) (job : Job)
+    (number : ℕ) (reason : Reason) → is_this_run before.run before.history.opening
+    → IsFailing before after job number reason → is_this_run after.run after.history.opening
+over_failing is_this_run before after job number reason over fails = rw (fails.run, fails.history) over

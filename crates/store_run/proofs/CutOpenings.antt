@@ -26,7 +26,7 @@ use Rattle.build_outcome.specs.declared.reason.Reason.{Reason}
 use Rattle.build_outcome.specs.declared.reason.Reason.TheVariants.{OutOfMemory}
 use Rattle.run_states.specs.Runs.{History, IsWanted, Run, by_cause, earlier_twins, is_valid, own_cause, standing_at, standing_of, wanted_input, wanted_root}
 use Rattle.run_states.specs.States.{Phase, Idle, Begun, Ended, Broken, phase_of}
-use Rattle.run_states.specs.declared.standing.Standing.TheVariants.{AllValid, Free}
+use Rattle.run_states.specs.declared.precondition.Precondition.TheVariants.{AllValid, Free}
 use Rattle.run_states.proofs.Seeds.{ended_is_valid, opening_stays_valid}
 use Rattle.run_states.proofs.Tests.{all_pass, same_test}
 use Rattle.run_states.proofs.TwinLaws.{is_earlier_twin, is_there, turned}
@@ -209,7 +209,7 @@ module _ (may : Job → Result Answer Reason → Type 0) (run : Run) (cut : Hist
       → standing_at run.system cut.opening (slice_get run.graph.nodes d) ≡ Free
   was_free d free = sym (stands_same d (free_unbuilt d free)) ∙ free
 
-  -- what is wanted behind the cut was wanted before it
+  -- what is wanted after the cut was wanted before it
   pub was_wanted : (d : ℕ) → IsWanted run cut.entries d → IsWanted run cut.opening d
   was_wanted _ (wanted_root d root) = wanted_root d root
   was_wanted _ (wanted_input user d wanted free has) =

@@ -1,5 +1,5 @@
--- The states behind a cut, beside those of the whole that is put together: those of all that is
--- wanted behind the cut are the same, but what was built before it is reused.
+-- The states after a cut, beside those of the whole that is put together: those of all that is
+-- wanted after the cut are the same, but what was built before it is reused.
 use Rattle.std.proofs.Common.{◌≡◌, ◌∙◌, ◌⊎◌, inl, inr, ◌<◌, ℕ, zero, suc, true, false, List, [], ◌∷◌, Result, refl, sym, ap, subst, ⊎_elim, arith}
 use Rattle.std.specs.Prelude.{Contains, find, slice_get}
 use Rattle.std.specs.List.{list_all}
@@ -10,14 +10,14 @@ use Rattle.build_outcome.specs.declared.job.Job.{Job}
 use Rattle.build_outcome.specs.declared.reason.Reason.{Reason}
 use Rattle.build_outcome.specs.declared.reason.Reason.TheVariants.{OutOfMemory}
 use Rattle.drv_graph.specs.SoundGraphs.{IsSound}
-use Rattle.run_states.specs.Courses.{IsOpen, IsRunSettled}
+use Rattle.run_states.specs.StateTables.{IsOpen, IsRunSettled}
 use Rattle.run_states.specs.Legal.{IsLegal}
 use Rattle.run_states.specs.Runs.{History, IsWanted, Run, standing_at, state_in, wanted_input, wanted_root}
 use Rattle.run_states.specs.States.{Phase, Rows, Idle, Begun, Ended, Broken, by_hindrance, by_inputs, by_twins, by_validity, is_bad, is_good, is_open, phase_of}
 use Rattle.run_states.specs.declared.state.State.{State}
 use Rattle.run_states.specs.declared.state.State.TheVariants.{Blocked, Building, Done, Failed, Ready, Refused, Reused}
-use Rattle.run_states.specs.declared.standing.Standing.{Standing}
-use Rattle.run_states.specs.declared.standing.Standing.TheVariants.{AllValid, Hindered, Free}
+use Rattle.run_states.specs.declared.precondition.Precondition.{Precondition}
+use Rattle.run_states.specs.declared.precondition.Precondition.TheVariants.{AllValid, Hindered, Free}
 use Rattle.run_states.proofs.Aside.{aside}
 use Rattle.run_states.proofs.PlanInputs.{inputs_first}
 use Rattle.run_states.proofs.Unhindered.{begun_unhindered}
@@ -151,11 +151,11 @@ aside_alone rows f d none =
 pub aside_valid : (rows : Rows) (f : ℕ → State) (d : ℕ) → rows.standing d ≡ AllValid
     → aside rows f d ≡ Reused
 aside_valid rows f d stands =
-    ap (λ (s : Standing). by_validity s (by_twins f (rows.twins d)
+    ap (λ (s : Precondition). by_validity s (by_twins f (rows.twins d)
     (by_hindrance (rows.standing d) (by_inputs f (rows.inputs d))))) stands
 
 -- two that stand the same, and see the same of their inputs where they are free
-stands_seen : (s : Standing) (a b : State) → (s ≡ Free → a ≡ b)
+stands_seen : (s : Precondition) (a b : State) → (s ≡ Free → a ≡ b)
     → by_validity s (by_hindrance s a) ≡ by_validity s (by_hindrance s b)
 stands_seen AllValid a b same = refl
 stands_seen (Hindered cause) a b same = refl
@@ -182,7 +182,7 @@ valid_idle run sound history legal d stands = by (phase_of history.events d) ref
     by (Broken reason) is =
         moved (λ idle. let clash : Broken reason ≡ Idle = sym is ∙ idle in cc)
 
--- ---- behind the cut and in the whole
+-- ---- after the cut and in the whole
 
 module _ (may gives : Job → Result Answer Reason → Type 0) (run : Run) (cut : History)
     (is_cut : IsCutRun may run cut) (next : History) (legal : IsLegal run next)
@@ -190,7 +190,7 @@ module _ (may gives : Job → Result Answer Reason → Type 0) (run : Run) (cut 
   abbrev pub whole : History
   whole = over cut.opening next.entries joined.events
 
-  -- what was built before the cut is reused behind it
+  -- what was built before the cut is reused after it
   pub built_reused : (d : ℕ) → phase_of cut.events d ≡ Ended → state_in run next d ≡ Reused
   built_reused d ends =
       let stands : standing_in run next d ≡ AllValid =
@@ -229,7 +229,7 @@ module _ (may gives : Job → Result Answer Reason → Type 0) (run : Run) (cut 
       ∙ aside_alone (rows_in run whole) g d (no_earlier run is_cut.twins cut.opening d) in
       ap seen_as
       (here
-      ∙ ap (λ (s : Standing). by_validity s (by_hindrance s (by_inputs g inputs))) stands
+      ∙ ap (λ (s : Precondition). by_validity s (by_hindrance s (by_inputs g inputs))) stands
       ∙ sym there)
 
   seen_fresh : (d : ℕ) → (phase_of cut.events d ≡ Ended → ⊥)
@@ -272,7 +272,7 @@ module _ (may gives : Job → Result Answer Reason → Type 0) (run : Run) (cut 
       (slice_get run.graph.nodes d) ≡ Free) opening free) has)))
       (ended_or_not (phase_of cut.events d))
 
-  -- all that is wanted behind the cut is seen as one
+  -- all that is wanted after the cut is seen as one
   pub seen_wanted : (d : ℕ) → IsWanted run cut.entries d
       → seen_as (state_in run next d) ≡ seen_as (state_in run whole d)
   seen_wanted d wanted = seen_below (suc d) d (omega arith) wanted
@@ -299,7 +299,7 @@ module _ (may gives : Job → Result Answer Reason → Type 0) (run : Run) (cut 
       by (good_twin t idle twin built) =
           absurd (none_earlier run is_cut.twins cut.opening i t twin)
 
-  -- what is wanted at first is wanted behind the cut, or spared
+  -- what is wanted at first is wanted after the cut, or spared
   pub still_wanted : (d : ℕ) → IsWanted run cut.opening d → IsWanted run cut.entries d ⊎ IsSpared d
   still_wanted _ (wanted_root d root) = inl (wanted_root d root)
   still_wanted _ (wanted_input user d wanted free has) =

@@ -1,6 +1,6 @@
--- A run that was cut and what went on behind it, put together: one history over the first opening,
+-- A run that was cut and what went on after it, put together: one history over the first opening,
 -- with the entries of the second. What the first run built is built one after the other, and then
--- all happens that happened behind the cut.
+-- all happens that happened after the cut.
 use Rattle.std.proofs.Common.{◌≡◌, ◌∙◌, ◌⊎◌, ◌<◌, ℕ, true, List, [], ◌∷◌, ◌++◌, length, Result, Ok, Err, Some, refl, sym, ap, subst, ⊎_elim}
 use Rattle.std.specs.Prelude.{slice_get}
 use Rattle.drv_graph.specs.Nodes.{Node}
@@ -17,7 +17,7 @@ use Rattle.run_states.specs.States.{Phase, Idle, Begun, Ended, Broken, is_good, 
 use Rattle.run_states.specs.declared.state.Event.{Event}
 use Rattle.run_states.specs.declared.state.Event.TheVariants.{Begin, Done as Finish, Fail}
 use Rattle.run_states.specs.declared.state.State.TheVariants.{Ready}
-use Rattle.run_states.specs.declared.standing.Standing.TheVariants.{Free}
+use Rattle.run_states.specs.declared.precondition.Precondition.TheVariants.{Free}
 use Rattle.run_states.proofs.Histories.{ready_is_idle}
 use Rattle.run_states.proofs.OtherEvents.{number_of, phase_other, same_or_other}
 use Rattle.run_states.proofs.Unhindered.{begun_unhindered, ready_unhindered}
@@ -28,9 +28,9 @@ use Rattle.store_run.proofs.Telling.{WasBegun, begun_is, phase_begun, phase_brok
 use Rattle.store_run.proofs.ToldRuns.{answered_before_begin, answered_by_done, answered_by_fail, told_from}
 use Rattle.store_run.proofs.Unhindered.{IsGoodBy, IsUnhindered, good_ended, good_is, good_reused, good_twin, is_good_by, standing_in, unhindered_ready}
 
--- ---- phases behind one event more
+-- ---- phases after one event more
 
--- what was built stays so behind an event of something else
+-- what was built stays so after an event of something else
 stays_ended : (events : List Event) (x : Event) → (phase_of events (number_of x) ≡ Ended → ⊥)
     → (d : ℕ) → phase_of events d ≡ Ended → phase_of (events ++ x ∷ []) d ≡ Ended
 stays_ended events x unbuilt d ends =
@@ -39,7 +39,7 @@ stays_ended events x unbuilt d ends =
     (λ other. phase_other events x d other ∙ ends)
     (same_or_other (number_of x) d)
 
--- behind an event that leaves its own derivation unbuilt, what is built was so before
+-- after an event that leaves its own derivation unbuilt, what is built was so before
 was_ended : (events : List Event) (x : Event)
     → (phase_of (events ++ x ∷ []) (number_of x) ≡ Ended → ⊥) → (d : ℕ)
     → phase_of (events ++ x ∷ []) d ≡ Ended → phase_of events d ≡ Ended
@@ -214,7 +214,7 @@ module _ (may gives : Job → Result Answer Reason → Type 0) (run : Run) (soun
       (λ d entries infos ends. passes d entries infos
       (stays_ended history.events (Fail e lease reason) unbuilt d ends)))
 
--- ---- and all that happened behind the cut
+-- ---- and all that happened after the cut
 
 -- a phase is another, but for the lease of one that has begun
 abbrev pub IsSamePhase : Phase → Phase → Type 0
@@ -223,7 +223,7 @@ IsSamePhase (Begun lease) q = (other : ℕ) × (q ≡ Begun other)
 IsSamePhase Ended q = q ≡ Ended
 IsSamePhase (Broken reason) q = q ≡ Broken reason
 
--- so it stays behind an event of each history, of one derivation, that leave it in one phase
+-- so it stays after an event of each history, of one derivation, that leave it in one phase
 same_push : (events others : List Event) (x y : Event) (e : ℕ) → number_of x ≡ e → number_of y ≡ e
     → IsSamePhase (phase_of (events ++ x ∷ []) e) (phase_of (others ++ y ∷ []) e)
     → (d : ℕ) → IsSamePhase (phase_of events d) (phase_of others d)
@@ -247,7 +247,7 @@ same_by p q p' q' is_p is_q same =
 module _ (may gives : Job → Result Answer Reason → Type 0) (run : Run) (cut : History)
     (is_cut : IsCutRun may run cut) where
   -- Events of one history with the entries of the second: what was built before the cut is built,
-  -- and all else is in the phase in which it is behind the cut.
+  -- and all else is in the phase in which it is after the cut.
   pub record IsJoined (next : History) : Type 0 where
     pub events : List Event
     pub legal : IsLegal run (over cut.opening next.entries events)
@@ -257,7 +257,7 @@ module _ (may gives : Job → Result Answer Reason → Type 0) (run : Run) (cut 
         → IsSamePhase (phase_of next.events d) (phase_of events d)
 
   module _ (next : History) (opening : next.opening ≡ cut.entries) where
-    -- a derivation that is free behind the cut was not built before it
+    -- a derivation that is free after the cut was not built before it
     pub unbuilt_by : (d : ℕ) → standing_in run next d ≡ Free → phase_of cut.events d ≡ Ended → ⊥
     unbuilt_by d free =
         free_unbuilt may run cut is_cut d
@@ -277,7 +277,7 @@ module _ (may gives : Job → Result Answer Reason → Type 0) (run : Run) (cut 
       abbrev joined_here : History
       joined_here = over cut.opening next.entries joined.events
 
-      -- what is good behind the cut is good in the whole
+      -- what is good after the cut is good in the whole
       pub good_joined : (i : ℕ) → is_good (state_in run next i) ≡ true
           → is_good (state_in run joined_here i) ≡ true
       good_joined i good =

@@ -10,11 +10,11 @@ use Rattle.valid_table.specs.Valid.{IsJournal}
 use Rattle.valid_table.specs.declared.entry.Entry.{Entry}
 use Rattle.build_outcome.specs.declared.reason.Reason.{Reason}
 use Rattle.build_outcome.specs.declared.reason.Reason.TheVariants.{ExitStatus, OutOfMemory}
-use Rattle.run_states.specs.Courses.{IsOpen, IsRunSettled}
+use Rattle.run_states.specs.StateTables.{IsOpen, IsRunSettled}
 use Rattle.run_states.specs.Legal.{AreOutputRecords, IsAllowed, IsLegal, begun, ended, failed, legal_begin, legal_done, legal_fail, legal_opening}
 use Rattle.run_states.specs.Runs.{History, IsWanted, opened, state_in, wanted_input, wanted_root}
 use Rattle.run_states.specs.States.{Ended, Idle, is_good, phase_of}
-use Rattle.run_states.specs.declared.standing.Standing.TheVariants.{AllValid, Free}
+use Rattle.run_states.specs.declared.precondition.Precondition.TheVariants.{AllValid, Free}
 use Rattle.run_states.specs.declared.state.State.{State}
 use Rattle.run_states.specs.declared.state.State.TheVariants.{Done, Failed, Ready, Reused}
 use Rattle.run_states.proofs.Registering.{entries_are_journal}

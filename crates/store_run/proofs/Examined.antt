@@ -8,8 +8,8 @@ use Rattle.build_outcome.specs.Verdicts.{IsExamining}
 use Rattle.build_outcome.specs.declared.job.Answer.{Answer}
 use Rattle.build_outcome.specs.declared.job.Job.{Job}
 use Rattle.build_outcome.specs.declared.reason.Reason.{Reason}
-use Rattle.store_run.specs.private.Finding.{IsFoundBy}
-use Rattle.store_run.specs.declared.finding.Finding.TheVariants.{Examined}
+use Rattle.store_run.specs.private.JobVerdicts.{IsFoundBy}
+use Rattle.store_run.specs.declared.job_verdict.JobVerdict.TheVariants.{Examined}
 
 examined : (seen : List Entry) (job : Job) (permitted : List (List ℕ)) (answer : Answer)
     (verdict : Result (List PathInfo) Reason) → IsShowable seen → AreSeedsValid seen job

@@ -43,7 +43,7 @@ over_begun : (p : Phase) (lease : ℕ) → p ≡ Begun lease → IsOver p → �
 over_begun p lease is over = subst IsOver is over
 
 module _ (excused : Reason → Type 0) (may : Job → Result Answer Reason → Type 0) (run : Run) where
-  -- the outcome behind a verdict, or behind a Fail that may be excused
+  -- the outcome after a verdict, or after a Fail that may be excused
   abbrev outcome_behind : (entries : List Entry) (d : ℕ) (verdict : Result (List PathInfo) Reason)
       → IsVerdictBehind may run entries d verdict → Result Answer Reason
   outcome_behind entries d verdict behind = behind.comes_to.0

@@ -86,7 +86,7 @@ module _ (may : Job → Result Answer Reason → Type 0) (run : Run) (cut again 
   told_again : IsTold (λ reason. reason ≡ OutOfMemory) may run again
   told_again = told_from may run again taken.end.legal taken.end.answered
 
-  -- what was given before the cut, and behind it
+  -- what was given before the cut, and after it
   abbrev first_outcomes : ℕ → Result Answer Reason
   first_outcomes = outcomes_in (λ reason. reason ≡ OutOfMemory) may run cut told_cut
 
@@ -106,7 +106,7 @@ module _ (may : Job → Result Answer Reason → Type 0) (run : Run) (cut again 
       sym (ap (λ b. cond b (first_outcomes d) (second_outcomes d))
       (is_not_ended (phase_of cut.events d) fresh))
 
-  -- what became something behind the cut was not built before it
+  -- what became something after the cut was not built before it
   over_unbuilt : (d : ℕ) → IsOver (phase_of again.events d) → phase_of cut.events d ≡ Ended → ⊥
   over_unbuilt d over =
       unbuilt_by may may run cut taken.is_cut again taken.opening d

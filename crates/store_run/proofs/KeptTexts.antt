@@ -13,7 +13,7 @@ use Rattle.build_outcome.specs.declared.reason.Reason.{Reason}
 use Rattle.run_states.specs.Runs.{History, Run}
 use Rattle.drv_graph.specs.Plans.{Graph}
 use Rattle.sched_core.specs.Books.{BuildsOver, Ledger}
-use Rattle.store_run.specs.Keeping.{IsKeptText, MayKeepEach}
+use Rattle.store_run.specs.Keeping.{IsInterimJournal, TakesEachInterimJournal}
 use Rattle.store_run.specs.Realising.{IsOverLent}
 use Rattle.store_run.specs.private.Looking.{IsLook, IsNews, Looked}
 
@@ -52,12 +52,12 @@ added (Err e) before more after is holds = tt
 
 -- the text of the entries that a look found may be handed over
 pub may_be_kept : (may : Job → Result Answer Reason → Type 0) (was_shown : List Entry → Type 0)
-    (is_over : Run → List Entry → Type 0) (may_keep : Bytes → Type 0) (known : List Entry)
-    (looked : Looked) (text bytes : Bytes) → MayKeepEach may was_shown is_over may_keep
-    → IsLook may was_shown is_over known looked
+    (is_this_run : Run → List Entry → Type 0) (may_keep : Bytes → Type 0) (known : List Entry)
+    (looked : Looked) (text bytes : Bytes) → TakesEachInterimJournal may was_shown is_this_run may_keep
+    → IsLook may was_shown is_this_run known looked
     → ((entries : List Entry) → IsNews known entries looked → text ≡ written_text entries)
     → bytes ≡ text → may_keep bytes
-may_be_kept may was_shown is_over may_keep known looked text bytes each look is same =
+may_be_kept may was_shown is_this_run may_keep known looked text bytes each look is same =
     each look.run look.history.opening bytes look.over (record {
       history = look.history;
       opening_is = refl;
@@ -93,11 +93,11 @@ pub kept_of_lent : (may : Job → Result Answer Reason → Type 0) (was_shown : 
     (opening : List Entry) (text : Bytes)
     → IsOverLent plan system entries book
     → (run ≡ book.run) × (opening ≡ book.history.opening)
-    → IsKeptText may was_shown run opening text
-    → IsKeptText may was_shown (record { graph = plan; system = system }) entries text
+    → IsInterimJournal may was_shown run opening text
+    → IsInterimJournal may was_shown (record { graph = plan; system = system }) entries text
 kept_of_lent may was_shown plan system entries book run opening text over is kept =
     let lent : Run = record { graph = plan; system = system } in
     let same : book.run ≡ lent =
     ap₂ (λ (g : Graph) (s : Bytes). run_of g s) over.plan_is over.system_is in
-    subst (λ (r : Run). IsKeptText may was_shown r entries text) (is.0 ∙ same)
-    (subst (λ (o : List Entry). IsKeptText may was_shown run o text) (is.1 ∙ over.opening_is) kept)
+    subst (λ (r : Run). IsInterimJournal may was_shown r entries text) (is.0 ∙ same)
+    (subst (λ (o : List Entry). IsInterimJournal may was_shown run o text) (is.1 ∙ over.opening_is) kept)

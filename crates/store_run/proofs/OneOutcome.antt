@@ -61,7 +61,7 @@ refers_behind may run entries d node infos at behind info path has refers =
     (subst (λ (outputs : List (List ℕ)). MayRefer (registered entries) job.seeds.items outputs
     path) (job_outputs _ d _ _ behind.is_job at) there)
 
--- ---- what is permitted behind the first entries is permitted behind all
+-- ---- what is permitted after the first entries is permitted after all
 
 module _ (may : Job → Result Answer Reason → Type 0) (run : Run) (history : History)
     (once : IsOnce (registered history.entries)) (d : ℕ) (node : Node)

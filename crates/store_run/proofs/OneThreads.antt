@@ -8,7 +8,7 @@ use Rattle.valid_table.specs.PathInfos.{PathInfo}
 use Rattle.valid_table.specs.Valid.{IsOnce}
 use Rattle.valid_table.specs.declared.entry.Entry.{Entry}
 use Rattle.sched_core.specs.Books.{ArePermittedPaths}
-use Rattle.run_states.specs.Courses.{CanBegin}
+use Rattle.run_states.specs.StateTables.{CanBegin}
 use Rattle.run_states.specs.Runs.{opened}
 use Rattle.build_outcome.specs.Jobs.{seeds_of}
 use Rattle.run_states.specs.Legal.{MayRefer, begins, begun, ended, failed}

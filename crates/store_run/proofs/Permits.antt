@@ -19,7 +19,7 @@ use Rattle.build_outcome.specs.Verdicts.{outputs_of}
 use Rattle.build_outcome.specs.declared.job.Job.{Job}
 use Rattle.sched_core.proofs.Permitting.{are_permitted}
 use Rattle.run_states.proofs.Seeds.{permitted_stays}
-use Rattle.store_run.specs.private.Finding.{StaysPermitted}
+use Rattle.store_run.specs.private.JobVerdicts.{StaysPermitted}
 
 -- what is valid stays so in each list that goes on
 pub seeds_stay : (before after : List Entry) (job : Job) → IsPrefix before after
@@ -36,7 +36,7 @@ pub closure_and_outputs : (entries : List Entry) (job : Job) (reached all : List
     → ArePermittedPaths entries job all
 closure_and_outputs entries job reached all closure union = search (rules, are_permitted)
 
--- a job's outputs may refer to the same in a list and behind it, where the seeds are valid
+-- a job's outputs may refer to the same in a list and after it, where the seeds are valid
 same_behind : (before after : List Entry) (job : Job) (path : List ℕ) → IsPrefix before after
     → IsShowable after → AreSeedsValid before job
     → MayRefer (registered before) job.seeds.items (outputs_of job) path

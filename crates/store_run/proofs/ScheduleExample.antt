@@ -17,9 +17,9 @@ use Rattle.valid_table.specs.declared.entry.Entry.{Entry}
 use Rattle.valid_table.specs.declared.entry.Entry.TheVariants.{Done as Entered}
 use Rattle.valid_table.specs.declared.entry.Registration.{Registration}
 use Rattle.sched_core.specs.Books.{ArePermittedPaths}
-use Rattle.run_states.specs.Courses.{IsRunSettled}
+use Rattle.run_states.specs.StateTables.{IsRunSettled}
 use Rattle.run_states.specs.Runs.{opened}
-use Rattle.run_states.specs.Courses.{IsOpen}
+use Rattle.run_states.specs.StateTables.{IsOpen}
 use Rattle.build_outcome.specs.Jobs.{IsJob, seeds_of}
 use Rattle.run_states.specs.Legal.{AreNewOutputs, AreOutputRecords, IsAllowed, IsEntryOf, IsLegal, begun, ended, failed, legal_begin, legal_done, legal_fail, legal_opening}
 use Rattle.run_states.specs.Runs.{History, IsWanted, earlier_twins, state_in, wanted_root}
@@ -30,7 +30,7 @@ use Rattle.build_outcome.specs.declared.reason.Reason.{Reason}
 use Rattle.build_outcome.specs.declared.reason.Reason.TheVariants.{ExitStatus}
 use Rattle.run_states.specs.declared.state.State.{State}
 use Rattle.run_states.specs.declared.state.State.TheVariants.{Done, Failed, Ready}
-use Rattle.run_states.specs.declared.standing.Standing.TheVariants.{Free}
+use Rattle.run_states.specs.declared.precondition.Precondition.TheVariants.{Free}
 use Rattle.run_states.proofs.TwinLaws.{is_earlier_twin, is_there, turned, twins_path}
 use Rattle.store_run.specs.Builders.{IsAnswered, IsVerdictBehind, answered_begin, answered_done, answered_fail, answered_opening}
 use Rattle.store_run.specs.OneThread.{IsOneThread, turn_done, turn_failed, turn_opening}
@@ -41,7 +41,7 @@ use Rattle.store_run.proofs.OneOutcome.{job_outputs, job_seeds}
 use Rattle.store_run.proofs.ExampleJobs.{both_outcome, is_job_of_right, job_of_right, left_answer, left_is_job, left_job, left_leaves, left_may, left_verdict, no_cycle, nothing_in, right_answer, right_leaves, right_may, right_verdict}
 use Rattle.store_run.proofs.Unhindered.{IsUnhindered, inputs_in, standing_in, state_by, unhindered_ready}
 
--- ---- verdicts behind some entries
+-- ---- verdicts after some entries
 
 -- to a job without seeds just its own outputs are permitted
 pub permitted_own : (graph : Graph) (entries : List Entry) (d : ℕ) (job : Job) (node : Node)

@@ -8,7 +8,7 @@ use Rattle.valid_table.specs.declared.entry.Entry.{Entry}
 use Rattle.run_states.specs.Runs.{cause_at, is_valid, or_else, standing_of}
 use Rattle.run_states.specs.declared.state.Refusal.{Refusal}
 use Rattle.run_states.specs.declared.state.Refusal.TheVariants.{MissingSource, PartlyValid}
-use Rattle.run_states.specs.declared.standing.Standing.TheVariants.{AllValid, Free}
+use Rattle.run_states.specs.declared.precondition.Precondition.TheVariants.{AllValid, Free}
 use Rattle.run_states.proofs.Seeds.{cause_none, none_found, not_false, or_else_none, standing_all, standing_free}
 use Rattle.run_states.proofs.Tests.{list_all_has}
 

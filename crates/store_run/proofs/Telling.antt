@@ -35,7 +35,7 @@ use Rattle.run_states.proofs.Unhindered.{IsUnhindered as IsUnhinderedIn, ready_u
 use Rattle.store_run.proofs.Unhindered.{IsUnhindered}
 use Rattle.run_states.proofs.OtherEvents.{number_of, same_or_other, phase_other, begun_not_idle}
 
--- ---- where a derivation stands behind one event more
+-- ---- where a derivation stands after one event more
 
 pub phase_begun : (events : List Event) (d lease : ℕ)
     → phase_of (events ++ Begin d lease ∷ []) d ≡ Begun lease
@@ -57,7 +57,7 @@ pub record WasBegun (run : Run) (history : History) (d : ℕ) : Type 0 where
   pub wanted : IsWanted run history.opening d
   pub unhindered : IsUnhindered run history d
 
--- it stays so behind an event of a derivation that is open
+-- it stays so after an event of a derivation that is open
 begun_stays : (run : Run) (history after : History) (x : Event) → after.opening ≡ history.opening
     → after.events ≡ history.events ++ x ∷ []
     → is_open (state_in run history (number_of x)) ≡ true
@@ -119,7 +119,7 @@ module _ (excused : Reason → Type 0) (may : Job → Result Answer Reason → T
 
 -- ---- what a derivation came to
 
--- A derivation came to a verdict behind the first entries, in which all seeds are valid.
+-- A derivation came to a verdict after the first entries, in which all seeds are valid.
 pub record CameTo (may : Job → Result Answer Reason → Type 0) (run : Run) (history : History)
     (d : ℕ) (verdict : Result (List PathInfo) Reason)
     : Type 0 where

@@ -6,7 +6,7 @@ use Rattle.drv_graph.specs.Nodes.{Node}
 use Rattle.valid_table.specs.PathInfos.{PathInfo}
 use Rattle.valid_table.specs.Valid.{IsJournal}
 use Rattle.valid_table.specs.declared.entry.Entry.{Entry}
-use Rattle.run_states.specs.Courses.{CanBegin}
+use Rattle.run_states.specs.StateTables.{CanBegin}
 use Rattle.run_states.specs.Runs.{opened}
 use Rattle.run_states.specs.Legal.{IsEntryOf, IsLegal, legal_opening, legal_begin, legal_done, legal_fail, begun, ended, failed}
 use Rattle.run_states.specs.Runs.{History, Run}
@@ -45,7 +45,7 @@ same_history : (a b : History) → a.opening ≡ b.opening → a.entries ≡ b.e
 same_history a b opening entries events = search rules
 
 module _ (may : Job → Result Answer Reason → Type 0) (run : Run) where
-  -- what is answered behind a Begin was so before it
+  -- what is answered after a Begin was so before it
   pub answered_before_begin : (g : History) → IsAnswered may run g → (history : History) (d : ℕ)
       → g ≡ begun history d → IsAnswered may run history
   answered_before_begin _ (answered_opening entries) history d is = search (rules, no_push)

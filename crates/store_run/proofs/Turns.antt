@@ -15,8 +15,8 @@ use Rattle.valid_table.specs.PathInfos.{PathInfo}
 use Rattle.valid_table.specs.Valid.{IsValid}
 use Rattle.valid_table.specs.declared.entry.Entry.{Entry}
 use Rattle.valid_table.proofs.ClosureLaws.{registers_from_valid}
-use Rattle.run_states.specs.Courses.{CanBegin, IsRunSettled}
-use Rattle.run_states.specs.Courses.{IsOpen}
+use Rattle.run_states.specs.StateTables.{CanBegin, IsRunSettled}
+use Rattle.run_states.specs.StateTables.{IsOpen}
 use Rattle.run_states.specs.Legal.{IsAllowed, IsLegal, legal_begin, legal_done, legal_fail, legal_opening, begins, begun, ended, failed}
 use Rattle.run_states.specs.Runs.{History, IsWanted, Run, is_valid, is_wanted, standing_at, state_in, wanted_input}
 use Rattle.run_states.specs.States.{Idle, Ended, Broken, by_first, by_hindrance, by_phase, by_validity, is_bad, is_done, is_good, is_open, phase_of}
@@ -27,8 +27,8 @@ use Rattle.run_states.specs.declared.state.Event.TheVariants.{Begin, Done as Fin
 use Rattle.build_outcome.specs.declared.reason.Reason.{Reason}
 use Rattle.run_states.specs.declared.state.State.{State}
 use Rattle.run_states.specs.declared.state.State.TheVariants.{Blocked, Building, Done, Failed, Ready, Refused, Reused}
-use Rattle.run_states.specs.declared.standing.Standing.{Standing}
-use Rattle.run_states.specs.declared.standing.Standing.TheVariants.{AllValid, Hindered, Free}
+use Rattle.run_states.specs.declared.precondition.Precondition.{Precondition}
+use Rattle.run_states.specs.declared.precondition.Precondition.TheVariants.{AllValid, Hindered, Free}
 use Rattle.run_states.proofs.EarlierTwins.{twins_from}
 use Rattle.sched_core.proofs.SharedOutputs.{sharers}
 use Rattle.run_states.proofs.Histories.{ready_is_idle}
@@ -88,7 +88,7 @@ closed_is (Building lease) closed = absurd (closed (inr (inr (lease, refl))))
 closed_is Ready closed = absurd (closed (inr (inl refl)))
 closed_is Blocked closed = absurd (closed (inl refl))
 
--- behind such inputs nothing is blocked
+-- after such inputs nothing is blocked
 all_good_or_bad : (f : ℕ → State) (inputs : List ℕ)
     → ((i : ℕ) → Contains inputs i → (is_good (f i) ≡ true) ⊎ (is_bad (f i) ≡ true))
     → find (λ i. is_bad (f i)) inputs ≡ None → list_all (λ i. is_good (f i)) inputs ≡ true
@@ -114,7 +114,7 @@ never_blocked None false closed is = search (rules, closed)
 
 -- a derivation without an event is open only where it is ready, or an earlier twin or an input of
 -- it is open
-idle_open : (standing : Standing) (built still : Bool) (first : Option ℕ) (all : Bool)
+idle_open : (standing : Precondition) (built still : Bool) (first : Option ℕ) (all : Bool)
     → still ≡ false → (standing ≡ Free → first ≡ None → all ≡ true)
     → IsOpen (by_phase Idle (by_validity standing (if built then Reused else if still then Blocked
     else by_hindrance standing (by_first first all))))
@@ -176,7 +176,7 @@ module _ (may : Job → Result Answer Reason → Type 0) (run : Run) (sound : Is
           by had.0 (from_is (λ reason. ⊥) may _ _ told _ _ had.1)
         where
           -- no twin was built: an earlier one would stand for this one, and a later one would have
-          -- begun behind it
+          -- begun after it
           made_once : (e : ℕ) → phase_of history.events e ≡ Ended
               → are_twins_at (slice_get run.graph.nodes d) (slice_get run.graph.nodes e) ≡ true
               → (d ≡ e) ⊎ ((d < e) ⊎ (e < d)) → ⊥

@@ -13,7 +13,7 @@ use Rattle.drv_graph.proofs.FirstTwins.{twins_are_told}
 use Rattle.drv_graph.proofs.KindAnswers.{one_kind}
 use Rattle.valid_table.specs.PathInfos.{PathInfo}
 use Rattle.valid_table.specs.declared.entry.Entry.{Entry}
-use Rattle.run_states.specs.Courses.{CanBegin, IsRunSettled}
+use Rattle.run_states.specs.StateTables.{CanBegin, IsRunSettled}
 use Rattle.run_states.specs.Runs.{opened}
 use Rattle.run_states.specs.Legal.{AreNewOutputs, IsAllowed, IsEntryOf, IsLegal, begun, ended, failed, legal_begin, legal_done, legal_fail, legal_opening}
 use Rattle.run_states.specs.Runs.{History, IsWanted, earlier_twins, state_in, wanted_root}
@@ -41,7 +41,7 @@ use Rattle.store_run.proofs.Unhindered.{IsUnhindered, blocked_by_twin, state_by,
 abbrev ends : Reason
 ends = ExitStatus (pos 1)
 
--- ---- verdicts behind some entries
+-- ---- verdicts after some entries
 
 first_behind : (entries : List Entry) → IsVerdictBehind may_leave_file three entries 0 (Err ends)
 first_behind entries = record {
@@ -297,7 +297,7 @@ beside_second = record {
 
 -- ---- one thread
 
--- behind the first, and behind the second too
+-- after the first, and after the second too
 abbrev one_tried : History
 one_tried = failed (begun (opened []) 0) 0 0 ends
 

@@ -7,8 +7,8 @@ use Rattle.run_states.specs.Runs.{History, Run, earlier_twins, inputs_at, rows_o
 use Rattle.run_states.specs.States.{Phase, Rows, Idle, Begun, Ended, Broken, by_first, by_hindrance, by_inputs, by_phase, by_validity, is_done, is_good, is_open, phase_of}
 use Rattle.run_states.specs.declared.state.State.{State}
 use Rattle.run_states.specs.declared.state.State.TheVariants.{Blocked, Ready, Reused}
-use Rattle.run_states.specs.declared.standing.Standing.{Standing}
-use Rattle.run_states.specs.declared.standing.Standing.TheVariants.{AllValid, Hindered, Free}
+use Rattle.run_states.specs.declared.precondition.Precondition.{Precondition}
+use Rattle.run_states.specs.declared.precondition.Precondition.TheVariants.{AllValid, Hindered, Free}
 use Rattle.run_states.proofs.Aside.{aside, aside_same as rows_same, state_aside}
 use Rattle.run_states.proofs.Unhindered.{IsUnhindered as IsUnhinderedIn, unhindered_ready as ready_aside}
 use Rattle.run_states.proofs.NearestTwins.{none_from}
@@ -26,7 +26,7 @@ abbrev pub inputs_in : Run → ℕ → List ℕ
 inputs_in run d = inputs_at run.graph.nodes (slice_get run.graph.nodes d)
 
 -- where it stands by itself
-abbrev pub standing_in : Run → History → ℕ → Standing
+abbrev pub standing_in : Run → History → ℕ → Precondition
 standing_in run history d =
     standing_at run.system history.opening (slice_get run.graph.nodes d)
 
@@ -77,7 +77,7 @@ pub data IsGoodBy (run : Run) (history : History) (d : ℕ) : Type 0 where
   good_twin : (t : ℕ) → phase_of history.events d ≡ Idle → Contains (twins_in run history d) t
       → phase_of history.events t ≡ Ended → IsGoodBy run history d
 
-good_parts : (run : Run) (history : History) (d : ℕ) (p : Phase) (s : Standing)
+good_parts : (run : Run) (history : History) (d : ℕ) (p : Phase) (s : Precondition)
     (built still : Bool) (first : Option ℕ) (all : Bool)
     → phase_of history.events d ≡ p → standing_in run history d ≡ s
     → (built ≡ true → (t : ℕ) × Contains (twins_in run history d) t
@@ -113,7 +113,7 @@ good_is run history sound d good =
     (found.0, found.1, done_is_ended (rows_of run history.opening history.events) found.0 found.2))
     (sym (ap is_good (state_by run history sound d _ refl)) ∙ good)
 
-good_by_twin : (s : Standing) (still : Bool) (other : State) → is_good (by_validity s
+good_by_twin : (s : Precondition) (still : Bool) (other : State) → is_good (by_validity s
     (if true then Reused else if still then Blocked else other)) ≡ true
 good_by_twin AllValid still other = refl
 good_by_twin (Hindered cause) still other = refl

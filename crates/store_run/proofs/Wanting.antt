@@ -5,8 +5,8 @@ use Rattle.run_states.specs.declared.fault.BookFault.TheVariants.{NoMemory, NoVi
 use Rattle.build_outcome.specs.declared.job.Job.{Job}
 use Rattle.build_outcome.specs.declared.reason.Reason.TheVariants.{OutOfMemory}
 use Rattle.store_run.specs.private.Sharing.{IsNoting, IsLeaseRegistering, IsWanting, Share}
-use Rattle.store_run.specs.declared.finding.LeaseEnd.{LeaseEnd}
-use Rattle.store_run.specs.declared.finding.LeaseEnd.TheVariants.{Registered, Failed, Stopped}
+use Rattle.store_run.specs.declared.job_verdict.LeaseEnd.{LeaseEnd}
+use Rattle.store_run.specs.declared.job_verdict.LeaseEnd.TheVariants.{Registered, Failed, Stopped}
 
 -- a failure for want of memory is then how a lease ends with those records
 pub wanting_registers : (before after : Share) (job : Job) (number : ℕ) (infos : List PathInfo)

@@ -23,7 +23,7 @@ abbrev pub IsVerdictOn : Job → (permitted : List Path) → Result Answer Reaso
 IsVerdictOn job permitted (Ok answer) verdict = IsVerdict job permitted answer verdict
 IsVerdictOn job permitted (Err reason) verdict = verdict ≡ Err reason
 
--- *Verdict* on an outcome behind some entries: the verdict by the paths that are permitted there.
+-- *Verdict* on an outcome after some entries: the verdict by the paths that are permitted there.
 -- Only an answer needs the permitted paths.
 abbrev pub IsOutcomeVerdict : List Entry → Job → Result Answer Reason
     → Result (List PathInfo) Reason → Type 0
@@ -31,13 +31,13 @@ IsOutcomeVerdict entries job outcome verdict = (permitted : List Path)
     × IfOk outcome (λ answer. ArePermittedPaths entries job permitted)
     × IsVerdictOn job permitted outcome verdict
 
--- what a job may come to behind some entries: the verdict on an outcome that may be given for it
+-- what a job may come to after some entries: the verdict on an outcome that may be given for it
 abbrev pub MayComeTo : (may : Job → Result Answer Reason → Type 0) → List Entry → Job
     → Result (List PathInfo) Reason → Type 0
 MayComeTo may entries job verdict = (outcome : Result Answer Reason) × may job outcome
     × IsOutcomeVerdict entries job outcome verdict
 
--- What building a derivation may come to behind some entries: what its job may come to there.
+-- What building a derivation may come to after some entries: what its job may come to there.
 pub record IsVerdictBehind (may : Job → Result Answer Reason → Type 0) (run : Run)
     (entries : List Entry) (d : ℕ) (verdict : Result (List PathInfo) Reason)
     : Type 0 where
@@ -46,7 +46,7 @@ pub record IsVerdictBehind (may : Job → Result Answer Reason → Type 0) (run 
   pub comes_to : MayComeTo may entries job verdict
 
 -- *Answered*: each `Done` has the records, and each `Fail` the reason, of a verdict on what a
--- builder may give behind the entries before it. A `Fail` because memory was refused is the
+-- builder may give after the entries before it. A `Fail` because memory was refused is the
 -- exception.
 pub data IsAnswered (may : Job → Result Answer Reason → Type 0) (run : Run) : History → Type 0 where
   answered_opening : (entries : List Entry) → IsAnswered may run (opened entries)

@@ -83,7 +83,7 @@ output_lines_in run history = flat_map (outputs_at run.graph.nodes (state_in run
 abbrev pub IsWantedAs : Run → History → ℕ → State → Type 0
 IsWantedAs run history d state = IsWanted run history.opening d × (state_in run history d ≡ state)
 
--- A run that went on behind a cut came to what another history came to. The same paths are valid,
+-- A run that went on after a cut came to what another history came to. The same paths are valid,
 -- each with the same record. The same derivations failed or are refused, for the same cause, so the
 -- lines `failed` and `refused` of the reports are the same. The same roots are good, so the lines
 -- `output` are the same. What the other history built was built or reused, where it is wanted.
@@ -104,7 +104,7 @@ pub record CameToSame (run : Run) (again other : History) : Type 0 where
 -- ---- the law
 
 -- These outcomes decide a run that was cut and taken up. What the run built before the cut, and all
--- that became of it behind the cut, was given by them. There is a history of one thread over the
+-- that became of it after the cut, was given by them. There is a history of one thread over the
 -- first opening that is given them, and the run came to the same as each such history.
 pub record IsDecidedBehind (may : Job → Result Answer Reason → Type 0) (run : Run)
     (cut again : History) (outcomes : ℕ → Result Answer Reason)
@@ -116,7 +116,7 @@ pub record IsDecidedBehind (may : Job → Result Answer Reason → Type 0) (run 
       → CameToSame run again other
 
 -- *Any interruption*: outcomes, one for each derivation, decide what a run that was cut and taken
--- up comes to: that of its Done before the cut, where it has one, else what was given behind it
+-- up comes to: that of its Done before the cut, where it has one, else what was given after it
 abbrev pub AnyInterruption : (may : Job → Result Answer Reason → Type 0) → Type 0
 AnyInterruption may = (run : Run) (cut again : History) → IsTakenUp may run cut again
     → (outcomes : ℕ → Result Answer Reason) × IsDecidedBehind may run cut again outcomes

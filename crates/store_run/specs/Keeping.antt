@@ -15,7 +15,7 @@ use Rattle.store_run.specs.Builders.{IsAnswered}
 -- A text is what is kept of a run that opened with these entries: the text of all entries of a
 -- legal history of the run, in which what became of each derivation is a verdict on what a builder
 -- may give. The entries go on from a list that was shown, in which all is valid that is built from.
-pub record IsKeptText (may : Job → Result Answer Reason → Type 0)
+pub record IsInterimJournal (may : Job → Result Answer Reason → Type 0)
     (was_shown : List Entry → Type 0) (run : Run) (opening : List Entry) (text : Bytes)
     : Type 0 where
   pub history : History
@@ -29,8 +29,8 @@ pub record IsKeptText (may : Job → Result Answer Reason → Type 0)
   pub text_is : text ≡ written_text history.entries
 
 -- each text that is kept of a run that is over something may be handed over
-abbrev pub MayKeepEach : (may : Job → Result Answer Reason → Type 0)
-    → (was_shown : List Entry → Type 0) → (is_over : Run → List Entry → Type 0)
+abbrev pub TakesEachInterimJournal : (may : Job → Result Answer Reason → Type 0)
+    → (was_shown : List Entry → Type 0) → (is_this_run : Run → List Entry → Type 0)
     → (may_keep : Bytes → Type 0) → Type 0
-MayKeepEach may was_shown is_over may_keep = (run : Run) (opening : List Entry) (text : Bytes)
-    → is_over run opening → IsKeptText may was_shown run opening text → may_keep text
+TakesEachInterimJournal may was_shown is_this_run may_keep = (run : Run) (opening : List Entry) (text : Bytes)
+    → is_this_run run opening → IsInterimJournal may was_shown run opening text → may_keep text

@@ -5,7 +5,7 @@ use Rattle.drv_graph.specs.Nodes.{Node}
 use Rattle.valid_table.specs.PathInfos.{PathInfo}
 use Rattle.valid_table.specs.Valid.{IsJournal}
 use Rattle.valid_table.specs.declared.entry.Entry.{Entry}
-use Rattle.run_states.specs.Courses.{CanBegin}
+use Rattle.run_states.specs.StateTables.{CanBegin}
 use Rattle.run_states.specs.Runs.{opened}
 use Rattle.run_states.specs.Legal.{IsEntryOf, begins, begun, ended, failed}
 use Rattle.run_states.specs.Runs.{History, Run}

@@ -5,7 +5,7 @@ use Rattle.drv_graph.specs.Plans.{Graph}
 use Rattle.valid_table.specs.declared.entry.Entry.{Entry}
 use Rattle.valid_view.specs.declared.refusal.OpenFault.{OpenFault}
 use Rattle.valid_view.specs.declared.refusal.OpenFault.TheVariants as refused
-use Rattle.run_states.specs.Courses.{IsRunSettled}
+use Rattle.run_states.specs.StateTables.{IsRunSettled}
 use Rattle.sched_core.specs.Books.{Ledger}
 use Rattle.run_states.specs.Legal.{IsLegal}
 use Rattle.build_outcome.specs.declared.job.Answer.{Answer}

@@ -22,7 +22,7 @@ use Rattle.run_states.specs.declared.state.Event.{Event}
 use Rattle.run_states.specs.declared.state.Event.TheVariants.{Begin, Done as Finish, Fail}
 use Rattle.sched_core.specs.Books.{IsDone, Ledger}
 use Rattle.store_run.specs.Builders.{IsAnswered}
-use Rattle.store_run.specs.Keeping.{IsKeptText}
+use Rattle.store_run.specs.Keeping.{IsInterimJournal}
 use Rattle.store_run.specs.Realising.{IsLeft}
 
 -- Entries are those of the Done events among some events, in order: for each Done the whole entry
@@ -76,7 +76,7 @@ abbrev pub KeptTextsAreRead : {S : Type 0} → (may : Job → Result Answer Reas
 KeptTextsAreRead {S} may was_shown gives =
     (source : S) (dir : Dir) (roots : List Path) (run : Run) (opening : List Entry) (text : Bytes)
     → IsOverStore dir (gives source) roots run.graph opening
-    → (kept : IsKeptText may was_shown run opening text) → AreReadAs dir text kept.history.entries
+    → (kept : IsInterimJournal may was_shown run opening text) → AreReadAs dir text kept.history.entries
 
 -- the text of the entries that such a run leaves behind is read as these entries
 abbrev pub LeftJournalsAreRead : {S : Type 0} → (may : Job → Result Answer Reason → Type 0)

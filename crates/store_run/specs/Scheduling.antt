@@ -8,7 +8,7 @@ use Rattle.valid_table.specs.Entries.{registered}
 use Rattle.valid_table.specs.PathInfos.{PathInfo}
 use Rattle.valid_table.specs.Valid.{Registers}
 use Rattle.valid_table.specs.declared.entry.Entry.{Entry}
-use Rattle.run_states.specs.Courses.{IsRunSettled}
+use Rattle.run_states.specs.StateTables.{IsRunSettled}
 use Rattle.sched_core.specs.Books.{Ledger}
 use Rattle.build_outcome.specs.Jobs.{IsJob}
 use Rattle.run_states.specs.Legal.{IsLegal}

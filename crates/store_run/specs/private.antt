@@ -1,5 +1,5 @@
 -- What only private contracts and proofs cite.
 pub mod Ending
-pub mod Finding
+pub mod JobVerdicts
 pub mod Looking
 pub mod Sharing

@@ -10,14 +10,14 @@ pub trait Basis {
     ghost use Rattle.valid_table.specs.declared.entry.Entry.{Entry};
 
     // Whether a run that opens with some entries is over this.
-    ghost is_over: { Run → List Entry → Type 0 };
+    ghost is_this_run: { Run → List Entry → Type 0 };
 }
 
-// Any run is over this. A function that is generic in its basis is proved for every `is_over`, so
-// the proof of a call at `Brand` may choose another one for that call: `realise_kept` chooses the
-// run of the book that was just opened, and its entries then, where it calls `run_kept`.
+// Any run is over a `Brand`. A function that is generic in its basis is proved for every
+// `is_this_run`. So the proof of a call at `Brand` may choose one: where `realise_kept` calls
+// `run_kept`, it chooses the run of the book that was just opened, and its entries at that time.
 impl Basis for Brand {
     ghost use Rattle.std.specs.Prelude.{⊤};
 
-    ghost is_over = { λ run opening. ⊤ };
+    ghost is_this_run = { λ run opening. ⊤ };
 }

@@ -4,18 +4,18 @@ ghost use Rattle.nix_names.specs.Bytes.{Bytes};
 ghost use Rattle.run_states.specs.Runs.{Run};
 ghost use Rattle.valid_table.specs.Written.{written_text};
 ghost use Rattle.store_run.specs.Builders.{IsAnswered};
-ghost use Rattle.store_run.specs.Keeping.{IsKeptText, MayKeepEach};
+ghost use Rattle.store_run.specs.Keeping.{IsInterimJournal, TakesEachInterimJournal};
 ghost use Rattle.store_run.specs.Realising.{IsRealised, IsRunFault};
 
 use crate::basis::Basis;
+use crate::checkpoint_sink::{CheckpointSink, KeepPlace, keep_on};
 use crate::fault::RunFault;
-use crate::keeper::{Keep, KeepPlace, keep_on};
 use crate::kept_text::KeptText;
 use crate::locked::Locked;
 use crate::run::{MOST_WORKERS, RunResult, ending, hand_out, open_over, run_workers};
 use crate::shared::Shared;
 use drv_graph::Plan;
-use sched_core::{Book, Build, Watch};
+use sched_core::{Book, Build, LeaseObserver};
 use std::alloc::Global;
 use std::marker::Brand;
 use std::sync::Wait;
@@ -23,7 +23,7 @@ use std::thread;
 use std::thread::Threads;
 use std::time::Clock;
 use valid_table::Journal;
-use valid_view::{Name, Naming, Tells, ViewReader};
+use valid_view::{ListId, Name, Tells, ViewReader};
 
 /// Does what `realise` does, and keeps what is registered while the run goes on. A thread beside
 /// the workers hands texts to the place: each is the text of all entries that the book had at one
@@ -38,10 +38,10 @@ use valid_view::{Name, Naming, Tells, ViewReader};
 /// entries alone, and no worker waits for the place. Takes memory for the text, once.
 pub fn realise_kept<
     'a,
-    J: Naming + Send + Sync,
+    J: ListId + Send + Sync,
     R: Threads + Wait + Clock + Sync,
-    B: Build + Watch + Send + Drop,
-    K: Keep + Send + Drop,
+    B: Build + LeaseObserver + Send + Drop,
+    K: CheckpointSink + Send + Drop,
 >(
     rt: &'a R,
     alloc: Global,
@@ -54,7 +54,7 @@ pub fn realise_kept<
 ) -> RunResult<'a, J, R>
     requires name { name ≡ J.book }
     requires each { (text : Bytes)
-        → IsKeptText B.may (J.Showing.shown J.book)
+        → IsInterimJournal B.may (J.Showing.shown J.book)
         (record { graph = plan.now; system = system.now }) journal.now.entries text
         → K.may_keep text }
     ensures ok { IfOk result
@@ -94,14 +94,14 @@ fn run_kept<S, R, J, O, B, K>(
 where
     S: Basis + Send,
     R: Threads + Wait + Clock + Sync,
-    J: Naming + Send + Sync,
+    J: ListId + Send + Sync,
     O: Tells<J> + Send,
-    B: Build + Watch + Send + Drop,
-    K: Keep + Send + Drop,
+    B: Build + LeaseObserver + Send + Drop,
+    K: CheckpointSink + Send + Drop,
     requires answered { IsAnswered B.may book.run book.history }
-    requires over { S.is_over book.run book.history.opening }
+    requires over { S.is_this_run book.run book.history.opening }
     requires shown { book.shown ≡ opening.now.entries }
-    requires each { MayKeepEach B.may (J.Showing.shown J.book) S.is_over K.may_keep }
+    requires each { TakesEachInterimJournal B.may (J.Showing.shown J.book) S.is_this_run K.may_keep }
 {
     let text = first_text(alloc, &book, opening);
     let locked = Locked::<O, B, S>::new(book);
@@ -124,7 +124,7 @@ where
 
 // The text of the entries that a book opened with, which are those of a journal; none where nothing
 // can be built, or where memory is refused.
-fn first_text<J: Naming, O: Tells<J>>(
+fn first_text<J: ListId, O: Tells<J>>(
     alloc: Global,
     book: &Book<O>,
     opening: &Journal,
@@ -153,10 +153,10 @@ fn run_beside<S, R, J, O, B, K>(
 where
     S: Basis + Send,
     R: Threads + Wait + Clock + Sync,
-    J: Naming + Send + Sync,
+    J: ListId + Send + Sync,
     O: Tells<J> + Send,
-    B: Build + Watch + Send + Drop,
-    K: Keep + Send + Drop,
+    B: Build + LeaseObserver + Send + Drop,
+    K: CheckpointSink + Send + Drop,
 {
     thread::scope(thread::scope_env(), rt, |scope| {
         let _ = scope.spawn(move || keep_on(rt, alloc, locked, text, place));

@@ -9,12 +9,12 @@ use sched_core::Book;
 use std::alloc::{AllocError, Global};
 use std::marker::Model;
 use valid_table::{Entry, Journal, TableFault, write_lines};
-use valid_view::{Naming, Prefix, Tells};
+use valid_view::{ListId, Prefix, Tells};
 
 // The text of the entries of a run, as far as a keeper has looked. It begins with the text of the
 // entries that were shown then.
 #[derive(Drop)]
-pub(crate) struct KeptText<J: Naming> {
+pub(crate) struct KeptText<J: ListId> {
     bytes: Vec<u8>,
     shown: Prefix<J>,
     // How many of the bytes are the text of what was shown.
@@ -23,7 +23,7 @@ pub(crate) struct KeptText<J: Naming> {
     kept: usize,
 }
 
-impl<J: Naming> Model for KeptText<J> {
+impl<J: ListId> Model for KeptText<J> {
     ghost use Rattle.std.specs.Prelude.{◌≡◌, take};
     ghost use Rattle.valid_table.specs.Written.{written_text};
     ghost use Rattle.store_run.specs.private.Looking.{Keeping};
@@ -38,14 +38,14 @@ impl<J: Naming> Model for KeptText<J> {
 // What a look at a book gives: what is shown now, the lines of what is new of it, the lines of what
 // waits, and how many entries there are.
 #[derive(Drop)]
-pub(crate) struct NewLines<J: Naming> {
+pub(crate) struct NewLines<J: ListId> {
     shown: Prefix<J>,
     fresh: Vec<u8>,
     waiting: Vec<u8>,
     count: usize,
 }
 
-impl<J: Naming> Model for NewLines<J> {
+impl<J: ListId> Model for NewLines<J> {
     ghost use Rattle.store_run.specs.private.Looking.{Looked};
 
     ghost Value = { Looked };
@@ -58,7 +58,7 @@ impl<J: Naming> Model for NewLines<J> {
     } };
 }
 
-impl<J: Naming> KeptText<J> {
+impl<J: ListId> KeptText<J> {
     // The text of a journal, whose entries are shown, and which is kept.
     pub(crate) fn open(
         alloc: Global,
@@ -132,7 +132,7 @@ impl<J: Naming> KeptText<J> {
     }
 }
 
-impl<J: Naming> NewLines<J> {
+impl<J: ListId> NewLines<J> {
     // How many entries there are.
     pub(crate) fn count(&self) -> usize
         ensures { result ≡ self.now.count }
@@ -143,7 +143,7 @@ impl<J: Naming> NewLines<J> {
 
 // What some entries, which begin with what is shown now, have that was not shown before, and what
 // is shown now.
-fn what_is_new<J: Naming>(
+fn what_is_new<J: ListId>(
     alloc: Global,
     known: &Prefix<J>,
     shown: Prefix<J>,

@@ -19,7 +19,7 @@ ghost use Rattle.store_run.specs.TwinExample.{first_twin, freed, may_leave_file,
 
 use nix_drv::DrvSource;
 use sched_core::Build;
-use valid_view::Naming;
+use valid_view::ListId;
 
 /// A whole run ends as one thread would: each derivation is in the same state, each path has the
 /// same record, and the report is the same. A run is whole where it had memory and its builders may
@@ -72,7 +72,7 @@ pub fn equal_outcomes_are_alike<B: Build>()
 
 /// Outcomes, one for each derivation, decide what a run comes to that was cut, and started again
 /// over what it had registered: what it was given before the cut where it built something, else
-/// what it was given behind it. One thread that was not cut, and is given the same outcomes,
+/// what it was given after it. One thread that was not cut, and is given the same outcomes,
 /// registers the same records, tells of the same failures and refusals, and has the same outputs of
 /// the roots. The plan has no twins, and no source is an output of it.
 pub fn any_interruption<B: Build>()
@@ -95,7 +95,7 @@ pub fn entries_go_on()
 /// want of memory apart, if it is within the limit of a journal's text. That holds of each text
 /// that is kept while the run goes on, and of the text of what it leaves behind. The run opened
 /// with entries that some text of a journal of the folder has.
-pub fn journals_of_runs_are_read<B: Build, J: Naming, S: DrvSource>()
+pub fn journals_of_runs_are_read<B: Build, J: ListId, S: DrvSource>()
     ensures histories { JournalsOfRunsAreRead B.may S.gives }
     ensures kept { KeptTextsAreRead B.may (J.Showing.shown J.book) S.gives }
     ensures left { LeftJournalsAreRead B.may S.gives }

@@ -11,7 +11,7 @@ use valid_table::{Journal, Outlet};
 
 // Whether a book is over this plan, for this system, and opened with the journal's entries. The
 // history of each book is legal. Compares the whole plan, system and entries; takes no memory.
-pub(crate) fn is_over<O: Outlet>(
+pub(crate) fn is_this_run<O: Outlet>(
     book: &Book<O>,
     plan: &Plan,
     system: &[u8],

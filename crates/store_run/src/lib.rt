@@ -2,7 +2,7 @@
 //!
 //! | Module | What is in it |
 //! |---|---|
-//! | `finding` | what a worker finds of a job, and how a lease ends |
+//! | `job_verdict` | what a worker finds of a job, and how a lease ends |
 //! | `shared` | what the workers of a run share: the book, and why the run stops |
 //! | `turn` | what a worker is to do next, and whom it wakes |
 //! | `verdict` | the verdict on a job's outcome, by the list that a reader sees |
@@ -13,7 +13,7 @@
 //! | `run` | a run, from a plan and a journal to a settled book |
 //! | `basis` | what a run is over, as a type |
 //! | `kept_run` | a run beside whose workers a keeper keeps what they register |
-//! | `keeper`, `bell`, `pause` | the keeper, and its pauses |
+//! | `checkpoint_sink`, `end_signal`, `pause` | the keeper, and its pauses |
 //! | `kept_text` | the text of what a run has registered, as it goes on |
 //! | `lent` | whether a book is over the lent plan, system and entries |
 //! | `fault` | why a run ends without a settled book |
@@ -21,10 +21,10 @@
 #![tactic(auto)]
 
 mod basis;
-mod bell;
+mod checkpoint_sink;
+mod end_signal;
 mod fault;
-mod finding;
-mod keeper;
+mod job_verdict;
 mod kept_run;
 mod kept_text;
 pub mod laws;
@@ -40,8 +40,8 @@ mod verdict;
 mod worker;
 
 pub use basis::Basis;
+pub use checkpoint_sink::CheckpointSink;
 pub use fault::RunFault;
-pub use keeper::Keep;
 pub use kept_run::realise_kept;
 pub use locked::Locked;
 pub use monitor::{Listen, LockCall};

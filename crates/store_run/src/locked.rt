@@ -1,13 +1,13 @@
 //! A book behind a lock, on which workers wait.
 ghost use Rattle.std.specs.Prelude.{IfSome};
 ghost use Rattle.store_run.specs.Builders.{IsAnswered};
-ghost use Rattle.store_run.specs.private.Finding.{IsToldOfSeeds, MayBeFound};
+ghost use Rattle.store_run.specs.private.JobVerdicts.{IsToldOfSeeds, MayBeFound};
 ghost use Rattle.store_run.specs.private.Looking.{IsLook};
 ghost use Rattle.store_run.specs.private.Sharing.{IfGiven};
 
 use crate::basis::Basis;
-use crate::bell::Bell;
-use crate::finding::{Finding, LeaseEnd};
+use crate::end_signal::EndSignal;
+use crate::job_verdict::{JobVerdict, LeaseEnd};
 use crate::kept_text::{KeptText, NewLines};
 use crate::monitor::{Listen, Monitor};
 use crate::shared::Shared;
@@ -18,7 +18,7 @@ use std::marker::Brand;
 use std::sync::Wait;
 use std::time::{Clock, Duration};
 use valid_table::Outlet;
-use valid_view::{Naming, Tells, ViewReader};
+use valid_view::{ListId, Tells, ViewReader};
 
 /// The book of a run behind a lock, and the condition on which workers wait for work. Whenever the
 /// lock is free, the book's history is legal, its tables agree with it, and what became of each
@@ -26,18 +26,18 @@ use valid_view::{Naming, Tells, ViewReader};
 pub struct Locked<O: Outlet, B: Build, S: Basis = Brand> {
     shared: Monitor<Shared<O, B, S>>,
     // Rung once all workers have ended.
-    end: Bell,
+    end: EndSignal,
 }
 
 impl<O: Outlet, B: Build, S: Basis> Locked<O, B, S> {
     /// A book behind a lock.
     pub fn new(book: Book<O>) -> Locked<O, B, S>
         requires answered { IsAnswered B.may book.run book.history }
-        requires over { S.is_over book.run book.history.opening }
+        requires over { S.is_this_run book.run book.history.opening }
     {
         Locked {
             shared: Monitor::new(Shared::new(book)),
-            end: Bell::new(),
+            end: EndSignal::new(),
         }
     }
 
@@ -72,12 +72,12 @@ impl<O: Outlet, B: Build, S: Basis> Locked<O, B, S> {
     // in one hold of the lock. Then wakes the workers that the turn names. Waits for nothing but
     // the lock. In the hold the reader looks once; no closure is computed, and what was built is
     // not read.
-    pub(crate) fn end<R: Listen, J: Naming>(
+    pub(crate) fn end<R: Listen, J: ListId>(
         &self,
         rt: &R,
         reader: &mut ViewReader<J>,
         lease: Lease<O::Told>,
-        found: Finding,
+        found: JobVerdict,
     ) -> (LeaseEnd, Turn<O::Told>)
     where
         O: Tells<J>,
@@ -95,7 +95,7 @@ impl<O: Outlet, B: Build, S: Basis> Locked<O, B, S> {
     }
 
     // What the book has that a keeper's text has not, by one look, in one hold of the lock.
-    pub(crate) fn look<R: Listen, J: Naming>(
+    pub(crate) fn look<R: Listen, J: ListId>(
         &self,
         rt: &R,
         alloc: Global,
@@ -103,7 +103,7 @@ impl<O: Outlet, B: Build, S: Basis> Locked<O, B, S> {
     ) -> Option<NewLines<J>>
     where
         O: Tells<J>,
-        ensures { IfSome result (IsLook B.may (J.Showing.shown J.book) S.is_over
+        ensures { IfSome result (IsLook B.may (J.Showing.shown J.book) S.is_this_run
             text.now.shown) }
     {
         let mut held = self.shared.lock(rt);
@@ -112,7 +112,7 @@ impl<O: Outlet, B: Build, S: Basis> Locked<O, B, S> {
         news
     }
 
-    // Says to the keeper that all workers have ended.
+    // Rings the signal that all workers have ended, for the thread that keeps texts on the way.
     pub(crate) fn ends<R: Wait>(&self, rt: &R) {
         self.end.ring(rt);
     }

@@ -6,20 +6,20 @@ ghost use Rattle.valid_table.specs.Entries.{registered};
 ghost use Rattle.valid_view.specs.Shown.{IsShowable};
 ghost use Rattle.valid_view.specs.declared.fault.ViewFault.TheVariants.{NotValid};
 ghost use Rattle.sched_core.specs.Books.{AreSeedsValid, IsBeginning, IsBooksLease, IsFailing, IsFinishFault, IsFinishing, IsSameRun, MayAllRefer};
-ghost use Rattle.run_states.specs.Courses.{CanBegin};
+ghost use Rattle.run_states.specs.StateTables.{CanBegin};
 ghost use Rattle.build_outcome.specs.Verdicts.{outputs_of};
 ghost use Rattle.run_states.specs.declared.fault.BookFault.TheVariants.{ForeignLease, NoMemory, NoView};
 ghost use Rattle.valid_table.specs.Unions.{IsUnion};
 ghost use Rattle.nix_names.specs.Bytes.{Path};
 ghost use Rattle.nix_names.specs.Rising.{IsRising};
-ghost use Rattle.store_run.specs.private.Finding.{IsToldAs, IsUnseen};
+ghost use Rattle.store_run.specs.private.JobVerdicts.{IsToldAs, IsUnseen};
 
 use nix_names::StorePath;
 use sched_core::{Book, BookFault, Checked, Job, Lease, Reason};
 use std::alloc::Global;
 use std::marker::Model;
 use valid_table::Outlet;
-use valid_view::{Naming, ViewFault, ViewReader};
+use valid_view::{ListId, ViewFault, ViewReader};
 
 // Evidence that a call of a reader or of a book was refused. A contract sees the fault that the
 // call answered. Only the calls of this module make one.
@@ -47,7 +47,7 @@ impl RefusedCall {
 
 // The closure of what a job is built from, by the list that the reader sees. All of it is valid by
 // each list that the reader may see. Refused where memory is, or where the view is gone.
-pub(crate) fn closure<J: Naming>(
+pub(crate) fn closure<J: ListId>(
     alloc: Global,
     reader: &mut ViewReader<J>,
     job: &Job,
@@ -66,7 +66,7 @@ pub(crate) fn closure<J: Naming>(
 }
 
 // Has a reader look at a path, whatever it finds. Refused where the view is gone.
-pub(crate) fn look<J: Naming>(
+pub(crate) fn look<J: ListId>(
     reader: &mut ViewReader<J>,
     path: &StorePath,
 ) -> Result<(), RefusedCall>

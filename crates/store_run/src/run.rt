@@ -10,18 +10,18 @@ ghost use Rattle.store_run.specs.declared.fault.RunFault.TheVariants.{NoMemory, 
 
 use crate::basis::Basis;
 use crate::fault::RunFault;
-use crate::lent::is_over;
+use crate::lent::is_this_run;
 use crate::locked::Locked;
 use crate::shared::Shared;
 use crate::worker::work;
 use drv_graph::{GraphFault, Plan};
-use sched_core::{Book, BookFault, Build, Watch};
+use sched_core::{Book, BookFault, Build, LeaseObserver};
 use std::alloc::Global;
 use std::sync::Wait;
 use std::thread;
 use std::thread::Threads;
 use valid_table::{Journal, Outlet, TableFault};
-use valid_view::{Name, Naming, OpenFault, Tells, ViewReader, ViewWriter};
+use valid_view::{ListId, Name, OpenFault, Tells, ViewReader, ViewWriter};
 
 // The greatest number of workers.
 pub(crate) const MOST_WORKERS: usize = 64;
@@ -46,9 +46,9 @@ pub type RunResult<'a, J, R> = Result<
 /// the journal's table twice.
 pub fn realise<
     'a,
-    J: Naming + Send + Sync,
+    J: ListId + Send + Sync,
     R: Threads + Wait + Sync,
-    B: Build + Watch + Send + Drop,
+    B: Build + LeaseObserver + Send + Drop,
 >(
     rt: &'a R,
     alloc: Global,
@@ -78,7 +78,7 @@ pub fn realise<
 
 // A book over the lent plan, system and entries, in which nothing began, and `count` readers of its
 // outlet, which is a view.
-pub(crate) fn open_over<'a, J: Naming + Send, R: Wait>(
+pub(crate) fn open_over<'a, J: ListId + Send, R: Wait>(
     rt: &'a R,
     alloc: Global,
     name: Name,
@@ -105,7 +105,7 @@ pub(crate) fn open_over<'a, J: Naming + Send, R: Wait>(
 
 // A book over these copies, in which nothing began, and the readers of its outlet, by what opening
 // the view gave. Where the view was opened memory alone can be refused.
-fn book_over<O: Outlet, J: Naming>(
+fn book_over<O: Outlet, J: ListId>(
     alloc: Global,
     copies: (Plan, Journal, Vec<u8>),
     view: Result<(O, Vec<ViewReader<J>>), OpenFault>,
@@ -164,9 +164,9 @@ fn run_book<R, J, O, B>(
 ) -> Shared<O, B>
 where
     R: Threads + Wait + Sync,
-    J: Naming + Send + Sync,
+    J: ListId + Send + Sync,
     O: Tells<J> + Send,
-    B: Build + Watch + Send + Drop,
+    B: Build + LeaseObserver + Send + Drop,
     requires { IsAnswered B.may book.run book.history }
 {
     let locked = Locked::new(book);
@@ -185,9 +185,9 @@ pub(crate) fn run_workers<R, J, O, B, S>(
 )
 where
     R: Threads + Wait + Sync,
-    J: Naming + Send + Sync,
+    J: ListId + Send + Sync,
     O: Tells<J> + Send,
-    B: Build + Watch + Send + Drop,
+    B: Build + LeaseObserver + Send + Drop,
     S: Basis + Send,
 {
     thread::scope(thread::scope_env(), rt, |scope| {
@@ -211,7 +211,7 @@ pub(crate) fn ending<O: Outlet, B: Build>(
     ensures answered { IsAnswered B.may shared.book.run shared.book.history }
 {
     let (book, stop) = shared.into_parts();
-    if !is_over(&book, plan, system, journal) {
+    if !is_this_run(&book, plan, system, journal) {
         return Err((RunFault::ForeignPlan, book));
     }
     if book.settled() {

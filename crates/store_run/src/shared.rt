@@ -2,18 +2,18 @@
 ghost use Rattle.std.specs.Prelude.{◌≡◌, ◌⊎◌, Err, IfErr, IfSome, List, None, Ok, OnOk};
 ghost use Rattle.valid_table.specs.declared.entry.Entry.{Entry};
 ghost use Rattle.sched_core.specs.Books.{IsBooksLease};
-ghost use Rattle.run_states.specs.Courses.{IsUnsettled};
+ghost use Rattle.run_states.specs.StateTables.{IsUnsettled};
 ghost use Rattle.run_states.specs.Counts.{HasCount};
 ghost use Rattle.run_states.specs.declared.fault.BookFault.TheVariants.{NoView};
 ghost use Rattle.build_outcome.specs.declared.reason.Reason.TheVariants.{OutOfMemory};
 ghost use Rattle.store_run.specs.Builders.{IsAnswered, MayComeTo};
-ghost use Rattle.store_run.specs.private.Finding.{HasCaughtUp, IsToldOfSeeds, MayBeFound};
+ghost use Rattle.store_run.specs.private.JobVerdicts.{HasCaughtUp, IsToldOfSeeds, MayBeFound};
 ghost use Rattle.store_run.specs.private.Looking.{IsLook};
 ghost use Rattle.store_run.specs.private.Sharing.{IfGiven, IsEnding, IsNoting, IsNotingVerdict, IsLeaseRegistering, IsStep, IsStopping, IsWake};
-ghost use Rattle.store_run.specs.declared.finding.LeaseEnd.TheVariants.{Stopped};
+ghost use Rattle.store_run.specs.declared.job_verdict.LeaseEnd.TheVariants.{Stopped};
 
 use crate::basis::Basis;
-use crate::finding::{Finding, LeaseEnd};
+use crate::job_verdict::{JobVerdict, LeaseEnd};
 use crate::kept_text::{KeptText, NewLines};
 use crate::refusal::{RefusedCall, fail, finish, look, next};
 use crate::turn::{Step, Turn, Wake};
@@ -21,7 +21,7 @@ use sched_core::{Book, BookFault, Build, Checked, Job, Lease, Reason};
 use std::alloc::Global;
 use std::marker::{Brand, Model, PhantomData};
 use valid_table::Outlet;
-use valid_view::{Naming, Tells, ViewReader};
+use valid_view::{ListId, Tells, ViewReader};
 
 // The book of a run and why the run stops, once a call was refused. A contract sees both. What
 // became of each derivation is a verdict on what a builder may give, and the run is over the basis.
@@ -41,14 +41,14 @@ impl<O: Outlet, B: Build, S: Basis> Model for Shared<O, B, S> {
     ghost view = { λ s. record { book = s.book; stop = s.stop } };
 
     ghost invariant = { λ s. IsAnswered B.may s.book.run s.book.history
-        × S.is_over s.book.run s.book.history.opening };
+        × S.is_this_run s.book.run s.book.history.opening };
 }
 
 impl<O: Outlet, B: Build, S: Basis> Shared<O, B, S> {
     // A book over a basis that builders of a type share, before anything stops the run.
     pub(crate) fn new(book: Book<O>) -> Shared<O, B, S>
         requires answered { IsAnswered B.may book.run book.history }
-        requires over { S.is_over book.run book.history.opening }
+        requires over { S.is_this_run book.run book.history.opening }
         ensures book { result.book ≡ book }
         ensures stop { result.stop ≡ None }
     {
@@ -84,9 +84,9 @@ impl<O: Outlet, B: Build, S: Basis> Shared<O, B, S> {
     }
 
     // Has a reader see the list that the outlet shows. Then the paths that were permitted to a job
-    // of the book's by the list that the reader saw before are permitted behind the book's
+    // of the book's by the list that the reader saw before are permitted after the book's
     // entries. Refused where the view is gone. Costs one look.
-    pub(crate) fn catch_up<J: Naming>(
+    pub(crate) fn catch_up<J: ListId>(
         &self,
         reader: &mut ViewReader<J>,
         job: &Job,
@@ -112,7 +112,7 @@ impl<O: Outlet, B: Build, S: Basis> Shared<O, B, S> {
     pub(crate) fn end(
         &mut self,
         lease: Lease<O::Told>,
-        found: Finding,
+        found: JobVerdict,
         caught_up: Result<(), RefusedCall>,
     ) -> LeaseEnd
         requires { (seen : List Entry) × MayBeFound B.may seen lease.job found
@@ -120,12 +120,12 @@ impl<O: Outlet, B: Build, S: Basis> Shared<O, B, S> {
         ensures { IsEnding self.old self.new lease.job lease.number found caught_up result }
     {
         match found {
-            Finding::Examined(verdict) => match caught_up {
+            JobVerdict::Examined(verdict) => match caught_up {
                 Ok(()) => self.note(lease, verdict),
                 Err(refusal) => self.give_up(lease, refusal),
             },
-            Finding::Unanswered(reason) => self.fail(lease, reason),
-            Finding::Refused(refusal) => match refusal.fault() {
+            JobVerdict::Unanswered(reason) => self.fail(lease, reason),
+            JobVerdict::Refused(refusal) => match refusal.fault() {
                 BookFault::NoMemory => self.fail(lease, Reason::OutOfMemory),
                 _ => self.give_up(lease, refusal),
             },
@@ -133,10 +133,10 @@ impl<O: Outlet, B: Build, S: Basis> Shared<O, B, S> {
     }
 
     // What the book has that a keeper's text has not, in one look.
-    pub(crate) fn look<J: Naming>(&self, alloc: Global, text: &KeptText<J>) -> Option<NewLines<J>>
+    pub(crate) fn look<J: ListId>(&self, alloc: Global, text: &KeptText<J>) -> Option<NewLines<J>>
     where
         O: Tells<J>,
-        ensures { IfSome result (IsLook B.may (J.Showing.shown J.book) S.is_over
+        ensures { IfSome result (IsLook B.may (J.Showing.shown J.book) S.is_this_run
             text.now.shown) }
     {
         // Its contract says that the history is legal.
@@ -145,7 +145,7 @@ impl<O: Outlet, B: Build, S: Basis> Shared<O, B, S> {
     }
 
     // The list that the book shows was shown.
-    pub(crate) fn shows<J: Naming>(&self)
+    pub(crate) fn shows<J: ListId>(&self)
     where
         O: Tells<J>,
         ensures { J.Showing.shown J.book self.now.book.shown }
@@ -199,7 +199,7 @@ impl<O: Outlet, B: Build, S: Basis> Shared<O, B, S> {
         }
     }
 
-    // Ends a lease by a verdict that holds behind the book's entries.
+    // Ends a lease by a verdict that holds after the book's entries.
     fn note(&mut self, lease: Lease<O::Told>, verdict: Result<Checked, Reason>) -> LeaseEnd
         requires { (verdict ≡ Err OutOfMemory)
             ⊎ (IsBooksLease self.old.book.run self.old.book.history lease.job lease.number

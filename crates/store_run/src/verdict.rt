@@ -2,18 +2,18 @@
 ghost use Rattle.std.specs.Prelude.{◌≡◌, IfErr, IfOk, OnOk};
 ghost use Rattle.valid_view.specs.Shown.{IsShowable};
 ghost use Rattle.sched_core.specs.Books.{ArePermittedPaths, AreSeedsValid};
-ghost use Rattle.store_run.specs.private.Finding.{IsFoundBy, IsToldOfSeeds, IsUnseen};
+ghost use Rattle.store_run.specs.private.JobVerdicts.{IsFoundBy, IsToldOfSeeds, IsUnseen};
 
-use crate::finding::Finding;
+use crate::job_verdict::JobVerdict;
 use crate::refusal::{RefusedCall, closure, permitted_beside};
 use nix_names::StorePath;
 use sched_core::{Answer, Job, Lease, Reason, examine};
 use std::alloc::Global;
-use valid_view::{Naming, Tells, ViewReader};
+use valid_view::{ListId, Tells, ViewReader};
 
 // Has a reader learn what a lease was told. Then all that the lease's job is built from is valid
 // in each list that the reader sees from now on.
-pub(crate) fn learn<J: Naming, O: Tells<J>>(reader: &mut ViewReader<J>, lease: &mut Lease<O::Told>)
+pub(crate) fn learn<J: ListId, O: Tells<J>>(reader: &mut ViewReader<J>, lease: &mut Lease<O::Told>)
     requires { IsToldOfSeeds O.names lease.old }
     ensures seeds { AreSeedsValid reader.new.told lease.new.job }
     ensures job { lease.new.job ≡ lease.old.job }
@@ -29,28 +29,28 @@ pub(crate) fn learn<J: Naming, O: Tells<J>>(reader: &mut ViewReader<J>, lease: &
 // the answer by the paths that are permitted to the job in the list that the reader sees. In place
 // of a verdict the refusal of the reader, or of memory. Costs the closure of the job's seeds and
 // one pass over what the builder left; takes no lock.
-pub(crate) fn verdict<J: Naming>(
+pub(crate) fn verdict<J: ListId>(
     alloc: Global,
     reader: &mut ViewReader<J>,
     job: &Job,
     outcome: Result<Answer, Reason>,
-) -> Finding
+) -> JobVerdict
     requires { AreSeedsValid reader.old.told job.now }
     ensures { IsFoundBy reader.new.seen job.now outcome result }
 {
     let answer = match outcome {
         Ok(answer) => answer,
-        Err(reason) => return Finding::Unanswered(reason),
+        Err(reason) => return JobVerdict::Unanswered(reason),
     };
     match permitted(alloc, reader, job) {
-        Ok(permitted) => Finding::Examined(examine(alloc, job, &permitted, answer)),
-        Err(refusal) => Finding::Refused(refusal),
+        Ok(permitted) => JobVerdict::Examined(examine(alloc, job, &permitted, answer)),
+        Err(refusal) => JobVerdict::Refused(refusal),
     }
 }
 
 // The paths to which the outputs of a job may refer, by the list that the reader sees; or what was
 // refused, memory or the view.
-fn permitted<J: Naming>(
+fn permitted<J: ListId>(
     alloc: Global,
     reader: &mut ViewReader<J>,
     job: &Job,

@@ -1,17 +1,17 @@
 //! What one worker does.
 ghost use Rattle.std.specs.Prelude.{IfSome};
-ghost use Rattle.store_run.specs.private.Finding.{IsToldOfSeeds};
+ghost use Rattle.store_run.specs.private.JobVerdicts.{IsToldOfSeeds};
 
 use crate::basis::Basis;
-use crate::finding::LeaseEnd;
+use crate::job_verdict::LeaseEnd;
 use crate::locked::Locked;
 use crate::monitor::{Listen, NoListener};
 use crate::turn::{Step, Turn};
 use crate::verdict::{learn, verdict};
-use sched_core::{Build, Lease, Watch};
+use sched_core::{Build, Lease, LeaseObserver};
 use std::alloc::Global;
 use std::sync::Wait;
-use valid_view::{Naming, Tells, ViewReader};
+use valid_view::{ListId, Tells, ViewReader};
 
 /// Builds ready derivations, one after the other, until the book is settled or the run stops; waits
 /// while none is ready. No lock is held while the builder runs, nor while the verdict is found: the
@@ -19,7 +19,7 @@ use valid_view::{Naming, Tells, ViewReader};
 /// refused to the worker, the derivation of its lease fails for that reason. The builder hears of
 /// each lease that was taken and of each that has ended, also without the lock; the other workers
 /// that can go on were woken before.
-pub fn work<R: Wait, J: Naming, O: Tells<J>, B: Build + Watch, S: Basis>(
+pub fn work<R: Wait, J: ListId, O: Tells<J>, B: Build + LeaseObserver, S: Basis>(
     rt: &R,
     alloc: Global,
     locked: &Locked<O, B, S>,
@@ -30,7 +30,7 @@ pub fn work<R: Wait, J: Naming, O: Tells<J>, B: Build + Watch, S: Basis>(
 }
 
 /// Does what `work` does; the handle hears of each call of the lock.
-pub fn work_heard<R: Listen, J: Naming, O: Tells<J>, B: Build + Watch, S: Basis>(
+pub fn work_heard<R: Listen, J: ListId, O: Tells<J>, B: Build + LeaseObserver, S: Basis>(
     rt: &R,
     alloc: Global,
     locked: &Locked<O, B, S>,
@@ -52,7 +52,7 @@ pub fn work_heard<R: Listen, J: Naming, O: Tells<J>, B: Build + Watch, S: Basis>
 
 // Builds the job of a lease, and ends the lease. Gives the next lease, and how many wanted
 // derivations were unsettled when it was taken; none where the run ends.
-fn build<R: Listen, J: Naming, O: Tells<J>, B: Build + Watch, S: Basis>(
+fn build<R: Listen, J: ListId, O: Tells<J>, B: Build + LeaseObserver, S: Basis>(
     rt: &R,
     alloc: Global,
     locked: &Locked<O, B, S>,

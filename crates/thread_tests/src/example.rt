@@ -11,7 +11,7 @@ use crate::runs::realised;
 use drv_graph::Plan;
 use nix_names::parse_path;
 use ref_scan::Tree;
-use sched_core::{Answer, Build, Job, Reason, Watch};
+use sched_core::{Answer, Build, Job, LeaseObserver, Reason};
 use std::alloc::{AllocError, Global};
 use std::test::*;
 use store_run::laws::{any_schedule, builds_may_overlap, outcomes_decide};
@@ -55,7 +55,7 @@ impl Build for Program {
     }
 }
 
-impl Watch for Program {
+impl LeaseObserver for Program {
     fn begun(&self, _unsettled: usize) {}
 
     fn ended(&self, _is_good: bool, _unsettled: usize) {}

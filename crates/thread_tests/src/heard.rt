@@ -2,10 +2,10 @@
 //! than their view showed at first.
 ghost use Rattle.std.specs.Prelude.{◌≡◌, ◌++◌, []};
 
-use crate::hearing::{Act, Acts, Comes, Manner, View, Worker, awaits};
+use crate::hearing::{Act, Acts, Behaviour, Comes, View, Worker, awaits};
 use crate::plans::{Host, SYSTEM};
 use drv_graph::Plan;
-use sched_core::{Book, BookFault, Build, Event, Watch};
+use sched_core::{Book, BookFault, Build, Event, LeaseObserver};
 use std::alloc::Global;
 use std::marker::Brand;
 use std::process::Abort;
@@ -16,11 +16,11 @@ use std::thread::Threads;
 use std::time::Clock;
 use store_run::{Listen, Locked, work_heard};
 use valid_table::{Entry, Journal, Outlet, OutletFault};
-use valid_view::{Name, Naming, Prefix, Tells, ViewReader, ViewWriter, open};
+use valid_view::{ListId, Name, Prefix, Tells, ViewReader, ViewWriter, open};
 
 // An outlet that shows what its view showed at first. Its view is there until the outlet is
 // closed; where it is gone, there is no writer.
-struct Poor<J: Naming, R> {
+struct Poor<J: ListId, R> {
     writer: Option<ViewWriter<J, R>>,
     prefix: Prefix<J>,
     waits: Vec<Entry>,
@@ -28,7 +28,7 @@ struct Poor<J: Naming, R> {
 }
 
 // The outlet over this view.
-fn poor_outlet<J: Naming + Send, R: Wait + Drop>(
+fn poor_outlet<J: ListId + Send, R: Wait + Drop>(
     alloc: Global,
     writer: ViewWriter<J, R>,
     view: View,
@@ -51,7 +51,7 @@ fn poor_outlet<J: Naming + Send, R: Wait + Drop>(
     }
 }
 
-impl<J: Naming + Send, R: Wait + Drop> Outlet for Poor<J, R> {
+impl<J: ListId + Send, R: Wait + Drop> Outlet for Poor<J, R> {
     type Told = Prefix<J>;
 
     ghost shown = { λ outlet. outlet.prefix };
@@ -93,7 +93,7 @@ impl<J: Naming + Send, R: Wait + Drop> Outlet for Poor<J, R> {
     }
 }
 
-impl<J: Naming + Send, R: Wait + Drop> Tells<J> for Poor<J, R> {
+impl<J: ListId + Send, R: Wait + Drop> Tells<J> for Poor<J, R> {
     fn prefix(told: Prefix<J>) -> Prefix<J> {
         told
     }
@@ -121,9 +121,9 @@ fn work_all<R, J, O, B>(
 )
 where
     R: Threads + Wait + Clock + Abort + Sync,
-    J: Naming + Send + Sync,
+    J: ListId + Send + Sync,
     O: Tells<J> + Send,
-    B: Build + Watch + Listen + Comes + Send + Drop,
+    B: Build + LeaseObserver + Listen + Comes + Send + Drop,
 {
     let count = workers.len();
     thread::scope(thread::scope_env(), rt, |scope| {
@@ -149,9 +149,9 @@ fn heard_over<R, J, O, B>(
 ) -> Result<Ended, Fail>
 where
     R: Threads + Wait + Clock + Abort + Sync,
-    J: Naming + Send + Sync,
+    J: ListId + Send + Sync,
     O: Tells<J> + Send,
-    B: Build + Watch + Listen + Comes + Send + Drop,
+    B: Build + LeaseObserver + Listen + Comes + Send + Drop,
     requires { O.shown outlet ++ O.pending outlet ≡ given.1.entries }
 {
     let (plan, journal, system) = given;
@@ -168,44 +168,44 @@ where
 fn workers_of<'a, R>(
     rt: &'a R,
     alloc: Global,
-    manner: Manner<'a>,
+    behaviour: Behaviour<'a>,
     log: &'a Mutex<Acts>,
 ) -> Result<Vec<Worker<'a, R>>, Fail> {
     let mut workers = Vec::new(alloc);
-    for number in 0..manner.workers {
+    for number in 0..behaviour.workers {
         workers.push(Worker {
             rt,
             alloc,
             log,
             number,
-            manner,
+            behaviour,
         })?;
     }
     Ok(workers)
 }
 
 // The events of a run over a view of this name, and why it was stopped.
-fn heard_named<J: Naming + Send + Sync, R: Host>(
+fn heard_named<J: ListId + Send + Sync, R: Host>(
     rt: &R,
     alloc: Global,
     name: Name,
     given: Given,
-    manner: Manner,
+    behaviour: Behaviour,
     log: &Mutex<Acts>,
 ) -> Result<Ended, Fail>
     requires { name ≡ J.book }
 {
-    let count = manner.workers;
+    let count = behaviour.workers;
     if count == 0 || count > 64 {
         return Err("a wrong number of workers".into());
     }
-    let workers = workers_of(rt, alloc, manner, log)?;
+    let workers = workers_of(rt, alloc, behaviour, log)?;
     let (writer, readers) = open::<J, &R>(alloc, rt, name, &given.1, count)?;
     let crew = (workers, readers);
-    if manner.view == View::Whole {
+    if behaviour.view == View::Whole {
         heard_over(rt, alloc, given, writer, crew, log)
     } else {
-        let outlet = poor_outlet(alloc, writer, manner.view);
+        let outlet = poor_outlet(alloc, writer, behaviour.view);
         heard_over(rt, alloc, given, outlet, crew, log)
     }
 }
@@ -215,11 +215,11 @@ pub(crate) fn heard_from<R: Host>(
     rt: &R,
     alloc: Global,
     (plan, journal): (Plan, Journal),
-    manner: Manner,
+    behaviour: Behaviour,
 ) -> Result<Heard, Fail> {
     let log = Mutex::new(Vec::new(alloc));
     let given = (plan, journal, Vec::from_slice(alloc, SYSTEM)?);
-    let ended = heard_named::<Brand, _>(rt, alloc, Name::new(), given, manner, &log)?;
+    let ended = heard_named::<Brand, _>(rt, alloc, Name::new(), given, behaviour, &log)?;
     Ok((log.into_inner(), ended))
 }
 
@@ -228,7 +228,7 @@ pub(crate) fn heard_of<R: Host>(
     rt: &R,
     alloc: Global,
     plan: Plan,
-    manner: Manner,
+    behaviour: Behaviour,
 ) -> Result<Heard, Fail> {
-    heard_from(rt, alloc, (plan, Journal::new(alloc)), manner)
+    heard_from(rt, alloc, (plan, Journal::new(alloc)), behaviour)
 }

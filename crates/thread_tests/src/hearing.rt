@@ -3,7 +3,7 @@
 ghost use Rattle.std.specs.Prelude.{⊤};
 
 use crate::plans::left;
-use sched_core::{Answer, Build, Job, Reason, Watch};
+use sched_core::{Answer, Build, Job, LeaseObserver, Reason};
 use std::alloc::Global;
 use std::sync::{Mutex, Wait};
 use std::test::Fail;
@@ -82,7 +82,7 @@ pub(crate) enum View {
 /// How a run is made: by how many workers, and over which view; for which derivations, of each 64
 /// by a bit, builders have no answer, and why; and their gates.
 #[derive(Clone, Copy)]
-pub(crate) struct Manner<'a> {
+pub(crate) struct Behaviour<'a> {
     pub workers: usize,
     pub view: View,
     pub failing: u64,
@@ -91,9 +91,9 @@ pub(crate) struct Manner<'a> {
 }
 
 /// By so many workers over a whole view, where these derivations fail, and with these gates.
-pub(crate) fn by(workers: usize, failing: u64, gates: &[Gate]) -> Manner<'_> {
+pub(crate) fn by(workers: usize, failing: u64, gates: &[Gate]) -> Behaviour<'_> {
     let (view, reason) = (View::Whole, Reason::ExitStatus(7));
-    Manner {
+    Behaviour {
         workers,
         view,
         failing,
@@ -102,7 +102,7 @@ pub(crate) fn by(workers: usize, failing: u64, gates: &[Gate]) -> Manner<'_> {
     }
 }
 
-impl Manner<'_> {
+impl Behaviour<'_> {
     /// A builder's answer.
     pub(crate) fn answer(&self, alloc: Global, job: &Job) -> Result<Answer, Reason> {
         if self.failing >> (job.derivation % 64) & 1 == 1 {
@@ -119,7 +119,7 @@ pub(crate) struct Worker<'a, R> {
     pub alloc: Global,
     pub log: &'a Mutex<Acts>,
     pub number: usize,
-    pub manner: Manner<'a>,
+    pub behaviour: Behaviour<'a>,
 }
 
 impl<R: Wait> Worker<'_, R> {
@@ -132,7 +132,7 @@ impl<R: Wait> Worker<'_, R> {
     }
 }
 
-/// What a worker does before its first turn, and behind its last one.
+/// What a worker does before its first turn, and after its last one.
 pub(crate) trait Comes {
     /// Waits until the worker may take its first turn.
     fn comes<R: Wait + Clock>(&self, rt: &R);
@@ -167,16 +167,16 @@ impl<R: Wait + Clock> Build for Worker<'_, R> {
 
     fn run(&self, number: u64, job: &Job) -> Result<Answer, Reason> {
         self.note(Act::Runs(job.derivation, number));
-        for (lease, act, times) in self.manner.gates {
+        for (lease, act, times) in self.behaviour.gates {
             if *lease == number && !awaits(self.rt, self.log, *act, *times) {
                 return Err(Reason::ExitStatus(99));
             }
         }
-        self.manner.answer(self.alloc, job)
+        self.behaviour.answer(self.alloc, job)
     }
 }
 
-impl<R: Wait> Watch for Worker<'_, R> {
+impl<R: Wait> LeaseObserver for Worker<'_, R> {
     fn begun(&self, unsettled: usize) {
         self.note(Act::Begins(unsettled));
     }

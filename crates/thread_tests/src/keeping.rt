@@ -4,7 +4,7 @@ ghost use Rattle.std.specs.Prelude.{◌≡◌, ⊤};
 use crate::plans::{BEFORE, DIAMOND, SYSTEM, journal, left, plan};
 use crate::runs::{Traces, traces_at_end};
 use drv_graph::Plan;
-use sched_core::{Answer, Build, Job, Reason, Watch};
+use sched_core::{Answer, Build, Job, LeaseObserver, Reason};
 use std::alloc::Global;
 use std::marker::Brand;
 use std::sync::Wait;
@@ -13,8 +13,8 @@ use std::test::*;
 use std::thread;
 use std::thread::Threads;
 use std::time::Clock;
-use store_run::{Keep, RunResult, realise_kept};
-use valid_view::{Name, Naming};
+use store_run::{CheckpointSink, RunResult, realise_kept};
+use valid_view::{ListId, Name};
 
 // How often a builder or a keeper looks at most whether what it waits for has come.
 const PATIENCE: u64 = 20_000_000;
@@ -90,14 +90,14 @@ fn begins(text: &[u8], sum: u64) -> bool {
 
 // What becomes of the texts of a run: whether each is kept once one more lease has ended with
 // outputs, and whether each one is refused with a number that is a multiple of the other number.
-type Manner = (bool, u64);
+type Behaviour = (bool, u64);
 
 // A place that looks at the texts of a run, and the text that was kept last.
 #[derive(Drop)]
 struct Place<'a> {
     alloc: Global,
     counts: &'a Counts,
-    manner: Manner,
+    behaviour: Behaviour,
     before: Vec<u8>,
 }
 
@@ -108,7 +108,7 @@ impl Place<'_> {
     }
 }
 
-impl Keep for Place<'_> {
+impl CheckpointSink for Place<'_> {
     ghost may_keep = { λ text. ⊤ };
 
     fn keep(&mut self, text: &[u8]) -> bool {
@@ -117,7 +117,7 @@ impl Keep for Place<'_> {
         if !self.goes_on(text) {
             let _ = add(&counts.strays);
         }
-        let (is_late, each) = self.manner;
+        let (is_late, each) = self.behaviour;
         if is_late {
             counts.waits(&counts.ended, ended.wrapping_add(1));
         }
@@ -149,7 +149,7 @@ impl Build for Patient<'_> {
     }
 }
 
-impl Watch for Patient<'_> {
+impl LeaseObserver for Patient<'_> {
     fn begun(&self, _unsettled: usize) {}
 
     fn ended(&self, is_good: bool, _unsettled: usize) {
@@ -160,7 +160,7 @@ impl Watch for Patient<'_> {
 }
 
 // What a run by one worker leaves behind, over a view of this name.
-fn run_named<J: Naming + Send + Sync, R: Threads + Wait + Clock + Sync>(
+fn run_named<J: ListId + Send + Sync, R: Threads + Wait + Clock + Sync>(
     rt: &R,
     name: Name,
     plan: &Plan,
@@ -182,13 +182,13 @@ fn run_named<J: Naming + Send + Sync, R: Threads + Wait + Clock + Sync>(
 fn counted<R: Threads + Wait + Clock + Sync>(
     rt: &R,
     alloc: Global,
-    manner: Manner,
+    behaviour: Behaviour,
 ) -> Result<([u64; 4], bool), Fail> {
     let counts = Counts::new();
     let place = Place {
         alloc,
         counts: &counts,
-        manner,
+        behaviour,
         before: Vec::from_slice(alloc, BEFORE)?,
     };
     let plan = plan(alloc, DIAMOND)?;

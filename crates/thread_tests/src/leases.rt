@@ -1,7 +1,7 @@
 //! What builders hear of leases: each is heard of before its job is run, and once; and it counts as
 //! built exactly where its outputs were registered; and how runs end that are stopped.
 use crate::heard::{Ended, heard_of};
-use crate::hearing::{Act, Gate, Manner, View, by, text_of, waiting};
+use crate::hearing::{Act, Behaviour, Gate, View, by, text_of, waiting};
 use crate::locking::CHAIN;
 use crate::plans::{DIAMOND, Host, SOME, plan, random_plan};
 use drv_graph::Plan;
@@ -59,11 +59,11 @@ fn both<R: Host>(
     rt: &R,
     alloc: Global,
     plan: Plan,
-    manner: Manner,
+    behaviour: Behaviour,
 ) -> Result<(Leases, Leases), Fail> {
-    match heard_of(rt, alloc, plan, manner)? {
+    match heard_of(rt, alloc, plan, behaviour)? {
         (acts, (events, None)) => {
-            let heard = ended_by_acts(alloc, &acts, manner.workers)?;
+            let heard = ended_by_acts(alloc, &acts, behaviour.workers)?;
             Ok((heard, ended(alloc, &events)?))
         }
         _ => Err("the run was stopped".into()),
@@ -94,8 +94,8 @@ fn leases_as_they_end(rt: HostRuntime) -> Result<(), Fail> {
 }
 
 // What one worker does over two links.
-fn alone<R: Host>(rt: &R, alloc: Global, manner: Manner) -> Result<String, Fail> {
-    let (acts, _) = heard_of(rt, alloc, plan(alloc, &[&[], &[0]])?, manner)?;
+fn alone<R: Host>(rt: &R, alloc: Global, behaviour: Behaviour) -> Result<String, Fail> {
+    let (acts, _) = heard_of(rt, alloc, plan(alloc, &[&[], &[0]])?, behaviour)?;
     text_of(alloc, &acts, 0)
 }
 
@@ -121,9 +121,9 @@ fn failed_for_each_reason(rt: HostRuntime) -> Result<(), Fail> {
         Reason::OutOfMemory,
         Reason::Killed,
     ] {
-        let mut manner = by(1, u64::MAX, &[]);
-        manner.reason = reason;
-        let text = alone(&rt, rt.alloc(), manner)?;
+        let mut behaviour = by(1, u64::MAX, &[]);
+        behaviour.reason = reason;
+        let text = alone(&rt, rt.alloc(), behaviour)?;
         assert_eq!(rt; text.as_str(), FAILED, "{reason:?}");
     }
     Ok(())
@@ -138,9 +138,9 @@ fn built_and_registered(rt: HostRuntime) -> Result<(), Fail> {
         (View::Full, FAILED),
         (View::Gone, STOPPED),
     ] {
-        let mut manner = by(1, 0, &[]);
-        manner.view = view;
-        let text = alone(&rt, rt.alloc(), manner)?;
+        let mut behaviour = by(1, 0, &[]);
+        behaviour.view = view;
+        let text = alone(&rt, rt.alloc(), behaviour)?;
         assert_eq!(rt; text.as_str(), wanted, "{view:?}");
     }
     Ok(())
@@ -159,10 +159,10 @@ fn rest<R: Host>(
     rt: &R,
     alloc: Global,
     (uses, view): (&[&[usize]], View),
-    mut manner: Manner,
+    mut behaviour: Behaviour,
 ) -> Result<Ended, Fail> {
-    manner.view = view;
-    Ok(heard_of(rt, alloc, plan(alloc, uses)?, manner)?.1)
+    behaviour.view = view;
+    Ok(heard_of(rt, alloc, plan(alloc, uses)?, behaviour)?.1)
 }
 
 // One worker builds the base of a diamond while all others wait; then the run is stopped, before
@@ -175,8 +175,8 @@ fn stopped_while_others_wait(rt: HostRuntime) -> Result<(), Fail> {
         let count = if view == View::Gone { 1 } else { 2 };
         for workers in [1usize, 2, 4, 64] {
             let gates = [waiting(0, workers.wrapping_sub(1))];
-            let manner = by(workers, 0, &gates);
-            let (events, stop) = rest(&rt, rt.alloc(), (DIAMOND, view), manner)?;
+            let behaviour = by(workers, 0, &gates);
+            let (events, stop) = rest(&rt, rt.alloc(), (DIAMOND, view), behaviour)?;
             assert!(rt; all.starts_with(&events), "got {events:?} by {workers}");
             assert_eq!(rt; (events.len(), stop), (count, Some(fault)), "by {workers}");
         }
@@ -205,8 +205,8 @@ fn stopped_while_another_builds(rt: HostRuntime) -> Result<(), Fail> {
         let count = if view == View::Gone { 2 } else { 4 };
         for workers in [2, 4, 64] {
             let gates = stop_gates(workers);
-            let manner = by(workers, 0, &gates);
-            let (events, stop) = rest(&rt, rt.alloc(), (APART, view), manner)?;
+            let behaviour = by(workers, 0, &gates);
+            let (events, stop) = rest(&rt, rt.alloc(), (APART, view), behaviour)?;
             assert!(rt; all.starts_with(&events), "got {events:?} by {workers}");
             assert_eq!(rt; (events.len(), stop), (count, Some(fault)), "by {workers}");
         }

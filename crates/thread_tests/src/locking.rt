@@ -1,7 +1,7 @@
 //! What workers do at the lock of a run: who holds it, who waits, and who is woken; and that it is
 //! not held for a closure.
 use crate::heard::{heard_from, heard_of};
-use crate::hearing::{Act, Acts, Gate, Manner, by, count, text_of, waiting};
+use crate::hearing::{Act, Acts, Behaviour, Gate, by, count, text_of, waiting};
 use crate::plans::{Host, Made, SOME, journal, plan, random_plan};
 use drv_graph::Plan;
 use std::alloc::Global;
@@ -44,8 +44,8 @@ fn gates(workers: usize, is_base: bool) -> [Gate; 3] {
 }
 
 // What all workers of a run do, in order, each with its number.
-fn acts_of<R: Host>(rt: &R, alloc: Global, plan: Plan, manner: Manner) -> Result<Acts, Fail> {
-    Ok(heard_of(rt, alloc, plan, manner)?.0)
+fn acts_of<R: Host>(rt: &R, alloc: Global, plan: Plan, behaviour: Behaviour) -> Result<Acts, Fail> {
+    Ok(heard_of(rt, alloc, plan, behaviour)?.0)
 }
 
 // What each worker does in a run, in rising order.
@@ -56,8 +56,8 @@ fn texts<R: Host>(
     workers: usize,
 ) -> Result<Vec<String>, Fail> {
     let gates = gates(workers, uses.len() > 2);
-    let manner = by(workers, 0, &gates);
-    let acts = acts_of(rt, alloc, plan(alloc, uses)?, manner)?;
+    let behaviour = by(workers, 0, &gates);
+    let acts = acts_of(rt, alloc, plan(alloc, uses)?, behaviour)?;
     let mut texts = Vec::new(alloc);
     for worker in 0..workers {
         texts.push(text_of(alloc, &acts, worker)?)?;
@@ -105,7 +105,7 @@ fn counts_of<R: Host>(rt: &R, alloc: Global, plan: Plan) -> Result<[usize; 5], F
 }
 
 // Of a line the first worker builds all, and nobody is woken before the end. The lock is taken once
-// by each worker, and once behind each derivation.
+// by each worker, and once after each derivation.
 #[test]
 fn calls_over_a_line(rt: HostRuntime) -> Result<(), Fail> {
     let plan = line_or_star(rt.alloc(), 40, true)?;
@@ -114,7 +114,7 @@ fn calls_over_a_line(rt: HostRuntime) -> Result<(), Fail> {
 }
 
 // Of a base with 40 users each lease but the first and the last wakes one. The lock is taken once
-// by each worker, once behind each derivation, and once more by each worker that then finds nothing
+// by each worker, once after each derivation, and once more by each worker that then finds nothing
 // ready, which the last one doesn't.
 #[test]
 fn calls_over_a_star(rt: HostRuntime) -> Result<(), Fail> {
@@ -207,7 +207,7 @@ fn one_at_a_time(rt: HostRuntime) -> Result<(), Fail> {
 // How many links the output of a base leads to.
 const LINKS: usize = 30_000;
 
-// A path without references, a chain of links behind it, and the output of derivation 1 behind the
+// A path without references, a chain of links after it, and the output of derivation 1 after the
 // last one.
 fn chain(alloc: Global, plan: &Plan) -> Result<Journal, Fail> {
     let mut text = String::from_str(alloc, "realiser-journal 2\nA /nix/store/")?;
@@ -241,8 +241,8 @@ fn is_apart_first<R: Host>(rt: &R, alloc: Global) -> Result<bool, Fail> {
     let plan = plan(alloc, &[&[], &[], &[1]])?;
     let journal = chain(alloc, &plan)?;
     let gates = [(0, act, 1)];
-    let manner = by(2, 0, &gates);
-    let (acts, _) = heard_from(rt, alloc, (plan, journal), manner)?;
+    let behaviour = by(2, 0, &gates);
+    let (acts, _) = heard_from(rt, alloc, (plan, journal), behaviour)?;
     let mut behind = acts.iter().skip_while(|(_, known)| *known != act);
     let first = behind.find(|(_, act)| *act == Act::Lock(LockCall::Taken));
     Ok(matches!(first, Some((0, _))))

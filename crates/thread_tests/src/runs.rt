@@ -1,10 +1,10 @@
 //! Whole runs by `realise`.
 ghost use Rattle.std.specs.Prelude.{◌≡◌, ⊤};
 
-use crate::hearing::{Manner, by};
+use crate::hearing::{Behaviour, by};
 use crate::plans::{DIAMOND, SOME, SYSTEM, next, plan, random_plan};
 use drv_graph::Plan;
-use sched_core::{Answer, Book, Build, Event, Job, Reason, Watch};
+use sched_core::{Answer, Book, Build, Event, Job, LeaseObserver, Reason};
 use std::alloc::Global;
 use std::marker::Brand;
 use std::sync::Wait;
@@ -13,7 +13,7 @@ use std::thread;
 use std::thread::Threads;
 use store_run::{RunFault, RunResult, realise};
 use valid_table::{Journal, Outlet};
-use valid_view::{Name, Naming};
+use valid_view::{ListId, Name};
 
 /// What a run leaves behind at its end: its report, its events and its journal's text.
 pub(crate) type Traces = (Vec<u8>, Vec<Event>, Vec<u8>);
@@ -30,7 +30,7 @@ fn traces_of<O: Outlet>(alloc: Global, book: &Book<O>) -> Result<Traces, RunFaul
 }
 
 /// What a run leaves behind that went to its end, or why it didn't. Its book is closed.
-pub(crate) fn traces_at_end<J: Naming + Send, R: Wait>(
+pub(crate) fn traces_at_end<J: ListId + Send, R: Wait>(
     alloc: Global,
     ended: RunResult<J, R>,
 ) -> Result<Traces, RunFault> {
@@ -49,13 +49,11 @@ pub(crate) fn traces_at_end<J: Naming + Send, R: Wait>(
 }
 
 // What a run over a view of this name leaves behind.
-fn run_named<J: Naming + Send + Sync, R: Threads + Wait + Sync, B: Build + Watch + Send + Drop>(
-    rt: &R,
-    alloc: Global,
-    name: Name,
-    plan: &Plan,
-    builders: Vec<B>,
-) -> Result<Traces, RunFault>
+fn run_named<
+    J: ListId + Send + Sync,
+    R: Threads + Wait + Sync,
+    B: Build + LeaseObserver + Send + Drop,
+>(rt: &R, alloc: Global, name: Name, plan: &Plan, builders: Vec<B>) -> Result<Traces, RunFault>
     requires { name ≡ J.book }
 {
     let journal = Journal::new(alloc);
@@ -64,7 +62,7 @@ fn run_named<J: Naming + Send + Sync, R: Threads + Wait + Sync, B: Build + Watch
 }
 
 /// What a run by these builders leaves behind, over an empty journal.
-pub(crate) fn realised<R: Threads + Wait + Sync, B: Build + Watch + Send + Drop>(
+pub(crate) fn realised<R: Threads + Wait + Sync, B: Build + LeaseObserver + Send + Drop>(
     rt: &R,
     alloc: Global,
     plan: &Plan,
@@ -77,7 +75,7 @@ pub(crate) fn realised<R: Threads + Wait + Sync, B: Build + Watch + Send + Drop>
 #[derive(Clone, Copy)]
 struct Yielding {
     alloc: Global,
-    manner: Manner<'static>,
+    behaviour: Behaviour<'static>,
 }
 
 impl Build for Yielding {
@@ -87,24 +85,24 @@ impl Build for Yielding {
         for _ in 0..next(number) >> 59 {
             thread::yield_now();
         }
-        self.manner.answer(self.alloc, job)
+        self.behaviour.answer(self.alloc, job)
     }
 }
 
-impl Watch for Yielding {
+impl LeaseObserver for Yielding {
     fn begun(&self, _unsettled: usize) {}
 
     fn ended(&self, _is_good: bool, _unsettled: usize) {}
 }
 
-// What a run by builders of this manner leaves behind.
+// What a run by builders of this behaviour leaves behind.
 fn run_by<R: Threads + Wait + Sync>(
     rt: &R,
     alloc: Global,
     plan: &Plan,
-    manner: Manner<'static>,
+    behaviour: Behaviour<'static>,
 ) -> Result<Traces, RunFault> {
-    let builders = vec![in alloc; Yielding { alloc, manner }; manner.workers]?;
+    let builders = vec![in alloc; Yielding { alloc, behaviour }; behaviour.workers]?;
     realised(rt, alloc, plan, builders)
 }
 

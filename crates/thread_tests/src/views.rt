@@ -15,7 +15,7 @@ use std::test::*;
 use std::thread::Threads;
 use std::{slice, thread};
 use valid_table::{Entry, Journal, Outlet, OutletFault, Record, Registration};
-use valid_view::{Name, Naming, Prefix, Seen, Tells, ViewFault, ViewReader, ViewWriter, open};
+use valid_view::{ListId, Name, Prefix, Seen, Tells, ViewFault, ViewReader, ViewWriter, open};
 
 // Path n: its hash part is the number in 32 digits, and its name `x`.
 fn numbered(alloc: Global, n: usize) -> Result<StorePath, Fail> {
@@ -50,13 +50,13 @@ fn added_thrice(alloc: Global, n: usize) -> Result<(Entry, Entry, Entry), Fail>
 }
 
 // A writer, beside the journal of all its entries.
-struct Store<J: Naming, R> {
+struct Store<J: ListId, R> {
     journal: Journal,
     writer: ViewWriter<J, R>,
     ghost same: { writer.shown ++ writer.pending ≡ journal.entries },
 }
 
-impl<J: Naming, R> Store<J, R> {
+impl<J: ListId, R> Store<J, R> {
     // Appends path n, which refers to the path before it.
     fn append(&mut self, alloc: Global, n: usize) -> Result<(), Fail> {
         let (entry, copy, shown) = added_thrice(alloc, n)?;
@@ -70,7 +70,7 @@ impl<J: Naming, R> Store<J, R> {
     }
 }
 
-impl<J: Naming + Send, R: Wait + Drop> Store<J, R> {
+impl<J: ListId + Send, R: Wait + Drop> Store<J, R> {
     // The view of a journal with path 0 alone, and `readers` readers.
     fn open(
         rt: R,
@@ -104,7 +104,7 @@ const TURNS: u64 = 1_000_000;
 // What all threads share: the numbered paths, the list that the writer told last, and how many
 // readers had right answers.
 #[derive(Drop)]
-struct Square<J: Naming> {
+struct Square<J: ListId> {
     alloc: Global,
     paths: Vec<StorePath>,
     told: Mutex<Prefix<J>>,
@@ -113,13 +113,13 @@ struct Square<J: Naming> {
 
 // A reader, and the last path that it found valid.
 #[derive(Drop)]
-struct Watcher<'a, J: Naming> {
+struct Watcher<'a, J: ListId> {
     square: &'a Square<J>,
     reader: ViewReader<J>,
     last: usize,
 }
 
-impl<'a, J: Naming> Watcher<'a, J> {
+impl<'a, J: ListId> Watcher<'a, J> {
     // Whether path n is valid.
     fn sees(&mut self, n: usize) -> Result<bool, ViewFault> {
         let Some(path) = self.square.paths.get(n) else {
@@ -203,7 +203,7 @@ fn all_numbered(alloc: Global) -> Result<Vec<StorePath>, Fail> {
 }
 
 // One reader's thread. The reader is counted where all answers fitted.
-fn watch<J: Naming, R: Wait>(rt: &R, square: &Square<J>, reader: ViewReader<J>, seed: u64) {
+fn watch<J: ListId, R: Wait>(rt: &R, square: &Square<J>, reader: ViewReader<J>, seed: u64) {
     let mut watcher = Watcher {
         square,
         reader,
@@ -215,7 +215,7 @@ fn watch<J: Naming, R: Wait>(rt: &R, square: &Square<J>, reader: ViewReader<J>, 
 }
 
 // Publishes all paths, one by one, and nothing after each, and tells the list.
-fn write<J: Naming + Send, R: Wait, W: Wait + Drop>(
+fn write<J: ListId + Send, R: Wait, W: Wait + Drop>(
     rt: &R,
     square: &Square<J>,
     store: &mut Store<J, W>,
@@ -231,7 +231,7 @@ fn write<J: Naming + Send, R: Wait, W: Wait + Drop>(
 
 // How many readers had right answers, while each asked in a thread of its own and all paths were
 // published.
-fn content<J: Naming + Send + Sync, R: Threads + Wait + Sync, W: Wait + Drop>(
+fn content<J: ListId + Send + Sync, R: Threads + Wait + Sync, W: Wait + Drop>(
     rt: &R,
     square: &Square<J>,
     store: &mut Store<J, W>,
@@ -249,7 +249,7 @@ fn content<J: Naming + Send + Sync, R: Threads + Wait + Sync, W: Wait + Drop>(
 }
 
 // The same, and how many entries the writer showed in the end.
-fn crowded<J: Naming + Send + Sync, R: Host>(
+fn crowded<J: ListId + Send + Sync, R: Host>(
     rt: &R,
     alloc: Global,
     name: Name,
@@ -280,7 +280,7 @@ fn crowd_beside_a_writer(rt: HostRuntime) -> Result<(), Fail> {
 }
 
 // What a reader answers. Nothing here could wait: no handle is in reach.
-fn closure<J: Naming>(
+fn closure<J: ListId>(
     alloc: Global,
     reader: &mut ViewReader<J>,
     roots: &[StorePath],
@@ -289,7 +289,7 @@ fn closure<J: Naming>(
 }
 
 // What a reader answers while the book's lock is held, and how many entries the book has then.
-fn asked_meanwhile<J: Naming, O: Tells<J>, R: Wait>(
+fn asked_meanwhile<J: ListId, O: Tells<J>, R: Wait>(
     rt: &R,
     alloc: Global,
     book: Book<O>,
@@ -306,7 +306,7 @@ fn asked_meanwhile<J: Naming, O: Tells<J>, R: Wait>(
 }
 
 // The same for the book of a run that opens with path 0.
-fn asked<J: Naming + Send, R: Host>(
+fn asked<J: ListId + Send, R: Host>(
     rt: &R,
     alloc: Global,
     name: Name,

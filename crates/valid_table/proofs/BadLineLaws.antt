@@ -17,8 +17,8 @@ use Rattle.valid_table.specs.Reading.{BeginsVersion}
 use Rattle.valid_table.specs.private.Steps.{Place, Start, Begun, Opened, Within, Ahead, IsStuck, LeadsTo, Stops}
 use Rattle.valid_table.specs.Texts.{IsTextIn, Line, First, Output, line_text, lines, text, version_line}
 use Rattle.valid_table.specs.declared.entry.Entry.{Entry}
-use Rattle.valid_table.specs.declared.version.Version.{Version}
-use Rattle.valid_table.specs.declared.version.Version.TheVariants.{One}
+use Rattle.valid_table.specs.declared.path_table.version.Version.{Version}
+use Rattle.valid_table.specs.declared.path_table.version.Version.TheVariants.{One}
 use Rattle.valid_table.proofs.Leading.{GoesOn, ahead_of, go_on, leads_end, leads_prefix, leads_joined, leads_some, leads_weaker, lines_of, one_more, text_and, text_push}
 use Rattle.valid_table.proofs.LineLists.{Ends, MayEnd, end_ahead, lines_end, lines_of_text, text_of_lines}
 use Rattle.valid_table.proofs.LineTexts.{IsLineOf, body_lacks, line_and, texts_are_lines}

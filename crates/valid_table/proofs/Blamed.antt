@@ -10,7 +10,7 @@ use Rattle.valid_table.specs.Valid.{references_of}
 use Rattle.valid_table.specs.declared.entry.Registration.{Registration}
 use Rattle.valid_table.specs.declared.fault.TableFault.{TableFault}
 use Rattle.valid_table.specs.declared.fault.TableFault.TheVariants.{NoMemory, Unclosed, AlreadyValid}
-use Rattle.valid_table.specs.declared.obstacle.Blame.{Blame}
+use Rattle.valid_table.specs.declared.path_table.obstacle.FaultAt.{FaultAt}
 use Rattle.valid_table.proofs.EnteredPaths.{unclosed_here}
 use Rattle.nix_names.proofs.Lists.{same_element}
 
@@ -31,13 +31,13 @@ unclosed_at known some i r references place all lt is same first =
     (r, place, here.0, slice_get-get_or _ i r lt ∙ ap Some (sym is), refl, here.1, here.2)
 
 -- who has it is to blame, where all paths are new
-pub blamed_for_reference : (known some : List Registration) (blame : Blame) → AreNew known some
+pub blamed_for_reference : (known some : List Registration) (blame : FaultAt) → AreNew known some
     → IsUnclosedAt known some blame → IsBlamed known some blame
 blamed_for_reference known some blame new (r, place, path, at, told, read, first) = search rules
 
 -- what is answered where all paths are new
 pub blamed_or_closed :
-    (known some : List Registration) (o : Option Blame) →
+    (known some : List Registration) (o : Option FaultAt) →
     AreNew known some →
     MatchOption o (AreClosed known some) (IsUnclosedAt known some) →
     MatchOption o (AreNew known some × AreClosed known some) (IsBlamed known some)
@@ -46,7 +46,7 @@ blamed_or_closed known some (Some blame) new at = blamed_for_reference _ _ _ new
 
 -- and is who is read at the place
 pub blamed_read :
-    (known some : List Registration) (blame : Blame) (r : Registration) →
+    (known some : List Registration) (blame : FaultAt) (r : Registration) →
     IsBlamed known some blame →
     slice_get some blame.registration ≡ Some r →
     IsBlamedFor known some r blame.reference

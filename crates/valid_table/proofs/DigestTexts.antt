@@ -5,8 +5,8 @@ use Rattle.nix_names.specs.Digests.{IsDigest, algorithm_of, digits_of}
 use Rattle.nix_names.specs.declared.digest.Algorithm.TheVariants.{Sha256}
 use Rattle.nix_names.specs.declared.digest.Digest.{Digest}
 use Rattle.valid_table.specs.Texts.{IsDigestOf, digest_text}
-use Rattle.valid_table.specs.declared.version.Version.{Version}
-use Rattle.valid_table.specs.declared.version.Version.TheVariants.{One}
+use Rattle.valid_table.specs.declared.path_table.version.Version.{Version}
+use Rattle.valid_table.specs.declared.path_table.version.Version.TheVariants.{One}
 
 -- bytes that are neither a dash nor a digest's text are no text of one that may be none
 pub no_digest : (version : Version) (text : List ℕ) → text ≢ codes "-"

@@ -10,7 +10,7 @@ use Rattle.valid_table.specs.Reading.{BeginsVersion}
 use Rattle.valid_table.specs.private.Steps.{Place, Begun, Stops}
 use Rattle.valid_table.specs.Texts.{IsEntryIn, IsJournalText, First, entry_lines, lines, text, version_line}
 use Rattle.valid_table.specs.declared.entry.Entry.{Entry}
-use Rattle.valid_table.specs.declared.version.Version.{Version}
+use Rattle.valid_table.specs.declared.path_table.version.Version.{Version}
 use Rattle.valid_table.proofs.EntryLines.{lead}
 use Rattle.valid_table.proofs.Leading.{text_and}
 use Rattle.valid_table.proofs.LineSteps.{stop_behind}

@@ -7,7 +7,7 @@ use Rattle.valid_table.specs.Texts.{Line, Added, Deriver, Output, Reference, ent
 use Rattle.valid_table.specs.declared.entry.Entry.{Entry}
 use Rattle.valid_table.specs.declared.entry.Entry.TheVariants.{Add, Done}
 use Rattle.valid_table.specs.declared.entry.Registration.{Registration}
-use Rattle.valid_table.specs.declared.version.Version.{Version}
+use Rattle.valid_table.specs.declared.path_table.version.Version.{Version}
 use Rattle.valid_table.proofs.Leading.{line_of}
 use Rattle.valid_table.proofs.LineLists.{IsBehind, entry_back, within_enters}
 use Rattle.valid_table.proofs.LineSteps.{StopsIn, first, stop_behind, stop_here, stops_back, stops_in}

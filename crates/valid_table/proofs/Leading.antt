@@ -6,7 +6,7 @@ use Rattle.std.proofs.lemmas.List.Elements.{All-cons, All-nil, All-head, All-tai
 use Rattle.valid_table.specs.private.LineTexts.{lines_text}
 use Rattle.valid_table.specs.private.Steps.{Place, Start, Begun, Opened, Within, Ahead, GoesOnWith, LeadsTo, MayBeLine, behind}
 use Rattle.valid_table.specs.Texts.{Line, First, Added, Deriver, Output, Reference, line_text}
-use Rattle.valid_table.specs.declared.version.Version.{Version}
+use Rattle.valid_table.specs.declared.path_table.version.Version.{Version}
 use Rattle.valid_table.proofs.LineTexts.{IsLineOf, same_lines}
 
 -- ---- to where lines lead

@@ -12,8 +12,8 @@ use Rattle.valid_table.specs.Texts.{IsDigestOf, IsEntryIn, IsOf, IsJournalText, 
 use Rattle.valid_table.specs.declared.entry.Entry.{Entry}
 use Rattle.valid_table.specs.declared.entry.Entry.TheVariants.{Add, Done}
 use Rattle.valid_table.specs.declared.entry.Registration.{Registration}
-use Rattle.valid_table.specs.declared.version.Version.{Version}
-use Rattle.valid_table.specs.declared.version.Version.TheVariants.{One}
+use Rattle.valid_table.specs.declared.path_table.version.Version.{Version}
+use Rattle.valid_table.specs.declared.path_table.version.Version.TheVariants.{One}
 use Rattle.valid_table.proofs.RisingPaths.{AreAbove, above_of_rising, rising_of_above}
 
 -- ---- the lines of entries, and what comes after them

@@ -10,7 +10,7 @@ use Rattle.nix_names.proofs.PathFaults.{no_fault_of_path}
 use Rattle.valid_table.specs.private.Readers.{HasNoFields, IsDeriverLine, IsFieldsLine, IsNoLine, IsPathLine}
 use Rattle.valid_table.specs.private.Steps.{IsAbove}
 use Rattle.valid_table.specs.Texts.{IsDigestOf, digest_text}
-use Rattle.valid_table.specs.declared.version.Version.{Version}
+use Rattle.valid_table.specs.declared.path_table.version.Version.{Version}
 use Rattle.valid_table.proofs.LineTexts.{fields_apart, two_fields, two_path_lines}
 use Rattle.valid_table.proofs.Separators.{Lacks, digest_lacks, dir_lacks, lacks_not, newline, path_lacks, same_cut, space}
 

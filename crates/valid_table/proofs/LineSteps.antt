@@ -3,11 +3,11 @@ use Rattle.std.proofs.Common.{◌≡◌, ℕ, List, [], ◌∷◌, ◌++◌, len
 use Rattle.std.proofs.lemmas.List.{append-nil, append_assoc}
 use Rattle.valid_table.specs.private.LineTexts.{lines_text}
 use Rattle.valid_table.specs.private.Readers.{StopsWhere}
-use Rattle.valid_table.specs.declared.reading.LineFault.{LineFault}
-use Rattle.valid_table.specs.declared.reading.LineFault.TheVariants.{NoMemory, Left}
+use Rattle.valid_table.specs.declared.journal_text.reading.LineFault.{LineFault}
+use Rattle.valid_table.specs.declared.journal_text.reading.LineFault.TheVariants.{NoMemory, Left}
 use Rattle.valid_table.specs.private.Steps.{Place, Ahead, GoesOnWith, MayBeLine, Stops, behind}
 use Rattle.valid_table.specs.Texts.{Line, line_text}
-use Rattle.valid_table.specs.declared.version.Version.{Version}
+use Rattle.valid_table.specs.declared.path_table.version.Version.{Version}
 use Rattle.valid_table.proofs.LineLists.{IsBackward}
 
 -- the first byte

@@ -15,8 +15,8 @@ use Rattle.valid_table.specs.BadLines.{AreLines}
 use Rattle.valid_table.specs.private.LineTexts.{fields_text, lines_text, references_text}
 use Rattle.valid_table.specs.private.Readers.{IsFieldsLine, IsPathLine}
 use Rattle.valid_table.specs.Texts.{IsDigestOf, Line, First, Added, Deriver, Output, Reference, digest_text, line_text, version_line}
-use Rattle.valid_table.specs.declared.version.Version.{Version}
-use Rattle.valid_table.specs.declared.version.Version.TheVariants.{One, Two}
+use Rattle.valid_table.specs.declared.path_table.version.Version.{Version}
+use Rattle.valid_table.specs.declared.path_table.version.Version.TheVariants.{One, Two}
 use Rattle.valid_table.proofs.Separators.{Lacks, digest_lacks, newline, passing, path_lacks, same_cut, same_path, space}
 use Rattle.nix_names.proofs.DigestTexts.{one_digest, one_text}
 

@@ -11,8 +11,8 @@ use Rattle.valid_table.specs.Texts.{IsTextIn, Line, First, Added, Deriver, Outpu
 use Rattle.valid_table.specs.declared.entry.Entry.{Entry}
 use Rattle.valid_table.specs.declared.entry.Entry.TheVariants.{Add, Done}
 use Rattle.valid_table.specs.declared.entry.Registration.{Registration}
-use Rattle.valid_table.specs.declared.version.Version.{Version}
-use Rattle.valid_table.specs.declared.version.Version.TheVariants.{One, Two}
+use Rattle.valid_table.specs.declared.path_table.version.Version.{Version}
+use Rattle.valid_table.specs.declared.path_table.version.Version.TheVariants.{One, Two}
 use Rattle.valid_table.proofs.Leading.{aligned, lines_of}
 use Rattle.valid_table.proofs.LineLists.{Ends, MayEnd, lines_end}
 use Rattle.valid_table.proofs.LineTexts.{body, line_and}

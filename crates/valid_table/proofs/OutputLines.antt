@@ -12,7 +12,7 @@ use Rattle.valid_table.specs.private.Readers.{HasRegistration, IsBadFields, SoFa
 use Rattle.valid_table.specs.private.Steps.{Ahead, IsAbove, Opened, GoesOnWith, MayBeOutputAfter, MayBeLine, Stops}
 use Rattle.valid_table.specs.Texts.{IsOf, Line, Output, output_lines}
 use Rattle.valid_table.specs.declared.entry.Registration.{Registration}
-use Rattle.valid_table.specs.declared.version.Version.{Version}
+use Rattle.valid_table.specs.declared.path_table.version.Version.{Version}
 use Rattle.valid_table.proofs.Leading.{text_and}
 use Rattle.valid_table.proofs.LineLists.{may_stand, outputs_back, place_at}
 use Rattle.valid_table.proofs.LineSteps.{StopsIn, first, stop_behind, stop_here, stops_back, stops_in}

@@ -13,8 +13,8 @@ use Rattle.valid_table.specs.Texts.{IsJournalText, Line, line_text, lines, text}
 use Rattle.valid_table.specs.declared.entry.Entry.{Entry}
 use Rattle.valid_table.specs.declared.fault.TableFault.{TableFault}
 use Rattle.valid_table.specs.declared.fault.TableFault.TheVariants.{NoMemory, NotClosed, Twice}
-use Rattle.valid_table.specs.declared.version.Version.{Version}
-use Rattle.valid_table.specs.declared.version.Version.TheVariants.{Two}
+use Rattle.valid_table.specs.declared.path_table.version.Version.{Version}
+use Rattle.valid_table.specs.declared.path_table.version.Version.TheVariants.{Two}
 use Rattle.valid_table.proofs.BadLineLaws.{bad_first, bad_line, stops_count}
 use Rattle.valid_table.proofs.LineTexts.{body, line_and}
 use Rattle.valid_table.proofs.Versions.{text_begins}

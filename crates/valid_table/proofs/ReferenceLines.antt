@@ -11,7 +11,7 @@ use Rattle.valid_table.specs.PathInfos.{PathInfo}
 use Rattle.valid_table.specs.private.Readers.{ReadsReferences, HasRegistration, IsFieldsLine, IsPathLine, SoFarReferences}
 use Rattle.valid_table.specs.private.Steps.{IsAbove, GoesOnWith, Stops, Within}
 use Rattle.valid_table.specs.Texts.{IsDigestOf, Line, Reference}
-use Rattle.valid_table.specs.declared.version.Version.{Version}
+use Rattle.valid_table.specs.declared.path_table.version.Version.{Version}
 use Rattle.valid_table.proofs.LineTexts.{references_are, two_path_lines}
 use Rattle.valid_table.proofs.LineLists.{references_back}
 use Rattle.valid_table.proofs.LineSteps.{StopsIn, first, stop_here, stops_back, stops_in}

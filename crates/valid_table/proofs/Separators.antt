@@ -17,8 +17,8 @@ use Rattle.nix_names.specs.declared.digest.Algorithm.TheVariants.{Md5, Sha1, Sha
 use Rattle.nix_names.specs.declared.digest.Digest.{Digest}
 use Rattle.nix_names.proofs.DigestTexts.{bytes_everywhere}
 use Rattle.valid_table.specs.Texts.{IsDigestOf, digest_text}
-use Rattle.valid_table.specs.declared.version.Version.{Version}
-use Rattle.valid_table.specs.declared.version.Version.TheVariants.{One, Two}
+use Rattle.valid_table.specs.declared.path_table.version.Version.{Version}
+use Rattle.valid_table.specs.declared.path_table.version.Version.TheVariants.{One, Two}
 
 -- a list has no element that equals this one
 abbrev pub Lacks : ℕ → List ℕ → Type 0

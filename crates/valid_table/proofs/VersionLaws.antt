@@ -16,7 +16,7 @@ use Rattle.valid_table.specs.Valid.{IsJournal}
 use Rattle.valid_table.specs.declared.entry.Entry.{Entry}
 use Rattle.valid_table.specs.declared.entry.Entry.TheVariants.{Add, Done}
 use Rattle.valid_table.specs.declared.entry.Registration.{Registration}
-use Rattle.valid_table.specs.declared.version.Version.TheVariants.{One, Two}
+use Rattle.valid_table.specs.declared.path_table.version.Version.TheVariants.{One, Two}
 use Rattle.valid_table.proofs.Leading.{lines_of}
 use Rattle.valid_table.proofs.LineLists.{MayEnd, lines_end}
 use Rattle.valid_table.proofs.LineTexts.{IsLineOf}

@@ -9,8 +9,8 @@ use Rattle.valid_table.specs.BadLines.{IsOtherVersion}
 use Rattle.valid_table.specs.Reading.{BeginsVersion, IsTooLong, max_len}
 use Rattle.valid_table.specs.Texts.{IsTextIn, text, version_line}
 use Rattle.valid_table.specs.declared.entry.Entry.{Entry}
-use Rattle.valid_table.specs.declared.version.Version.{Version}
-use Rattle.valid_table.specs.declared.version.Version.TheVariants.{One, Two}
+use Rattle.valid_table.specs.declared.path_table.version.Version.{Version}
+use Rattle.valid_table.specs.declared.path_table.version.Version.TheVariants.{One, Two}
 use Rattle.valid_table.proofs.Separators.{Lacks, apart, lacks_not, same_cut}
 
 -- ---- another version

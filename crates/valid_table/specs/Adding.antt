@@ -7,8 +7,8 @@ use Rattle.valid_table.specs.declared.entry.Entry.{Entry}
 use Rattle.valid_table.specs.declared.entry.Registration.{Registration}
 use Rattle.valid_table.specs.declared.fault.TableFault.{TableFault}
 use Rattle.valid_table.specs.declared.fault.TableFault.TheVariants.{NoMemory, Unclosed, AlreadyValid}
-use Rattle.valid_table.specs.declared.obstacle.Obstacle.{Obstacle}
-use Rattle.valid_table.specs.declared.obstacle.Obstacle.TheVariants as obstacle
+use Rattle.valid_table.specs.declared.path_table.obstacle.Obstacle.{Obstacle}
+use Rattle.valid_table.specs.declared.path_table.obstacle.Obstacle.TheVariants as obstacle
 use Rattle.nix_names.specs.Firsts.{IsFirst}
 
 -- none of the paths of some registrations is valid by known ones

@@ -11,8 +11,8 @@ use Rattle.valid_table.specs.Entries.{paths_registered}
 use Rattle.valid_table.specs.declared.entry.Entry.{Entry}
 use Rattle.valid_table.specs.declared.entry.Entry.TheVariants.{Add, Done}
 use Rattle.valid_table.specs.declared.entry.Registration.{Registration}
-use Rattle.valid_table.specs.declared.version.Version.{Version}
-use Rattle.valid_table.specs.declared.version.Version.TheVariants.{One, Two}
+use Rattle.valid_table.specs.declared.path_table.version.Version.{Version}
+use Rattle.valid_table.specs.declared.path_table.version.Version.TheVariants.{One, Two}
 
 -- One line: the first one, an added path, a deriver, an output, or a reference of the added path or
 -- output before it.

@@ -3,7 +3,7 @@ use Rattle.std.specs.Prelude.{◌≡◌, ◌++◌, List, flat_map}
 use Rattle.nix_names.specs.Bytes.{Bytes}
 use Rattle.valid_table.specs.Texts.{entry_lines, line_text, text}
 use Rattle.valid_table.specs.declared.entry.Entry.{Entry}
-use Rattle.valid_table.specs.declared.version.Version.TheVariants.{Two}
+use Rattle.valid_table.specs.declared.path_table.version.Version.TheVariants.{Two}
 
 -- the text of a journal with these entries, as it is written: in version 2
 abbrev pub written_text : List Entry → Bytes

@@ -5,7 +5,7 @@ ghost use Rattle.valid_table.specs.Entries.{IsSortedOf, paths_registered, regist
 ghost use Rattle.valid_table.specs.private.RecordContents.{digest_known, references_known};
 ghost use Rattle.valid_table.specs.Valid.{IsOnce};
 
-use crate::stored_digest::StoredDigest;
+use crate::journal_text::stored_digest::StoredDigest;
 use nix_names::{Digest, StorePath};
 use std::alloc::{AllocError, Global};
 use std::marker::Model;

@@ -2,7 +2,7 @@
 ghost use Rattle.std.specs.Prelude.{◌≡◌};
 ghost use Rattle.valid_table.specs.Faults.{number_of, outlet_number_of};
 
-use crate::reference::Reference;
+use crate::reachability::reference::Reference;
 use nix_names::StorePath;
 use std::alloc::{AllocError, AllocFailed};
 use thiserror::Error;

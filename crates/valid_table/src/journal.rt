@@ -8,11 +8,11 @@ ghost use Rattle.valid_table.specs.Texts.{lines};
 ghost use Rattle.valid_table.specs.Valid.{HasDrvPath, IsJournal, IsValid};
 ghost use Rattle.valid_table.specs.declared.entry.Entry.TheVariants.{Add, Done};
 
-use crate::checking::check_entries;
 use crate::entry::{Entry, Outputs, Record, Registration, copy_entries};
 use crate::fault::TableFault;
-use crate::obstacle::fault_of;
-use crate::table::Table;
+use crate::journal_text::checking::check_entries;
+use crate::path_table::obstacle::fault_of;
+use crate::path_table::table::Table;
 use nix_names::StorePath;
 use std::alloc::{AllocError, Global};
 use std::marker::Model;

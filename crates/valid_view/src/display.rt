@@ -1,8 +1,8 @@
 //! Lists that are shown, as what shows them tells.
 ghost use Rattle.std.specs.Prelude.{◌≡◌, []};
 
-use crate::law::Law;
-use crate::name::Naming;
+use crate::append_only::AppendOnly;
+use crate::list_id::ListId;
 use crate::prefix::BarePrefix;
 use crate::rule::{Published, SeenEntries};
 use crate::shown_table::{Op, ShownTable};
@@ -54,7 +54,7 @@ impl Model for DisplayedList {
 
 impl DisplayedList {
     // The list without entries.
-    pub(crate) fn none(seen: Seen<Entry, u64, Law>) -> DisplayedList
+    pub(crate) fn none(seen: Seen<Entry, u64, AppendOnly>) -> DisplayedList
         requires { seen.log ≡ [] }
         ensures book { result.book ≡ seen.book }
         ensures entries { result.entries ≡ [] }
@@ -65,7 +65,7 @@ impl DisplayedList {
     }
 
     // The list that a writer shows.
-    pub(crate) fn of_writer<J: Naming>(
+    pub(crate) fn of_writer<J: ListId>(
         writer: &Writer<ShownTable, Op, SeenEntries, Published<J>>,
     ) -> DisplayedList
         ensures { result ≡ writer.now.desk.shown.value.prefix }
@@ -76,7 +76,7 @@ impl DisplayedList {
     }
 
     // The list that a writer showed last. Ends the writer. May wait for readers.
-    pub(crate) fn at_end<J: Naming, R: Wait>(
+    pub(crate) fn at_end<J: ListId, R: Wait>(
         writer: Writer<ShownTable, Op, SeenEntries, Published<J>>,
         rt: &R,
     ) -> DisplayedList
@@ -88,7 +88,7 @@ impl DisplayedList {
     }
 
     // The list that a reader reads.
-    pub(crate) fn of_reading<J: Naming>(
+    pub(crate) fn of_reading<J: ListId>(
         reading: &Reading<ShownTable, SeenEntries, Published<J>>,
     ) -> DisplayedList
         ensures { result ≡ reading.now.part.value.prefix }

@@ -2,7 +2,7 @@
 ghost use Rattle.std.specs.Prelude.{◌≡◌};
 ghost use Rattle.valid_view.specs.Faults.{number_of};
 
-use crate::reading::Unreached;
+use crate::reading::WriterGone;
 use nix_names::StorePath;
 use thiserror::Error;
 
@@ -18,7 +18,7 @@ pub enum ViewFault {
     /// The view cannot be reached: its writer is gone. Only a reader that was refused makes this
     /// fault.
     #[error("the published list cannot be reached")]
-    NoView(Unreached),
+    NoView(WriterGone),
 }
 
 impl ViewFault {

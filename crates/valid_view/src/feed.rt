@@ -6,7 +6,7 @@ ghost use Rattle.valid_table.specs.Valid.{references_of};
 ghost use Rattle.valid_view.specs.private.Feeding.{Takes, known_of, pending_of};
 ghost use Rattle.valid_view.specs.private.Refusals.{IsShowRefused};
 
-use crate::name::Naming;
+use crate::list_id::ListId;
 use crate::prefix::{Head, NamedPrefix, Prefix};
 use crate::refusal::FeedFault;
 use crate::shown_table::Op;
@@ -19,7 +19,7 @@ use std::sync::Wait;
 use valid_table::{Entry, OutletFault};
 
 // The writer's end, and the entries that wait before it.
-pub(crate) struct Feed<J: Naming> {
+pub(crate) struct Feed<J: ListId> {
     end: WriterEnd<J>,
     // The prefix of the one list that ends with all that is in it.
     prefix: NamedPrefix<J>,
@@ -30,7 +30,7 @@ pub(crate) struct Feed<J: Naming> {
     head: Head<J>,
 }
 
-impl<J: Naming> Model for Feed<J> {
+impl<J: ListId> Model for Feed<J> {
     ghost use Rattle.valid_view.specs.private.Feeding.{FeedValue, IsFeed, entries_of, ops_of};
 
     ghost Value = { FeedValue };
@@ -46,7 +46,7 @@ impl<J: Naming> Model for Feed<J> {
         f.queue.items f.prefix };
 }
 
-impl<J: Naming> Feed<J> {
+impl<J: ListId> Feed<J> {
     // A feed over the writer's end, where all that is in the list is shown.
     pub(crate) fn over(
         end: WriterEnd<J>,

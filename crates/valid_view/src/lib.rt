@@ -2,8 +2,8 @@
 //!
 //! | Module | What is in it |
 //! |---|---|
-//! | `name` | the name of the one list |
-//! | `law` | the rule of the one list |
+//! | `list_id` | the name of the one list |
+//! | `append_only` | the rule of the one list |
 //! | `display` | that a list was shown |
 //! | `prefix` | lists that were shown, and prefixes of the one list |
 //! | `shown_table`, `rule` | what is shown, and the rule for it |
@@ -16,12 +16,12 @@
 //! | `laws` | laws over the definitions that contracts cite |
 #![tactic(auto)]
 
+mod append_only;
 mod display;
 mod fault;
 mod feed;
-mod law;
 pub mod laws;
-mod name;
+mod list_id;
 mod opening;
 mod prefix;
 mod reader;
@@ -36,11 +36,11 @@ mod writer_end;
 
 pub use display::{DisplayedList, Showing};
 pub use fault::ViewFault;
-pub use name::{Name, Naming};
+pub use list_id::{ListId, Name};
 pub use opening::open;
 pub use prefix::Prefix;
 pub use reader::ViewReader;
-pub use reading::Unreached;
+pub use reading::WriterGone;
 pub use refusal::{OpenFault, Unopened};
 pub use seen::Seen;
 pub use tells::Tells;

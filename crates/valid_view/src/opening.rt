@@ -6,7 +6,7 @@ ghost use Rattle.valid_view.specs.Prefixes.{Hinders};
 ghost use Rattle.valid_view.specs.private.Feeding.{pending_of};
 
 use crate::feed::Feed;
-use crate::name::{Name, Naming};
+use crate::list_id::{ListId, Name};
 use crate::prefix::{BarePrefix, Head, NamedPrefix, Prefix};
 use crate::reader::ViewReader;
 use crate::refusal::{FeedFault, OpenFault};
@@ -21,7 +21,7 @@ use valid_table::{Entry, Journal, Table, TableFault};
 /// Opens a view that shows a journal's entries, with 1 to 64 readers, each of which was told of
 /// these entries. `NoMemory` where memory is refused, `NoView` where there is no place for a
 /// reader. Copies the table of the journal twice.
-pub fn open<J: Naming, R: Wait + Drop>(
+pub fn open<J: ListId, R: Wait + Drop>(
     alloc: Global,
     rt: R,
     name: Name,
@@ -51,7 +51,7 @@ pub fn open<J: Naming, R: Wait + Drop>(
 }
 
 // The feed of a view that shows a journal's entries, and the readers of the view.
-fn open_feed<J: Naming, R: Wait>(
+fn open_feed<J: ListId, R: Wait>(
     alloc: Global,
     rt: &R,
     name: Name,
@@ -86,7 +86,7 @@ fn open_feed<J: Naming, R: Wait>(
 }
 
 // Puts a journal's entries into a list that has none.
-fn fill<J: Naming>(
+fn fill<J: ListId>(
     prefix: &mut NamedPrefix<J>,
     head: &Head<J>,
     entries: &[Entry],
@@ -102,7 +102,7 @@ fn fill<J: Naming>(
 }
 
 // One of the two tables of a view.
-fn shown_table<J: Naming>(
+fn shown_table<J: ListId>(
     alloc: Global,
     journal: &Journal,
     prefix: &NamedPrefix<J>,
@@ -126,7 +126,7 @@ fn shown_table<J: Naming>(
 
 // The readers of a view, which have seen the list without entries, and were told of the one that
 // is shown.
-fn make_readers<J: Naming>(
+fn make_readers<J: ListId>(
     alloc: Global,
     end: &WriterEnd<J>,
     none: &Prefix<J>,

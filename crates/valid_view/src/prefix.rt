@@ -4,24 +4,24 @@ ghost use mathlib.Core.List.{IsPrefix};
 ghost use Rattle.valid_view.specs.Prefixes.{Hinders, head_of};
 ghost use Rattle.valid_view.specs.Shown.{IsShowable, MayFollow};
 
+use crate::append_only::{Add, AppendOnly, NoGain};
 use crate::display::DisplayedList;
-use crate::law::{Add, Law, Nothing};
-use crate::name::Naming;
+use crate::list_id::ListId;
 use logbook::{Offer, Seen, Word};
 use std::marker::{Model, PhantomData};
 use valid_table::Entry;
 
 // The word that holds the length of the list with this name.
 #[derive(Drop)]
-pub(crate) struct Head<J: Naming> {
-    word: Word<Entry, u64, Law>,
+pub(crate) struct Head<J: ListId> {
+    word: Word<Entry, u64, AppendOnly>,
     of: PhantomData<J>,
     ghost head_is: { word ≡ head_of J.book },
 }
 
-impl<J: Naming> Head<J> {
+impl<J: ListId> Head<J> {
     // The word of the list with this name.
-    pub(crate) fn over(word: Word<Entry, u64, Law>) -> Head<J>
+    pub(crate) fn over(word: Word<Entry, u64, AppendOnly>) -> Head<J>
         requires { word ≡ head_of J.book }
     {
         Head {
@@ -34,11 +34,11 @@ impl<J: Naming> Head<J> {
 /// A list that was shown under this name. It is a prefix of the one list with the name. A
 /// contract sees its entries. Takes no memory, and has the size of one number.
 #[derive(Drop)]
-pub struct Prefix<J: Naming> {
+pub struct Prefix<J: ListId> {
     all: NamedPrefix<J>,
 }
 
-impl<J: Naming> Model for Prefix<J> {
+impl<J: ListId> Model for Prefix<J> {
     ghost use Rattle.std.specs.Prelude.{List};
     ghost use Rattle.valid_table.specs.declared.entry.Entry.{Entry};
 
@@ -49,7 +49,7 @@ impl<J: Naming> Model for Prefix<J> {
     ghost invariant = { λ f. J.Showing.shown J.book f.all };
 }
 
-impl<J: Naming> Prefix<J> {
+impl<J: ListId> Prefix<J> {
     // A list that was shown.
     pub(crate) fn over(list: DisplayedList) -> Prefix<J>
         requires { list.book ≡ J.book }
@@ -94,12 +94,12 @@ impl<J: Naming> Prefix<J> {
 
 // A prefix of the list with this name, shown or not. A contract sees its entries.
 #[derive(Drop)]
-pub(crate) struct NamedPrefix<J: Naming> {
+pub(crate) struct NamedPrefix<J: ListId> {
     all: BarePrefix,
     of: PhantomData<J>,
 }
 
-impl<J: Naming> Model for NamedPrefix<J> {
+impl<J: ListId> Model for NamedPrefix<J> {
     ghost use Rattle.std.specs.Prelude.{◌≡◌, List};
     ghost use Rattle.valid_table.specs.declared.entry.Entry.{Entry};
 
@@ -110,9 +110,9 @@ impl<J: Naming> Model for NamedPrefix<J> {
     ghost invariant = { λ f. f.all.book ≡ J.book };
 }
 
-impl<J: Naming> NamedPrefix<J> {
+impl<J: ListId> NamedPrefix<J> {
     // The prefix without entries.
-    pub(crate) fn first(seen: Seen<Entry, u64, Law>) -> NamedPrefix<J>
+    pub(crate) fn first(seen: Seen<Entry, u64, AppendOnly>) -> NamedPrefix<J>
         requires book { seen.book ≡ J.book }
         requires empty { seen.log ≡ [] }
         ensures { result ≡ [] }
@@ -178,7 +178,7 @@ impl<J: Naming> NamedPrefix<J> {
 #[derive(Drop)]
 pub(crate) struct BarePrefix {
     count: u64,
-    seen: Seen<Entry, u64, Law>,
+    seen: Seen<Entry, u64, AppendOnly>,
 }
 
 impl Model for BarePrefix {
@@ -195,7 +195,7 @@ impl Model for BarePrefix {
 
 impl BarePrefix {
     // The prefix without entries.
-    pub(crate) fn first(seen: Seen<Entry, u64, Law>) -> BarePrefix
+    pub(crate) fn first(seen: Seen<Entry, u64, AppendOnly>) -> BarePrefix
         requires { seen.log ≡ [] }
         ensures book { result.book ≡ seen.book }
         ensures entries { result.entries ≡ [] }
@@ -223,7 +223,7 @@ impl BarePrefix {
 
     // Adds an entry to the list. Where that went on already, or is full, nothing changes, and it
     // comes back as it was found.
-    fn add(&mut self, word: &Word<Entry, u64, Law>, entry: &Entry) -> Result<(), BarePrefix>
+    fn add(&mut self, word: &Word<Entry, u64, AppendOnly>, entry: &Entry) -> Result<(), BarePrefix>
         requires word { word.now ≡ head_of self.old.book }
         requires showable { MayFollow self.old.entries entry.now }
         ensures book { self.new.book ≡ self.old.book }
@@ -233,13 +233,15 @@ impl BarePrefix {
             × Hinders self.old.book self.old.entries found) }
     {
         let mut seen = self.seen.again();
-        let mut offer: Offer<Entry, u64, Law, Nothing> = seen.plain::<Nothing, Entry, Add>(entry);
+        let mut offer: Offer<Entry, u64, AppendOnly, NoGain> = seen.plain::<NoGain, Entry, Add>(
+            entry,
+        );
         let mut pen = seen.no_pen();
         let count = self.count;
         let Some(next) = count.checked_add(1) else {
             return Err(self.again());
         };
-        let found = word.compare_exchange::<Add, Nothing>(
+        let found = word.compare_exchange::<Add, NoGain>(
             count, next, &mut seen, &mut offer, &mut pen,
         );
         if found != count {

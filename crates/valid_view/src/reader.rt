@@ -6,7 +6,7 @@ ghost use Rattle.valid_view.specs.Answers.{IfGone, IsLook, IsUnreached, IsViewCl
 ghost use Rattle.valid_view.specs.Shown.{IsShowable};
 
 use crate::fault::ViewFault;
-use crate::name::Naming;
+use crate::list_id::ListId;
 use crate::prefix::Prefix;
 use crate::reading::IdleReader;
 use crate::seen::Seen;
@@ -20,12 +20,12 @@ use valid_table::{Table, TableFault};
 /// the list of entries that was shown when the reader last asked, and the longest list that it was
 /// told of. Each list that it sees later begins with both. A reader may go to another thread.
 #[derive(Drop)]
-pub struct ViewReader<J: Naming> {
+pub struct ViewReader<J: ListId> {
     idle: IdleReader<J>,
     told: Prefix<J>,
 }
 
-impl<J: Naming> Model for ViewReader<J> {
+impl<J: ListId> Model for ViewReader<J> {
     ghost use Rattle.valid_view.specs.Answers.{Knowing};
 
     ghost Value = { Knowing };
@@ -33,7 +33,7 @@ impl<J: Naming> Model for ViewReader<J> {
     ghost view = { λ r. record { seen = r.idle; told = r.told } };
 }
 
-impl<J: Naming> ViewReader<J> {
+impl<J: ListId> ViewReader<J> {
     // A reader that was told of a list.
     pub(crate) fn over(idle: IdleReader<J>, told: Prefix<J>) -> ViewReader<J>
         ensures seen { result.seen ≡ idle }
@@ -111,7 +111,7 @@ impl<J: Naming> ViewReader<J> {
 }
 
 // What a reader finds about a path.
-fn look<J: Naming>(
+fn look<J: ListId>(
     idle: IdleReader<J>,
     asked: (&Prefix<J>, &StorePath),
 ) -> (IdleReader<J>, Result<Seen, ViewFault>)
@@ -131,7 +131,7 @@ fn look<J: Naming>(
 }
 
 // What a reader finds about the closure of some roots.
-fn closure<J: Naming>(
+fn closure<J: ListId>(
     idle: IdleReader<J>,
     asked: (&Prefix<J>, Global, &[StorePath]),
 ) -> (IdleReader<J>, Result<Vec<StorePath>, ViewFault>)

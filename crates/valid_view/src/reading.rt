@@ -7,7 +7,7 @@ ghost use Rattle.valid_view.specs.Answers.{IsUnreached};
 ghost use Rattle.valid_view.specs.Shown.{IsShowable};
 
 use crate::display::DisplayedList;
-use crate::name::Naming;
+use crate::list_id::ListId;
 use crate::prefix::Prefix;
 use crate::rule::{Published, SeenEntries, Sees};
 use crate::shown_table::ShownTable;
@@ -17,16 +17,16 @@ use valid_table::Table;
 
 /// That a reader did not reach its view. Only a reader that was refused makes one.
 #[derive(Clone, Copy, Debug, PartialEq, Eq)]
-pub struct Unreached(());
+pub struct WriterGone(());
 
 // A reader that reads nothing now. A contract sees the list that was shown to it last.
 #[derive(Drop)]
-pub(crate) struct IdleReader<J: Naming> {
+pub(crate) struct IdleReader<J: ListId> {
     reader: Reader<ShownTable, SeenEntries, Published<J>>,
     seen: Prefix<J>,
 }
 
-impl<J: Naming> Model for IdleReader<J> {
+impl<J: ListId> Model for IdleReader<J> {
     ghost use Rattle.std.specs.Prelude.{◌≡◌, List};
     ghost use Rattle.left_right.specs.Sides.{view as seat_view};
     ghost use Rattle.valid_table.specs.declared.entry.Entry.{Entry};
@@ -39,12 +39,12 @@ impl<J: Naming> Model for IdleReader<J> {
 }
 
 // A reader that reads. A contract sees the list that is shown to it.
-pub(crate) struct BusyReader<J: Naming> {
+pub(crate) struct BusyReader<J: ListId> {
     reading: Reading<ShownTable, SeenEntries, Published<J>>,
     shown: Prefix<J>,
 }
 
-impl<J: Naming> Model for BusyReader<J> {
+impl<J: ListId> Model for BusyReader<J> {
     ghost use Rattle.std.specs.Prelude.{◌≡◌, List};
     ghost use Rattle.left_right.specs.Sides.{view as seat_view};
     ghost use Rattle.valid_table.specs.Entries.{registered};
@@ -58,7 +58,7 @@ impl<J: Naming> Model for BusyReader<J> {
         × (g.reading.part.value.registrations ≡ registered g.shown) };
 }
 
-impl<J: Naming> IdleReader<J> {
+impl<J: ListId> IdleReader<J> {
     // A reader that saw a list.
     pub(crate) fn over(
         reader: Reader<ShownTable, SeenEntries, Published<J>>,
@@ -79,7 +79,10 @@ impl<J: Naming> IdleReader<J> {
 
     // Begins to read the list that is shown. The reader comes back where the writer is gone, or
     // where the list does not begin with the one that it was told of, which never happens.
-    pub(crate) fn enter(self, told: &Prefix<J>) -> Result<BusyReader<J>, (IdleReader<J>, Unreached)>
+    pub(crate) fn enter(
+        self,
+        told: &Prefix<J>,
+    ) -> Result<BusyReader<J>, (IdleReader<J>, WriterGone)>
         ensures later { MatchResult result (IsPrefix self) (λ back. IsPrefix self back.0) }
         ensures told { IfOk result (IsPrefix told.now) }
         ensures showable { IfOk result IsShowable }
@@ -88,12 +91,12 @@ impl<J: Naming> IdleReader<J> {
         let IdleReader { reader, seen } = self;
         let reading = match reader.enter_as::<Sees<J>>() {
             Ok(reading) => reading,
-            Err(reader) => return Err((IdleReader { reader, seen }, Unreached(()))),
+            Err(reader) => return Err((IdleReader { reader, seen }, WriterGone(()))),
         };
         let shown = Prefix::<J>::over(DisplayedList::of_reading(&reading));
         let busy = BusyReader { reading, shown };
         if busy.shown.len() < told.len() {
-            return Err((busy.leave(), Unreached(())));
+            return Err((busy.leave(), WriterGone(())));
         }
         // Its contract says that the shorter begins the longer.
         let _longer = busy.shown.longer(told);
@@ -101,7 +104,7 @@ impl<J: Naming> IdleReader<J> {
     }
 }
 
-impl<J: Naming> BusyReader<J> {
+impl<J: ListId> BusyReader<J> {
     // The table that is shown.
     pub(crate) fn table(&self) -> &Table
         ensures { result.now.registrations ≡ registered self.now }

@@ -1,5 +1,5 @@
 //! The rule of a view.
-use crate::name::Naming;
+use crate::list_id::ListId;
 use crate::shown_table::ShownTable;
 use crossbeam_utils::rule::{Outcome, Protocol};
 use std::marker::PhantomData;
@@ -9,11 +9,11 @@ use valid_table::Entry;
 pub type SeenEntries = [Entry; 0];
 
 /// The rule of the view with this name.
-pub struct Published<J: Naming> {
+pub struct Published<J: ListId> {
     of: PhantomData<J>,
 }
 
-impl<J: Naming> Protocol<ShownTable, SeenEntries> for Published<J> {
+impl<J: ListId> Protocol<ShownTable, SeenEntries> for Published<J> {
     ghost use Rattle.std.specs.Prelude.{[]};
     ghost use Rattle.valid_view.specs.private.ShownTables.{Holds};
 
@@ -23,11 +23,11 @@ impl<J: Naming> Protocol<ShownTable, SeenEntries> for Published<J> {
 }
 
 /// What a step tells: the list that is shown after it is seen.
-pub struct Sees<J: Naming> {
+pub struct Sees<J: ListId> {
     of: PhantomData<J>,
 }
 
-impl<J: Naming> Outcome<ShownTable, SeenEntries> for Sees<J> {
+impl<J: ListId> Outcome<ShownTable, SeenEntries> for Sees<J> {
     ghost use Rattle.valid_view.specs.private.ShownTables.{SeesAll};
 
     ghost then = { SeesAll J.book };

@@ -6,7 +6,7 @@ ghost use Rattle.valid_table.specs.Valid.{references_of};
 ghost use Rattle.valid_view.specs.private.Feeding.{pending_of};
 
 use crate::feed::Feed;
-use crate::name::Naming;
+use crate::list_id::ListId;
 use crate::prefix::Prefix;
 use std::marker::Model;
 use std::sync::Wait;
@@ -15,12 +15,12 @@ use valid_table::{Entry, Outlet, OutletFault};
 /// The writer of the view with this name. A contract sees the entries that are shown, and those
 /// that wait. The writer keeps the handle by which `publish` and `close` wait for readers. It can't
 /// be dropped: `close` ends it.
-pub struct ViewWriter<J: Naming, R> {
+pub struct ViewWriter<J: ListId, R> {
     feed: Feed<J>,
     rt: R,
 }
 
-impl<J: Naming, R> Model for ViewWriter<J, R> {
+impl<J: ListId, R> Model for ViewWriter<J, R> {
     ghost use Rattle.valid_table.specs.Outlets.{Outgoing};
     ghost use Rattle.valid_view.specs.private.Feeding.{pending_of};
 
@@ -29,7 +29,7 @@ impl<J: Naming, R> Model for ViewWriter<J, R> {
     ghost view = { λ w. record { shown = w.feed.shown; pending = pending_of w.feed } };
 }
 
-impl<J: Naming, R> ViewWriter<J, R> {
+impl<J: ListId, R> ViewWriter<J, R> {
     // The writer over the feed of the view.
     pub(crate) fn over(feed: Feed<J>, rt: R) -> ViewWriter<J, R>
         ensures shown { result.shown ≡ feed.shown }
@@ -65,7 +65,7 @@ impl<J: Naming, R> ViewWriter<J, R> {
     }
 }
 
-impl<J: Naming, R: Wait + Drop> ViewWriter<J, R> {
+impl<J: ListId, R: Wait + Drop> ViewWriter<J, R> {
     /// Ends the view, and gives the list that was shown last: readers are answered `NoView` from
     /// now on, and entries that wait are not shown. Waits for readers that still read.
     pub fn close(self) -> Prefix<J>
@@ -80,7 +80,7 @@ impl<J: Naming, R: Wait + Drop> ViewWriter<J, R> {
     }
 }
 
-impl<J: Naming + Send, R: Wait + Drop> Outlet for ViewWriter<J, R> {
+impl<J: ListId + Send, R: Wait + Drop> Outlet for ViewWriter<J, R> {
     type Told = Prefix<J>;
 
     ghost shown = { λ w. w.shown };

@@ -3,7 +3,7 @@ ghost use Rattle.std.specs.Prelude.{◌≡◌, ◌<◌, ◌≤◌, ◌++◌, ◌
 ghost use Rattle.valid_view.specs.private.ShownTables.{IsShownTable};
 
 use crate::display::DisplayedList;
-use crate::name::Naming;
+use crate::list_id::ListId;
 use crate::prefix::Prefix;
 use crate::reading::IdleReader;
 use crate::rule::{Published, SeenEntries, Sees};
@@ -27,11 +27,11 @@ pub(crate) struct NoPlace(AllocError);
 
 // The writer. A contract sees the entries that are shown, and those that were handed over and not
 // shown yet.
-pub(crate) struct WriterEnd<J: Naming> {
+pub(crate) struct WriterEnd<J: ListId> {
     writer: Writer<ShownTable, Op, SeenEntries, Published<J>>,
 }
 
-impl<J: Naming> Model for WriterEnd<J> {
+impl<J: ListId> Model for WriterEnd<J> {
     ghost use Rattle.std.specs.Prelude.{drop};
     ghost use Rattle.valid_view.specs.private.Feeding.{Follows, WriterEndValue, entries_of};
     ghost use Rattle.valid_view.specs.private.ShownTables.{IsShownTable};
@@ -48,7 +48,7 @@ impl<J: Naming> Model for WriterEnd<J> {
         (drop l.writer.behind l.writer.log.items) };
 }
 
-impl<J: Naming> WriterEnd<J> {
+impl<J: ListId> WriterEnd<J> {
     // The writer of two equal tables, for `readers` readers. `AllocError` where memory is refused.
     pub(crate) fn open(
         alloc: Global,

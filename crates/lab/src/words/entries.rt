@@ -99,7 +99,7 @@ fn push_known(
     Ok(())
 }
 
-// Prints registrations behind some text.
+// Prints registrations after some text.
 fn tell(
     teller: &mut Teller<'_>,
     mut text: Vec<u8>,

@@ -11,11 +11,11 @@ use std::alloc::{AllocError, Global};
 use std::marker::Brand;
 use std::sync::Wait;
 use valid_table::{Entry, Journal, Outlet};
-use valid_view::{Name, Naming, Seen, Tells, ViewReader, ViewWriter, open};
+use valid_view::{ListId, Name, Seen, Tells, ViewReader, ViewWriter, open};
 
 /// Takes a line, if its call is one of these.
 ///
-/// `view $JOURNAL READERS` opens a view of a journal. The lines behind it, up to `close`, are calls
+/// `view $JOURNAL READERS` opens a view of a journal. The lines after it, up to `close`, are calls
 /// of its writer and of its readers, which have numbers. Those up to `end` are calls of readers
 /// whose writer is gone.
 pub(crate) fn take<W: Wait>(
@@ -55,7 +55,7 @@ struct Opening<'a> {
 }
 
 // Opens a view with this name, and takes the lines of its calls.
-fn opened<J: Naming + Send, W: Wait>(
+fn opened<J: ListId + Send, W: Wait>(
     wait: &W,
     teller: &mut Teller<'_>,
     world: &World,
@@ -95,14 +95,14 @@ fn opened<J: Naming + Send, W: Wait>(
 }
 
 // A writer beside the journal of all its entries, and its readers.
-struct View<'a, J: Naming, W> {
+struct View<'a, J: ListId, W> {
     journal: Journal,
     writer: ViewWriter<J, &'a W>,
     readers: Vec<ViewReader<J>>,
     ghost same: { writer.shown ++ writer.pending ≡ journal.entries },
 }
 
-impl<J: Naming + Send, W: Wait> View<'_, J, W> {
+impl<J: ListId + Send, W: Wait> View<'_, J, W> {
     // Takes the lines of the calls of the writer and the readers, and closes the writer. Then takes
     // those of the calls of readers whose writer is gone.
     fn talk(
@@ -299,7 +299,7 @@ impl<J: Naming + Send, W: Wait> View<'_, J, W> {
 }
 
 // Takes each line up to `end`.
-fn take_last_lines<J: Naming>(
+fn take_last_lines<J: ListId>(
     teller: &mut Teller<'_>,
     world: &World,
     lines: &mut Lines<'_>,
@@ -332,7 +332,7 @@ fn thrice(alloc: Global, entry: &Entry) -> Result<(Entry, Entry, Entry), AllocEr
 }
 
 // The reader whose number is the first argument of a line.
-fn reader_of<'a, J: Naming>(
+fn reader_of<'a, J: ListId>(
     line: &Line<'_>,
     readers: &'a mut [ViewReader<J>],
 ) -> Option<&'a mut ViewReader<J>> {
@@ -341,7 +341,7 @@ fn reader_of<'a, J: Naming>(
 }
 
 // Takes the line of a call of a reader.
-fn ask<J: Naming>(
+fn ask<J: ListId>(
     teller: &mut Teller<'_>,
     world: &World,
     line: &Line<'_>,

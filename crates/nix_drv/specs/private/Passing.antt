@@ -1,4 +1,4 @@
--- Passing over a value whose text begins at a place. The result is the place behind the text, or
+-- Passing over a value whose text begins at a place. The result is the place after the text, or
 -- the place of the first element that breaks the order of its list. A place of 2^64 or more counts
 -- as 2^64 - 1, the greatest number of the machine.
 use Rattle.std.specs.Prelude.{ℕ, ◌+◌, ◌-◌, ◌^◌, min, if◌then◌else◌, List, [], ◌∷◌, length, Option, Some, None, Result, Ok, Err}
@@ -8,7 +8,7 @@ use Rattle.nix_drv.specs.Grammar.{ListOrder, Grammar, Fixed, Str, Then, Many, Va
 use Rattle.nix_drv.specs.Order.{key, breaks}
 use Rattle.nix_drv.specs.private.Reading.{◌>>=◌}
 
--- the place that is `count` bytes behind a place
+-- the place that is `count` bytes after a place
 abbrev pub behind : (place count : ℕ) → ℕ
 behind place count = min (place + count) (2 ^ 64 - 1)
 
@@ -21,7 +21,7 @@ pass_among order key_of one before p (v ∷ vs) =
     if breaks order before (key_of v) then Err p
     else one p v >>= λ q. pass_among order key_of one (Some (key_of v)) (behind q 1) vs
 
--- passes over a list at p; the bracket behind its last element counts as a comma
+-- passes over a list at p; the bracket after its last element counts as a comma
 abbrev pub pass_list : {A : Type 0} → ListOrder → (A → Bytes) → (ℕ → A → Result ℕ ℕ) → (p : ℕ)
     → List A → Result ℕ ℕ
 pass_list order key_of one p [] = Ok (behind p 2)

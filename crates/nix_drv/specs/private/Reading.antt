@@ -1,5 +1,5 @@
--- Reading bytes from the left by a grammar. A reading is the value and the bytes behind it, or,
--- where there is no value, the number of the bytes behind the longest prefix.
+-- Reading bytes from the left by a grammar. A reading is the value and the bytes after it, or,
+-- where there is no value, the number of the bytes after the longest prefix.
 use Rattle.std.specs.Prelude.{ℕ, zero, suc, Bool, true, false, ◌==◌, if◌then◌else◌, is_some, List, [], ◌∷◌, ◌++◌, length, Option, Some, None, Result, Ok, Err}
 use Rattle.nix_names.specs.Bytes.{Bytes}
 use Rattle.nix_drv.specs.Strings.{is_plain, unescaped}
@@ -33,7 +33,7 @@ bytes_at false (b ∷ s) =
     if b == 92 then bytes_at true s else
     if is_plain b then before (b ∷ []) (bytes_at false s) else Err (suc (length s))
 
--- reads the letter of an escape, behind the backslash, and gives the byte whose escape it is
+-- reads the letter of an escape, after the backslash, and gives the byte whose escape it is
 abbrev pub escape_at : Bytes → Result (Option ℕ × Bytes) ℕ
 escape_at [] = Err 0
 escape_at (letter ∷ s) = if is_some (unescaped letter) then Ok (unescaped letter, s)
@@ -67,7 +67,7 @@ abbrev pub elements_of : {A : Type 0} → (Bytes → Result (A × Bytes) ℕ) �
     → Result (List A × Bytes) ℕ
 elements_of one s = elements_at one (suc (length s)) s
 
--- reads a list behind its first bracket
+-- reads a list after its first bracket
 abbrev pub list_at : {A : Type 0} → (Bytes → Result (A × Bytes) ℕ) → Bytes
     → Result (List A × Bytes) ℕ
 list_at one [] = elements_of one []
@@ -80,7 +80,7 @@ read Str s = fixed_at (34 ∷ []) s >>= λ x. bytes_at false x.1
 read (Then a b) s = read a s >>= λ x. read b x.1 >>= λ y. Ok ((x.0, y.0), y.1)
 read (Many order g) s = fixed_at (91 ∷ []) s >>= λ x. list_at (read g) x.1
 
--- the number of the bytes behind the value that was read, or behind the longest prefix
+-- the number of the bytes after the value that was read, or after the longest prefix
 abbrev pub left_of : {A : Type 0} → Result (A × Bytes) ℕ → ℕ
 left_of (Ok x) = length x.1
 left_of (Err left) = left

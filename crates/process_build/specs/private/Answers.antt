@@ -5,9 +5,9 @@ use Rattle.std.specs.Process.{exit_code}
 use Rattle.std.specs.declared.fs.FileType.{FileType}
 use Rattle.std.specs.declared.io.Error.{Error}
 use Rattle.process_build.specs.Errors.{IsNoMemory, IsNotFound}
-use Rattle.process_build.specs.declared.ended.EndedBuild.{EndedBuild}
-use Rattle.process_build.specs.declared.reading.FileKind.{FileKind}
-use Rattle.process_build.specs.declared.reading.FileKind.TheVariants as kind
+use Rattle.process_build.specs.declared.process.ended.EndedBuild.{EndedBuild}
+use Rattle.process_build.specs.declared.disk.outputs.FileKind.{FileKind}
+use Rattle.process_build.specs.declared.disk.outputs.FileKind.TheVariants as kind
 use Rattle.ref_scan.specs.declared.tree.Tree.{Tree, Pieces, Link, Dir'}
 use Rattle.build_outcome.specs.declared.job.Answer.{Answer}
 use Rattle.build_outcome.specs.declared.job.Job.{Job}

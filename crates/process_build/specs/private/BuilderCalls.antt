@@ -9,7 +9,7 @@ use Rattle.std.specs.declared.process.command.Command.{Command}
 use Rattle.nix_names.specs.Bytes.{Bytes, Dir, Name}
 use Rattle.nix_drv.specs.Derivation.{EnvEntry}
 use Rattle.nix_drv.specs.Parts.{entry_of}
-use Rattle.process_build.specs.declared.call.Setting.{Setting}
+use Rattle.process_build.specs.declared.process.call.EnvVar.{EnvVar}
 use Rattle.build_outcome.specs.declared.job.Job.{Job}
 
 -- the entry of a key and a value
@@ -17,7 +17,7 @@ abbrev pub entry : (key : Name) → (value : Bytes) → EnvEntry
 entry k v = record { key = k; value = v }
 
 -- the entry of a setting
-abbrev pub entry_of_setting : Setting → EnvEntry
+abbrev pub entry_of_setting : EnvVar → EnvEntry
 entry_of_setting s = entry s.key.now s.value.now
 
 -- the environment entries of a job's derivation

@@ -3,7 +3,7 @@ use Rattle.std.specs.Prelude.{◌≡◌, ◌≤◌, ◌+◌, ℕ, List, length, 
 use Rattle.std.specs.List.{slice_index_or}
 use Rattle.nix_names.specs.Bytes.{Bytes}
 use Rattle.valid_table.specs.declared.entry.Entry.{Entry}
-use Rattle.run_states.specs.Courses.{AreNearest, AreStandings, AreWanted, Course}
+use Rattle.run_states.specs.StateTables.{AreNearest, AreStandings, AreWanted, StateTable}
 use Rattle.run_states.specs.Legal.{IsLegal, begins}
 use Rattle.run_states.specs.Runs.{History, Run}
 use Rattle.run_states.specs.States.{Phase, Idle, Begun, Ended, Broken, phase_of}
@@ -23,7 +23,7 @@ events_left Ended = 0
 events_left (Broken reason) = 0
 
 -- the run over a course's plan, for a system
-abbrev pub run_over : Course → (system : Bytes) → Run
+abbrev pub run_over : StateTable → (system : Bytes) → Run
 run_over course system = record { graph = course.graph; system = system }
 
 -- the history with these entries and events, which opened with the first `opening` entries
@@ -36,7 +36,7 @@ history_of opening entries events = record {
 
 -- What is kept of a run: a legal history, the course of its derivations, how many have begun, and
 -- room for exactly the events that may come.
-pub record IsRunKept (system : Bytes) (history : History) (course : Course) (given room : ℕ)
+pub record IsRunKept (system : Bytes) (history : History) (course : StateTable) (given room : ℕ)
     : Type 0 where
   pub legal : IsLegal (run_over course system) history
   pub standings : AreStandings system history.opening course.graph.nodes course.standings

@@ -3,7 +3,7 @@ use Rattle.std.specs.Prelude.{◌≡◌, ◌⊎◌, Option, Some, None, List, Re
 use Rattle.nix_names.specs.Bytes.{Bytes}
 use Rattle.drv_graph.specs.Plans.{Graph}
 use Rattle.valid_table.specs.declared.entry.Entry.{Entry}
-use Rattle.run_states.specs.Courses.{IsRunSettled}
+use Rattle.run_states.specs.StateTables.{IsRunSettled}
 use Rattle.sched_core.specs.Books.{Ledger}
 use Rattle.run_states.specs.declared.fault.BookFault.{BookFault}
 use Rattle.run_states.specs.declared.fault.BookFault.TheVariants.{NoMemory as RefusedMemory}

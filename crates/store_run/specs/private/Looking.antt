@@ -41,13 +41,13 @@ pub record IsNews (known entries : List Entry) (looked : Looked) : Type 0 where
 -- what became of each derivation is a verdict on what a builder may give, the run is over something,
 -- and what is shown was shown, in which all is valid that is built from.
 pub record IsLook (may : Job → Result Answer Reason → Type 0) (was_shown : List Entry → Type 0)
-    (is_over : Run → List Entry → Type 0) (known : List Entry) (looked : Looked)
+    (is_this_run : Run → List Entry → Type 0) (known : List Entry) (looked : Looked)
     : Type 0 where
   pub run : Run
   pub history : History
   pub legal : IsLegal run history
   pub answered : IsAnswered may run history
-  pub over : is_over run history.opening
+  pub over : is_this_run run history.opening
   pub is_shown : was_shown looked.shown
   pub seeds : BuildsOver run history looked.shown
   pub news : IsNews known history.entries looked

@@ -1,17 +1,17 @@
 -- What the workers of a run share, and what becomes of it (this product's own).
 use Rattle.std.specs.Prelude.{◌≡◌, ◌⊎◌, ℕ, Option, Some, None, List, Result, Ok, Err}
 use Rattle.valid_table.specs.PathInfos.{PathInfo}
-use Rattle.run_states.specs.Courses.{CanBegin, IsRunSettled}
+use Rattle.run_states.specs.StateTables.{CanBegin, IsRunSettled}
 use Rattle.sched_core.specs.Books.{IsBeginning, IsBooksLease, IsFailing, IsFinishFault, IsFinishing, IsNotAllowed, IsSameRun, Leased, Ledger}
 use Rattle.run_states.specs.declared.fault.BookFault.{BookFault}
 use Rattle.run_states.specs.declared.fault.BookFault.TheVariants.{NoMemory, NoView, ForeignLease, NotLawful}
 use Rattle.build_outcome.specs.declared.job.Job.{Job}
 use Rattle.build_outcome.specs.declared.reason.Reason.{Reason}
 use Rattle.build_outcome.specs.declared.reason.Reason.TheVariants.{OutOfMemory}
-use Rattle.store_run.specs.declared.finding.Finding.{Finding}
-use Rattle.store_run.specs.declared.finding.Finding.TheVariants as found
-use Rattle.store_run.specs.declared.finding.LeaseEnd.{LeaseEnd}
-use Rattle.store_run.specs.declared.finding.LeaseEnd.TheVariants.{Registered, Failed, Stopped}
+use Rattle.store_run.specs.declared.job_verdict.JobVerdict.{JobVerdict}
+use Rattle.store_run.specs.declared.job_verdict.JobVerdict.TheVariants as found
+use Rattle.store_run.specs.declared.job_verdict.LeaseEnd.{LeaseEnd}
+use Rattle.store_run.specs.declared.job_verdict.LeaseEnd.TheVariants.{Registered, Failed, Stopped}
 use Rattle.store_run.specs.declared.turn.Step.{Step}
 use Rattle.store_run.specs.declared.turn.Step.TheVariants.{Build, Wait, End}
 use Rattle.store_run.specs.declared.turn.Wake.{Wake}
@@ -163,7 +163,7 @@ IsNotingVerdict before after job number (Err reason) end =
 -- How a lease ends, by what was found of its job and by whether the reader caught up with the book.
 -- A verdict is noted where the reader caught up. Where the view was refused, to the verdict or to
 -- the reader, the run stops for that refusal, if nothing stopped it before.
-abbrev pub IsEnding : {A : Type 0} → (before after : Share) → Job → (number : ℕ) → Finding
+abbrev pub IsEnding : {A : Type 0} → (before after : Share) → Job → (number : ℕ) → JobVerdict
     → (caught_up : Result A BookFault) → LeaseEnd → Type 0
 IsEnding before after job number (found.Examined verdict) (Ok up) end =
     IsNotingVerdict before after job number verdict end

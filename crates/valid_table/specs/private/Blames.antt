@@ -6,9 +6,9 @@ use Rattle.valid_table.specs.Adding.{AreNew, IsFirstUnclosed, IsFirstValid}
 use Rattle.valid_table.specs.declared.entry.Registration.{Registration}
 use Rattle.valid_table.specs.declared.fault.TableFault.{TableFault}
 use Rattle.valid_table.specs.declared.fault.TableFault.TheVariants.{Unclosed, AlreadyValid}
-use Rattle.valid_table.specs.declared.obstacle.Blame.{Blame}
-use Rattle.valid_table.specs.declared.obstacle.Obstacle.{Obstacle}
-use Rattle.valid_table.specs.declared.obstacle.Obstacle.TheVariants as obstacle
+use Rattle.valid_table.specs.declared.path_table.obstacle.FaultAt.{FaultAt}
+use Rattle.valid_table.specs.declared.path_table.obstacle.Obstacle.{Obstacle}
+use Rattle.valid_table.specs.declared.path_table.obstacle.Obstacle.TheVariants as obstacle
 
 -- a registration is blamed for its path, or for the reference at a place
 abbrev pub IsBlamedFor : (known some : List Registration) → Registration → Option ℕ → Type 0
@@ -18,14 +18,14 @@ IsBlamedFor known some registration (Some place) =
     × IsFirstUnclosed known some path
 
 -- which of some registrations is to blame, after known ones
-abbrev pub IsBlamed : (known some : List Registration) → Blame → Type 0
+abbrev pub IsBlamed : (known some : List Registration) → FaultAt → Type 0
 IsBlamed known some blame =
     (registration : Registration) × (slice_get some blame.registration ≡ Some registration)
     × IsBlamedFor known some registration blame.reference
 
 -- at these places is the first reference of some registrations that is valid neither by known ones
 -- nor by themselves
-abbrev pub IsUnclosedAt : (known some : List Registration) → Blame → Type 0
+abbrev pub IsUnclosedAt : (known some : List Registration) → FaultAt → Type 0
 IsUnclosedAt known some blame =
     (registration : Registration) × (place : ℕ) × (path : Path)
     × (slice_get some blame.registration ≡ Some registration) × (blame.reference ≡ Some place)

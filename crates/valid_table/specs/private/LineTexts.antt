@@ -4,7 +4,7 @@ use Rattle.nix_names.specs.Bytes.{Bytes, Path}
 use Rattle.nix_names.specs.declared.digest.Digest.{Digest}
 use Rattle.valid_table.specs.Texts.{Line, Reference, digest_text, line_text}
 use Rattle.valid_table.specs.declared.entry.Registration.{Registration}
-use Rattle.valid_table.specs.declared.version.Version.{Version}
+use Rattle.valid_table.specs.declared.path_table.version.Version.{Version}
 
 -- a line with a letter and a path
 abbrev pub path_line : (letter : ℕ) → Path → Bytes

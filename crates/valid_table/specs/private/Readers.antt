@@ -13,9 +13,9 @@ use Rattle.valid_table.specs.Texts.{IsDigestOf, IsEntryIn, IsOf, entry_lines, li
 use Rattle.valid_table.specs.declared.entry.Entry.{Entry}
 use Rattle.valid_table.specs.declared.entry.Entry.TheVariants.{Add, Done}
 use Rattle.valid_table.specs.declared.entry.Registration.{Registration}
-use Rattle.valid_table.specs.declared.reading.LineFault.{LineFault}
-use Rattle.valid_table.specs.declared.reading.LineFault.TheVariants.{NoMemory, Left}
-use Rattle.valid_table.specs.declared.version.Version.{Version}
+use Rattle.valid_table.specs.declared.journal_text.reading.LineFault.{LineFault}
+use Rattle.valid_table.specs.declared.journal_text.reading.LineFault.TheVariants.{NoMemory, Left}
+use Rattle.valid_table.specs.declared.path_table.version.Version.{Version}
 
 -- the bytes begin with no line that has this letter
 abbrev pub IsNoLine : (letter : ℕ) → Bytes → Type 0

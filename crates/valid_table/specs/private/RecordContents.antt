@@ -7,8 +7,8 @@ use Rattle.nix_names.specs.declared.digest.Digest.TheVariants.{Md5, Sha1, Sha256
 use Rattle.valid_table.specs.declared.entry.Both.{Both}
 use Rattle.valid_table.specs.declared.entry.RecordContent.{RecordContent}
 use Rattle.valid_table.specs.declared.entry.RecordContent.TheVariants.{Nothing, References, Digest as OfDigest, Both as OfBoth}
-use Rattle.valid_table.specs.declared.stored_digest.StoredDigest.{StoredDigest}
-use Rattle.valid_table.specs.declared.stored_digest.StoredDigest.TheVariants.{Md5 as StoredMd5, Sha1 as StoredSha1, Sha256 as StoredSha256, Sha512 as StoredSha512}
+use Rattle.valid_table.specs.declared.journal_text.stored_digest.StoredDigest.{StoredDigest}
+use Rattle.valid_table.specs.declared.journal_text.stored_digest.StoredDigest.TheVariants.{Md5 as StoredMd5, Sha1 as StoredSha1, Sha256 as StoredSha256, Sha512 as StoredSha512}
 
 -- the digest that is stored
 abbrev pub digest_stored : StoredDigest → Digest

@@ -10,7 +10,7 @@ use Rattle.nix_names.specs.declared.digest.Digest.{Digest}
 use Rattle.valid_table.specs.BadLines.{BeginsOutput}
 use Rattle.valid_table.specs.private.LineTexts.{lines_text}
 use Rattle.valid_table.specs.Texts.{IsDigestOf, Line, First, Added, Deriver, Output, Reference, line_text}
-use Rattle.valid_table.specs.declared.version.Version.{Version}
+use Rattle.valid_table.specs.declared.path_table.version.Version.{Version}
 
 -- A place between lines: before line 1, after line 1, after a deriver, or within the lines of an
 -- output or an added path. There `output` is the output's path, if it is one, and `last` is the

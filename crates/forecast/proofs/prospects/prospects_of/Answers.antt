@@ -3,7 +3,7 @@ use Rattle.std.proofs.lemmas.Bool.{false≢true}
 use Rattle.std.proofs.lemmas.List.{length_push}
 use Rattle.std.specs.Global.{Vec}
 use Rattle.std.specs.List.{slice_index_or}
-use Rattle.run_states.specs.declared.standing.Standing.TheVariants.{AllValid, Free}
+use Rattle.run_states.specs.declared.precondition.Precondition.TheVariants.{AllValid, Free}
 use Rattle.run_states.proofs.Wanting.{any_default, read_is}
 use Rattle.forecast.proofs.Passing.{all_first, first_next, kept_next, marked_next, none_built, none_first}
 use Rattle.forecast.proofs.prospects.prospects_of.Goals.{then-wanted-d+then-is_build, else-wanted-d, else-wanted-d-via-then-wanted-d+else-is_build, else-wanted-d-via-else-wanted-d}

@@ -12,7 +12,7 @@ use ref_scan::{Member, Tree};
 use sched_core::{Answer, Job, JobOutput};
 use std::alloc::{AllocError, Global};
 
-/// A word up to its first mark, and what stands behind that; all of it where it has no mark.
+/// A word up to its first mark, and what stands after that; all of it where it has no mark.
 pub(crate) fn halves(word: &[u8], mark: u8) -> (&[u8], &[u8]) {
     let place = word.iter().position(|byte| *byte == mark);
     let (head, rest) = word.split_at(place.unwrap_or(word.len()));

@@ -5,7 +5,7 @@ use Rattle.nix_drv.proofs.Runs.{run_read, byte_fails, byte_more, byte_none}
 use Rattle.nix_drv.proofs.Stopping.{gives_stop}
 use Rattle.nix_drv.proofs.reading.spelled_of.Goals as goal
 
--- behind the run of plain bytes
+-- after the run of plain bytes
 behind_run : (items more rest run special : List ℕ) (n : ℕ) (total : Result (List ℕ × List ℕ) ℕ)
     → n ≤ length rest → ((k : ℕ) → k < n → is_plain (get_or rest k 0) ≡ true)
     → before items (bytes_at false rest) ≡ total → more ≡ items ++ run → run ≡ take n rest

@@ -1,6 +1,6 @@
 use Rattle.std.proofs.Common.{◌∙◌, length, subst}
 use Rattle.drv_graph.specs.Plans.{Graph}
-use Rattle.run_states.specs.Courses.{Course, course_state}
+use Rattle.run_states.specs.StateTables.{StateTable, course_state}
 use Rattle.run_report.specs.Listing.{IsMarked, numbers_of}
 use Rattle.run_report.specs.Reports.{AreByPath, line_at}
 use Rattle.run_report.proofs.Listings.{lines_made}
@@ -8,7 +8,7 @@ use Rattle.run_report.proofs.report.report_of.Goals as goal
 
 pub returns-clause-ok : goal.returns-clause-ok
 returns-clause-ok c =
-    let course : Course = c.args.course.now in
+    let course : StateTable = c.args.course.now in
     let listed = c.in_ok-listed.listed.items in
     record {
       wanted = numbers_of listed;

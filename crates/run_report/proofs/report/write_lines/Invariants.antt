@@ -1,6 +1,6 @@
 use Rattle.std.proofs.Common.{◌≡◌, ◌++◌, List, ℕ, drop}
 use Rattle.std.specs.List.{flat_map}
-use Rattle.run_states.specs.Courses.{course_state}
+use Rattle.run_states.specs.StateTables.{course_state}
 use Rattle.run_report.specs.Reports.{line_at}
 use Rattle.run_report.specs.declared.listing.Listed.{Listed}
 use Rattle.run_report.proofs.report.write_lines.Given as goal

@@ -1,6 +1,6 @@
 use Rattle.std.proofs.Common.{◌+◌, ◌++◌, [], ◌∷◌, ap, arith, rules}
 use Rattle.std.proofs.lemmas.List.{get_or_push, length_push}
-use Rattle.run_states.specs.Courses.{listed}
+use Rattle.run_states.specs.StateTables.{listed}
 use Rattle.run_states.specs.UserSpans.{often}
 use Rattle.run_states.proofs.UserCounts.{often_both}
 use Rattle.run_states.proofs.UserSpans.{room_less}

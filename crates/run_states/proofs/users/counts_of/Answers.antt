@@ -1,7 +1,7 @@
 use Rattle.std.proofs.Common.{◌≡◌, ◌∙◌, ◌+◌, ◌++◌, ◌<◌, ℕ, List, None, ap, arith, get_or, length, length-append, subst, sum, sym, take}
 use Rattle.std.specs.Prelude.{All, slice_get}
 use Rattle.std.proofs.lemmas.List.{take_at}
-use Rattle.run_states.specs.Courses.{all_of, awaited_at, listed}
+use Rattle.run_states.specs.StateTables.{all_of, awaited_at, listed}
 use Rattle.run_states.specs.Runs.{inputs_at}
 use Rattle.run_states.specs.UserSpans.{often, pairs, uses}
 use Rattle.run_states.proofs.UserCounts.{is_listed, often_both, pairs_grow, pairs_next, uses_next}

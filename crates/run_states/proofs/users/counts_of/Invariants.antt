@@ -1,6 +1,6 @@
 -- What the derivations so far wait for is counted.
 use Rattle.std.proofs.Common.{◌≡◌, ℕ, ◌<◌, get_or, length, sum}
-use Rattle.run_states.specs.Courses.{all_of, awaited_at}
+use Rattle.run_states.specs.StateTables.{all_of, awaited_at}
 use Rattle.run_states.specs.UserSpans.{pairs, uses}
 use Rattle.run_states.proofs.users.counts_of.Given as goal
 

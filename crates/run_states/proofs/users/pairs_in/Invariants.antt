@@ -1,6 +1,6 @@
 -- The pairs of the derivations so far are counted, up to the greatest number.
 use Rattle.std.proofs.Common.{◌≡◌, ◌<◌, ◌^◌}
-use Rattle.run_states.specs.Courses.{all_of, awaited_at}
+use Rattle.run_states.specs.StateTables.{all_of, awaited_at}
 use Rattle.run_states.specs.UserSpans.{pairs}
 use Rattle.run_states.proofs.users.pairs_in.Given as goal
 

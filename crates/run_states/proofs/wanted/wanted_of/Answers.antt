@@ -2,7 +2,7 @@ use Rattle.std.proofs.Common.{◌≡◌, ◌∙◌, ◌-◌, ◌+◌, ◌<◌, l
 use Rattle.std.specs.List.{slice_index_or}
 use Rattle.std.proofs.lemmas.Bool.{false≢true}
 use Rattle.run_states.proofs.Wanting.{AreMarked, IsMarked, Marks, any_default, inputs_marked, passed_over, read_is, roots_marked, wanted_are, written}
-use Rattle.run_states.specs.declared.standing.Standing.TheVariants.{Free}
+use Rattle.run_states.specs.declared.precondition.Precondition.TheVariants.{Free}
 use Rattle.run_states.proofs.wanted.wanted_of.Goals as goal
 use Rattle.run_states.proofs.wanted.wanted_of.Goals.{else-index-via-then-index+else-is_free, else-index-via-else-index}
 

@@ -13,7 +13,7 @@ run_kept-shared-requires-clause-answered g c κs within =
 pub run_kept-shared-requires-clause-each : goal.run_kept-shared-requires-clause-each
 run_kept-shared-requires-clause-each g c κs within = λ run opening text is kept.
     c.requires.each text
-    (kept_of_lent g.B.Build.may (g.J.Showing.shown g.J.Naming.book) _ _ _ c.in-Ok.opened.0 run
+    (kept_of_lent g.B.Build.may (g.J.Showing.shown g.J.ListId.book) _ _ _ c.in-Ok.opened.0 run
     opening text c.in-Ok.ensures.over is kept)
 
 -- there is a right number of workers
@@ -38,6 +38,6 @@ returns-clause-err g c =
 
 pub returns-clause-shown : goal.returns-clause-shown
 returns-clause-shown g c =
-    shown_at_end (g.J.Showing.shown g.J.Naming.book) c.args.plan.now c.args.system.now
+    shown_at_end (g.J.Showing.shown g.J.ListId.book) c.args.plan.now c.args.system.now
     c.args.journal.now.entries c.run_kept-shared.result c.ending.result c.hand_out.result
     c.shows.ensures c.ending.ensures.end c.hand_out.ensures

@@ -4,5 +4,5 @@ use Rattle.store_run.proofs.kept_run.realise_kept.Given as goal
 
 abbrev pub ghosts-run_kept : goal.ghosts-run_kept
 ghosts-run_kept g a = record {
-  is_over = λ run opening. (run ≡ a.book.run) × (opening ≡ a.book.history.opening);
+  is_this_run = λ run opening. (run ≡ a.book.run) × (opening ≡ a.book.history.opening);
 }

@@ -7,7 +7,7 @@ returns-clause-histories g c = journals_of_runs_are_read g.B.Build.may g.S.DrvSo
 pub returns-clause-kept : goal.returns-clause-kept
 returns-clause-kept g c =
     kept_texts_are_read g.B.Build.may g.S.DrvSource.gives
-    (g.J.Showing.shown g.J.Naming.book)
+    (g.J.Showing.shown g.J.ListId.book)
 
 pub returns-clause-left : goal.returns-clause-left
 returns-clause-left g c = left_journals_are_read g.B.Build.may g.S.DrvSource.gives

@@ -8,7 +8,7 @@ returns-clause-end g c =
     let system = c.args.system.now in
     let opening = c.args.journal.now.entries in
     let unfinished : IsUnfinished plan system opening c.into_parts-book.result.0 = record {
-      over = c.is_over.ensures.over.0 c.if-not-is_over.false;
+      over = c.is_this_run.ensures.over.0 c.if-not-is_this_run.false;
       unsettled = λ is. true≢false (sym (c.settled.ensures.1 is) ∙ c.if-settled.false);
     } in (
       c.into_parts-book.ensures.book,

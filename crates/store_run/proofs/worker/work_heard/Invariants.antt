@@ -1,5 +1,5 @@
 use Rattle.std.proofs.Common.{IfSome}
-use Rattle.store_run.specs.private.Finding.{IsToldOfSeeds}
+use Rattle.store_run.specs.private.JobVerdicts.{IsToldOfSeeds}
 use Rattle.store_run.proofs.worker.work_heard.Given as goal
 
 abbrev pub invariant-loop : goal.invariant-loop

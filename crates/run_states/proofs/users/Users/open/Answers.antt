@@ -2,7 +2,7 @@ use Rattle.std.proofs.Common.{◌≡◌, ◌∙◌, ◌<◌, ◌+◌, ◌++◌, 
 use Rattle.std.proofs.lemmas.List.{take_at}
 use Rattle.std.proofs.lemmas.List.Elements.{All-append}
 use Rattle.std.specs.Global.{Vec}
-use Rattle.run_states.specs.Courses.{all_of, awaited_at, listed}
+use Rattle.run_states.specs.StateTables.{all_of, awaited_at, listed}
 use Rattle.run_states.specs.Steps.{total}
 use Rattle.run_states.specs.FollowedEdges.{sizes}
 use Rattle.run_states.specs.UserSpans.{AddsUser, HaveRoom, often, parts, uses}

@@ -1,6 +1,6 @@
 -- The edges of the users so far are added, and the others have room.
 use Rattle.std.proofs.Common.{◌≡◌, ◌-◌, length}
-use Rattle.run_states.specs.Courses.{all_of, awaited_at}
+use Rattle.run_states.specs.StateTables.{all_of, awaited_at}
 use Rattle.run_states.specs.UserSpans.{HaveRoom, parts, uses}
 use Rattle.run_states.specs.Users.{users_of}
 use Rattle.run_states.proofs.UserSpans.{AreOfFirst}

@@ -1,6 +1,6 @@
 use Rattle.std.proofs.Common.{sym, subst, arith}
 use Rattle.sched_core.specs.private.Booking.{Progress}
-use Rattle.run_states.specs.Courses.{CanBegin}
+use Rattle.run_states.specs.StateTables.{CanBegin}
 use Rattle.sched_core.proofs.Keeping.{begin_kept, room_to_begin}
 use Rattle.sched_core.proofs.KeptStates.{is_next}
 use Rattle.sched_core.proofs.progress.Progress.begin.Goals as goal

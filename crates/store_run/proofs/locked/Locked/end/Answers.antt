@@ -1,7 +1,7 @@
 use Rattle.std.proofs.Common.{subst}
 use Rattle.std.specs.Prelude.{OnOk}
 use Rattle.build_outcome.specs.declared.job.Job.{Job}
-use Rattle.store_run.specs.private.Finding.{HasCaughtUp}
+use Rattle.store_run.specs.private.JobVerdicts.{HasCaughtUp}
 use Rattle.store_run.proofs.locked.Locked.end.Goals as goal
 
 pub end-end-requires-after_bounds : goal.end-end-requires-after_bounds

@@ -4,7 +4,7 @@ use Rattle.std.specs.Prelude.{OnOk}
 use mathlib.Core.List.{IsPrefix}
 use Rattle.valid_table.specs.declared.entry.Entry.{Entry}
 use Rattle.valid_view.proofs.Prefixes.{prefix_trans}
-use Rattle.store_run.specs.private.Finding.{HasCaughtUp}
+use Rattle.store_run.specs.private.JobVerdicts.{HasCaughtUp}
 use Rattle.store_run.specs.private.Sharing.{Share}
 use Rattle.store_run.proofs.Permits.{journal_showable, none_first, stays_by_view, stays_without_seeds, where_ok}
 use Rattle.store_run.proofs.shared.Shared.catch_up.Goals as goal

@@ -1,7 +1,7 @@
 use Rattle.std.proofs.Common.{subst}
 use Rattle.std.specs.Prelude.{OnOk, Result}
 use Rattle.run_states.specs.declared.fault.BookFault.{BookFault}
-use Rattle.store_run.specs.private.Finding.{HasCaughtUp, MayBeFound}
+use Rattle.store_run.specs.private.JobVerdicts.{HasCaughtUp, MayBeFound}
 use Rattle.store_run.proofs.Answered.{examined_comes, unanswered_comes}
 use Rattle.store_run.proofs.shared.Shared.end.Goals as goal
 

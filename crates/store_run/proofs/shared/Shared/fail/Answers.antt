@@ -15,6 +15,6 @@ invariant_of-self g c =
     (sym c.self.view_is) c.requires in (
       after_failing g.B.Build.may c.self.inside.book c.fail.new.book _ _ _ c.self.invariant.0 why
           c.in-Ok.ensures.ok,
-      over_failing g.S.Basis.is_over c.self.inside.book c.fail.new.book _ _ _ c.self.invariant.1
+      over_failing g.S.Basis.is_this_run c.self.inside.book c.fail.new.book _ _ _ c.self.invariant.1
           c.in-Ok.ensures.ok,
     )

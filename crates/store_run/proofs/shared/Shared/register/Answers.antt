@@ -25,7 +25,7 @@ invariant_of-self g c =
     (sym c.self.view_is) c.requires in (
       after_finishing g.B.Build.may c.self.inside.book c.finish.new.book _ _ _ c.self.invariant.0
           came c.in-Ok.ensures.ok,
-      over_finishing g.S.Basis.is_over c.self.inside.book c.finish.new.book _ _ _
+      over_finishing g.S.Basis.is_this_run c.self.inside.book c.finish.new.book _ _ _
           c.self.invariant.1 c.in-Ok.ensures.ok,
     )
 

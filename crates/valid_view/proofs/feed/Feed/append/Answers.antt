@@ -6,7 +6,7 @@ pub invariant_of-self-2 : goal.invariant_of-self-2
 invariant_of-self-2 g c =
     let f = c.self.inside in
     rw c.in_ok-push_back.ensures.items
-    (feed_push g.J.Naming.book f.end.shown f.end.handed (ops_of f.held) f.queue.items f.prefix
+    (feed_push g.J.ListId.book f.end.shown f.end.handed (ops_of f.held) f.queue.items f.prefix
     c.args.entry c.self.invariant
     (rw c.registrations.ensures.value at c.registrations.ensures.rising)
     (rw (← c.self.view_is) at c.requires.new) (rw (← c.self.view_is) at c.requires.closed))

@@ -4,7 +4,7 @@ use Rattle.valid_view.proofs.ShownTables.{looks}
 use Rattle.valid_view.proofs.reading.IdleReader.enter.Goals as goal
 
 pub enter_as-requires : goal.enter_as-requires
-enter_as-requires g c x = looks g.J.Naming.book _ _ x
+enter_as-requires g c x = looks g.J.ListId.book _ _ x
 
 pub returns-clause-told : goal.returns-clause-told
 returns-clause-told g c =

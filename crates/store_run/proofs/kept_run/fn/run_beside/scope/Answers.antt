@@ -3,7 +3,7 @@ use denote.Param.Send.{IsSend, IsSync, param_send, sendable}
 use Rattle.store_run.proofs.kept_run.fn.run_beside.scope.Given.{Over}
 use Rattle.store_run.proofs.kept_run.fn.run_beside.scope.Lts.{arg-0-1}
 use Rattle.std.proofs.Crossing.{crosses}
-use Rattle.store_run.proofs.keeper.KeepPlace.TheSendSync.{the_send as place_send}
+use Rattle.store_run.proofs.checkpoint_sink.KeepPlace.TheSendSync.{the_send as place_send}
 use Rattle.store_run.proofs.kept_text.KeptText.TheSendSync.{the_send as text_send}
 use Rattle.store_run.proofs.locked.Locked.TheSendSync.{the_sync as locked_sync}
 use Rattle.store_run.proofs.kept_run.fn.run_beside.scope.Goals as goal
@@ -12,9 +12,9 @@ use Rattle.store_run.proofs.kept_run.fn.run_beside.scope.Goals as goal
 keeper_send : (g : Over) (κs : Lfts 7) (outlet : IsSend g.row.O) (place : IsSend g.row.K)
     (runtime : IsSync g.row.R) → IsSend (arg-0-1 g.row.S g.row.R g.row.J g.row.O g.row.B g.row.K g.row.O-Told g.S.laws g.R.laws
     g.J.laws g.O.laws g.B.laws g.K.laws g.O.Told.laws g.S.Basis g.S.Basis-dict g.R.Threads
-    g.R.Threads-dict g.R.Wait g.R.Wait-dict g.R.Clock g.R.Clock-dict g.J.Naming g.J.Naming-dict
+    g.R.Threads-dict g.R.Wait g.R.Wait-dict g.R.Clock g.R.Clock-dict g.J.ListId g.J.ListId-dict
     g.J.Showing g.J.Showing-dict g.O.Tells g.O.Tells-dict g.O.Outlet g.O.Outlet-dict g.B.Build
-    g.B.Build-dict g.B.Watch g.B.Watch-dict g.K.Keep g.K.Keep-dict g.B.Destruct-dict
+    g.B.Build-dict g.B.LeaseObserver g.B.LeaseObserver-dict g.K.CheckpointSink g.K.CheckpointSink-dict g.B.Destruct-dict
     g.K.Destruct-dict g.O.Told.Destruct-dict κs)
 keeper_send g κs outlet place runtime =
     search (sendable, crosses, text_send, place_send, locked_sync) depth 60 fits 20000
@@ -24,9 +24,9 @@ pub spawn-requires-send-F : goal.spawn-requires-send-F
 spawn-requires-send-F g c κs within =
     param_send 1 (arg-0-1 g.row.S g.row.R g.row.J g.row.O g.row.B g.row.K g.row.O-Told g.S.laws g.R.laws
     g.J.laws g.O.laws g.B.laws g.K.laws g.O.Told.laws g.S.Basis g.S.Basis-dict g.R.Threads
-    g.R.Threads-dict g.R.Wait g.R.Wait-dict g.R.Clock g.R.Clock-dict g.J.Naming g.J.Naming-dict
+    g.R.Threads-dict g.R.Wait g.R.Wait-dict g.R.Clock g.R.Clock-dict g.J.ListId g.J.ListId-dict
     g.J.Showing g.J.Showing-dict g.O.Tells g.O.Tells-dict g.O.Outlet g.O.Outlet-dict g.B.Build
-    g.B.Build-dict g.B.Watch g.B.Watch-dict g.K.Keep g.K.Keep-dict g.B.Destruct-dict
+    g.B.Build-dict g.B.LeaseObserver g.B.LeaseObserver-dict g.K.CheckpointSink g.K.CheckpointSink-dict g.B.Destruct-dict
     g.K.Destruct-dict g.O.Told.Destruct-dict κs) (keeper_send g κs c.requires.1.1.1.1.1.1.1.2 c.requires.1.1.1.1.1.1.1.4
     c.requires.1.1.1.1.1.1.1.6)
 

@@ -1,0 +1,9 @@
+pub mod AddedTexts
+pub mod Appending
+pub mod Endings
+pub mod Journals
+pub mod LastLines
+pub mod Registrations
+pub mod Reports
+pub mod Tasks
+pub mod WriteErrors

@@ -1,0 +1,84 @@
+-- The lines that standard error gets at the end of a run of `realise` (this product's own,
+-- `FORMATS.md`).
+use Rattle.std.specs.Prelude.{◌≡◌, ℕ, Bool, true, false, ◌++◌, List, [], Option, Some, codes}
+use Rattle.std.specs.Prelude.{flat_map, length, map, option_map, string_bytes}
+use Rattle.std.specs.Cmp.Lexicographic.{slice_cmp}
+use Rattle.std.specs.List.{range_with_len}
+use Rattle.std.specs.List.Sorted.{IsPermutation, IsSorted}
+use Rattle.std.specs.Ordering.{nat_cmp}
+use Rattle.nix_names.specs.Bytes.{Bytes, Dir, Path}
+use Rattle.process_build.specs.Options.{log_path_of}
+use Rattle.process_build.specs.declared.disk.kept_folders.KeptFolder.{KeptFolder}
+use Rattle.run_report.specs.Listing.{IsMarked}
+use Rattle.run_report.specs.Reports.{AreByPath, path_at}
+use Rattle.run_states.specs.Runs.{History, Run as RunOver, state_in}
+use Rattle.run_states.specs.declared.state.State.{State}
+use Rattle.run_states.specs.declared.state.State.TheVariants.{Failed}
+use Rattle.command_line.specs.declared.options.RealiseRequest.{RealiseRequest}
+use Rattle.nix_realise.specs.RootsStatus.{roots_status}
+use Rattle.nix_realise.specs.declared.cli.exit.Status.{Status}
+use Rattle.nix_realise.specs.declared.cli.exit.Status.TheVariants.{Unrealised}
+
+-- whether a derivation in this state failed
+abbrev pub is_failed : State → Bool
+is_failed (Failed reason) = true
+is_failed state = false
+
+-- whether each derivation failed, by number
+abbrev pub failed_marks : RunOver → History → List Bool
+failed_marks run history =
+    map (λ d. is_failed (state_in run history d)) (range_with_len 0 (length run.graph.nodes))
+
+-- the line of a derivation that failed, which names its log
+abbrev pub failed_line : (logs : Bytes) → Dir → (drv : Path) → Bytes
+failed_line logs store_dir drv =
+    codes "nix_realise: " ++ drv ++ codes ": failed, see " ++ log_path_of logs store_dir drv
+    ++ codes "\n"
+
+-- The text has a line for each derivation that failed, and no others, by path.
+pub record AreFailedLines (logs : Bytes) (store_dir : Dir) (run : RunOver) (history : History)
+    (text : Bytes) : Type 0 where
+  pub numbers : List ℕ
+  pub by_path : AreByPath run.graph.nodes
+      (IsMarked (failed_marks run history) (length run.graph.nodes)) numbers
+  pub is_text : text
+      ≡ flat_map (λ d. failed_line logs store_dir (path_at run.graph.nodes d)) numbers
+
+-- The text has these lines where the request asks for logs and a root was not realised, and else
+-- nothing.
+abbrev pub FailedTextBy : (logs : Option Bytes) → (status : Status) → Dir → RunOver → History
+    → (text : Bytes) → Type 0
+FailedTextBy (Some logs) Unrealised store_dir run history text =
+    AreFailedLines logs store_dir run history text
+FailedTextBy logs status store_dir run history text = text ≡ []
+
+abbrev pub IsFailedText : RealiseRequest → RunOver → History → (text : Bytes) → Type 0
+IsFailedText request run history text =
+    FailedTextBy (option_map (λ l. l.now) request.logs) (roots_status run history)
+    request.run.store_dir.now run history text
+
+-- the line of a build folder that was kept
+abbrev pub kept_line : KeptFolder → Bytes
+kept_line kept =
+    codes "nix_realise: " ++ kept.drv ++ codes ": kept " ++ string_bytes kept.folder ++ codes "\n"
+
+-- The text has a line for each of these folders, by the paths of their derivations.
+pub record AreKeptFolderLines (kept : List KeptFolder) (text : Bytes) : Type 0 where
+  pub sorted : List KeptFolder
+  pub same : IsPermutation kept sorted
+  pub by_path : IsSorted (slice_cmp nat_cmp) (map (λ (k : KeptFolder). k.drv) sorted)
+  pub is_text : text ≡ flat_map kept_line sorted
+
+-- no folder is kept where the request doesn't ask for that
+abbrev pub AreKeptFor : RealiseRequest → List KeptFolder → Type 0
+AreKeptFor request kept = request.keep_failed ≡ false → kept ≡ []
+
+-- What standard error gets at the end of a run: the lines of the derivations that failed, then
+-- those of the folders that were kept.
+pub record IsLastText (request : RealiseRequest) (run : RunOver) (history : History)
+    (kept : List KeptFolder) (text : Bytes) : Type 0 where
+  pub failed : Bytes
+  pub folders : Bytes
+  pub of_failed : IsFailedText request run history failed
+  pub of_folders : AreKeptFolderLines kept folders
+  pub is_text : text ≡ failed ++ folders

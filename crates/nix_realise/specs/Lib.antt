@@ -1,0 +1,27 @@
+-- What public contracts cite, and what that rests on.
+pub mod AddedDrv
+pub mod AddedText
+pub mod Building
+pub mod CheckLines
+pub mod DrvEndings
+pub mod Endings
+pub mod FaultWords
+pub mod Filed
+pub mod Files
+pub mod Outcomes
+pub mod Folders
+pub mod GraphWords
+pub mod JournalFiles
+pub mod LastLines
+pub mod Locking
+pub mod Planning
+pub mod ProgramEndings
+pub mod Realising
+pub mod Registering
+pub mod RootsStatus
+pub mod Exits
+pub mod RunErrors
+pub mod StoreDirs
+pub mod Tasks
+pub mod Tracing
+pub mod private

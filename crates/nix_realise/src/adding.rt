@@ -1,0 +1,12 @@
+//! The subcommands `add-text` and `add-drv`.
+//!
+//! | Module | What is in it |
+//! |---|---|
+//! | `added_text`, `add_text` | the answer of `add-text`; the subcommand |
+//! | `added_drv`, `add_drv` | the answer of `add-drv`; the subcommand |
+#![tactic(auto)]
+
+pub mod add_drv;
+pub mod add_text;
+pub mod added_drv;
+pub mod added_text;

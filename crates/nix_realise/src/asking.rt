@@ -1,0 +1,15 @@
+//! The subcommands `check` and `plan`, which change nothing.
+//!
+//! | Module | What is in it |
+//! |---|---|
+//! | `verdict`, `check` | the verdict of `check` on one word; its lines |
+//! | `task` | what `plan` and `realise` take: a plan and a journal |
+//! | `read_task` | the same for a run that changes nothing |
+//! | `plan` | the subcommand `plan` |
+#![tactic(auto)]
+
+pub mod check;
+pub mod plan;
+pub mod read_task;
+pub mod task;
+pub mod verdict;

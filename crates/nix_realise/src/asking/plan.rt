@@ -1,0 +1,107 @@
+//! The subcommand `plan`.
+ghost use Rattle.std.specs.Prelude.{◌≡◌, IfErr, IfOk};
+ghost use Rattle.nix_realise.specs.Planning.{ForecastEnds, IsForecastPrinted, PlanEnds, over};
+ghost use Rattle.nix_realise.specs.Planning.{whole_status};
+ghost use Rattle.nix_realise.specs.declared.cli.run_error.RunError.TheVariants.{NoMemory};
+
+use crate::asking::read_task::read_task;
+use crate::asking::task::Task;
+use crate::cli::exit::Status;
+use crate::cli::printing::print_bytes;
+use crate::cli::run_error::RunError;
+use command_line::{PlanRequest, RunRequest};
+use forecast::Forecast;
+use sched_core::BookFault;
+use std::alloc::Global;
+use std::io::Write;
+use std::rt::Files;
+
+/// Prints what `realise` would report for the request, if each builder that it starts made its
+/// outputs: as a report or as a graph. The plan is loaded, then the journal is read; the first
+/// fault ends the run. Nothing is written but to standard output, and no builder is started.
+pub fn plan<'a, R, O>(
+    rt: &R,
+    request: &PlanRequest<'a>,
+    out: &mut O,
+) -> Result<Status, RunError<'a>>
+where
+    R: Files + AllocGlobal,
+    O: Write,
+    ensures { PlanEnds request.now (O.contents out.old) (O.contents out.new) result }
+{
+    let task = read_task(rt, &request.run)?;
+    print_forecast(rt.alloc(), request, task, out)
+}
+
+// Prints the forecast of a run over a task.
+fn print_forecast<'a, O: Write>(
+    alloc: Global,
+    request: &PlanRequest<'a>,
+    task: Task,
+    out: &mut O,
+) -> Result<Status, RunError<'a>>
+    ensures { ForecastEnds request.now task (O.contents out.old) (O.contents out.new) result }
+{
+    let forecast = forecast_of(alloc, &request.run, task)?;
+    let text = text_of(&forecast, request.dot)?;
+    match print_bytes(&text, out) {
+        Ok(()) => Ok(whole_status(&forecast)),
+        Err(_) => Err(RunError::Unwritable),
+    }
+}
+
+// The forecast of a run over a task.
+fn forecast_of<'a>(
+    alloc: Global,
+    request: &RunRequest<'a>,
+    task: Task,
+) -> Result<Forecast, RunError<'a>>
+    ensures run { IfOk result (λ forecast. forecast.run ≡ over request.now task) }
+    ensures entries { IfOk result (λ forecast. forecast.entries ≡ task.journal.entries) }
+    ensures err { IfErr result (λ stop. stop ≡ NoMemory) }
+{
+    let (plan, journal) = task.into_parts();
+    let system = Vec::from_slice(alloc, request.system.as_bytes())?;
+    match Forecast::open(alloc, plan, journal, system) {
+        Ok(forecast) => Ok(forecast),
+        Err(BookFault::NoMemory) => Err(RunError::NoMemory),
+        Err(_) => unreachable!(),
+    }
+}
+
+// The text that is printed for a forecast.
+fn text_of<'a>(forecast: &Forecast, dot: bool) -> Result<Vec<u8>, RunError<'a>>
+    ensures ok { IfOk result
+        (λ text. IsForecastPrinted dot forecast.now.run forecast.now.entries text.items) }
+    ensures err { IfErr result (λ stop. stop ≡ NoMemory) }
+{
+    match text_or_picture(forecast, dot) {
+        Ok(text) => Ok(text),
+        Err(BookFault::NoMemory) => Err(RunError::NoMemory),
+        Err(_) => unreachable!(),
+    }
+}
+
+// The text of a forecast, or its picture.
+fn text_or_picture(forecast: &Forecast, dot: bool) -> Result<Vec<u8>, BookFault>
+    ensures ok { IfOk result
+        (λ text. IsForecastPrinted dot forecast.now.run forecast.now.entries text.items) }
+    ensures err { IfErr result (λ fault. fault ≡ BookFault.NoMemory) }
+{
+    if dot {
+        forecast.picture()
+    } else {
+        forecast.text()
+    }
+}
+
+// The status of a forecast: `Done` where each root is built or reused, else `Unrealised`.
+fn whole_status(forecast: &Forecast) -> Status
+    ensures { result ≡ whole_status forecast.now.run forecast.now.entries }
+{
+    if forecast.is_whole() {
+        Status::Done
+    } else {
+        Status::Unrealised
+    }
+}

@@ -1,7 +1,0 @@
-use Rattle.process_build.proofs.AllowedLinks.{allowed_dir}
-use Rattle.process_build.proofs.reading.Reader.+tree.Goals as goal
-
-pub tree-returns-in_ok-members-in-Folder-clause-plain :
-    goal.tree-returns-in_ok-members-in-Folder-clause-plain
-tree-returns-in_ok-members-in-Folder-clause-plain g t c =
-    allowed_dir c.args.links c.in_ok-members-in-Folder.field-0 c.in_ok-members-in-Folder.ensures.plain

@@ -1,0 +1,18 @@
+//! Build folders, logs and outputs on disk.
+//!
+//! | Module | What is in it |
+//! |---|---|
+//! | `folders` | the store folder, the build folder of a lease, and what is cleared for it |
+//! | `cleanup` | what lies at a path of the store folder, taken away |
+//! | `left_paths` | what earlier runs moved aside and could not remove |
+//! | `outputs` | what lies at the outputs' paths, read within the limits of an output |
+//! | `logs` | the log of a builder |
+//! | `kept_folders` | the build folders of builders that failed, which are kept |
+#![tactic(auto)]
+
+pub mod cleanup;
+pub mod folders;
+pub mod kept_folders;
+pub mod left_paths;
+pub mod logs;
+pub mod outputs;

@@ -1,0 +1,112 @@
+//! Builders whose leases a trace notes.
+
+use crate::observe::trace::Trace;
+use crate::process::builders::Builders;
+use crate::process::drv_paths::DrvPaths;
+use crate::process::lease::RunningLease;
+use crate::process::options::BuildOptions;
+use build_outcome::{Answer, Build, Job, LeaseObserver, Reason};
+use std::alloc::{AllocError, Global};
+use std::cell::Cell;
+use std::sync::Wait;
+use std::time::Clock;
+
+/// A builder whose leases a trace notes, if one is wanted.
+#[derive(Drop)]
+pub struct Traced<'a, R, B> {
+    rt: &'a R,
+    builder: B,
+    worker: usize,
+    drvs: DrvPaths,
+    trace: Option<&'a Trace>,
+    running: Cell<Option<RunningLease>>,
+    // When the builder of the last job ended.
+    end: Cell<u64>,
+}
+
+impl<R: Wait + Clock + AllocGlobal, B: Build> Build for Traced<'_, R, B> {
+    ghost may = { B.may };
+
+    /// Builds a job as the builder does.
+    fn run(&self, number: u64, job: &Job) -> Result<Answer, Reason> {
+        if let Some(trace) = self.trace {
+            let drv = self.drvs.get(job.derivation);
+            let start = trace.time(self.rt);
+            self.running
+                .set(RunningLease::of(self.rt.alloc(), drv, number, start));
+        }
+        let outcome = self.builder.run(number, job);
+        if let Some(trace) = self.trace {
+            self.end.set(trace.time(self.rt));
+        }
+        outcome
+    }
+}
+
+impl<R: Wait + Clock + AllocGlobal, B: LeaseObserver> LeaseObserver for Traced<'_, R, B> {
+    /// Tells the builder that a job begins.
+    fn begun(&self, unsettled: usize) {
+        self.builder.begun(unsettled);
+    }
+
+    /// Notes that a job's lease ended, and tells the builder.
+    fn ended(&self, is_good: bool, unsettled: usize) {
+        if let Some(trace) = self.trace {
+            let running = self.running.take();
+            trace.note(self.rt, running, self.worker, self.end.get(), is_good);
+        }
+        self.builder.ended(is_good, unsettled);
+    }
+}
+
+/// Makes builders whose leases a trace notes, if one is wanted. The workers have numbers from 1 in
+/// the order in which their builders are made.
+#[derive(Drop)]
+pub struct WithTrace<'a, R, M> {
+    rt: &'a R,
+    make: &'a M,
+    trace: Option<&'a Trace>,
+    made: Cell<usize>,
+}
+
+impl<'a, R, M> WithTrace<'a, R, M> {
+    /// Makes these builders, and notes their leases in this trace.
+    pub fn new(rt: &'a R, make: &'a M, trace: Option<&'a Trace>) -> WithTrace<'a, R, M> {
+        WithTrace {
+            rt,
+            make,
+            trace,
+            made: Cell::new(0),
+        }
+    }
+}
+
+impl<'a, R, M> Builders for WithTrace<'a, R, M>
+where
+    R: Wait + Clock + AllocGlobal + Sync,
+    M: Builders,
+{
+    type Builder = Traced<'a, R, M::Builder>;
+
+    ghost builds_in = { λ traced options. M.builds_in traced.builder options };
+
+    fn builder(
+        &self,
+        alloc: Global,
+        options: &BuildOptions<'_>,
+    ) -> Result<Traced<'a, R, M::Builder>, AllocError> {
+        let builder = self.make.builder(alloc, options)?;
+        let drvs = options.drvs.copy()?;
+        let worker = self.made.get().saturating_add(1);
+        self.made.set(worker);
+        Ok(Traced {
+            rt: self.rt,
+            builder,
+            worker,
+            drvs,
+            trace: self.trace,
+            running: Cell::new(None),
+            end: Cell::new(0),
+        })
+    }
+}

@@ -1,0 +1,173 @@
+//! A builder that is started and waited for.
+ghost use Rattle.std.specs.Prelude.{◌≡◌, ◌++◌, ◌∷◌, [], IfErr, IfOk, OnOk, Some, map, option_map};
+ghost use Rattle.std.specs.Prelude.{string_bytes};
+ghost use Rattle.std.specs.Process.{command_arg0, command_args, command_dir, command_program};
+ghost use Rattle.std.specs.Process.{SameDir, SameEnv, SameProgramAndArgs};
+ghost use Rattle.process_build.specs.private.Answers.{IsRunFault};
+ghost use Rattle.process_build.specs.private.BuilderCalls.{entries_in_order, entry_of_setting};
+ghost use Rattle.process_build.specs.private.BuilderCalls.{args_by, name_by, program_by, program_of, Runs};
+
+use crate::disk::folders::BuildFolder;
+use crate::disk::logs::OutputStreams;
+use crate::failures::is_made_again;
+use crate::process::call::Call;
+use crate::process::ended::ProcessEnd;
+use crate::process::environment::{set_environment, settings};
+use crate::reasons::{no_start, read_fault};
+use build_outcome::Reason;
+use std::alloc::{AllocError, Global};
+use std::io;
+use std::io::ErrorKind;
+use std::os::unix::process::CommandExt;
+use std::process::{Child, Command, Processes, Stdio};
+
+/// Where a builder runs, and the program that starts it, if one does.
+#[derive(Clone, Copy)]
+pub struct BuildSite<'a> {
+    /// The store folder.
+    pub store_dir: &'a str,
+    /// The folder in which it runs.
+    pub folder: &'a BuildFolder,
+    /// The path of the program that starts it, if one does.
+    pub runner: Option<&'a str>,
+}
+
+/// Runs a builder in its folder, with these outputs, and tells how it ended. It waits for the
+/// builder alone, and not for what that one has started. `NoStart` where it can't be started,
+/// `ReadFault` where it was and its end can't be waited for.
+pub fn run_builder<P: Processes>(
+    alloc: Global,
+    processes: &P,
+    place: BuildSite<'_>,
+    call: &Call<'_>,
+    outputs: OutputStreams<'_>,
+) -> Result<ProcessEnd, Reason>
+    ensures { IfErr result IsRunFault }
+{
+    let mut command = command(alloc, place, call, outputs)?;
+    let mut builder = start(&mut command, processes).map_err(no_start)?;
+    ProcessEnd::of(&mut builder).map_err(read_fault)
+}
+
+// Starts a builder, again if a signal interrupted the start, for example at the opening of its
+// empty input: then no process was started.
+fn start<P: Processes>(command: &mut Command, processes: &P) -> io::Result<Child<P::Started>> {
+    for _ in 0..u64::MAX {
+        match command.spawn(processes) {
+            Err(error) if is_made_again(&error) => {}
+            answer => return answer,
+        }
+    }
+    Err(io::Error::from(ErrorKind::Interrupted))
+}
+
+// The command that runs a builder at its place.
+fn command(
+    alloc: Global,
+    place: BuildSite<'_>,
+    call: &Call<'_>,
+    outputs: OutputStreams<'_>,
+) -> Result<Command, AllocError>
+    ensures { IfOk result (Runs (option_map (λ r. r.now) place.entry.runner) call.now.builder.now
+        (map (λ a. a.now) call.now.args.items)
+        (entries_in_order place.entry.store_dir.now (string_bytes place.entry.folder.now.path)
+        (map entry_of_setting call.now.env.items))
+        (string_bytes place.entry.folder.now.path)) }
+{
+    let folder = place.folder.path();
+    let mut command = program_command(alloc, place.runner, call)?;
+    set_streams(&mut command, outputs);
+    let settings = settings(alloc, place.store_dir, folder, &call.env)?;
+    set_environment(&mut command, &settings)?;
+    set_place(&mut command, folder, name(place.runner, call.builder))?;
+    Ok(command)
+}
+
+// The command of a builder's program and its arguments, by a runner where there is one, before
+// anything else is said of it.
+fn program_command(
+    alloc: Global,
+    runner: Option<&str>,
+    call: &Call<'_>,
+) -> Result<Command, AllocError>
+    ensures program { IfOk result (λ c. command_program c
+        ≡ program_by (option_map (λ r. r.now) runner.entry) call.now.builder.now) }
+    ensures args { IfOk result (λ c. command_args c
+        ≡ args_by (option_map (λ r. r.now) runner.entry) call.now.builder.now
+        (map (λ a. a.now) call.now.args.items)) }
+{
+    let program = program(alloc, call.builder)?;
+    let mut command = match runner {
+        Some(runner) => by_runner(alloc, runner, program.as_str())?,
+        None => Command::new(alloc, program)?,
+    };
+    set_args(&mut command, &call.args)?;
+    Ok(command)
+}
+
+// The command of a runner whose first argument is a program.
+fn by_runner(alloc: Global, runner: &str, program: &str) -> Result<Command, AllocError>
+    ensures program { IfOk result (λ c. command_program c ≡ runner.now) }
+    ensures args { IfOk result (λ c. command_args c ≡ program.now ∷ []) }
+{
+    let mut command = Command::new(alloc, runner)?;
+    command.arg(program)?;
+    Ok(command)
+}
+
+// The name that what is started is told as its own: the builder's, or the runner's path.
+fn name<'a>(runner: Option<&'a str>, builder: &'a str) -> &'a str
+    ensures { result.now ≡ name_by (option_map (λ r. r.now) runner.entry) builder.now }
+{
+    match runner {
+        Some(runner) => runner,
+        None => builder,
+    }
+}
+
+// Runs a command in a folder, under the name that it is told as its own.
+fn set_place(command: &mut Command, folder: &str, name: &str) -> Result<(), AllocError>
+    ensures dir { OnOk result (command_dir command.new ≡ Some folder.now) }
+    ensures name { OnOk result (command_arg0 command.new ≡ Some name.now) }
+    ensures call { OnOk result (SameProgramAndArgs command.old command.new) }
+    ensures env { OnOk result (SameEnv command.old command.new) }
+{
+    command.current_dir(folder)?.arg0(name)?;
+    Ok(())
+}
+
+// The path of a builder's program. One without a slash would be looked for in the folders of its
+// `PATH`.
+fn program(alloc: Global, builder: &str) -> Result<String, AllocError>
+    ensures { IfOk result (λ path. string_bytes path ≡ program_of builder.now) }
+{
+    if builder.as_bytes().contains(&b'/') {
+        String::from_str(alloc, builder)
+    } else {
+        format!(in alloc; "./{builder}")
+    }
+}
+
+// Gives a command these arguments.
+fn set_args(command: &mut Command, args: &[&str]) -> Result<(), AllocError>
+    ensures args { OnOk result (command_args command.new
+        ≡ command_args command.old ++ map (λ a. a.now) args.now) }
+    ensures program { OnOk result (command_program command.new ≡ command_program command.old) }
+    ensures env { OnOk result (SameEnv command.old command.new) }
+    ensures dir { OnOk result (SameDir command.old command.new) }
+{
+    for arg in args {
+        command.arg(*arg)?;
+    }
+    Ok(())
+}
+
+// Gives a command no input, and these outputs.
+fn set_streams(command: &mut Command, outputs: OutputStreams<'_>)
+    ensures call { SameProgramAndArgs command.old command.new }
+    ensures env { SameEnv command.old command.new }
+    ensures dir { SameDir command.old command.new }
+{
+    let (out, err) = outputs.into_streams();
+    command.stdin(Stdio::null()).stdout(out).stderr(err);
+}

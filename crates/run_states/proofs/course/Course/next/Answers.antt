@@ -1,6 +1,0 @@
-use Rattle.std.proofs.Common.{rules}
-use Rattle.run_states.proofs.MemoCourses.{next_told}
-use Rattle.run_states.proofs.course.Course.next.Goals as goal
-
-pub returns : goal.returns
-returns c = search (rules, next_told)

@@ -1,9 +1,0 @@
-use Rattle.std.proofs.Common.{◌↔◌, IsTrue, subst}
-use Rattle.run_states.specs.Courses.{IsSettled}
-use Rattle.run_states.proofs.MemoCourses.{settled_told}
-use Rattle.run_states.proofs.course.Course.settled.Goals as goal
-
-pub returns : goal.returns
-returns c = subst (λ k. IsTrue c.is_settled.result ↔ IsSettled k) c.self.view_is
-    (settled_told c.self.inside.plan _ c.self.inside.users
-    c.self.inside.agenda c.self.invariant.0 _ c.is_settled.ensures)

@@ -1,6 +1,0 @@
-use Rattle.std.proofs.Common.{rules}
-use Rattle.run_states.proofs.MemoCourses.{state_told}
-use Rattle.run_states.proofs.course.Course.state.Goals as goal
-
-pub returns : goal.returns
-returns c = search (rules, state_told)

@@ -1,6 +1,0 @@
-use Rattle.std.proofs.Common.{rules}
-use Rattle.run_states.proofs.MemoCourses.{unsettled_told}
-use Rattle.run_states.proofs.course.Course.unsettled.Goals as goal
-
-pub returns : goal.returns
-returns c = search (rules, unsettled_told)

@@ -1,8 +1,0 @@
-use Rattle.run_states.specs.Coursing.{kept}
-use Rattle.run_states.specs.Memos.{news_in, states_in}
-use Rattle.run_states.proofs.CountedNews.{AreCounted}
-use Rattle.run_states.proofs.memo.memo_by_inputs.Given as goal
-
-abbrev pub invariant-loop-place : goal.invariant-loop-place
-invariant-loop-place l = AreCounted (news_in (kept (states_in l.memos)) l.inputs) l.place l.waits
-    l.first

@@ -1,0 +1,8 @@
+use Rattle.run_states.specs.Coursing.{kept}
+use Rattle.run_states.specs.NodeStates.{news_in, states_in}
+use Rattle.run_states.proofs.CountedNews.{AreCounted}
+use Rattle.run_states.proofs.node_states.memo_by_inputs.Given as goal
+
+abbrev pub invariant-loop-place : goal.invariant-loop-place
+invariant-loop-place l = AreCounted (news_in (kept (states_in l.memos)) l.inputs) l.place l.waits
+    l.first

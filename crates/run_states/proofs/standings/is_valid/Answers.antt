@@ -1,6 +1,0 @@
-use Rattle.std.proofs.Common.{rules}
-use Rattle.run_states.proofs.OwnStandings.{told_valid}
-use Rattle.run_states.proofs.standings.is_valid.Goals as goal
-
-pub returns : goal.returns
-returns c = search (rules, told_valid)

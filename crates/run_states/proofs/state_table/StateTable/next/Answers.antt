@@ -1,0 +1,6 @@
+use Rattle.std.proofs.Common.{rules}
+use Rattle.run_states.proofs.MemoCourses.{next_told}
+use Rattle.run_states.proofs.state_table.StateTable.next.Goals as goal
+
+pub returns : goal.returns
+returns c = search (rules, next_told)

@@ -1,0 +1,6 @@
+use Rattle.std.proofs.Common.{rules}
+use Rattle.run_states.proofs.MemoCourses.{state_told}
+use Rattle.run_states.proofs.state_table.StateTable.state.Goals as goal
+
+pub returns : goal.returns
+returns c = search (rules, state_told)

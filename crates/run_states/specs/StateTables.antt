@@ -1,0 +1,120 @@
+-- *Course*: a plan, and what the state of each of its derivations follows from (this product's
+-- own).
+use Rattle.std.specs.Prelude.{◌≡◌, ◌<◌, ◌⊎◌, Bool, true, false, ℕ, Option, Some, None, List, [], ◌∷◌, ◌++◌, length, slice_get}
+use Rattle.std.specs.List.{slice_index_or}
+use Rattle.nix_names.specs.Bytes.{Bytes}
+use Rattle.drv_graph.specs.Nodes.{Node}
+use Rattle.drv_graph.specs.Plans.{Graph}
+use Rattle.valid_table.specs.declared.entry.Entry.{Entry}
+use Rattle.run_states.specs.Nearest.{last_alone, near_state}
+use Rattle.run_states.specs.Runs.{IsWanted, Run, earlier_twins, inputs_at, standing_at}
+use Rattle.run_states.specs.States.{Phase, Idle, Begun, Rows}
+use Rattle.run_states.specs.declared.state.State.{State}
+use Rattle.run_states.specs.declared.state.State.TheVariants.{Building, Ready, Blocked}
+use Rattle.run_states.specs.declared.precondition.Precondition.{Precondition}
+use Rattle.run_states.specs.declared.precondition.Precondition.TheVariants.{Free}
+use Rattle.run_states.specs.Runs.{History, state_in}
+
+-- What is known of a plan's derivations, of each at its number: its standing, whether it is wanted,
+-- its nearest earlier twin, and its phase.
+pub record StateTable : Type 0 where
+  pub graph : Graph
+  pub standings : List Precondition
+  pub wanted : List Bool
+  pub twins : List (Option ℕ)
+  pub phases : List Phase
+
+-- the list of a number, or the empty list if there is no number
+abbrev pub listed : Option ℕ → List ℕ
+listed (Some n) = n ∷ []
+listed None = []
+
+-- What a derivation waits for: its inputs, in its text's order, and the nearest of its earlier
+-- twins, if it has one.
+pub record Awaited : Type 0 where
+  pub inputs : List ℕ
+  pub twins : List ℕ
+
+-- all that a derivation waits for, the twin at the end
+abbrev pub all_of : Awaited → List ℕ
+all_of awaited = awaited.inputs ++ awaited.twins
+
+-- what the derivation with this number waits for, in a plan of which each derivation has this
+-- nearest earlier twin
+abbrev pub awaited_at : Graph → (twins : List (Option ℕ)) → ℕ → Awaited
+awaited_at graph twins d = record {
+  inputs = inputs_at graph.nodes (slice_get graph.nodes d);
+  twins = listed (slice_index_or twins d None);
+}
+
+-- the rows from which the states of a course follow
+abbrev pub course_rows : StateTable → Rows
+course_rows course = record {
+  inputs = λ d. inputs_at course.graph.nodes (slice_get course.graph.nodes d);
+  twins = λ d. listed (slice_index_or course.twins d None);
+  standing = λ d. slice_index_or course.standings d Free;
+  phase = λ d. slice_index_or course.phases d Idle;
+}
+
+-- the state of a derivation of a course
+abbrev pub course_state : StateTable → ℕ → State
+course_state course d = near_state (course_rows course) d
+
+-- a derivation is wanted and can be begun
+abbrev pub IsNext : StateTable → ℕ → Type 0
+IsNext course d = (d < length course.graph.nodes) × (slice_index_or course.wanted d false ≡ true)
+    × (course_state course d ≡ Ready)
+
+-- a derivation has begun under some lease and not ended
+abbrev pub HasBegun : StateTable → ℕ → Type 0
+HasBegun course d = (d < length course.graph.nodes)
+    × ((lease : ℕ) × (slice_index_or course.phases d Idle ≡ Begun lease))
+
+-- a derivation in this state is Blocked, Ready or Building
+abbrev pub IsOpen : State → Type 0
+IsOpen state = (state ≡ Blocked) ⊎ (state ≡ Ready) ⊎ ((lease : ℕ) × (state ≡ Building lease))
+
+-- a derivation is wanted, and Blocked, Ready or Building
+abbrev pub IsUnsettledIn : StateTable → ℕ → Type 0
+IsUnsettledIn course d = (d < length course.graph.nodes)
+    × (slice_index_or course.wanted d false ≡ true) × IsOpen (course_state course d)
+
+-- no wanted derivation is Blocked, Ready or Building
+abbrev pub IsSettled : StateTable → Type 0
+IsSettled course = (d : ℕ) → d < length course.graph.nodes → slice_index_or course.wanted d false
+    ≡ true → IsOpen (course_state course d) → ⊥
+
+-- the standing of each derivation after these entries, in a run for the system
+pub record AreStandings (system : Bytes) (entries : List Entry) (nodes : List Node)
+    (standings : List Precondition) : Type 0 where
+  pub count : length standings ≡ length nodes
+  pub each : (d : ℕ) → d < length nodes → slice_index_or standings d Free
+      ≡ standing_at system entries (slice_get nodes d)
+
+-- of each derivation, whether it is wanted
+pub record AreWanted (run : Run) (opening : List Entry) (wanted : List Bool) : Type 0 where
+  pub count : length wanted ≡ length run.graph.nodes
+  pub yes : (d : ℕ) → slice_index_or wanted d false ≡ true → IsWanted run opening d
+  pub no : (d : ℕ) → IsWanted run opening d → slice_index_or wanted d false ≡ true
+
+-- of each derivation, the nearest of its earlier twins
+pub record AreNearest (run : Run) (opening : List Entry) (twins : List (Option ℕ)) : Type 0 where
+  pub count : length twins ≡ length run.graph.nodes
+  pub each : (d : ℕ) → d < length run.graph.nodes → listed (slice_index_or twins d None)
+      ≡ last_alone (earlier_twins run opening d)
+
+-- A derivation can be begun: it is wanted, and ready.
+pub record CanBegin (run : Run) (history : History) (d : ℕ) : Type 0 where
+  pub within : d < length run.graph.nodes
+  pub wanted : IsWanted run history.opening d
+  pub ready : state_in run history d ≡ Ready
+
+-- a derivation is wanted, and Blocked, Ready or Building
+abbrev pub IsUnsettled : Run → History → ℕ → Type 0
+IsUnsettled run history d = (d < length run.graph.nodes) × IsWanted run history.opening d
+    × IsOpen (state_in run history d)
+
+-- no wanted derivation is Blocked, Ready or Building
+abbrev pub IsRunSettled : Run → History → Type 0
+IsRunSettled run history = (d : ℕ) → d < length run.graph.nodes → IsWanted run history.opening d
+    → IsOpen (state_in run history d) → ⊥

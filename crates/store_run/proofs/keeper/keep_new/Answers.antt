@@ -1,8 +1,0 @@
-use Rattle.store_run.proofs.KeptTexts.{may_be_kept}
-use Rattle.store_run.proofs.keeper.keep_new.Goals as goal
-
-pub keep-requires : goal.keep-requires
-keep-requires g c =
-    may_be_kept g.B.Build.may (g.J.Showing.shown g.J.Naming.book) g.S.Basis.is_over
-    g.K.Keep.may_keep _ _ _ _ c.place.invariant
-    c.in_ok-news.ensures c.in-Ok.ensures c.bytes.ensures

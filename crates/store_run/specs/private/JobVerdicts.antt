@@ -1,0 +1,75 @@
+-- What a worker finds of the job of its lease, by a list of entries that its reader sees (this
+-- product's own).
+use Rattle.std.specs.Prelude.{◌≡◌, ◌⊎◌, ℕ, List, Result, Ok, Err, MatchOption}
+use Rattle.nix_names.specs.Bytes.{Path}
+use Rattle.valid_table.specs.PathInfos.{PathInfo}
+use Rattle.valid_table.specs.declared.entry.Entry.{Entry}
+use Rattle.valid_view.specs.Shown.{IsShowable}
+use Rattle.valid_view.specs.declared.fault.ViewFault.{ViewFault}
+use Rattle.valid_view.specs.declared.fault.ViewFault.TheVariants as view
+use Rattle.sched_core.specs.Books.{ArePermittedPaths, AreSeedsValid, IsBooksLease, Leased, Ledger}
+use Rattle.run_states.specs.declared.fault.BookFault.{BookFault}
+use Rattle.run_states.specs.declared.fault.BookFault.TheVariants.{NoMemory, NoView}
+use Rattle.build_outcome.specs.declared.job.Answer.{Answer}
+use Rattle.build_outcome.specs.declared.job.Job.{Job}
+use Rattle.build_outcome.specs.declared.reason.Reason.{Reason}
+use Rattle.build_outcome.specs.declared.reason.Reason.TheVariants.{OutOfMemory}
+use Rattle.store_run.specs.Builders.{IsOutcomeVerdict}
+use Rattle.store_run.specs.declared.job_verdict.JobVerdict.{JobVerdict}
+use Rattle.store_run.specs.declared.job_verdict.JobVerdict.TheVariants.{Examined, Unanswered, Refused}
+
+-- a lease was told of a list by which all that its job is built from is valid
+abbrev pub IsToldOfSeeds : {Told : Type 0} → (names : Told → List Entry → Type 0) → Leased Told
+    → Type 0
+IsToldOfSeeds names lease = MatchOption lease.told ⊥
+    (λ told. (entries : List Entry) × names told entries × AreSeedsValid entries lease.job)
+
+-- The verdict on an answer by a list that a view may show, in which all that the job is built from
+-- is valid.
+pub record IsSeenVerdict (seen : List Entry) (job : Job) (answer : Answer)
+    (verdict : Result (List PathInfo) Reason) : Type 0 where
+  pub showable : IsShowable seen
+  pub seeds : AreSeedsValid seen job
+  pub is : IsOutcomeVerdict seen job (Ok answer) verdict
+
+-- a refusal of memory, or of a view that is gone
+abbrev pub IsUnseen : BookFault → Type 0
+IsUnseen NoMemory = Unit {0}
+IsUnseen NoView = Unit {0}
+IsUnseen other = ⊥
+
+-- a refusal of a reader, as a book tells it
+abbrev pub IsToldAs : ViewFault → BookFault → Type 0
+IsToldAs view.NoMemory fault = fault ≡ NoMemory
+IsToldAs (view.NoView why) fault = fault ≡ NoView
+IsToldAs (view.NotValid path) fault = ⊥
+
+-- What is found of an outcome by a list: of an answer, its verdict, for which memory may be
+-- refused, or why that could not be had; of any other outcome, the reason why there is no answer.
+abbrev pub IsFoundBy : (seen : List Entry) → Job → Result Answer Reason → JobVerdict → Type 0
+IsFoundBy seen job (Ok answer) (Examined verdict) = (verdict ≡ Err OutOfMemory)
+    ⊎ IsSeenVerdict seen job answer verdict
+IsFoundBy seen job (Ok answer) (Refused fault) = IsUnseen fault
+IsFoundBy seen job (Ok answer) (Unanswered why) = ⊥
+IsFoundBy seen job (Err reason) (Unanswered why) = why ≡ reason
+IsFoundBy seen job (Err reason) other = ⊥
+
+-- What may be found of a job by a list: what is found of an outcome that a builder may give, or of
+-- the reason that memory was refused to the builder.
+pub record MayBeFound (may : Job → Result Answer Reason → Type 0) (seen : List Entry) (job : Job)
+    (found : JobVerdict) : Type 0 where
+  pub outcome : Result Answer Reason
+  pub given : (outcome ≡ Err OutOfMemory) ⊎ may job outcome
+  pub by : IsFoundBy seen job outcome found
+
+-- the paths that are permitted to a job after some entries are permitted after others
+abbrev pub StaysPermitted : (before after : List Entry) → Job → Type 0
+StaysPermitted before after job = (permitted : List Path) → ArePermittedPaths before job permitted
+    → ArePermittedPaths after job permitted
+
+-- A reader has caught up with a book. Where a job of the book's has its seeds valid in the list
+-- that the reader saw, the paths that were permitted to it by that list are permitted after the
+-- book's entries.
+abbrev pub HasCaughtUp : (seen : List Entry) → Ledger → Job → Type 0
+HasCaughtUp seen book job = (number : ℕ) → IsBooksLease book.run book.history job number
+    → IsShowable seen → AreSeedsValid seen job → StaysPermitted seen book.history.entries job

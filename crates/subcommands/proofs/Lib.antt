@@ -1,9 +1,0 @@
-pub mod AddedTexts
-pub mod Appending
-pub mod Endings
-pub mod Journals
-pub mod LastLines
-pub mod Registrations
-pub mod Reports
-pub mod Tasks
-pub mod Unwritten

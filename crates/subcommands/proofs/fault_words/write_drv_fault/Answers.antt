@@ -1,5 +1,0 @@
-use Rattle.subcommands.proofs.fault_words.write_drv_fault.Goals as goal
-
-pub returns-in-TextPathMismatch : goal.returns-in-TextPathMismatch
-returns-in-TextPathMismatch c =
-    rw (c.in-TextPathMismatch.is, ← c.text.ensures.value) c.write_with_value.ensures

@@ -1,6 +1,0 @@
-use Rattle.subcommands.proofs.graph_words.write_output_fault.Goals as goal
-
-pub returns-in-UnknownOutput : goal.returns-in-UnknownOutput
-returns-in-UnknownOutput c =
-    rw (c.in-UnknownOutput.is, ← c.text.ensures.value, ← c.deref-in-UnknownOutput.ensures.value)
-    c.write_path_and_string.ensures

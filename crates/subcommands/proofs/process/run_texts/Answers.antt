@@ -1,5 +1,0 @@
-use Rattle.std.proofs.Common.{inl}
-use Rattle.subcommands.proofs.process.run_texts.Goals as goal
-
-pub returns-in-Ok : goal.returns-in-Ok
-returns-in-Ok g c = inl (rw (← c.in-Ok.ensures, ← c.deref.ensures.value) c.run.ensures)

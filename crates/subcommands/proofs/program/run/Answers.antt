@@ -1,9 +1,0 @@
-use Rattle.std.proofs.Common.{inl, inr}
-use Rattle.clap.specs.Words.{kind_of}
-use Rattle.subcommands.proofs.program.run.Goals as goal
-
-pub returns-in-Ok : goal.returns-in-Ok
-returns-in-Ok g c = inl (c.in-Ok.request, c.in-Ok.ensures.ok, c.run_request.ensures)
-
-pub returns-in-Err : goal.returns-in-Err
-returns-in-Err g c = inr (kind_of c.in-Err.fault, c.in-Err.ensures.err, c.print_usage.ensures)

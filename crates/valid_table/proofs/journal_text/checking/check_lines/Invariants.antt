@@ -1,0 +1,15 @@
+-- The lines of the first registrations are right.
+use Rattle.std.proofs.Common.{◌≡◌, ◌+◌, ◌≤◌, ◌++◌, flat_map, length, take}
+use Rattle.std.specs.Prelude.{All}
+use Rattle.valid_table.specs.Tables.{registrations_of}
+use Rattle.valid_table.specs.Texts.{output_lines}
+use Rattle.valid_table.specs.Valid.{IsValid, references_of}
+use Rattle.valid_table.proofs.journal_text.checking.check_lines.Given as goal
+
+abbrev pub invariant-loop-place : goal.invariant-loop-place
+invariant-loop-place l = record {
+  new : l.place ≤ l.new;
+  closed : All (IsValid (registrations_of l.rows.entries ++ l.registrations))
+      (references_of (take l.place l.registrations));
+  number : l.line ≡ l.fn.line + length (flat_map output_lines (take l.place l.registrations));
+}

@@ -1,0 +1,13 @@
+use Rattle.std.proofs.Common.{rules}
+use Rattle.valid_table.proofs.FirstRows.{first_none}
+use Rattle.valid_table.proofs.Keys.{none_keyed}
+use Rattle.valid_table.proofs.path_table.table.Table.new.Goals as goal
+
+pub invariant_of-result : goal.invariant_of-result
+invariant_of-result c = (
+  search (rules),
+  search (rules),
+  search (rules),
+  first_none _ _ c.new-3.ensures,
+  none_keyed _ _ c.new-3.ensures,
+)

@@ -1,6 +1,0 @@
-use Rattle.std.proofs.Common.{rules}
-use Rattle.valid_table.proofs.TableRows.{next_new}
-use Rattle.valid_table.proofs.rows.push_entry.Goals as goal
-
-pub push_row-requires-clause-new : goal.push_row-requires-clause-new
-push_row-requires-clause-new c = search (rules, next_new)

@@ -1,4 +1,0 @@
-use Rattle.valid_table.proofs.table.Table.blame.Goals as goal
-
-pub returns : goal.returns
-returns c = rw (← c.self.view_is, ← c.registrations.ensures.value) c.blame.ensures

@@ -1,5 +1,0 @@
-use Rattle.valid_table.proofs.Versions.{no_version}
-use Rattle.valid_table.proofs.version.version_of.Goals as goal
-
-pub returns : goal.returns
-returns c = no_version _ c.in_default.ensures c.in_default-behind_line.ensures
