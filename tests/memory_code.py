@@ -1,7 +1,7 @@
 """The code of a source, for `tests/memory-sources`: its tokens, and what they are parts of."""
 
 import re
-from typing import NamedTuple
+from collections import namedtuple
 
 VARIANTS = {"NoMemory", "OutOfMemory", "NoSpace"}
 ERRORS = {"AllocError", "AllocFailed"}
@@ -45,12 +45,12 @@ CONVERSION = re.compile(
 )
 
 
-class Token(NamedTuple):
-    """A token: its text, where it begins, and what a string of it says of want of memory."""
-
-    text: str
-    place: int
-    told: object = None
+# A token: its text, where it begins, and what a string of it says of want of memory.
+Token = namedtuple("Token", "text place told", defaults=[None])
+# Something that begins and ends at these indices, with its name.
+Span = namedtuple("Span", "start end name", defaults=[""])
+# A match arm: where its pattern begins, its guard, its `=>` and its end; its pattern and its value.
+Arm = namedtuple("Arm", "start guard arrow end pattern value")
 
 
 class Tokens:
@@ -82,36 +82,30 @@ class Tokens:
         return " ".join(self.texts[max(start, 0) : end])
 
 
-class Span(NamedTuple):
-    """Something that begins and ends at these indices, with its name."""
-
-    start: int
-    end: int
-    name: str = ""
-
-
 class Code:
     """The code of a source: its tokens without attributes, contracts, ghost items and imports."""
 
     def __init__(self, name, source):
-        self.name, self.source, self.bad, found = name, source, [], []
-        for match in TOKEN.finditer(source):
-            if match.lastgroup == "text":
-                found.append(Token('""', match.start(), TOLD.search(match.group())))
-            elif match.lastgroup == "odd":
-                self.bad.append((match.start(), "a block comment, a raw string or a raw name"))
-            elif match.lastgroup != "space":
-                found.append(Token(match.group(), match.start()))
-        self.all, self.kept, self.signatures = Tokens(found, len(source)), [], []
+        self.name, self.source, self.bad = name, source, []
+        self.kept, self.signatures = [], []
+        self.all = Tokens([*self.read_tokens()], len(source))
         at, last = 0, len(self.all.texts)
         while at < last:
             at = self.read(at)
         self.tokens = Tokens([it for it in self.kept if it.text != "\0"], len(source))
         self.arms = [*self.all_arms()]
         self.functions = [self.function(*span) for span in self.signatures]
-        self.enums, self.structs = self.bodies("enum"), self.bodies("struct")
-        self.impls = self.bodies("impl")
+        self.enums, self.structs, self.impls = map(self.bodies, ("enum", "struct", "impl"))
         self.conversions = [span for span in self.impls if self.is_conversion(span)]
+
+    def read_tokens(self):
+        for match in TOKEN.finditer(self.source):
+            token = Token(match.group(), match.start())
+            if match.lastgroup == "odd":
+                self.blame(token, "a block comment, a raw string or a raw name")
+            elif match.lastgroup != "space":
+                is_text = match.lastgroup == "text"
+                yield Token('""', token.place, TOLD.search(token.text)) if is_text else token
 
     def blame(self, token, why):
         self.bad.append((token.place, why))
@@ -177,8 +171,7 @@ class Code:
         return at
 
     def function(self, start, end, _):
-        has_body = self.tokens.texts[end] == "{"
-        last = self.tokens.after(end) if has_body else end
+        last = self.tokens.after(end) if self.tokens.texts[end] == "{" else end
         return Span(start, last, self.tokens.texts[start + 1])
 
     def bodies(self, word):
@@ -222,20 +215,12 @@ class Code:
                     is_block = texts[arrow + 1] == "{"
                     stop = arrow + 1
                     stop = tokens.after(stop) if is_block else tokens.ahead(stop, {","}, end)
-                    yield Arm(tokens, at, arrow, stop)
+                    guard = tokens.ahead(at, {"if"}, arrow)
+                    said = tokens.said(at, guard), tokens.said(arrow + 1, stop)
+                    yield Arm(at, guard, arrow, stop, *said)
                     at = stop + 1 if stop < end and texts[stop] == "," else stop
             if not is_found:
                 self.blame(tokens.found[match], "a match whose arms the script can't find")
-
-
-class Arm:
-    """A match arm: where its pattern begins, its guard, its `=>`, and where its value ends."""
-
-    def __init__(self, tokens, start, arrow, end):
-        self.start, self.arrow, self.end = start, arrow, end
-        self.guard = tokens.ahead(start, {"if"}, arrow)
-        self.pattern = tokens.said(start, self.guard)
-        self.value = tokens.said(arrow + 1, end)
 
 
 def ends_plainly(texts):
