@@ -92,8 +92,7 @@ def kinds():
 
 
 def linked():
-    """The same where outputs may have links, which are read and not followed; and links that come
-    and go while they are read."""
+    """The same where outputs may have links, which are read and not followed, and come and go."""
     for case in (*kinds(), *swaps_of_outputs()):
         first = BUILT if "link" in case.name else case.first
         name = f"{case.name}, where links may be"

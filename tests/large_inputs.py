@@ -21,6 +21,11 @@ ROOM = 3 * 2**29
 FIRST = b"realiser-journal 2\n"
 # What each fixed output is.
 TWIN = b"twin\n"
+digest_of = lambda data: "sha256:" + hashlib.sha256(data).hexdigest()
+# An input derivation of which `out` is used.
+used = lambda path: f'("{path}",["out"])'
+# The lines that register some paths without digests and references.
+added = lambda paths: "".join(f"A {path} -\n" for path in paths).encode()
 
 
 class Place:
@@ -73,11 +78,6 @@ def filled(part, count, element_of):
     return text_of(**{part: ",".join(element_of(number) for number in range(count))})
 
 
-def used(path):
-    """An input derivation of which `out` is used."""
-    return f'("{path}",["out"])'
-
-
 def listed_in(place, sources=(), drvs=()):
     """A derivation with these sources and inputs, and the paths of all."""
     text = text_of(sources=",".join(map(quoted, sources)), inputs=",".join(map(used, drvs)))
@@ -110,6 +110,9 @@ def large_texts(place):
 class Row:
     """A derivation of a plan: its path, its output's, its modulo hash and its inputs' paths."""
 
+    draft = lambda self: self.text.replace(self.output, "")
+    entry = lambda self, digest: f"D {self.path}\nO {self.output} {digest}\n"
+
     def __init__(self, place, number, inputs=(), script="echo hello > $out", sources=()):
         pairs = [(row.path, row.modulo) for row in inputs]
         found = made(place.folder, number, pairs, script, sources)
@@ -118,12 +121,6 @@ class Row:
         self.inputs = [row.path for row in inputs]
         with open(self.path, "w", encoding="ascii") as file:
             file.write(self.text)
-
-    def draft(self):
-        return self.text.replace(self.output, "")
-
-    def entry(self, digest):
-        return f"D {self.path}\nO {self.output} {digest}\n"
 
 
 def chain(place, source):
@@ -222,11 +219,6 @@ def many_outputs(place, count, variables=0):
     return with_outputs(place, names, text)
 
 
-def added(paths):
-    """The lines that register some paths without digests and references."""
-    return "".join(f"A {path} -\n" for path in paths).encode()
-
-
 def journal_of(place, length):
     """A journal of just this length, of about a million paths."""
     name = "p" * 70
@@ -236,6 +228,3 @@ def journal_of(place, length):
     last = place.path(count, name + "q" * (length - len(text) - size))
     return text + added([last])
 
-
-def digest_of(data):
-    return "sha256:" + hashlib.sha256(data).hexdigest()

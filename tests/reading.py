@@ -14,6 +14,7 @@ MAX_DRV = 4194304
 # The parts of a derivation: strings, tuples and lists. The first strings of a list's elements rise,
 # but where None follows the element.
 PARTS = [[(str, str, str, str)], [(str, [str])], [str], str, str, [str, None], [(str, str)]]
+name_of = lambda path: path.rsplit(b"/", 1)[1][33:]
 
 
 class Refused(Exception):
@@ -29,10 +30,6 @@ def is_path(folder, text):
     return bool(found) and not re.match(rb"\.\.?(-|\Z)", found[1])
 
 
-def name_of(path):
-    return path.rsplit(b"/", 1)[1][33:]
-
-
 def spelling_of(value):
     """The string that spells some bytes."""
     spell = lambda found: b"\\" + LETTERS[found.group(0)]
@@ -42,11 +39,10 @@ def spelling_of(value):
 class Reader:
     """Reads a derivation from the left."""
 
+    is_at = lambda self, byte: self.text[self.at : self.at + 1] == byte
+
     def __init__(self, text):
         self.text, self.at, self.disorder = text, 0, []
-
-    def is_at(self, byte):
-        return self.text[self.at : self.at + 1] == byte
 
     def fixed(self, wanted):
         for byte in wanted:
@@ -126,8 +122,7 @@ def check_words(folder, path, text):
 
 
 def row_of(folder, version, line):
-    """A line of a journal: its kind, its path, and its digest as version 2 writes it; none if it is
-    not well formed."""
+    """The kind, the path and the digest, as version 2 has it, of a line if it is well formed."""
     kind, path, *rest = line.split(b" ", 2) + [b""]
     has_digest = kind in (b"A", b"O")
     if kind not in (b"A", b"D", b"O", b"R") or len(rest) != 1 + has_digest:

@@ -19,13 +19,13 @@ OWN = re.compile(r"\.build-[012](/|$)|\.nix_realise-(left-)?[0-4](/|$)")
 
 
 class Plan(Scene):
-    """`plan` of three derivations: the second uses the first, and an old output of the third is
-    there."""
+    """`plan` of three derivations: the second uses the first; the third has an old output."""
 
     subcommand = name = "plan"
     scripts, options = SCRIPTS, ()
     # Whether the first derivation is realised before, and those that are built then.
     is_begun, builds = False, ()
+    good = lambda self: (0, self.report(dict.fromkeys(SCRIPTS, "build")), "")
 
     def prepare(self):
         self.drv, self.paths = {}, {}
@@ -61,9 +61,6 @@ class Plan(Scene):
                 lines += [f"output {path}\n" for path in self.paths[name]]
         return "".join(lines)
 
-    def good(self):
-        return 0, self.report(dict.fromkeys(SCRIPTS, "build")), ""
-
 
 class Realise(Plan):
     """`realise` of all three by one worker."""
@@ -72,9 +69,8 @@ class Realise(Plan):
     options, builds = ("--jobs", "1"), {*SCRIPTS}
     # The one that fails where a call is refused.
     failed = None
-
-    def good(self):
-        return 0, self.report(dict.fromkeys(SCRIPTS, "built")), ""
+    good = lambda self: (0, self.report(dict.fromkeys(SCRIPTS, "built")), "")
+    races = lambda self, calls, at: [False, True] if self.moves_to(calls, at, False) else [False]
 
     def of_output(self, path):
         for name, outputs in self.paths.items():
@@ -124,8 +120,7 @@ class Realise(Plan):
         return "taken place" if is_taken else "free place"
 
     def place_of_journal(self, calls, at):
-        """Where a call at the journal or its temporary file was made. It is kept by a thread of its
-        own while the run goes on."""
+        """Where a call at the journal or its temporary file was made, or by the thread for it."""
         call, path = calls[at], calls[at].to
         if call.thread != calls[0].thread:
             return "journal kept"
@@ -146,11 +141,6 @@ class Realise(Plan):
             end = next((n for n in own if calls[n].kind == "look"), at)
         moves = [it for it in calls[:end] if it.kind == "rename" and it.thread != call.thread]
         return [it for it in moves if it.to == call.to and not it.is_refused]
-
-    def races(self, calls, at):
-        # A call is logged before it is made. So where two workers move something to one name, the
-        # log does not tell whether the look after a refused rename saw what the other one moved.
-        return [False, True] if self.moves_to(calls, at, False) else [False]
 
     def told_of(self, told, calls=(), at=None):
         self.failed = None
@@ -297,9 +287,7 @@ class RealiseFailing(RealiseByRunner):
 
     name, has_calls = "realise of what fails", False
     scripts, builds = {**SCRIPTS, "third": "exit 3"}, {"first", "second"}
-
-    def is_again(self, out):
-        return f"failed {self.drv['third']}: ExitStatus(3)\n" in out
+    is_again = lambda self, out: f"failed {self.drv['third']}: ExitStatus(3)\n" in out
 
     def rest(self, found, stands):
         return [name for name in super().rest(found, stands) if not name.startswith(".build-")]

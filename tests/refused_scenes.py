@@ -95,8 +95,7 @@ def row_of(subcommand, kind, place):
 
 
 def rows_not_met():
-    """The kinds of call of the rows that no refused call was of. A short run may end before its
-    journal is kept."""
+    """The rows' kinds of call that were never refused. A short run may keep no journal."""
     for number, (names, kinds, where, _, _) in enumerate(ROWS):
         left = [kind for kind in kinds.split() if (number, kind) not in MET]
         yield from (f"{names}: {kind}, {where}" for kind in left if where != "journal kept")
@@ -111,6 +110,11 @@ class Scene:
     has_calls, is_shown = True, False
     # Whether two workers' calls were made in another order than they were logged.
     is_raced = False
+    command = lambda self: []
+    place_of = lambda self, calls, at: ""
+    is_again = lambda self, out: out == self.ample[1]
+    # What an undisturbed run tells; none if that is not stated.
+    good = lambda self: (0, self.path + "\n", "")
 
     def __init__(self, program, folder):
         self.program, self.folder, self.store = program, folder, folder / "store"
@@ -132,9 +136,6 @@ class Scene:
         self.drvs.append(path)
         return path, outputs
 
-    def command(self):
-        return []
-
     def words(self):
         words = [self.subcommand, "--store-dir", self.store, *self.command()]
         return [self.program, *map(str, words)]
@@ -149,9 +150,6 @@ class Scene:
             path.write_text(text)
             path.chmod(0o640 if name in self.old_files else 0o644)
         self.laid, self.left = snapshot(self.store), set()
-
-    def place_of(self, calls, at):
-        return ""
 
     def is_of_journal(self, call):
         """Whether a call opens the journal, which may be gone by then: it counts as empty."""
@@ -182,10 +180,6 @@ class Scene:
         err = err.replace("DRV", calls[at].path) if at is not None else err
         return status, out, f"nix_realise: {err}\n" if err else ""
 
-    def good(self):
-        """What an undisturbed run tells; none if that is not stated."""
-        return 0, self.path + "\n", ""
-
     def races(self, calls, at):
         """The orders that are possible of the refused call and those of other workers."""
         return [False]
@@ -196,9 +190,6 @@ class Scene:
             return *self.ample, "new"
         told, stands = row_of(self.subcommand, calls[at].kind, self.place_of(calls, at))
         return *self.told_of(told, calls, at), stands
-
-    def is_again(self, out):
-        return out == self.ample[1]
 
     def is_stated(self, told):
         """Whether a run, in which many calls were refused, told what is stated."""
@@ -239,19 +230,13 @@ class Check(Scene):
     """`check` of two derivations."""
 
     subcommand = name = "check"
+    command = lambda self: self.drvs
+    place_of = lambda self, calls, at: "derivation" if calls[at].path in self.drvs else ""
+    good = lambda self: (0, "".join(f"ok {path}\n" for path in self.drvs), "")
 
     def prepare(self):
         for name in ("one", "two"):
             self.put(name, draft("echo " + name + " > $out"))
-
-    def command(self):
-        return self.drvs
-
-    def place_of(self, calls, at):
-        return "derivation" if calls[at].path in self.drvs else ""
-
-    def good(self):
-        return 0, "".join(f"ok {path}\n" for path in self.drvs), ""
 
     def told_of(self, told, calls=(), at=None):
         if told == "bad" and at is not None:
@@ -272,6 +257,7 @@ class AddText(Scene):
 
     subcommand = name = "add-text"
     is_old, held = True, JOURNAL
+    command = lambda self: ["greeting", self.file]
 
     def prepare(self):
         text = "a text of its own\n"
@@ -285,9 +271,6 @@ class AddText(Scene):
         new += f"A {self.path} sha256:{hashlib.sha256(text.encode()).hexdigest()}\n"
         before = self.old_files.get
         self.own = {base: (before(base), text), self.held: (before(self.held), new)}
-
-    def command(self):
-        return ["greeting", self.file]
 
     def place_of(self, calls, at):
         call, path = calls[at], os.path.abspath(calls[at].path)
@@ -313,13 +296,11 @@ class AddTextRelative(AddText):
     """`add-text` of a file, and by a journal, that are given by relative paths."""
 
     name, held = "add-text, relative", "journal"
+    command = lambda self: ["--journal", self.journal, *super().command()]
 
     def prepare(self):
         super().prepare()
         self.file, self.journal = map(os.path.relpath, (self.file, self.store / self.held))
-
-    def command(self):
-        return ["--journal", self.journal, *super().command()]
 
 
 class AddTextValid(AddText):
@@ -337,6 +318,7 @@ class AddDrv(AddText):
     """`add-drv` of a draft with an input, over an old file."""
 
     subcommand = name = "add-drv"
+    command = lambda self: ["high", self.file]
 
     def prepare(self):
         path, outputs = self.put("low", draft("echo low > $out"))
@@ -347,9 +329,6 @@ class AddDrv(AddText):
         self.old_files[base] = "an old derivation"
         self.own = {base: ("an old derivation", open(self.path).read())}
 
-    def command(self):
-        return ["high", self.file]
-
     def place_of(self, calls, at):
         return "derivation" if calls[at].path in self.drvs else super().place_of(calls, at)
 
@@ -359,6 +338,8 @@ class Words(Scene):
 
     subcommand = "words"
     given, told = [], None
+    good = lambda self: self.told
+    place_of = lambda self, calls, at: "file" if calls[at].path == str(self.file) else ""
 
     def prepare(self):
         self.file.write_text("a text\n")
@@ -366,12 +347,6 @@ class Words(Scene):
     def words(self):
         places = {"STORE": str(self.store), "FILE": str(self.file)}
         return [self.program, *(places.get(word, word) for word in self.given)]
-
-    def place_of(self, calls, at):
-        return "file" if calls[at].path == str(self.file) else ""
-
-    def good(self):
-        return self.told
 
 
 def variant(kind, name, **more):

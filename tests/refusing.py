@@ -1,5 +1,4 @@
-"""Runs a program under the library of `refused_calls.c`, which refuses calls of the system and
-growths of memory."""
+"""Runs a program under the library of `refused_calls.c`, which refuses calls and growths."""
 
 import collections
 import functools
@@ -61,13 +60,11 @@ class Refusing:
 
     def run(self, program, script="", **settings):
         """Runs a program over lines of its standard input, in the folder of the tests."""
-        env = self.settings(program, **settings)
-        how = {"env": env, "cwd": HERE, "capture_output": True, "timeout": LONGEST}
+        how = {"env": self.settings(program, **settings), "cwd": HERE, "timeout": LONGEST}
         try:
-            ran = subprocess.run([program], input=script.encode(), **how)
+            return Ran(*run([program], input=script.encode(), **how))
         except subprocess.TimeoutExpired:
             raise Wrong(f"{program}: no end after {LONGEST} seconds: {settings}") from None
-        return Ran(ran.returncode, ran.stdout.decode(), ran.stderr.decode())
 
 
 class Sweep:

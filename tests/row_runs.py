@@ -36,8 +36,7 @@ from row_faults import Fault, expect, told
 
 # The seconds that a run may take, and those after which it counts as going on.
 MOST_SECONDS, SOME_SECONDS = 120, 0.3
-# The greatest size of the files of a run of which a stream has little room: it has that at the end
-# of a file of this size.
+# The greatest size of a file, at the end of which a stream of a run has little room.
 GREATEST_FILE = 2**30
 # The user who is not the superuser.
 NOBODY = 65534
@@ -168,8 +167,7 @@ def wanted_of(scene, step, label, came):
 
 
 def compare(scene, step, ran, room=None):
-    """Compares how a run ended with what stands below a step: what a standard output with room for
-    so many bytes got is left out."""
+    """Compares how a run ended with what stands below a step, but what fills a small room."""
     out = ran.out if room is not None else wanted_of(scene, step, "out", ran.out)
     err = wanted_of(scene, step, ran.label, ran.err)
     head = f"room {room}\n" if room is not None else ""

@@ -44,6 +44,10 @@ WORD = re.compile(r"<[^<>\s]+>")
 MOST_TRIES = 64
 # How far before one of many derivations those may be that it uses.
 WINDOW = 10
+# The SHA-256 digest of a text.
+sha256 = lambda text: hashlib.sha256(text.encode()).hexdigest()
+# A text with its lines sorted.
+in_order = lambda text: "".join(sorted(text.splitlines(keepends=True)))
 
 
 class Scene:
@@ -114,8 +118,7 @@ def outputs_at(path):
 
 
 def take_script(scene, step):
-    """Puts a derivation into the store folder, whose builder is a shell over a text, and which uses
-    its inputs' outputs `out`."""
+    """Puts a derivation whose builder is a shell over a text, and which uses outputs `out`."""
     name, *inputs = map(scene.said, step.words)
     scene.put(name, name, draft(scene.text(step), inputs=[(path, "out") for path in inputs]))
 
@@ -180,11 +183,6 @@ def write_drv(scene, text, name):
     return path
 
 
-def sha256(text):
-    """The SHA-256 digest of a text."""
-    return hashlib.sha256(text.encode()).hexdigest()
-
-
 def take_order(scene, step):
     """Names the lesser and the greater of two paths."""
     scene.names["<lesser>"], scene.names["<greater>"] = sorted(map(scene.said, step.words))
@@ -226,11 +224,6 @@ def fill(scene, step):
     scene.path(path).write_bytes(letter.replace("\\n", "\n").encode() * int(count))
 
 
-def in_order(text):
-    """A text with its lines sorted."""
-    return "".join(sorted(text.splitlines(keepends=True)))
-
-
 def text_at(path, wanted):
     """The text of a file that is to have this text."""
     try:
@@ -244,6 +237,7 @@ def kind_of(path):
     if not os.path.lexists(path):
         return "nothing"
     kinds = {stat.S_ISLNK: "link", stat.S_ISFIFO: "pipe", stat.S_ISDIR: "folder"}
+    kinds |= {stat.S_ISSOCK: "socket", stat.S_ISCHR: "device"}
     mode = path.lstat().st_mode
     return next((kind for is_kind, kind in kinds.items() if is_kind(mode)), "file")
 

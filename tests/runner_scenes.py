@@ -27,8 +27,7 @@ class Scene:
         self.journal = self.store / "realiser-journal"
 
     def put(self, name, script, inputs=(), more=(), builder="/bin/sh"):
-        """Puts a derivation into the store folder. In the script $F is the folder outside. Gives
-        its path and its output's."""
+        """Puts a derivation, whose script has the folder outside as $F; its path and output's."""
         used, known = [(path, "out") for path in inputs], [("F", str(self.outside)), *more]
         text = draft(script, inputs=used, builder=builder, more=known)
         path, outputs = put(self.program, self.store, name, text)

@@ -1,5 +1,6 @@
 """What the scripts that run the program share: derivations, runs, and what stands in a folder."""
 
+import contextlib
 import errno
 import os
 import pathlib
@@ -30,6 +31,10 @@ CHANGED_MEANWHILE = {
     errno.ELOOP,
     errno.EISDIR,
 }
+number_of = lambda words, name, default: int(option(words, name) or default)
+listed = lambda texts: "[" + ",".join(texts) + "]"
+# Kinds, permissions and what is held, without numbers and times.
+contents = lambda found: {name: entry[:2] for name, entry in found.items()}
 
 
 def program_of(words):
@@ -42,8 +47,7 @@ def program_of(words):
 
 
 def lab_program():
-    """The path of the program that calls the libraries: that of the variable LAB, or the one that
-    was built here."""
+    """The path of `lab`: that of the variable LAB, or the one that was built here."""
     program = pathlib.Path(os.environ.get("LAB", LAB)).resolve()
     if not os.access(program, os.X_OK):
         sys.exit(f"{program} is not there: build it by (cd crates/lab && rt run)")
@@ -65,22 +69,13 @@ def option(words, name):
     return next((it.partition("=")[2] for it in words if it.startswith(name + "=")), None)
 
 
-def number_of(words, name, default):
-    return int(option(words, name) or default)
-
-
 def quoted(text):
     escapes = {'"': '\\"', "\\": "\\\\", "\n": "\\n", "\r": "\\r", "\t": "\\t"}
     return '"' + "".join(escapes.get(letter, letter) for letter in text) + '"'
 
 
-def listed(texts):
-    return "[" + ",".join(texts) + "]"
-
-
 def draft(script, outputs=("out",), inputs=(), builder="/bin/sh", more=()):
-    """A draft whose builder gets a script; inputs are pairs of a path and an output. `more` are
-    entries of its environment."""
+    """A draft of a builder's script, with pairs of an input and an output, and more entries."""
     entries = {**dict([PATH, *((name, "") for name in outputs)]), **dict(more)}
     pairs = sorted(entries.items(), key=lambda entry: entry[0].encode())
     parts = [
@@ -95,9 +90,9 @@ def draft(script, outputs=("out",), inputs=(), builder="/bin/sh", more=()):
     return "Derive(" + ",".join(parts) + ")"
 
 
-def run(words, **more):
+def run(words, timeout=900, **more):
     """Runs a command, and gives its status, and what it wrote, as texts."""
-    ran = subprocess.run(words, capture_output=True, timeout=900, check=False, **more)
+    ran = subprocess.run(words, capture_output=True, timeout=timeout, check=False, **more)
     out, err = (text.decode(errors="surrogateescape") for text in (ran.stdout, ran.stderr))
     return ran.returncode, out, err
 
@@ -126,6 +121,17 @@ def entry_of(path):
     elif stat.S_ISLNK(found.st_mode):
         holds = os.readlink(path)
     return found.st_mode, holds, found.st_ino, found.st_mtime_ns
+
+
+@contextlib.contextmanager
+def small_disk(folder, size):
+    """A disk of so many bytes at a folder. Fails where none can be mounted."""
+    words = ["mount", "-t", "tmpfs", "-o", f"size={size}", "tmpfs", folder]
+    subprocess.run(words, check=True, capture_output=True, text=True)
+    try:
+        yield
+    finally:
+        subprocess.run(["umount", folder], check=True)
 
 
 def is_running(pid):
@@ -157,11 +163,6 @@ def snapshot(folder):
                 if error.errno not in CHANGED_MEANWHILE:
                     raise
     return found
-
-
-def contents(found):
-    """Kinds, permissions and what is held, without numbers and times."""
-    return {name: entry[:2] for name, entry in found.items()}
 
 
 def empty(folder):
