@@ -1,8 +1,9 @@
 """Takes the steps of a row in a store folder of its own.
 
 A word in angle brackets stands for a text: `<dir>` for the store folder, `<above>` for the folder
-above it, in which the program runs, `<bom>` for a byte order mark, `<tab>` and `<cr>` for a tab and
-a carriage return, `<xff>` and `<nul>` for bytes, and other words for what earlier steps name.
+above it, in which the program runs, `<tools>` for that of the tools, `<bom>` for a byte order mark,
+`<tab>` and `<cr>` for a tab and a carriage return, `<xff>` and `<nul>` for bytes, and other words
+for what earlier steps name.
 
 `put any` writes a draft to `<dir>/file` and lets `add-drv` add it under the name `any`: then
 `<any>` stands for the derivation's path, `<any.out>` for that of its output `out`, `<any.file>` for
@@ -35,7 +36,7 @@ from row_faults import Fault, expect, told
 from row_lab import take_lab
 from row_runs import RUNS, Run
 from row_traces import take_trace
-from scenes import LOCK, draft, outputs_in, snapshot
+from scenes import HERE, LOCK, draft, outputs_in, snapshot
 from store_paths import make_path, text_path
 
 WORD = re.compile(r"<[^<>\s]+>")
@@ -60,6 +61,7 @@ class Scene:
         self.dir.mkdir()
         self.names = {"<dir>": str(self.dir), "<bom>": "\ufeff", "<tab>": "\t", "<cr>": "\r"}
         self.names |= {"<above>": str(folder), "<xff>": "\udcff", "<nul>": "\0"}
+        self.names["<tools>"] = str(HERE.parent / "tools")
         self.runs, self.seconds, self.user = {}, 0, {}
 
     def close(self):
