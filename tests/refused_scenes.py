@@ -110,6 +110,7 @@ class Scene:
     has_calls, is_shown = True, False
     # Whether two workers' calls were made in another order than they were logged.
     is_raced = False
+    # The words after the folder's option; where a call is made; whether a next run tells the same.
     command = lambda self: []
     place_of = lambda self, calls, at: ""
     is_again = lambda self, out: out == self.ample[1]

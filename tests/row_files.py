@@ -16,7 +16,7 @@ Before the first row `text <WORD>` lets a word stand for a text, and `scene NAME
 scene: the steps that a row takes by that name, with values of the words. There `<below>`, and each
 label, stand for the texts below the name, and what these say of a run is said of the scene's. The
 last word stands for all values that are left. All files have the texts and scenes of `words`, and
-`use FILE` has those of another file. `for <WORD> in VALUES` has each row taken once with each
+`use FOLDER` has words for the derivations that stand in a folder here, as `put` has. `for <WORD> in VALUES` has each row taken once with each
 value: a word, or the numbers `1..9`; in a row it has that row taken so. `for <A> <B> => <C>` does
 so with each line below it, which has values divided as the words are. The last one before `=>` and
 at the end may have several words, and `\\n` in it ends a line. Below `for <A> <B> in` the lines are
@@ -28,6 +28,7 @@ import copy
 import re
 
 from row_calls import LABELS, NUMBERS
+from scenes import HERE, outputs_in
 
 INLINE = re.compile(r"(.*?) ([|+])(?: (.*))?")
 MARK = re.compile(r" (?:[|+]|=>)(?: |$)")
@@ -244,8 +245,7 @@ class Reading:
         self.steps = self.front if self.last.kind in FRONT and not self.rows else self.steps
         self.steps.append(self.last)
         if self.last.kind == "use":
-            texts, scenes = reading_of(self.file.with_name(self.last.words[0])).known()
-            self.texts, self.scenes = {**self.texts, **texts}, {**self.scenes, **scenes}
+            self.texts = {**self.texts, **paths_in(HERE / self.last.words[0])}
         elif self.last.kind == "scene":
             name, *words = self.last.words
             self.steps = []
@@ -311,6 +311,19 @@ class Reading:
                 found = [each for row in found for each in row.looped(loop)]
             rows += found
         return rows
+
+
+def paths_in(folder):
+    """The words of the derivations in a folder of the tests, with their paths and those of their
+    outputs, and that of the folder, with all their files."""
+    files = sorted(folder.iterdir())
+    texts = {f"<{folder.name}>": " ".join(f"{folder.name}/{file.name}" for file in files)}
+    for file in files:
+        name = re.match(r".{33}([a-z]+(?:-[a-z]+)*)", file.name)[1]
+        outputs = outputs_in(file.read_text()).items()
+        texts |= {f"<{name}>": f"/nix/store/{file.name}"}
+        texts |= {f"<{name}.{output}>": path for output, path in outputs}
+    return texts
 
 
 def reading_of(file, used=None):
