@@ -16,11 +16,11 @@ Before the first row `text <WORD>` lets a word stand for a text, and `scene NAME
 scene: the steps that a row takes by that name, with values of the words. There `<below>`, and each
 label, stand for the texts below the name, and what these say of a run is said of the scene's. The
 last word stands for all values that are left. All files have the texts and scenes of `words`, and
-`use FOLDER` has words for the derivations that stand in a folder here, as `put` has. `for <WORD> in VALUES` has each row taken once with each
-value: a word, or the numbers `1..9`; in a row it has that row taken so. `for <A> <B> => <C>` does
-so with each line below it, which has values divided as the words are. The last one before `=>` and
-at the end may have several words, and `\\n` in it ends a line. Below `for <A> <B> in` the lines are
-also divided by `; `.
+`use FOLDER` has words, as `put` has, for the derivations in a folder here. `for <WORD> in VALUES`
+has each row taken once with each value: a word, or the numbers `1..9`; in a row it has that row
+taken so. `for <A> <B> => <C>` does so with each line below it, which has values divided as the
+words are. The last one before `=>` and at the end may have several words, and `\\n` in it ends a
+line. Below `for <A> <B> in` the lines are also divided by `; `.
 """
 
 import collections
@@ -48,10 +48,11 @@ LISTED = re.compile(r"(\$|await|foretold) |((holds|write)-journal|(ends|holds|ha
 SUBCOMMANDS = {"check", "add-text", "add-drv", "plan", "realise"}
 # The kinds of step, and how many words may follow each; then what may stand before the first row.
 KINDS = """
-$ 1+ sh 0 start 3+ await 1 goes-on 1 kill 2 until 1 as-user 0 trace 2 lab 0+ put 1 script 1+ many
-3+ note 0 unchanged 0 twins 1 text-path 2 output-path 2+ fixed-path 3 drv 2 order 2 repeat 3 digest
-1 rising 1 write 1 fill 3 folder 1+ mode 2 link 3 move 3 pipe 1 remove 1+ holds 1 ends 1 has-lines
-1 has-mode 2 is-link 1+ is-pipe 1+ is-file 1+ is-folder 1+ missing 1+ entries 1 for 1+
+$ 1+ sh 0 start 3+ await 1 goes-on 1 kill 2 until 1 quickest 1 as-user 0 trace 2 lab 0+ put 1
+script 1+ many 3+ note 0 unchanged 0 twins 1 text-path 2 output-path 2+ fixed-path 3 drv 2 order 2
+repeat 3 digest 1 rising 1 write 1 fill 3 folder 1+ mode 2 link 3 move 3 pipe 1 remove 1+ holds 1
+ends 1 has-lines 1 has-mode 2 is-link 1+ is-pipe 1+ is-file 1+ is-folder 1+ missing 1+ entries 1
+for 1+
 """
 STEPS = dict(zip(KINDS.split()[::2], KINDS.split()[1::2]))
 FRONT = {"text": "1", "for": "1+", "scene": "1+", "use": "1"}

@@ -7,15 +7,15 @@ its status. Lines of `by path`, as those of `=>` that tell of derivations, come 
 `out like`, `err like` and `tty like` are expressions for the whole. A word for which nothing stands
 yet, alone in `out`, stands for what came. `in` is the standard input. A line of `env` sets a
 variable, or names one that is not set. With `room N` standard output takes N bytes and refuses the
-next, with `err room N` standard error does; with `too much` the run is made with room for each
-number of bytes that is less than this text's. `limit N` is the greatest size of a file, and
-`ignore N` a signal that is ignored.
+next, with `err room N` standard error does; with `too much` the run is made with each room that is
+less than this text's. `limit N` is the greatest size of a file, and `ignore N` an ignored signal.
 
 `sh` has a shell take the text below, above the store folder; `nix_realise` is the program there,
 and a command that fails ends it. `start NAME WORD..` lets a run go on, and `await NAME` waits for
 its end. `goes-on NAME` sees that it has not ended, and `kill NAME H` kills it after H hundredths of
-the time that the run before took. `until PATH` waits until something stands there. After `as-user`
-no run is the superuser's.
+the time that the run before took. `until PATH` waits until something stands there. `quickest H`
+sees that a run on a terminal has ended within H hundredths of a second. After `as-user` no run is
+the superuser's.
 """
 
 import collections
@@ -125,6 +125,8 @@ class Run:
             self.kill()
             status = f"none after {MOST_SECONDS} seconds"
         self.scene.seconds = time.monotonic() - self.begin
+        if self.err.label == "tty":
+            self.scene.quickest = min(self.scene.quickest, self.scene.seconds)
         return Ran(self.out.text(), self.err.text(), status, self.err.label)
 
     def kill(self):
@@ -225,6 +227,12 @@ def take_until(scene, step):
         time.sleep(0.01)
 
 
+def take_quickest(scene, step):
+    """Fails where no run on a terminal has ended within so many hundredths of a second."""
+    if scene.quickest * 100 > int(step.words[0]):
+        raise Fault(f"at most {step.words[0]} hundredths of a second", f"{scene.quickest} s")
+
+
 def take_as_user(scene, _):
     """Lets a user who is not the superuser do the runs, in folders of their own."""
     if os.getuid() == 0:
@@ -242,5 +250,6 @@ RUNS = {
     "goes-on": take_goes_on,
     "kill": take_kill,
     "until": take_until,
+    "quickest": take_quickest,
     "as-user": take_as_user,
 }

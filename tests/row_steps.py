@@ -24,6 +24,7 @@ of the file to which builders add. `unchanged` sees that the store folder is as 
 """
 
 import hashlib
+import math
 import os
 import pathlib
 import random
@@ -62,7 +63,7 @@ class Scene:
         self.names = {"<dir>": str(self.dir), "<bom>": "\ufeff", "<tab>": "\t", "<cr>": "\r"}
         self.names |= {"<above>": str(folder), "<xff>": "\udcff", "<nul>": "\0"}
         self.names["<tools>"] = str(HERE.parent / "tools")
-        self.runs, self.seconds, self.user = {}, 0, {}
+        self.runs, self.seconds, self.quickest, self.user = {}, 0, math.inf, {}
 
     def close(self):
         """Ends the runs that were started, and what they left."""

@@ -23,35 +23,28 @@ MEMORY = "/dev/shm"
 # The file of a store folder that is locked.
 LOCK = ".nix_realise-lock"
 # What a call says of a name that went away, or was another kind of file when it was looked at.
-CHANGED_MEANWHILE = {
-    errno.ENOENT,
-    errno.ENOTDIR,
-    errno.ENAMETOOLONG,
-    errno.EINVAL,
-    errno.ELOOP,
-    errno.EISDIR,
-}
+CHANGED_MEANWHILE = "ENOENT ENOTDIR ENAMETOOLONG EINVAL ELOOP EISDIR".split()
 number_of = lambda words, name, default: int(option(words, name) or default)
-listed = lambda texts: "[" + ",".join(texts) + "]"
 # Kinds, permissions and what is held, without numbers and times.
 contents = lambda found: {name: entry[:2] for name, entry in found.items()}
+
+
+def built(path, how):
+    program = pathlib.Path(path).resolve()
+    if not os.access(program, os.X_OK):
+        sys.exit(f"{program} is not there: build it by ({how})")
+    return str(program)
 
 
 def program_of(words):
     """The program's path: the first word that is no option, else the one that was built here."""
     given = [word for word in words if not word.startswith("--")]
-    program = pathlib.Path(given[0] if given else BUILT).resolve()
-    if not os.access(program, os.X_OK):
-        sys.exit(f"{program} is not there: build it by (cd crates/nix_realise && rt run -- --help)")
-    return str(program)
+    return built(given[0] if given else BUILT, "cd crates/nix_realise && rt run -- --help")
 
 
 def lab_program():
     """The path of `lab`: that of the variable LAB, or the one that was built here."""
-    program = pathlib.Path(os.environ.get("LAB", LAB)).resolve()
-    if not os.access(program, os.X_OK):
-        sys.exit(f"{program} is not there: build it by (cd crates/lab && rt run)")
-    return str(program)
+    return built(os.environ.get("LAB", LAB), "cd crates/lab && rt run")
 
 
 def room(need=2**28):
@@ -78,16 +71,11 @@ def draft(script, outputs=("out",), inputs=(), builder="/bin/sh", more=()):
     """A draft of a builder's script, with pairs of an input and an output, and more entries."""
     entries = {**dict([PATH, *((name, "") for name in outputs)]), **dict(more)}
     pairs = sorted(entries.items(), key=lambda entry: entry[0].encode())
-    parts = [
-        listed(f'({quoted(name)},"","","")' for name in sorted(outputs)),
-        listed(f"({quoted(path)},{listed([quoted(name)])})" for path, name in sorted(inputs)),
-        "[]",
-        quoted("x86_64-linux"),
-        quoted(builder),
-        listed([quoted("-c"), quoted(script)]),
-        listed(f"({quoted(key)},{quoted(value)})" for key, value in pairs),
-    ]
-    return "Derive(" + ",".join(parts) + ")"
+    outs = ",".join(f'({quoted(name)},"","","")' for name in sorted(outputs))
+    used = ",".join(f"({quoted(path)},[{quoted(name)}])" for path, name in sorted(inputs))
+    words = f'"x86_64-linux",{quoted(builder)},["-c",{quoted(script)}]'
+    env = ",".join(f"({quoted(key)},{quoted(value)})" for key, value in pairs)
+    return f"Derive([{outs}],[{used}],[],{words},[{env}])"
 
 
 def run(words, timeout=900, **more):
@@ -160,7 +148,7 @@ def snapshot(folder):
             try:
                 found[os.path.relpath(path, folder)] = entry_of(path)
             except OSError as error:
-                if error.errno not in CHANGED_MEANWHILE:
+                if errno.errorcode[error.errno] not in CHANGED_MEANWHILE:
                     raise
     return found
 
