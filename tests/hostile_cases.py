@@ -1,6 +1,6 @@
 """The builders of `tests/hostile-builders`: what each does, and what is stated of its run."""
 
-import dataclasses
+import collections
 import os
 import sys
 
@@ -10,48 +10,23 @@ BUILT = ("built DRV\noutput OUT\n", 0)
 AGAIN = ("reused DRV\noutput OUT\n", 0)
 UNWRITABLE = ("", 3, "nix_realise: journal: Unwritable\n")
 UNREADABLE = ("", 3, "nix_realise: journal: Unreadable\n")
+failed = lambda reason: (f"failed DRV: {reason}\n", 1)
+READ_FAULT, TOO_LARGE = failed("ReadFault"), failed("TooLarge")
 
 
-def failed(reason):
-    return (f"failed DRV: {reason}\n", 1)
-
-
-READ_FAULT = failed("ReadFault")
-TOO_LARGE = failed("TooLarge")
-
-
-@dataclasses.dataclass
-class Case:
-    """A builder. In its script $F is a folder outside of the store folder, and $W a folder there
-    that no run may touch; where $F/well is there, it makes its output well, and that is all."""
-
-    name: str
-    script: str
-    # What the run tells, and what the next one tells, once $F/well is there.
-    first: tuple = BUILT
-    second: tuple = None
-    # What stands at the output after the first run; None for any.
-    stands: str = None
-    # Any of these first answers is right, beside `first`.
-    also: tuple = ()
-    # Names of the store folder that the builder itself makes or changes beside its output.
-    beside: tuple = ()
-    # What is done between the two runs, with the site.
-    between: object = None
-    # Whether the program is killed; only the superuser can do so; the disk has one megabyte; strace
-    # can name all paths, and no child keeps it waiting; a child still runs after the first run.
-    killed: bool = False
-    root: bool = False
-    small: bool = False
-    traced: bool = True
-    stays: bool = False
-    # Options of both runs.
-    options: tuple = ()
-
-    def next(self):
-        return self.second or (AGAIN if self.first == BUILT else BUILT)
-
-
+# A builder. In its script $F is a folder outside of the store folder, and $W a folder there that no
+# run may touch; where $F/well is there, it makes its output well, and that is all. Then: what the
+# run tells, and what the next one tells, once $F/well is there; what stands at the output after the
+# first run, or none for any; other first answers that are right too; the names of the store folder
+# that the builder itself makes or changes beside its output; what is done between the runs, with
+# the site; whether the program is killed; whether only the superuser can do so; whether the disk
+# has one megabyte; whether strace can name all paths, and no child keeps it waiting; whether a
+# child still runs after the first run; and options of both runs.
+Case = collections.namedtuple(
+    "Case",
+    "name script first second stands also beside between killed root small traced stays options",
+    defaults=[BUILT, None, None, (), (), None, False, False, False, True, False, ()],
+)
 LEVELS = "p=$out; mkdir $p; for i in $(seq 2 {}); do p=$p/d; mkdir $p; done"
 ENTRIES = "mkdir $out; cd $out; seq {} | xargs touch"
 # Ends well where nothing is open but the three standard streams.
@@ -96,7 +71,7 @@ def linked():
     for case in (*kinds(), *swaps_of_outputs()):
         first = BUILT if "link" in case.name else case.first
         name = f"{case.name}, where links may be"
-        yield dataclasses.replace(case, name=name, first=first, options=("--outputs", "nix"))
+        yield case._replace(name=name, first=first, options=("--outputs", "nix"))
 
 
 def limits():

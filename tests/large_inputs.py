@@ -31,6 +31,9 @@ added = lambda paths: "".join(f"A {path} -\n" for path in paths).encode()
 class Place:
     """A store folder with a short path, and a folder beside it for other files."""
 
+    # A path of the store folder; such paths rise with their numbers.
+    path = lambda self, number, name="x": f"{self.folder}/{number:032d}-{name}"
+
     def __init__(self):
         self.folder = tempfile.mkdtemp(prefix="", dir=room(ROOM))
         self.aside = tempfile.mkdtemp(prefix="", dir=room(ROOM))
@@ -57,10 +60,6 @@ class Place:
         has_journal = subcommand not in ("check", "add-drv")
         options = ["--journal", journal or self.journal] if has_journal else []
         return [subcommand, "--store-dir", self.folder, *options, *more]
-
-    def path(self, number, name="x"):
-        """A path of the store folder; such paths rise with their numbers."""
-        return f"{self.folder}/{number:032d}-{name}"
 
 
 def text_of(outputs='("out","","","")', inputs="", sources="", args="", env=""):

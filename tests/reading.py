@@ -20,9 +20,7 @@ name_of = lambda path: path.rsplit(b"/", 1)[1][33:]
 class Refused(Exception):
     """What is wrong, in the words of a line."""
 
-    def __init__(self, words):
-        super().__init__(words)
-        self.words = words
+    words = property(lambda self: self.args[0])
 
 
 def is_path(folder, text):

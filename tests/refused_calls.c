@@ -59,12 +59,6 @@ static size_t most = -1;
 static int log_file = -1, is_watched;
 static pthread_mutex_t lock = PTHREAD_MUTEX_INITIALIZER;
 
-static void read_rule(const char *text) {
-    const char *form = "%31[^:]:%ld:%ld:%d";
-    if (!text || sscanf(text, form, rule.kind, &rule.first, &rule.last, &rule.error) != 4)
-        rule.kind[0] = 0;
-}
-
 static void read_events(const char *text) {
     char *rest = text ? strdup(text) : "", *line;
     for (int i = 0; (line = strtok_r(rest, "\n", &rest)); i++) {
@@ -122,7 +116,9 @@ static void begin_calls(void) {
         syscall(SYS_close, log_file);
         log_file = far;
     }
-    read_rule(getenv("REFUSE"));
+    const char *form = "%31[^:]:%ld:%ld:%d", *text = getenv("REFUSE");
+    if (text)
+        sscanf(text, form, rule.kind, &rule.first, &rule.last, &rule.error);
     read_events(getenv("BEFORE"));
     if (getenv("MOST"))
         most = atol(getenv("MOST"));
@@ -256,20 +252,17 @@ void *__libc_malloc(size_t), *__libc_calloc(size_t, size_t), *__libc_realloc(voi
 void *__libc_memalign(size_t, size_t);
 
 #define CALLER __builtin_return_address(0)
-void *malloc(size_t size) {
-    counts->asked += size;
-    return gives_none(CALLER) ? 0 : __libc_malloc(size);
-}
-void *calloc(size_t count, size_t size) {
-    return gives_none(CALLER) ? 0 : __libc_calloc(count, size);
-}
-void *realloc(void *block, size_t size) {
-    counts->asked += size;
-    return gives_none(CALLER) ? 0 : __libc_realloc(block, size);
-}
-void *aligned_alloc(size_t align, size_t size) {
-    return gives_none(CALLER) ? 0 : __libc_memalign(align, size);
-}
+// A call that is asked for so many bytes, which are counted, and gives this or nothing.
+#define ASKED(bytes, given)                    \
+    {                                          \
+        counts->asked += bytes;                \
+        return gives_none(CALLER) ? 0 : given; \
+    }
+
+void *malloc(size_t size) ASKED(size, __libc_malloc(size))
+void *calloc(size_t count, size_t size) ASKED(0, __libc_calloc(count, size))
+void *realloc(void *block, size_t size) ASKED(size, __libc_realloc(block, size))
+void *aligned_alloc(size_t align, size_t size) ASKED(0, __libc_memalign(align, size))
 int posix_memalign(void **block, size_t align, size_t size) {
     *block = gives_none(CALLER) ? 0 : __libc_memalign(align, size);
     return *block ? 0 : ENOMEM;

@@ -116,6 +116,8 @@ class Scene:
     is_again = lambda self, out: out == self.ample[1]
     # What an undisturbed run tells; none if that is not stated.
     good = lambda self: (0, self.path + "\n", "")
+    # The orders that are possible of the refused call and those of other workers.
+    races = lambda self, calls, at: [False]
 
     def __init__(self, program, folder):
         self.program, self.folder, self.store = program, folder, folder / "store"
@@ -180,10 +182,6 @@ class Scene:
             out, err = out.replace(word, str(path)), err.replace(word, str(path))
         err = err.replace("DRV", calls[at].path) if at is not None else err
         return status, out, f"nix_realise: {err}\n" if err else ""
-
-    def races(self, calls, at):
-        """The orders that are possible of the refused call and those of other workers."""
-        return [False]
 
     def outcome(self, at, calls):
         """What is told where the call at this place is refused, and what stands then."""

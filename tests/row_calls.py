@@ -30,6 +30,10 @@ PARTS = {
 LABELS = {"before", "calls by path", *PARTS}
 NUMBERS = {"most"}
 REFUSE = re.compile(r"\brefuse (E[A-Z]+)\b")
+# Whether a step is a run with the library.
+needs_library = lambda step: bool(LABELS & set(step.texts) or NUMBERS & set(step.numbers))
+# The lines of a text, which are divided by semicolons too.
+lines_of = lambda text: text.replace("; ", "\n").splitlines()
 
 
 def compiled(folder):
@@ -42,11 +46,6 @@ def compiled(folder):
     words = [compiler, "-O1", "-shared", "-fPIC", "-o", library, source, "-ldl"]
     subprocess.run(words, check=True)
     return library
-
-
-def needs_library(step):
-    """Whether a step is a run with the library."""
-    return bool(LABELS & set(step.texts) or NUMBERS & set(step.numbers))
 
 
 def settings(scene, step):
@@ -67,11 +66,6 @@ def grouped(calls):
     """Lines of the kinds of calls at one path, and that path."""
     groups = itertools.groupby(calls, key=lambda call: call[1])
     return [" ".join([*(kind for kind, _ in group), path]) for path, group in groups]
-
-
-def lines_of(text):
-    """The lines of a text, which are divided by semicolons too."""
-    return text.replace("; ", "\n").splitlines()
 
 
 def compare_calls(scene, step):

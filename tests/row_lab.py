@@ -16,11 +16,8 @@ from scenes import HERE, lab_program
 MOST_SECONDS = 60
 # A line that says where a call begins or ends.
 MARK = re.compile(r"(begins|ends) \d+ .*\n")
-
-
-def bytes_of(text):
-    """The bytes of a text."""
-    return text.encode(errors="surrogateescape")
+# The bytes of a text.
+bytes_of = lambda text: text.encode(errors="surrogateescape")
 
 
 def script_of(scene, step):

@@ -50,6 +50,10 @@ WINDOW = 10
 sha256 = lambda text: hashlib.sha256(text.encode()).hexdigest()
 # A text with its lines sorted.
 in_order = lambda text: "".join(sorted(text.splitlines(keepends=True)))
+# The names and the paths of the outputs of the derivation at a path.
+outputs_at = lambda path: outputs_in(pathlib.Path(path).read_text(errors="surrogateescape"))
+# A step that does something with the file at its first path, and with its text.
+at_path = lambda take: lambda scene, step: take(scene.path(step.words[0]), scene.text(step))
 
 
 class Scene:
@@ -113,11 +117,6 @@ class Scene:
         path = self.names[f"<{word}>"] = ran.out.rstrip("\n")
         self.names |= {f"<{word}.{output}>": found for output, found in outputs_at(path).items()}
         return path
-
-
-def outputs_at(path):
-    """The names and the paths of the outputs of the derivation at a path."""
-    return outputs_in(pathlib.Path(path).read_text(errors="surrogateescape"))
 
 
 def take_script(scene, step):
@@ -214,11 +213,6 @@ def on_paths(take):
             take(scene.path(word))
 
     return take_all
-
-
-def at_path(take):
-    """A step that does something with the file at its first path, and with its text."""
-    return lambda scene, step: take(scene.path(step.words[0]), scene.text(step))
 
 
 def fill(scene, step):

@@ -12,6 +12,8 @@ from row_faults import expect
 
 # The microseconds by which a builder may take longer than its script.
 SLACK = 5_000_000
+# Values in order, as a text.
+told = lambda values: "".join(f"{value}\n" for value in sorted(map(str, values)))
 
 
 def take_trace(scene, step):
@@ -47,7 +49,3 @@ def faults_of(found, rows, seconds):
         if found[one]["tid"] == found[other]["tid"] and begin < last and start < end:
             yield f"{one}: at the time of {other} by the same worker"
 
-
-def told(values):
-    """Values in order, as a text."""
-    return "".join(f"{value}\n" for value in sorted(map(str, values)))
