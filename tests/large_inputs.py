@@ -186,10 +186,9 @@ def outputs(names, paths):
 def wide(place, rows):
     """A draft of 64 outputs with these inputs; the filled text, and the outputs' paths in order."""
     names = [f"o{number}" for number in range(10, 74)]
-    inputs = lambda is_modulo: sorted(row.modulo if is_modulo else row.path for row in rows)
-    text = lambda paths, is_modulo: text_of(
-        outputs(names, paths), ",".join(map(used, inputs(is_modulo)))
-    )
+    of = lambda is_modulo: sorted(row.modulo if is_modulo else row.path for row in rows)
+    inputs = lambda is_modulo: ",".join(map(used, of(is_modulo)))
+    text = lambda paths, is_modulo: text_of(outputs(names, paths), inputs(is_modulo))
     return with_outputs(place, names, text)
 
 

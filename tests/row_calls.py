@@ -18,8 +18,7 @@ import re
 import shutil
 import subprocess
 
-from row_faults import expect
-from scenes import HERE
+from scenes import HERE, expect
 
 # The labels of texts that are parts of the calls, with those parts of as many calls.
 PARTS = {

@@ -7,10 +7,8 @@ The program runs in the folder of the tests, and `<xff>` stands for a byte of al
 """
 
 import re
-import subprocess
 
-from row_faults import expect, told
-from scenes import HERE, lab_program
+from scenes import HERE, expect, lab_program, run, told
 
 # The seconds that the program may take.
 MOST_SECONDS = 60
@@ -30,14 +28,8 @@ def script_of(scene, step):
 
 def answers_of(script):
     """What the program prints of these lines, without the marks, and its status."""
-    ran = subprocess.run(
-        [lab_program()],
-        input=bytes_of(script),
-        capture_output=True,
-        timeout=MOST_SECONDS,
-        cwd=HERE,
-    )
-    return MARK.sub("", ran.stdout.decode()), ran.stderr.decode(), ran.returncode
+    status, out, err = run([lab_program()], MOST_SECONDS, input=bytes_of(script), cwd=HERE)
+    return MARK.sub("", out), err, status
 
 
 def take_lab(scene, step):

@@ -19,6 +19,7 @@ the superuser's.
 """
 
 import collections
+import contextlib
 import os
 import pathlib
 import pty
@@ -32,7 +33,7 @@ import time
 import types
 
 from row_calls import compare_calls, settings
-from row_faults import Fault, expect, told
+from scenes import Fault, expect, told, until
 
 # The seconds that a run may take, and those after which it counts as going on.
 MOST_SECONDS, SOME_SECONDS = 120, 0.3
@@ -75,11 +76,9 @@ class Stream:
 def read_all(terminal):
     """What a terminal was sent, up to the end, which is an error where nobody holds it."""
     sent = b""
-    try:
+    with contextlib.suppress(OSError):
         while piece := os.read(terminal, 4096):
             sent += piece
-    except OSError:
-        pass
     os.close(terminal)
     return sent
 
@@ -104,18 +103,10 @@ class Run:
         with tempfile.TemporaryFile(dir=scene.folder) as given:
             given.write(scene.said(step.texts.get("in", "")).encode())
             given.seek(0)
-            self.process = subprocess.Popen(
-                words,
-                executable=scene.program if words[0] == "nix_realise" else None,
-                cwd=scene.folder,
-                env=environment(scene, step),
-                preexec_fn=lambda: set_up(*limits),
-                start_new_session=True,
-                stdin=given,
-                stdout=self.out.file,
-                stderr=self.err.file,
-                **scene.user,
-            )
+            how = {"stdin": given, "stdout": self.out.file, "stderr": self.err.file, **scene.user}
+            how |= {"cwd": scene.folder, "env": environment(scene, step), "start_new_session": True}
+            how |= {"executable": scene.program} if words[0] == "nix_realise" else {}
+            self.process = subprocess.Popen(words, preexec_fn=lambda: set_up(*limits), **how)
 
     def ended(self):
         """How it ended. It is killed where it takes too long."""
@@ -220,11 +211,8 @@ def take_kill(scene, step):
 
 def take_until(scene, step):
     """Waits until something stands at a path."""
-    path, end = scene.path(step.words[0]), time.monotonic() + MOST_SECONDS
-    while not os.path.lexists(path):
-        if time.monotonic() > end:
-            raise Fault(f"something at {path}", f"nothing after {MOST_SECONDS} seconds")
-        time.sleep(0.01)
+    path = scene.path(step.words[0])
+    until(f"something at {path}", lambda: os.path.lexists(path), MOST_SECONDS)
 
 
 def take_quickest(scene, step):

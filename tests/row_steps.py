@@ -33,11 +33,10 @@ import stat
 import types
 
 from reading import own_path
-from row_faults import Fault, expect, told
 from row_lab import take_lab
 from row_runs import RUNS, Run
 from row_traces import take_trace
-from scenes import HERE, LOCK, draft, outputs_in, snapshot
+from scenes import HERE, LOCK, Fault, draft, expect, outputs_in, snapshot, told
 from store_paths import make_path, text_path
 
 WORD = re.compile(r"<[^<>\s]+>")

@@ -8,7 +8,7 @@ within the time of the run.
 import itertools
 import json
 
-from row_faults import expect
+from scenes import expect
 
 # The microseconds by which a builder may take longer than its script.
 SLACK = 5_000_000

@@ -7,8 +7,7 @@ import signal
 import subprocess
 
 from reading import entries_of
-from row_faults import expect
-from scenes import HERE, draft, put, run
+from scenes import HERE, draft, expect, put, run
 
 RUNNERS = HERE.parent / "examples/runners"
 DRAFTS = HERE.parent / "examples/drafts"

@@ -2,6 +2,8 @@
 
 import contextlib
 import errno
+import importlib.machinery
+import importlib.util
 import os
 import pathlib
 import shutil
@@ -13,7 +15,6 @@ import time
 
 HERE = pathlib.Path(__file__).resolve().parent
 sys.path.insert(0, str(HERE.parent / "bench"))
-from row_faults import Fault  # noqa: E402
 from store_paths import text_path  # noqa: E402,F401
 
 BUILT = HERE.parent / "crates/nix_realise/out/nix_realise"
@@ -27,6 +28,49 @@ CHANGED_MEANWHILE = "ENOENT ENOTDIR ENAMETOOLONG EINVAL ELOOP EISDIR".split()
 number_of = lambda words, name, default: int(option(words, name) or default)
 # Kinds, permissions and what is held, without numbers and times.
 contents = lambda found: {name: entry[:2] for name, entry in found.items()}
+
+
+class Fault(Exception):
+    """What a step wanted, and what it got."""
+
+    def __init__(self, wanted, got):
+        super().__init__(f"wanted\n{indented(wanted)}\ngot\n{indented(got)}")
+
+
+def indented(text):
+    """A text that stands out, and whose end can be seen."""
+    lines = text.split("\n")
+    last = lines.pop()
+    marked = [f"    | {line}" for line in lines] + ([f"    + {last}"] if last else [])
+    return "\n".join(marked) or "    nothing"
+
+
+def expect(wanted, got):
+    """Fails where two texts differ."""
+    if wanted != got:
+        raise Fault(wanted, got)
+
+
+def told(out, err, status, stream="err"):
+    """What a run writes and its status, in one text. Standard error is named by its label."""
+    lines = [f"out| {line}" for line in whole(out)] + [f"{stream}| {line}" for line in whole(err)]
+    return "\n".join([*lines, f"status {status}", ""])
+
+
+def whole(text):
+    """The lines of a text, of which the last may have no end."""
+    lines = text.split("\n")
+    last = lines.pop()
+    return lines + ([last + " (without an end of line)"] if last else [])
+
+
+def module_at(name):
+    """A script of this repository as a module. Nothing is kept of it beside the script."""
+    sys.dont_write_bytecode = True
+    loader = importlib.machinery.SourceFileLoader("script", str(HERE.parent / name))
+    module = importlib.util.module_from_spec(importlib.util.spec_from_loader("script", loader))
+    loader.exec_module(module)
+    return module
 
 
 def built(path, how):
