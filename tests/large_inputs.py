@@ -146,8 +146,7 @@ class Twin:
     def __init__(self, place, number):
         script = f"echo twin > $out; : {number}"
         self.path, self.modulo = write_fixed(place.folder, "twin", script, [], TWIN)
-        made = f"fixed:out:{digest_of(TWIN)}:".encode()
-        inner = hashlib.sha256(made).hexdigest()
+        inner = hashlib.sha256(f"fixed:out:{digest_of(TWIN)}:".encode()).hexdigest()
         self.output = make_path("output:out", inner, place.folder, "twin")
 
 
@@ -223,6 +222,5 @@ def journal_of(place, length):
     size = len(added([place.path(0, name)]))
     count = (length - len(FIRST) - size) // size
     text = FIRST + added(place.path(number, name) for number in range(count))
-    last = place.path(count, name + "q" * (length - len(text) - size))
-    return text + added([last])
+    return text + added([place.path(count, name + "q" * (length - len(text) - size))])
 

@@ -56,6 +56,8 @@ Arm = namedtuple("Arm", "start guard arrow end pattern value")
 class Tokens:
     """Some tokens, with four more for their end, and where each bracketed group ends."""
 
+    said = lambda self, start, end: " ".join(self.texts[max(start, 0) : end])
+
     def __init__(self, found, end):
         self.found = [*found, *[Token("\0", end)] * 4]
         self.texts = [token.text for token in self.found]
@@ -77,9 +79,6 @@ class Tokens:
         while at < end and self.texts[at] not in wanted:
             at = self.after(at)
         return min(at, end)
-
-    def said(self, start, end):
-        return " ".join(self.texts[max(start, 0) : end])
 
 
 class Code:

@@ -83,6 +83,8 @@ LEAVES = (None, "whole", "left", "moved")
 KEPT_FOLDERS = (".build-9", "other")
 KEPT_FILES = (".nix_realise-7", ".build-9/file", "other/file", "file")
 MET = set()
+# The same scene with another name, and with other settings.
+variant = lambda kind, name, **more: type(name, (kind,), {"name": name, **more})
 
 
 def row_of(subcommand, kind, place):
@@ -346,11 +348,6 @@ class Words(Scene):
     def words(self):
         places = {"STORE": str(self.store), "FILE": str(self.file)}
         return [self.program, *(places.get(word, word) for word in self.given)]
-
-
-def variant(kind, name, **more):
-    """The same scene with another name, and with other settings."""
-    return type(name, (kind,), {"name": name, **more})
 
 
 NAMED = ["add-text", "--store-dir", "STORE", "a/name", "FILE"]

@@ -53,6 +53,8 @@ in_order = lambda text: "".join(sorted(text.splitlines(keepends=True)))
 outputs_at = lambda path: outputs_in(pathlib.Path(path).read_text(errors="surrogateescape"))
 # A step that does something with the file at its first path, and with its text.
 at_path = lambda take: lambda scene, step: take(scene.path(step.words[0]), scene.text(step))
+# A step that compares what lies at paths.
+is_kind = lambda kind: on_paths(lambda path: expect(kind, kind_of(path)))
 
 
 class Scene:
@@ -242,11 +244,6 @@ def has_mode(scene, step):
     """Compares the permissions of a file or folder."""
     path, wanted = step.words
     expect(wanted, f"{stat.S_IMODE(scene.path(path).lstat().st_mode) & 0o777:03o}")
-
-
-def is_kind(kind):
-    """A step that compares what lies at paths."""
-    return on_paths(lambda path: expect(kind, kind_of(path)))
 
 
 TAKEN = {

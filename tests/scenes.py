@@ -28,6 +28,8 @@ CHANGED_MEANWHILE = "ENOENT ENOTDIR ENAMETOOLONG EINVAL ELOOP EISDIR".split()
 number_of = lambda words, name, default: int(option(words, name) or default)
 # Kinds, permissions and what is held, without numbers and times.
 contents = lambda found: {name: entry[:2] for name, entry in found.items()}
+# The path of `lab`: that of the variable LAB, or the one that was built here.
+lab_program = lambda: built(os.environ.get("LAB", LAB), "cd crates/lab && rt run")
 
 
 class Fault(Exception):
@@ -84,11 +86,6 @@ def program_of(words):
     """The program's path: the first word that is no option, else the one that was built here."""
     given = [word for word in words if not word.startswith("--")]
     return built(given[0] if given else BUILT, "cd crates/nix_realise && rt run -- --help")
-
-
-def lab_program():
-    """The path of `lab`: that of the variable LAB, or the one that was built here."""
-    return built(os.environ.get("LAB", LAB), "cd crates/lab && rt run")
 
 
 def room(need=2**28):
