@@ -1,20 +1,20 @@
 // Watches, counts and refuses calls of the C library by which a program reaches the system or asks
-// for memory. LD_PRELOAD loads it before the program. What it does is said by these variables:
+// for memory. LD_PRELOAD loads it before the program. These variables say what it does:
 // CALLS_LOG is a file that gets a line for each call: `done` or `refused`, kind, thread, path.
 // REFUSE is KIND:FIRST:LAST:ERRNO: the calls of that kind from the FIRST to the LAST, counted from
 // 1, fail with that error, and are not done. MOST: a read or a write takes no more bytes.
 // BEFORE has lines `N KIND PATH: COMMAND`: right before the Nth call of that kind at that path
 // (that a rename gives) a shell runs the command, and a line `before` is added. Where its status is
 // not 0 the call fails with that error.
-// OWN has where each of the two functions begins and ends, from the program's base, by which it
-// asks for memory; the C library and the kit ask by others, while they start a thread or a process.
-// Then growths of memory are counted, and that with the number GROWTH is refused: of the whole run,
-// or with CALL of that call alone, the first time that it is made, by the lines `begins CALL` and
-// `ends CALL` that the program prints. With EACH it is told how many growths each call met, in the
-// file TELL, or else on the standard error.
+// OWN has the begin and the end, from the program's base, of the two functions by which it asks for
+// memory; the C library and the kit ask by others, while they start a thread or a process. Then
+// growths of memory are counted, and that with the number GROWTH is refused: of the whole run, or
+// of CALL alone, the first time that it is made, between the lines `begins CALL` and `ends CALL` of
+// the program. With EACH it is told how many growths each call met, in the file TELL or on standard
+// error.
 // RUN_COUNTS is a file whose first 24 bytes get, also where the program is killed: the bytes for
-// which it asks, each growth of a list with its new length; its processor time, in nanoseconds,
-// when it last opened a file; and that when it last wrote to its standard output.
+// which it asks, a list that grows by its new length; and its processor time, in nanoseconds, when
+// it last opened a file, and when it last wrote to its standard output.
 #define _GNU_SOURCE
 #include <dlfcn.h>
 #include <errno.h>
