@@ -34,6 +34,7 @@ INLINE = re.compile(r"(.*?) ([|+])(?: (.*))?")
 MARK = re.compile(r" (?:[|+]|=>)(?: |$)")
 PIECE = re.compile(r"    ([a-z ]*)([|+])(?: (.*))?")
 SETTING = re.compile(r"    ([a-z ]+) ([0-9]+)")
+NUMBERED = re.compile(r"(?<!\S)(\d+)\.\.(\d+)(?!\S)")
 WORD = re.compile(r"<([^<>.\s]+)(\.[^<>\s]+)?>")
 # A fault that is told, lines of a report, one line that stands for several, and what is no success.
 FAULT = re.compile(r"status (\d): (.*)")
@@ -189,7 +190,8 @@ class Row(collections.namedtuple("Row", "file name texts steps")):
         word, *words = step.words
         below = step.texts.get("", "")
         if words[:1] == ["in"]:
-            values = all_values([*words[1:], *below.split()])
+            numbers = lambda ends: " ".join(map(str, range(int(ends[1]), int(ends[2]) + 1)))
+            values = NUMBERED.sub(numbers, " ".join([*words[1:], below])).split()
             lines = [(f"{word} = {value}", {word: value}) for value in values]
         else:
             below = below.replace("; ", "\n") if words[-1:] == ["in"] else below
@@ -208,13 +210,6 @@ def values_in(step, line):
     if len(found) < sum(map(len, heads)):
         raise Mistake(f"{step.line}: a line has other parts: {line}")
     return found
-
-
-def all_values(words):
-    """The values that these words give."""
-    for word in words:
-        ends = re.fullmatch(r"(\d+)\.\.(\d+)", word)
-        yield from map(str, range(int(ends[1]), int(ends[2]) + 1)) if ends else [word]
 
 
 class Reading:
