@@ -69,6 +69,7 @@ process_build/src/disk/kept_folders.rt new | count # the derivations of a plan
 process_build/src/disk/outputs.rt - | MAX_PIECE # the bytes of a piece, 65,536
 process_build/src/disk/outputs.rt new | MAX_PIECE # the same
 process_build/src/disk/outputs.rt names | NAMES_AT_ONCE # 4,096 bytes of names
+process_build/src/disk/left_paths.rt left_paths | NAMES_AT_ONCE # the same
 process_build/src/observe/counts.rt new | unsettled : usize :: MAX # no size: no count reaches it
 process_build/src/observe/time.rt micros_of | unwrap_or ( u64 :: MAX
     # no size: the greatest time that is told
