@@ -1,0 +1,383 @@
+-- Steps of a reader within files, names and targets.
+use Rattle.std.proofs.Common.{◌≡◌, ◌≢◌, ◌∙◌, ℕ, ◌+◌, ◌-◌, ◌%◌, ◌^◌, ◌<◌, ◌≤◌, get_or, zero, suc, if◌then◌else◌, Bool, true, false, List, [], ◌∷◌, ◌++◌, length, map, refl, ap, sym, subst, append_assoc, append-nil, take, drop, arith, length-append, length-drop}
+use Rattle.std.specs.Prelude.{codes, Vec}
+use Rattle.std.specs.declared.alloc.Global.{Global}
+use Rattle.std.proofs.Math.ListN.{replicate}
+use Rattle.std.proofs.lemmas.List.{length-take, map-append, take-append-drop}
+use Rattle.std.proofs.Math.Seq.{take-length}
+use Rattle.std.specs.Int.{w64, from_le_bytes}
+use Rattle.nix_archive.specs.Trees.{Bytes, Tree, File, Link, Folder, IsAfter, IsName}
+use Rattle.nix_archive.specs.Archive.{node, padding, size_text, str, strs, mark}
+use Rattle.nix_archive.specs.Tokens.{Token, EntryBegun, FileBegun, FileByte, FileEnded, FolderEnded, LinkTo}
+use Rattle.nix_archive.specs.Parts.{After, Says, Sized, Counted, Bytewise, Node, Nodes, Outer, close, ended, file, link, named, open_text}
+use Rattle.nix_archive.specs.Rests.{mode_rest, names_of}
+use Rattle.nix_archive.specs.Reading.{IsSame, IsStep, IsRefused}
+use Rattle.nix_archive.specs.private.Takes.{IsTaken, IsTakenOf}
+use Rattle.nix_archive.specs.declared.mode.Mode.TheVariants.{More, Name, Size}
+use Rattle.nix_archive.specs.declared.mode.What.{What}
+use Rattle.nix_archive.specs.declared.mode.What.TheVariants.{File as OfFile, Name as OfName, Target as OfTarget}
+use Rattle.nix_archive.proofs.Telling.{cut}
+use Rattle.nix_archive.proofs.Rests.{after_both, after_none, after_same, neither, ready, same, same_both, same_seen, same_size, same_whole, seen_step, steps, silent, step_from, step_to, second_step, first_step}
+use Rattle.nix_archive.proofs.Choices.{MoreRest, entry_text, same_more}
+use Rattle.nix_archive.proofs.Turns.{Next, tail_of, turn_first_told}
+
+-- the padding of a length, and what follows it
+pub padded : (size zeros : ℕ) {P R : List Token → Bytes → Type 0} → zeros ≡ (8 - size % 8) % 8
+    → IsSame P R → IsSame (After (padding size) P) (After (replicate zeros 0) R)
+unfolding padding
+padded size zeros {P} {R} is e =
+    subst (λ z. IsSame (After (padding size) P) (After (replicate z 0) R)) (sym is)
+    (after_same (padding size) e)
+
+pub none_of : (b : Bytes) → length b ≡ 0 → b ≡ []
+none_of [] e = refl
+none_of (x ∷ xs) e = absurd (omega arith)
+
+joined : (a b e l : List Token) → a ++ ((b ++ e) ++ l) ≡ ((a ++ b) ++ e) ++ l
+joined a b e l = simp append_assoc
+
+node_open : (tree : Tree) → (rest : Bytes) × (node tree ≡ open_text ++ rest)
+unfolding str size_text padding
+node_open (File x bytes) = (_, refl)
+node_open (Link target) = (_, refl)
+node_open (Folder entries) = (_, refl)
+
+-- each tree begins so
+pub same_open : (K : List Token → Bytes → Type 0)
+    → IsSame (Node K) (After open_text (λ ts u. Node K ts (open_text ++ u)))
+same_open K = record {
+  to = λ ts u h.
+      let o = node_open h.tree in
+      let rest : Bytes = o.0 ++ h.follows.follows.rest in
+      let e : u ≡ open_text ++ rest = h.follows.follows.begins
+      ∙ ap (λ l. l ++ h.follows.follows.rest) o.1 ∙ append_assoc open_text o.0 h.follows.follows.rest in
+      record { rest = rest; begins = e; follows = subst (Node K ts) e h };
+  from = λ ts u h. subst (Node K ts) (sym h.begins) h.follows;
+}
+
+pub same_names : (P : List Bytes → List Token → Bytes → Type 0) (names other : List Bytes)
+    → names ≡ other → IsSame (P names) (P other)
+same_names P names other e = subst (λ l. IsSame (P names) (P l)) e (same (P names))
+
+module _ {S : Type 0} (heard : S → List Token → S → Type 0) where
+  -- nothing was read
+  pub idle : (s : S) (zeros : ℕ) (text : Bytes) (M : List Token → Bytes → Type 0) → heard s [] s
+      → zeros ≡ 0 → text ≡ [] → IsStep heard s s M (Next zeros text M) []
+  idle s zeros text M h none blank =
+      let e : IsSame M (Next zeros text M) =
+      subst (λ l. IsSame M (Next zeros l M)) (sym blank)
+      (same_both (after_none M) (ready zeros [] none (same M))) in
+      silent heard [] s h e.from e.to
+
+  -- tokens are heard within what follows some bytes
+  pub says_after : {s t : S} (a : Bytes) (said : List Token) (P : List Token → Bytes → Type 0)
+      → heard s said t → IsStep heard s t (After a (Says said P)) (After a P) []
+  says_after a said P h = record {
+    said = said;
+    hears = h;
+    sound = λ ts u p. record {
+      rest = p.rest;
+      begins = p.begins;
+      follows = record { later = ts; begins = refl; follows = p.follows };
+    };
+    complete = λ ts u p. (
+      p.follows.later,
+      record { rest = p.rest; begins = p.begins; follows = p.follows.follows },
+    );
+  }
+
+  pub file_end : {s t : S} (size zeros : ℕ) (K R : List Token → Bytes → Type 0)
+      → heard s (FileEnded size ∷ []) t → zeros ≡ (8 - size % 8) % 8 → IsSame (After close K) R
+      → IsStep heard s t (Bytewise size 0 K) (After (replicate zeros 0) R) []
+  file_end size zeros K R h is e =
+      let p : IsSame (After (padding size) (After close K)) (After (replicate zeros 0) R) =
+      padded size zeros is e in
+      let n : IsSame (After (padding size) (After close K)) (After [] (After (padding size) (After close K))) =
+      after_none (After (padding size) (After close K)) in record {
+        said = FileEnded size ∷ [];
+        hears = h;
+        sound = λ ts u r. record {
+          bytes = [];
+          long = refl;
+          follows = record { later = ts; begins = refl; follows = n.to ts u (p.from ts u r) };
+        };
+        complete = λ ts u b.
+            let none : b.bytes ≡ [] = none_of b.bytes b.long in
+            let said : ts ≡ FileEnded size ∷ b.follows.later =
+            b.follows.begins ∙ ap (λ l. (map FileByte l ++ FileEnded size ∷ []) ++ b.follows.later) none in (
+              b.follows.later,
+              p.to b.follows.later u (n.from b.follows.later u
+                  (subst (λ l. After l (After (padding size) (After close K)) b.follows.later u) none
+                  b.follows.follows)),
+            );
+      }
+
+  pub file_begin : {s t : S} (x : Bool) (size : ℕ) (K : List Token → Bytes → Type 0)
+      → heard s (FileBegun x size ∷ []) t
+      → IsStep heard s t (Sized size (file x K)) (Bytewise size size K) []
+  file_begin x size K h = record {
+    said = FileBegun x size ∷ [];
+    hears = h;
+    sound = λ ts u b.
+        let a = b.follows.follows in record {
+          bytes = b.bytes;
+          long = b.long;
+          follows = record {
+            rest = a.rest;
+            begins = a.begins;
+            follows = record {
+              rest = a.follows.rest;
+              begins = a.follows.begins;
+              follows = record {
+                later = b.follows.later;
+                begins = ap (λ l. FileBegun x size ∷ l) b.follows.begins
+                    ∙ ap (λ n. FileBegun x n ∷ ((map FileByte b.bytes ++ FileEnded n ∷ []) ++ b.follows.later))
+                    (sym b.long);
+                follows = a.follows.follows;
+              };
+            };
+          };
+        };
+    complete = λ ts u p.
+        let s = p.follows.follows.follows in (
+          (map FileByte p.bytes ++ FileEnded size ∷ []) ++ s.later,
+          record {
+            bytes = p.bytes;
+            long = p.long;
+            follows = record {
+              later = s.later;
+              begins = refl;
+              follows = record {
+                rest = p.follows.rest;
+                begins = p.follows.begins;
+                follows = record {
+                  rest = p.follows.follows.rest;
+                  begins = p.follows.follows.begins;
+                  follows = s.follows;
+                };
+              };
+            };
+          },
+        );
+  }
+
+  pub contents_step : {s t : S} (size left after : ℕ) (K : List Token → Bytes → Type 0) (w : Bytes)
+      → heard s (map FileByte w) t → left ≡ length w + after
+      → IsStep heard s t (Bytewise size left K) (Bytewise size after K) w
+  contents_step size left after K w h is =
+      let E : List Token = FileEnded size ∷ [] in record {
+        said = map FileByte w;
+        hears = h;
+        sound = λ ts u b.
+            let a = b.follows.follows in record {
+              bytes = w ++ b.bytes;
+              long = omega (arith, length-append w b.bytes, b.long);
+              follows = record {
+                later = b.follows.later;
+                begins = ap (λ l. map FileByte w ++ l) b.follows.begins
+                    ∙ joined (map FileByte w) (map FileByte b.bytes) E b.follows.later
+                    ∙ ap (λ l. (l ++ E) ++ b.follows.later) (sym (map-append FileByte w b.bytes));
+                follows = record {
+                  rest = a.rest;
+                  begins = ap (λ l. w ++ l) a.begins ∙ sym (append_assoc w b.bytes a.rest);
+                  follows = a.follows;
+                };
+              };
+            };
+        complete = λ ts u b.
+            let n : ℕ = length w in
+            let front : Bytes = take n b.bytes in
+            let back : Bytes = drop n b.bytes in
+            let a = b.follows.follows in
+            let both : front ++ back ≡ b.bytes = take-append-drop n b.bytes in
+            let long : length w ≡ length front = omega (arith, length-take {A = ℕ}, b.long) in
+            let parts : (w ≡ front) × (u ≡ back ++ a.rest) =
+            cut w front u (back ++ a.rest) long
+            (a.begins ∙ ap (λ l. l ++ a.rest) (sym both) ∙ append_assoc front back a.rest) in (
+              (map FileByte back ++ E) ++ b.follows.later,
+              record {
+                bytes = back;
+                long = omega (arith, length-drop n b.bytes, b.long);
+                follows = record {
+                  later = b.follows.later;
+                  begins = refl;
+                  follows = record { rest = a.rest; begins = parts.1; follows = a.follows };
+                };
+              },
+            );
+      }
+
+  pub target_end : {s t : S} (size zeros : ℕ) (seen : Bytes) (K R : List Token → Bytes → Type 0)
+      → heard s (LinkTo seen ∷ []) t → length seen ≡ size → zeros ≡ (8 - size % 8) % 8
+      → IsSame (After close K) R
+      → IsStep heard s t (λ ts u. Sized size (link K) ts (seen ++ u)) (After (replicate zeros 0) R) []
+  target_end size zeros seen K R h long is e =
+      step_from heard (same_whole (link K) seen size long)
+      (step_to heard (padded size zeros is e)
+      (says_after (padding size) (LinkTo seen ∷ []) (After close K) h))
+
+  -- a name that may stand here was read
+  pub name_end : {s t : S} (size zeros : ℕ) (seen before : Bytes) (outer names other : List Bytes)
+      → heard s (EntryBegun seen ∷ []) t → length seen ≡ size → zeros ≡ (8 - size % 8) % 8
+      → IsName seen → IsAfter before seen → names ≡ before ∷ outer → other ≡ seen ∷ outer
+      → IsStep heard s t (mode_rest (Name size) seen names)
+      (After (replicate zeros 0) (After (str (codes "node") ++ open_text)
+      (λ ts u. Node (Outer other) ts (open_text ++ u)))) []
+  name_end size zeros seen before outer names other h long is a b e f =
+      let T : Bytes = str (codes "node") in
+      let M : List Token → Bytes → Type 0 = λ ts u. Node (Outer other) ts (open_text ++ u) in
+      let X : List Token → Bytes → Type 0 = After T (Node (Outer (seen ∷ outer))) in
+      let text : IsSame X (After (T ++ open_text) M) =
+      same_both (same_names (λ l. After T (Node (Outer l))) (seen ∷ outer) other (sym f))
+      (same_both (after_same T (same_open (Outer other))) (after_both T open_text M)) in
+      let may : IsSame (named before outer seen) (Says (EntryBegun seen ∷ []) X) = record {
+        to = λ ts u p. p.2;
+        from = λ ts u p. (a, b, p);
+      } in
+      step_from heard (same_names (mode_rest (Name size) seen) names (before ∷ outer) e)
+      (step_from heard (same_whole (named before outer) seen size long)
+      (step_from heard (after_same (padding size) may)
+      (step_to heard (padded size zeros is text)
+      (says_after (padding size) (EntryBegun seen ∷ []) X h))))
+
+-- a name that may not
+pub name_no : (size : ℕ) (seen before : Bytes) (outer names : List Bytes) → length seen ≡ size
+    → ((IsName seen × IsAfter before seen) → ⊥) → names ≡ before ∷ outer
+    → (ts : List Token) (u : Bytes) → mode_rest (Name size) seen names ts u → ⊥
+name_no size seen before outer names long never e ts u h =
+    let p = (same_whole (named before outer) seen size long).to ts u
+    ((same_names (mode_rest (Name size) seen) names (before ∷ outer) e).to ts u h) in
+    never (p.follows.0, p.follows.1)
+
+pub name_outside : (size : ℕ) (seen : Bytes) (names : List Bytes) → names ≡ []
+    → (ts : List Token) (u : Bytes) → mode_rest (Name size) seen names ts u → ⊥
+name_outside size seen names e ts u h =
+    (same_names (mode_rest (Name size) seen) names [] e).to ts u h
+
+pub more_outside : (seen : Bytes) (names : List Bytes) → names ≡ []
+    → (ts : List Token) (u : Bytes) → mode_rest More seen names ts u → ⊥
+more_outside seen names e ts u h = (same_names (mode_rest More seen) names [] e).to ts u h
+
+module _ {S : Type 0} (heard : S → List Token → S → Type 0) where
+  pub more_five : {s t : S} (zeros : ℕ) (seen now before : Bytes) (outer names other : List Bytes)
+      → zeros ≡ 0 → heard s (ended before) t → names ≡ before ∷ outer → other ≡ before ∷ outer
+      → now ≡ []
+      → IsStep heard s t (mode_rest More seen names)
+      (Next zeros (tail_of entry_text) (mode_rest (Size OfName) now other)) (5 ∷ [])
+  unfolding str size_text padding
+  more_five zeros seen now before outer names other none h e f is =
+      let Q : List Token → Bytes → Type 0 = Counted (named before outer) in
+      let to : IsSame Q (mode_rest (Size OfName) now other) =
+      same_both (same_seen Q now is)
+      (same_names (mode_rest (Size OfName) now) (before ∷ outer) other (sym f)) in
+      step_from heard (same_names (mode_rest More seen) names (before ∷ outer) e)
+      (step_from heard (same_more before outer)
+      (turn_first_told heard zeros none 5 1 (tail_of entry_text) (tail_of close) (ended before) Q
+      (mode_rest (Size OfName) now other) (Says (ended before ++ FolderEnded ∷ []) (Outer outer))
+      (λ n. absurd (omega (arith, n))) h to))
+
+  pub more_one : {s t : S} (zeros : ℕ) (seen before text : Bytes) (outer names : List Bytes)
+      (M : List Token → Bytes → Type 0) → zeros ≡ 0 → heard s (ended before ++ FolderEnded ∷ []) t
+      → names ≡ before ∷ outer → IsSame (After (tail_of close) (Outer outer)) (After text M)
+      → IsStep heard s t (mode_rest More seen names) (Next zeros text M) (1 ∷ [])
+  unfolding str size_text padding
+  more_one zeros seen before text outer names M none h e f =
+      step_from heard (same_names (mode_rest More seen) names (before ∷ outer) e)
+      (step_from heard (same_more before outer)
+      (step_to heard (same_both f (subst (λ z. IsSame (After text M) (After (replicate z 0) (After text M)))
+      (sym none) (after_none (After text M))))
+      (second_step heard 5 1 (tail_of entry_text) (tail_of close) (ended before ++ FolderEnded ∷ [])
+      (Says (ended before) (Counted (named before outer))) (Outer outer)
+      (λ n. absurd (omega (arith, n))) h)))
+
+pub more_no : (seen before : Bytes) (outer names : List Bytes) (byte : ℕ) → names ≡ before ∷ outer
+    → byte ≢ 5 → byte ≢ 1 → IsRefused (mode_rest More seen names) (byte ∷ [])
+unfolding str size_text padding
+more_no seen before outer names byte e a b ts u h =
+    neither 5 1 byte (tail_of entry_text) (tail_of close)
+    (Says (ended before) (Counted (named before outer)))
+    (Says (ended before ++ FolderEnded ∷ []) (Outer outer)) a b ts u
+    ((same_more before outer).to ts (byte ∷ u)
+    ((same_names (mode_rest More seen) names (before ∷ outer) e).to ts (byte ∷ u) h))
+
+pub same_left : (size left other : ℕ) (K : List Token → Bytes → Type 0) → left ≡ other
+    → IsSame (Bytewise size left K) (Bytewise size other K)
+same_left size left other K e =
+    subst (λ l. IsSame (Bytewise size left K) (Bytewise size l K)) e (same (Bytewise size left K))
+
+-- no fixed bytes come first
+pub unfixed : (zeros : ℕ) (text : Bytes) (M : List Token → Bytes → Type 0) → zeros ≡ 0 → text ≡ []
+    → IsSame M (Next zeros text M)
+unfixed zeros text M none blank =
+    subst (λ l. IsSame M (Next zeros l M)) (sym blank)
+    (same_both (after_none M) (ready zeros [] none (same M)))
+
+pub name_as : (b n p q : Bytes) → b ≡ p → n ≡ q → IsName n × IsAfter b n → IsName q × IsAfter p q
+name_as b n p q e f h =
+    (subst IsName f h.0, subst (λ l. IsAfter l q) e (subst (λ l. IsAfter b l) f h.1))
+
+module _ {S : Type 0} (heard : S → List Token → S → Type 0) where
+  pub taken_of : {s t : S} (P Q : List Token → Bytes → Type 0) (piece : Bytes) (n : ℕ) → 0 < n
+      → n ≤ length piece → IsStep heard s t P Q (take n piece) → IsTakenOf heard s t P Q piece n
+  taken_of P Q piece zero lt le h = absurd (omega arith)
+  taken_of P Q piece (suc n) lt le h = (omega arith, h)
+
+  pub taken_all : {s t : S} (P Q : List Token → Bytes → Type 0) (piece : Bytes) → 0 < length piece
+      → IsStep heard s t P Q piece → IsTakenOf heard s t P Q piece (length piece)
+  taken_all {s} {t} P Q piece lt h =
+      taken_of P Q piece (length piece) lt (omega arith)
+      (subst (λ l. IsStep heard s t P Q l) (sym (take-length piece)) h)
+
+  -- a byte of a piece
+  pub taken_one : (s t : S) (P Q : List Token → Bytes → Type 0) (piece : Bytes) (byte : ℕ)
+      (taken : Bool) → take 1 piece ≡ byte ∷ [] → 0 < length piece
+      → IsTaken heard s t P Q (byte ∷ []) taken
+      → IsTakenOf heard s t P Q piece (if taken then 1 else 0)
+  taken_one s t P Q piece byte true e lt h =
+      (lt, subst (λ l. IsStep heard s t P Q l) (sym e) h)
+  taken_one s t P Q piece byte false e lt h = subst (IsRefused P) (sym e) h
+
+  -- a step, and then nothing is read
+  pub taken_after : ((s m t : S) (before after : List Token) → heard s before m → heard m after t
+      → heard s (before ++ after) t) → (s m t : S) (P Q R : List Token → Bytes → Type 0) (byte : ℕ)
+      (taken : Bool) → IsStep heard s m P Q (byte ∷ []) → IsTaken heard m t Q R [] taken
+      → IsTaken heard s t P R (byte ∷ []) taken
+  taken_after joins s m t P Q R byte true h k = steps heard joins (byte ∷ []) [] h k
+  taken_after joins s m t P Q R byte false h k = λ ts u p.
+      let q = h.complete ts u p in
+      k q.0 u q.1
+
+  -- one more byte of a length
+  pub size_on : (s : S) (what : What) (seen more : Bytes) (byte : ℕ) (names : List Bytes) → heard s [] s
+      → more ≡ seen ++ byte ∷ []
+      → IsStep heard s s (mode_rest (Size what) seen names) (mode_rest (Size what) more names) (byte ∷ [])
+  size_on s (OfFile x) seen more byte names h e =
+      seen_step heard s (Counted (file x (Outer names))) seen more byte h e
+  size_on s OfTarget seen more byte names h e =
+      seen_step heard s (Counted (link (Outer names))) seen more byte h e
+  size_on s OfName seen more byte [] h e = silent heard (byte ∷ []) s h (λ ts u q. q) (λ ts u p. p)
+  size_on s OfName seen more byte (before ∷ outer) h e =
+      seen_step heard s (Counted (named before outer)) seen more byte h e
+
+  -- one more byte of a name
+  pub name_on : (s : S) (size : ℕ) (seen more : Bytes) (byte : ℕ) (names : List Bytes) → heard s [] s
+      → more ≡ seen ++ byte ∷ []
+      → IsStep heard s s (mode_rest (Name size) seen names) (mode_rest (Name size) more names) (byte ∷ [])
+  name_on s size seen more byte [] h e = silent heard (byte ∷ []) s h (λ ts u q. q) (λ ts u p. p)
+  name_on s size seen more byte (before ∷ outer) h e =
+      seen_step heard s (Sized size (named before outer)) seen more byte h e
+
+-- the length of a name was seen
+pub same_name : (seen now : Bytes) (size : ℕ) (names : List Bytes) → length seen ≡ 8
+    → ((i : ℕ) → get_or seen i 0 < 256) → size < 2 ^ 64 → size ≡ from_le_bytes w64 seen → now ≡ []
+    → IsSame (mode_rest (Size OfName) seen names) (mode_rest (Name size) now names)
+same_name seen now size [] long fits lt is none = record { to = λ ts u h. h; from = λ ts u h. h }
+same_name seen now size (before ∷ outer) long fits lt is none =
+    same_both (same_size (named before outer) seen size long fits lt is)
+    (same_seen (Sized size (named before outer)) now none)
+
+pub same_target : (K : List Token → Bytes → Type 0) (seen now : Bytes) (size : ℕ) → length seen ≡ 8
+    → ((i : ℕ) → get_or seen i 0 < 256) → size < 2 ^ 64 → size ≡ from_le_bytes w64 seen → now ≡ []
+    → IsSame (λ ts u. Counted (link K) ts (seen ++ u)) (λ ts u. Sized size (link K) ts (now ++ u))
+same_target K seen now size long fits lt is none =
+    same_both (same_size (link K) seen size long fits lt is) (same_seen (Sized size (link K)) now none)

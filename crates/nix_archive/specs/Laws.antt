@@ -1,0 +1,46 @@
+-- Laws of archives.
+use Rattle.std.specs.Prelude.{◌≡◌, ◌++◌, List, []}
+use Rattle.nix_archive.specs.declared.reader.ArchiveReader.{ArchiveReader}
+use Rattle.nix_archive.specs.Trees.{Bytes, Tree, IsArchivable}
+use Rattle.nix_archive.specs.Archive.{magic, nar}
+use Rattle.nix_archive.specs.Tokens.{Token, tokens_of}
+use Rattle.nix_archive.specs.Texts.{text_of}
+use Rattle.nix_archive.specs.Rests.{reader_rest}
+use Rattle.nix_archive.specs.Reading.{IsArchive, IsSame, IsStep}
+
+-- trees with one archive are one tree
+abbrev pub ArchivesTellTrees : Type 0
+ArchivesTellTrees = (s t : Tree) → IsArchivable s → IsArchivable t → nar s ≡ nar t → s ≡ t
+
+-- no archive begins another
+abbrev pub NoArchiveBeginsAnother : Type 0
+NoArchiveBeginsAnother = (s t : Tree) (rest : Bytes) → IsArchivable s → IsArchivable t
+    → nar t ≡ nar s ++ rest → rest ≡ []
+
+-- what is written at a tree's tokens, after the string with which each archive begins, is its
+-- archive
+abbrev pub TokensWriteArchives : Type 0
+TokensWriteArchives = (tree : Tree) → magic ++ text_of (tokens_of tree) ≡ nar tree
+
+-- The bytes are the archive of the tree that was heard of, and what is written at its tokens.
+pub record IsReadWhole {S : Type 0} (heard : S → List Token → S → Type 0) (before after : S)
+    (read : Bytes) : Type 0 where
+  pub tree : Tree
+  pub archivable : IsArchivable tree
+  pub hears : heard before (tokens_of tree) after
+  pub archive : read ≡ nar tree
+  pub again : magic ++ text_of (tokens_of tree) ≡ read
+
+-- one reading after another is a reading of all
+abbrev pub ReadingsJoin : {S : Type 0} (heard : S → List Token → S → Type 0) → Type 0
+ReadingsJoin {S} heard = (r s t : ArchiveReader) (before between after : S) (first second : Bytes)
+    → IsStep heard before between (reader_rest r) (reader_rest s) first
+    → IsStep heard between after (reader_rest s) (reader_rest t) second
+    → IsStep heard before after (reader_rest r) (reader_rest t) (first ++ second)
+
+-- an archive that is read is the archive of the tree that the reader tells
+abbrev pub ReadingsTellTrees : {S : Type 0} (heard : S → List Token → S → Type 0) → Type 0
+ReadingsTellTrees {S} heard = (r s : ArchiveReader) (before after : S) (read : Bytes)
+    → IsSame (reader_rest r) IsArchive
+    → IsStep heard before after (reader_rest r) (reader_rest s) read
+    → reader_rest s [] [] → IsReadWhole heard before after read

@@ -1,0 +1,22 @@
+//! Laws of archives, proved from the definitions that contracts use.
+ghost use Rattle.nix_archive.specs.Laws.{ArchivesTellTrees, NoArchiveBeginsAnother, ReadingsJoin, ReadingsTellTrees, TokensWriteArchives};
+
+use crate::event::Hear;
+
+/// Trees with one archive are one tree, and no archive begins another.
+pub fn archives_tell_trees()
+    ensures one_tree { ArchivesTellTrees }
+    ensures none_within { NoArchiveBeginsAnother }
+{}
+
+/// What a writer writes at the events of a tree is the tree's archive.
+pub fn events_write_archives()
+    ensures { TokensWriteArchives }
+{}
+
+/// What readings in a row have read, from the first byte on until nothing is left, is the archive of
+/// the tree that the hearer heard of, and what is written at its events.
+pub fn readings_are_written_again<H: Hear>()
+    ensures join { ReadingsJoin H.heard }
+    ensures whole { ReadingsTellTrees H.heard }
+{}

@@ -1,0 +1,32 @@
+//! Archives of trees in the format of Nix, called NAR.
+//!
+//! | Module | What is in it |
+//! |---|---|
+//! | `event` | what is heard of a tree, event by event |
+//! | `sink` | where an archive is written |
+//! | `writer` | the archive of what is heard |
+//! | `reader` | the reader of an archive that comes in pieces |
+//! | `mode` | what comes next in an archive |
+//! | `kinds` | the bytes that decide this |
+//! | `strings` | lengths, and the files, targets and names that they are of |
+//! | `name` | the names of entries |
+//! | `fault` | why a reading gave up |
+//! | `laws` | laws over the definitions that contracts cite |
+#![tactic(auto)]
+
+mod event;
+mod fault;
+mod kinds;
+pub mod laws;
+mod mode;
+mod name;
+mod reader;
+mod sink;
+mod strings;
+mod writer;
+
+pub use event::{Event, Hear};
+pub use fault::ArchiveFault;
+pub use reader::ArchiveReader;
+pub use sink::Sink;
+pub use writer::ArchiveWriter;

@@ -1,0 +1,34 @@
+//! The names of entries.
+ghost use Rattle.std.specs.Prelude.{◌≡◌, ◌↔◌, IsTrue};
+ghost use Rattle.std.specs.List.{list_all};
+ghost use Rattle.nix_archive.specs.Trees.{IsName, is_name_byte, may_be_name};
+
+// Whether some bytes may be the name of an entry.
+pub(crate) fn is_entry_name(name: &[u8]) -> bool
+    ensures { IsTrue result ↔ IsName name.now }
+{
+    !name.is_empty() && may_be_name(name)
+}
+
+// Whether some bytes may be a name, if they are any.
+#[tactic(auto, unfolding(crate::specs::Trees::may_be_name))]
+fn may_be_name(name: &[u8]) -> bool
+    ensures { result ≡ may_be_name name.now }
+{
+    are_name_bytes(name) && name != b".".as_slice() && name != b"..".as_slice()
+}
+
+// Whether each byte may stand in a name.
+fn are_name_bytes(bytes: &[u8]) -> bool
+    ensures { result ≡ list_all is_name_byte bytes.now }
+{
+    bytes.iter().all(|byte| is_name_byte(*byte))
+}
+
+// Whether a byte may stand in a name.
+#[tactic(auto, unfolding(crate::specs::Trees::is_name_byte))]
+fn is_name_byte(byte: u8) -> bool
+    ensures { result ≡ is_name_byte byte }
+{
+    byte != 0 && byte != b'/'
+}
