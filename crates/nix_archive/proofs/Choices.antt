@@ -1,14 +1,13 @@
 -- How trees and entries begin.
-use Rattle.std.proofs.Common.{◌≡◌, ◌≢◌, ◌∙◌, ℕ, Bool, true, false, List, [], ◌∷◌, ◌++◌, length, map, refl, ap, sym, subst, inl, inr, append_assoc, append-nil, drop, arith}
+use Rattle.std.proofs.Common.{◌≡◌, ◌≢◌, ◌∙◌, Bool, true, false, List, [], ◌∷◌, ◌++◌, length, refl, ap, sym, inl, inr, append_assoc, append-nil, drop}
 use Rattle.std.specs.Prelude.{codes}
 use Rattle.std.proofs.Math.ListN.{replicate}
 use Rattle.std.proofs.Common.{◌<◌, ◌^◌}
-use Rattle.nix_archive.specs.Trees.{IsArchivable, AreEntries, Bytes, Tree, Entries, File, Link, Folder, NoEntries, Entry, IsName}
+use Rattle.nix_archive.specs.Trees.{IsArchivable, AreEntries, Bytes, Tree, Entries, File, Link, Folder, NoEntries, Entry}
 use Rattle.nix_archive.specs.Archive.{mark, node, nodes, padding, size_text, str, strs}
-use Rattle.nix_archive.specs.Tokens.{Token, FolderBegun, FolderEnded, EntryBegun, EntryEnded, LinkTo, tokens_of, tokens_among, file_tokens}
-use Rattle.nix_archive.specs.Parts.{After, Says, Either, Sized, Counted, Node, Nodes, Outer, LetterRest, MarkRest, close, ended, file, link, named, open_text}
+use Rattle.nix_archive.specs.Tokens.{Token, FolderBegun, FolderEnded, EntryBegun, EntryEnded, tokens_of, tokens_among, file_tokens}
+use Rattle.nix_archive.specs.Parts.{After, Says, Either, Counted, Node, Nodes, Outer, LetterRest, MarkRest, close, ended, file, named, open_text}
 use Rattle.nix_archive.specs.Reading.{IsSame}
-use Rattle.nix_archive.proofs.Rests.{after_both}
 
 -- how the type of a file or a link begins
 abbrev pub seven : Bytes

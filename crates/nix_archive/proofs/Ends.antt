@@ -1,24 +1,23 @@
 -- Steps of a reader within files, names and targets.
-use Rattle.std.proofs.Common.{◌≡◌, ◌≢◌, ◌∙◌, ℕ, ◌+◌, ◌-◌, ◌%◌, ◌^◌, ◌<◌, ◌≤◌, get_or, zero, suc, if◌then◌else◌, Bool, true, false, List, [], ◌∷◌, ◌++◌, length, map, refl, ap, sym, subst, append_assoc, append-nil, take, drop, arith, length-append, length-drop}
-use Rattle.std.specs.Prelude.{codes, Vec}
-use Rattle.std.specs.declared.alloc.Global.{Global}
+use Rattle.std.proofs.Common.{◌≡◌, ◌≢◌, ◌∙◌, ℕ, ◌+◌, ◌-◌, ◌%◌, ◌^◌, ◌<◌, ◌≤◌, get_or, zero, suc, if◌then◌else◌, Bool, true, false, List, [], ◌∷◌, ◌++◌, length, map, refl, ap, sym, subst, append_assoc, take, drop, arith, length-append, length-drop}
+use Rattle.std.specs.Prelude.{codes}
 use Rattle.std.proofs.Math.ListN.{replicate}
 use Rattle.std.proofs.lemmas.List.{length-take, map-append, take-append-drop}
 use Rattle.std.proofs.Math.Seq.{take-length}
 use Rattle.std.specs.Int.{w64, from_le_bytes}
 use Rattle.nix_archive.specs.Trees.{Bytes, Tree, File, Link, Folder, IsAfter, IsName}
-use Rattle.nix_archive.specs.Archive.{node, padding, size_text, str, strs, mark}
+use Rattle.nix_archive.specs.Archive.{node, padding, size_text, str}
 use Rattle.nix_archive.specs.Tokens.{Token, EntryBegun, FileBegun, FileByte, FileEnded, FolderEnded, LinkTo}
-use Rattle.nix_archive.specs.Parts.{After, Says, Sized, Counted, Bytewise, Node, Nodes, Outer, close, ended, file, link, named, open_text}
-use Rattle.nix_archive.specs.Rests.{mode_rest, names_of}
+use Rattle.nix_archive.specs.Parts.{After, Says, Sized, Counted, Bytewise, Node, Outer, close, ended, file, link, named, open_text}
+use Rattle.nix_archive.specs.Rests.{mode_rest}
 use Rattle.nix_archive.specs.Reading.{IsSame, IsStep, IsRefused}
 use Rattle.nix_archive.specs.private.Takes.{IsTaken, IsTakenOf}
 use Rattle.nix_archive.specs.declared.mode.Mode.TheVariants.{More, Name, Size}
 use Rattle.nix_archive.specs.declared.mode.What.{What}
 use Rattle.nix_archive.specs.declared.mode.What.TheVariants.{File as OfFile, Name as OfName, Target as OfTarget}
 use Rattle.nix_archive.proofs.Telling.{cut}
-use Rattle.nix_archive.proofs.Rests.{after_both, after_none, after_same, neither, ready, same, same_both, same_seen, same_size, same_whole, seen_step, steps, silent, step_from, step_to, second_step, first_step}
-use Rattle.nix_archive.proofs.Choices.{MoreRest, entry_text, same_more}
+use Rattle.nix_archive.proofs.Rests.{after_both, after_none, after_same, neither, ready, same, same_both, same_seen, same_size, same_whole, seen_step, steps, silent, step_from, step_to, second_step}
+use Rattle.nix_archive.proofs.Choices.{entry_text, same_more}
 use Rattle.nix_archive.proofs.Turns.{Next, tail_of, turn_first_told}
 
 -- the padding of a length, and what follows it

@@ -6,3 +6,4 @@ pub mod Choices
 pub mod Turns
 pub mod Ends
 pub mod Wholes
+pub mod Names

@@ -1,13 +1,12 @@
 -- Steps of a reader, by what may follow.
-use Rattle.std.proofs.Common.{◌≡◌, ◌≢◌, ◌∙◌, ℕ, ◌<◌, ◌^◌, ◌+◌, suc, zero, Bool, true, false, List, [], ◌∷◌, ◌++◌, length, map, refl, ap, sym, subst, inl, inr, append_assoc, append-nil, arith, length-append, get_or}
-use Rattle.std.specs.Prelude.{codes}
+use Rattle.std.proofs.Common.{◌≡◌, ◌≢◌, ◌∙◌, ℕ, ◌<◌, ◌^◌, List, [], ◌∷◌, ◌++◌, length, refl, ap, sym, subst, inl, inr, append_assoc, get_or}
 use Rattle.std.specs.Int.{w64, from_le_bytes}
 use Rattle.std.proofs.Math.ListN.{replicate}
 use Rattle.std.proofs.lemmas.Nat.{from_le_bytes-to_le_bytes_8, le_bytes_8}
 use Rattle.nix_archive.specs.Trees.{Bytes}
 use Rattle.nix_archive.specs.Archive.{padding, size_text, str}
 use Rattle.nix_archive.specs.Tokens.{Token}
-use Rattle.nix_archive.specs.Parts.{After, Says, Either, Sized, Counted, Nodes, Outer, close}
+use Rattle.nix_archive.specs.Parts.{After, Says, Either, Sized, Counted}
 use Rattle.nix_archive.specs.Reading.{IsSame, IsStep, IsRefused}
 use Rattle.nix_archive.specs.private.Takes.{Unheard}
 use Rattle.nix_archive.proofs.Telling.{cut, size_long}

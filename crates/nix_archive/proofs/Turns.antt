@@ -1,5 +1,5 @@
 -- Steps of a reader, mode by mode.
-use Rattle.std.proofs.Common.{◌≡◌, ◌≢◌, ◌∙◌, ℕ, Bool, true, false, List, [], ◌∷◌, ◌++◌, length, map, refl, ap, sym, subst, append_assoc, append-nil, drop, reverse, arith}
+use Rattle.std.proofs.Common.{◌≡◌, ◌≢◌, ◌∙◌, ℕ, true, false, List, [], ◌∷◌, ◌++◌, length, map, refl, ap, sym, subst, drop, reverse, arith}
 use Rattle.std.specs.Prelude.{Vec}
 use Rattle.std.specs.declared.alloc.Global.{Global}
 use Rattle.std.proofs.lemmas.List.{map-append, reverse-append, length-map, length-reverse}
@@ -8,14 +8,14 @@ use Rattle.nix_archive.specs.declared.mode.Mode.TheVariants.{More}
 use Rattle.std.specs.Prelude.{codes}
 use Rattle.std.proofs.Math.ListN.{replicate}
 use Rattle.nix_archive.specs.Trees.{Bytes}
-use Rattle.nix_archive.specs.Archive.{mark, padding, size_text, str, strs}
-use Rattle.nix_archive.specs.Tokens.{Token, FolderBegun, FolderEnded}
-use Rattle.nix_archive.specs.Parts.{After, Says, Either, Counted, Node, Nodes, Outer, LetterRest, MarkRest, close, ended, file, link, named, open_text}
+use Rattle.nix_archive.specs.Archive.{mark, padding, size_text, str}
+use Rattle.nix_archive.specs.Tokens.{Token, FolderBegun}
+use Rattle.nix_archive.specs.Parts.{After, Says, Either, Counted, Node, Nodes, Outer, LetterRest, MarkRest, close, file, link, open_text}
 use Rattle.nix_archive.specs.Rests.{mode_rest, names_of}
 use Rattle.nix_archive.specs.Reading.{IsSame, IsStep, IsRefused}
 use Rattle.nix_archive.specs.private.Takes.{Unheard}
-use Rattle.nix_archive.proofs.Rests.{after_both, after_none, after_same, either_left, either_right, first_quiet, first_step, neither, ready, same, same_both, same_seen, second_quiet, second_step, step_from, step_to}
-use Rattle.nix_archive.proofs.Choices.{KindRest, MoreRest, same_kind, same_more}
+use Rattle.nix_archive.proofs.Rests.{after_both, first_quiet, first_step, neither, ready, same, same_seen, second_quiet, second_step, step_from, step_to}
+use Rattle.nix_archive.proofs.Choices.{same_kind}
 
 -- the text that is read next
 abbrev pub Next : (zeros : ℕ) (text : Bytes) (P : List Token → Bytes → Type 0) → List Token → Bytes

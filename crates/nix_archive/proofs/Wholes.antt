@@ -1,17 +1,16 @@
 -- A reader of a whole archive.
-use Rattle.std.proofs.Common.{◌≡◌, ◌≢◌, ◌∙◌, ℕ, ◌+◌, ◌<◌, ◌≤◌, zero, suc, Bool, true, false, List, [], ◌∷◌, ◌++◌, length, map, refl, ap, sym, subst, append_assoc, append-nil, take, drop, arith, length-append, length-drop, if◌then◌else◌}
-use Rattle.std.specs.Prelude.{codes}
+use Rattle.std.proofs.Common.{◌≡◌, ◌≢◌, ◌∙◌, ℕ, ◌+◌, ◌<◌, ◌≤◌, zero, suc, Bool, true, false, List, [], ◌∷◌, ◌++◌, length, refl, ap, sym, subst, append_assoc, append-nil, take, drop, arith, length-drop}
 use Rattle.std.proofs.Math.ListN.{replicate}
 use Rattle.std.proofs.Common.{inl, inr, get_or}
 use Rattle.std.proofs.lemmas.List.{length-replicate}
 use Rattle.std.proofs.Math.Seq.{take-add}
 use Rattle.nix_archive.specs.Trees.{Bytes, Tree, File, Link, Folder}
-use Rattle.nix_archive.specs.Archive.{magic, node, padding, size_text, str}
+use Rattle.nix_archive.specs.Archive.{magic, node}
 use Rattle.nix_archive.specs.Tokens.{Token, FolderEnded, tokens_among, tokens_of}
 use Rattle.nix_archive.specs.declared.mode.Mode.{Mode}
 use Rattle.nix_archive.specs.declared.mode.Mode.TheVariants.{Kind, Letter, Mark, More, Size, Contents, Name, Target, End}
 use Rattle.nix_archive.specs.declared.mode.What.TheVariants.{File as OfFile, Name as OfName, Target as OfTarget}
-use Rattle.nix_archive.specs.Parts.{After, Says, Sized, Counted, Bytewise, Node, Nodes, Nothing, Outer, LetterRest, MarkRest, ended, file, link, named, open_text}
+use Rattle.nix_archive.specs.Parts.{After, Counted, Node, Nothing, Outer, LetterRest, MarkRest, ended, file, link, open_text}
 use Rattle.nix_archive.specs.Rests.{mode_rest}
 use Rattle.nix_archive.specs.Reading.{IsArchive, IsSame, IsStep, IsRefused}
 use Rattle.nix_archive.specs.private.Takes.{is_end, is_some_count, IsTaken, IsTakenOf, Unheard}

@@ -1,6 +1,6 @@
 -- Parts of archives, by what may follow them: the tokens that are still to be heard, with the bytes
 -- that are still to be read.
-use Rattle.std.specs.Prelude.{◌≡◌, ◌+◌, ℕ, ◌⊎◌, Bool, true, false, List, [], ◌∷◌, ◌++◌, length, map, codes}
+use Rattle.std.specs.Prelude.{◌≡◌, ℕ, ◌⊎◌, Bool, true, false, List, [], ◌∷◌, ◌++◌, length, map, codes}
 use Rattle.nix_archive.specs.Trees.{Bytes, Tree, Entries, IsArchivable, AreEntries, IsName, IsAfter, IsSized}
 use Rattle.nix_archive.specs.Archive.{mark, node, nodes, padding, str, strs}
 use Rattle.nix_archive.specs.Tokens.{Token, FolderEnded, EntryBegun, EntryEnded, FileByte, FileEnded, LinkTo, file_tokens, tokens_among, tokens_of}

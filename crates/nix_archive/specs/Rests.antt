@@ -1,6 +1,6 @@
 -- What may follow what a reader has read. Contracts say all that a caller needs of it: what it is at
 -- first, and how it changes.
-use Rattle.std.specs.Prelude.{suc, ◌+◌, ℕ, List, [], ◌∷◌, ◌++◌, map, reverse, Vec}
+use Rattle.std.specs.Prelude.{suc, ℕ, List, [], ◌∷◌, ◌++◌, map, reverse, Vec}
 use Rattle.std.specs.declared.alloc.Global.{Global}
 use Rattle.std.proofs.Math.ListN.{replicate}
 use Rattle.nix_archive.specs.Trees.{Bytes}

@@ -27,7 +27,7 @@ fn are_name_bytes(bytes: &[u8]) -> bool
 
 // Whether a byte may stand in a name.
 #[tactic(auto, unfolding(crate::specs::Trees::is_name_byte))]
-fn is_name_byte(byte: u8) -> bool
+pub(crate) fn is_name_byte(byte: u8) -> bool
     ensures { result ≡ is_name_byte byte }
 {
     byte != 0 && byte != b'/'

@@ -42,8 +42,9 @@ impl ArchiveReader {
 
     /// Reads the next piece of an archive, and hears what is in it. At `BadNar(place)` no archive
     /// goes on with the piece up to and with the byte at `place`, counted from the piece's first.
-    /// A name is looked at once its last byte is read, so `place` may come after the first byte
-    /// that can't stand there. After a fault nothing is known of the reader and of the hearer.
+    /// No clause says that it is the first such byte, and it can be a later one where the name
+    /// before goes on with bytes of 255. After a fault nothing is known of the reader and of the
+    /// hearer.
     pub fn feed<H: Hear>(&mut self, piece: &[u8], hearer: &mut H) -> Result<(), ArchiveFault>
         ensures { IsFed H.heard hearer.old hearer.new (reader_rest self.old) (reader_rest self.new)
             piece.now result }

@@ -1,16 +1,16 @@
 //! Lengths and what they are of: the bytes of files, the targets of links, and the names of entries.
-ghost use Rattle.std.specs.Prelude.{◌≡◌, ◌∷◌, [], ◌<◌, ◌↔◌, IfOk, OnOk, IsTrue, ℕ, ◌%◌, ◌-◌, length, slice_index};
+ghost use Rattle.std.specs.Prelude.{◌≡◌, ◌∷◌, ◌++◌, [], ◌<◌, ◌↔◌, IfOk, OnOk, IsTrue, List, ℕ, ◌%◌, ◌-◌, length, slice_index};
 ghost use Rattle.std.specs.Int.{w64, from_le_bytes};
 ghost use Rattle.nix_archive.specs.Trees.{IsAfter, IsName};
 ghost use Rattle.nix_archive.specs.Parts.{Bytewise, Sized, file};
-ghost use Rattle.nix_archive.specs.Reading.{IsStep};
-ghost use Rattle.nix_archive.specs.Rests.{reader_rest};
+ghost use Rattle.nix_archive.specs.Reading.{IsRefused, IsStep};
+ghost use Rattle.nix_archive.specs.Rests.{mode_rest, names_of, reader_rest};
 ghost use Rattle.nix_archive.specs.private.Takes.{IsTaken, IsTakenOf, now_rest, outer_rest};
 
 use crate::event::{Event, Hear};
 use crate::kinds::CLOSE_TWICE;
 use crate::mode::{Mode, What};
-use crate::name::is_entry_name;
+use crate::name::{is_entry_name, is_name_byte};
 use crate::reader::ArchiveReader;
 use std::alloc::AllocError;
 use std::cmp::Ordering;
@@ -165,9 +165,29 @@ impl ArchiveReader {
         ensures { IfOk result (λ taken. IsTaken H.heard hearer.old hearer.new
             (now_rest self.old) (reader_rest self.new) (byte ∷ []) taken) }
     {
+        if self.cannot_stand(size, byte) {
+            return Ok(false);
+        }
         self.seen.push(byte)?;
         let taken = self.end_name(size, hearer)?;
         Ok(taken)
+    }
+
+    // Whether no name of this length that may stand here goes on with the byte, before it is whole.
+    fn cannot_stand(&self, size: u64, byte: u8) -> bool
+        ensures { IsTrue result → IsRefused (mode_rest (Mode.Name size) self.now.seen.items
+            (names_of self.now.folders.items)) (byte ∷ []) }
+    {
+        if self.seen.len() as u64 >= size {
+            return false;
+        }
+        let Some(before) = self.folders.last() else {
+            return false;
+        };
+        if !is_name_byte(byte) {
+            return true;
+        }
+        comes_before(&self.seen, byte, before)
     }
 
     // Goes on where the name was read.
@@ -207,6 +227,19 @@ fn padding_length(size: u64) -> usize
     ensures { result ≡ (8 - size % 8) % 8 }
 {
     ((8 - size % 8) % 8) as usize
+}
+
+// Whether all names that begin with some bytes and one more come before another one.
+fn comes_before(seen: &[u8], byte: u8, before: &[u8]) -> bool
+    ensures { IsTrue result → (more : List ℕ) → IsAfter before.now (seen.now ++ byte ∷ more) → ⊥ }
+{
+    let Some(rest) = before.strip_prefix(seen) else {
+        return false;
+    };
+    match rest.first() {
+        Some(next) => byte < *next,
+        None => false,
+    }
 }
 
 // Whether some bytes are a name that comes after another.

@@ -1,4 +1,4 @@
-use Rattle.std.proofs.Common.{◌≡◌, ◌∙◌, ◌++◌, [], List, ap, sym, subst, append-nil}
+use Rattle.std.proofs.Common.{◌≡◌, ◌∙◌, ◌++◌, [], ap, sym, subst, append-nil}
 use Rattle.nix_archive.specs.Archive.{magic, nar}
 use Rattle.nix_archive.proofs.Rests.{steps}
 use Rattle.nix_archive.proofs.Texts.{text_of_tree}

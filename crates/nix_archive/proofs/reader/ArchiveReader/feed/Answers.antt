@@ -1,22 +1,8 @@
-use Rattle.std.proofs.Math.ListN.{replicate}
-use Rattle.std.proofs.lemmas.Grind.{common_steps}
-use Rattle.std.specs.Int.{w64, from_le_bytes}
-use Rattle.nix_archive.specs.Parts.{Node, Outer, open_text}
-use Rattle.nix_archive.specs.Reading.{IsArchive, IsSame}
-use Rattle.nix_archive.specs.private.Takes.{IsTakenOf, Unheard}
+use Rattle.nix_archive.specs.private.Takes.{IsTakenOf}
 use Rattle.std.proofs.lemmas.List.{take_rest}
-use Rattle.std.proofs.Common.{◌-◌, arith, rules, [], ◌∷◌, ◌++◌, ◌+◌, ◌<◌, ◌^◌, ◌≡◌, ◌≢◌, ◌∙◌, length, ap, append-nil, refl, sym, subst, true, false, ℕ, suc, map, take, get_or}
-use Rattle.nix_archive.specs.Archive.{magic, padding, size_text, str}
-use Rattle.nix_archive.specs.declared.mode.Mode.TheVariants.{Contents, More, Name, Size, Target}
-use Rattle.nix_archive.specs.declared.mode.What.TheVariants.{File as OfFile, Name as OfName, Target as OfTarget}
-use Rattle.nix_archive.specs.Parts.{After, Bytewise, Counted, Sized, file, link}
-use Rattle.nix_archive.specs.Rests.{reader_rest, names_of, mode_rest}
-use Rattle.nix_archive.specs.Reading.{IsStep}
-use Rattle.nix_archive.specs.private.Takes.{IsTaken, outer_rest, now_rest}
-use Rattle.nix_archive.proofs.Rests.{step_from, step_to, steps, same, same_both, same_size, seen_step}
-use Rattle.nix_archive.proofs.Turns.{same_mode}
-use Rattle.nix_archive.proofs.Ends.{name_on, same_name, same_target, size_on, taken_after, none_of, taken_one, unfixed}
-use Rattle.nix_archive.proofs.Wholes.{at_end, ended_at, fed_no, fed_on, fed_within, same_start, first_byte, same_back, taken_byte, taken_from, text_no, text_step, unheard, zero_no, zero_step}
+use Rattle.std.proofs.Common.{arith, subst}
+use Rattle.nix_archive.specs.Rests.{reader_rest}
+use Rattle.nix_archive.proofs.Wholes.{fed_no, fed_on, fed_within}
 use Rattle.nix_archive.proofs.reader.ArchiveReader.feed.Goals as goal
 
 pub returns-then-count-eq0 : goal.returns-then-count-eq0

@@ -1,4 +1,4 @@
-use Rattle.std.proofs.Common.{sym}
+use Rattle.std.proofs.Common.{◌∷◌, refl, sym}
 use Rattle.nix_archive.specs.declared.mode.Mode.TheVariants.{Name}
 use Rattle.nix_archive.specs.Rests.{reader_rest, names_of, mode_rest}
 use Rattle.nix_archive.specs.private.Takes.{now_rest}
@@ -17,3 +17,9 @@ returns g c =
     (name_on _ c.args.hearer.now c.args.size c.args.self.now.seen.items c.push.new.self.items c.args.byte (names_of c.args.self.now.folders.items)
     (g.met.H.Hear.silence _) c.in_ok-push.ensures.items)))
     c.in_ok-taken.ensures
+
+pub returns-then-cannot_stand : goal.returns-then-cannot_stand
+returns-then-cannot_stand g c = λ ts u h.
+    c.if-cannot_stand.ensures refl ts u
+    ((same_mode _ (Name c.args.size) c.args.self.now.seen.items (names_of c.args.self.now.folders.items)
+    c.requires.name).to ts (c.args.byte ∷ u) h)
