@@ -58,22 +58,27 @@ mark_to : (K : List Token → Bytes → Type 0) (x : Bool) (bytes : Bytes) (ts l
     (rest : Bytes) → length bytes < 2 ^ 64 → ts ≡ file_tokens x bytes ++ later → K later rest
     → MarkRest K ts (file_text x bytes rest)
 mark_to K true bytes ts later rest sized said k =
-    inl (put (str bytes ++ (close ++ rest)) (regroup (mark true) (str (codes "contents")) (str bytes) close rest)
+    inl (put (str bytes ++ (close ++ rest))
+    (regroup (mark true) (str (codes "contents")) (str bytes) close rest)
     record {
       bytes = bytes;
       sized = sized;
-      follows = put (close ++ rest) refl record { later = later; begins = said; follows = put rest refl k };
+      follows = put (close ++ rest) refl record
+          { later = later; begins = said; follows = put rest refl k };
     })
 mark_to K false bytes ts later rest sized said k =
-    inr (put (str bytes ++ (close ++ rest)) (regroup [] (str (codes "contents")) (str bytes) close rest)
+    inr (put (str bytes ++ (close ++ rest))
+    (regroup [] (str (codes "contents")) (str bytes) close rest)
     record {
       bytes = bytes;
       sized = sized;
-      follows = put (close ++ rest) refl record { later = later; begins = said; follows = put rest refl k };
+      follows = put (close ++ rest) refl record
+          { later = later; begins = said; follows = put rest refl k };
     })
 
 marked : (K : List Token → Bytes → Type 0) (x : Bool) (text : Bytes) (ts : List Token) (u : Bytes)
-    → text ≡ mark x ++ str (codes "contents") → After text (Counted (file x K)) ts u → IsMarked K ts u
+    → text ≡ mark x ++ str (codes "contents") → After text (Counted (file x K)) ts u → IsMarked K ts
+    u
 marked K x text ts u is h =
     let c = h.follows in
     let d = c.follows.follows in record {
@@ -115,11 +120,13 @@ kind_to K (File x bytes) a ts u later rest said e k =
 kind_to K (Link target) a ts u later rest said e k =
     let e₁ : u ≡ seven ++ (symlink ++ ((str target ++ (close ++ [])) ++ rest)) = ap (drop 32) e in
     let r : Bytes = str target ++ (close ++ rest) in
-    inl (put (symlink ++ r) (e₁ ∙ ap (λ l. seven ++ (symlink ++ l)) (regroup_two (str target) close rest))
+    inl (put (symlink ++ r) (e₁ ∙ ap (λ l. seven ++ (symlink ++ l))
+    (regroup_two (str target) close rest))
     (inr (put r refl record {
       bytes = target;
       sized = a;
-      follows = put (close ++ rest) refl record { later = later; begins = said; follows = put rest refl k };
+      follows = put (close ++ rest) refl record
+          { later = later; begins = said; follows = put rest refl k };
     })))
 kind_to K (Folder entries) a ts u later rest said e k =
     let e₁ : u ≡ directory ++ ((nodes entries ++ close) ++ rest) = ap (drop 32) e in
@@ -178,7 +185,8 @@ kind_from K ts u h =
               later = n.follows.later;
               begins = w.follows.begins ∙ ap (λ l. FolderBegun ∷ l) n.follows.begins;
               follows = put a.follows.rest (ap (λ l. open_text ++ l) (w.begins
-                  ∙ ap (λ l. directory ++ l) (a.begins ∙ ap (λ l. nodes n.entries ++ l) a.follows.begins
+                  ∙ ap (λ l. directory ++ l) (a.begins ∙ ap (λ l. nodes n.entries ++ l)
+                  a.follows.begins
                   ∙ sym (append_assoc (nodes n.entries) close a.follows.rest)))) a.follows.follows;
             };
           }
@@ -235,9 +243,11 @@ more_to before outer (Entry name tree others) a ts u later rest said e k =
         follows = put (close ++ rest) refl (put rest refl k);
       };
     } in
-    inl (put (str name ++ r₂) (e ∙ entry_regroup name (node tree) (nodes others) (close ++ rest)) record {
+    inl (put (str name ++ r₂) (e ∙ entry_regroup name (node tree) (nodes others) (close ++ rest))
+    record {
       later = EntryBegun name ∷ (tokens_of tree ++ third);
-      begins = said ∙ retold (ended before) (tokens_of tree) (tokens_among others) (FolderEnded ∷ [])
+      begins = said ∙ retold (ended before) (tokens_of tree) (tokens_among others)
+          (FolderEnded ∷ [])
           later (EntryBegun name) EntryEnded;
       follows = record {
         bytes = name;
@@ -251,7 +261,12 @@ more_to before outer (Entry name tree others) a ts u later rest said e k =
             follows = put r₃ refl record {
               tree = tree;
               archivable = a.2;
-              follows = record { later = third; begins = refl; follows = put (close ++ r₄) refl inner };
+              follows = record {
+                later = third;
+                begins = refl;
+                follows = put (close ++ r₄) refl
+                    inner;
+              };
             };
           },
         );
@@ -284,8 +299,10 @@ more_from before outer ts u h =
                   ∙ ap (λ l. ended before ++ l) (s.begins
                   ∙ ap (λ l. EntryBegun name ∷ l) (t.begins
                   ∙ ap (λ l. tokens_of n.tree ++ l) (o.follows.begins
-                  ∙ ap (λ l. (l ++ (tokens_among o.entries ++ FolderEnded ∷ [])) ++ o.follows.later) named_is)))
-                  ∙ sym (retold (ended before) (tokens_of n.tree) (tokens_among o.entries) (FolderEnded ∷ [])
+                  ∙ ap (λ l. (l ++ (tokens_among o.entries ++ FolderEnded ∷ [])) ++ o.follows.later)
+                  named_is)))
+                  ∙ sym (retold (ended before) (tokens_of n.tree) (tokens_among o.entries)
+                  (FolderEnded ∷ [])
                   o.follows.later (EntryBegun name) EntryEnded);
               follows = put (close ++ end.rest) (w.begins
                   ∙ ap (λ l. entry_text ++ l) (c.follows.begins

@@ -49,7 +49,8 @@ same_open K = record {
       let o = node_open h.tree in
       let rest : Bytes = o.0 ++ h.follows.follows.rest in
       let e : u ≡ open_text ++ rest = h.follows.follows.begins
-      ∙ ap (λ l. l ++ h.follows.follows.rest) o.1 ∙ append_assoc open_text o.0 h.follows.follows.rest in
+      ∙ ap (λ l. l ++ h.follows.follows.rest) o.1 ∙ append_assoc open_text o.0
+      h.follows.follows.rest in
       record { rest = rest; begins = e; follows = subst (Node K ts) e h };
   from = λ ts u h. subst (Node K ts) (sym h.begins) h.follows;
 }
@@ -91,7 +92,8 @@ module _ {S : Type 0} (heard : S → List Token → S → Type 0) where
   file_end size zeros K R h is e =
       let p : IsSame (After (padding size) (After close K)) (After (replicate zeros 0) R) =
       padded size zeros is e in
-      let n : IsSame (After (padding size) (After close K)) (After [] (After (padding size) (After close K))) =
+      let n : IsSame (After (padding size) (After close K))
+      (After [] (After (padding size) (After close K))) =
       after_none (After (padding size) (After close K)) in record {
         said = FileEnded size ∷ [];
         hears = h;
@@ -103,10 +105,12 @@ module _ {S : Type 0} (heard : S → List Token → S → Type 0) where
         complete = λ ts u b.
             let none : b.bytes ≡ [] = none_of b.bytes b.long in
             let said : ts ≡ FileEnded size ∷ b.follows.later =
-            b.follows.begins ∙ ap (λ l. (map FileByte l ++ FileEnded size ∷ []) ++ b.follows.later) none in (
+            b.follows.begins ∙ ap (λ l. (map FileByte l ++ FileEnded size ∷ []) ++ b.follows.later)
+            none in (
               b.follows.later,
               p.to b.follows.later u (n.from b.follows.later u
-                  (subst (λ l. After l (After (padding size) (After close K)) b.follows.later u) none
+                  (subst (λ l. After l (After (padding size) (After close K)) b.follows.later u)
+                  none
                   b.follows.follows)),
             );
       }
@@ -130,7 +134,8 @@ module _ {S : Type 0} (heard : S → List Token → S → Type 0) where
               follows = record {
                 later = b.follows.later;
                 begins = ap (λ l. FileBegun x size ∷ l) b.follows.begins
-                    ∙ ap (λ n. FileBegun x n ∷ ((map FileByte b.bytes ++ FileEnded n ∷ []) ++ b.follows.later))
+                    ∙ ap (λ n. FileBegun x n ∷ ((map FileByte b.bytes ++ FileEnded n ∷ []) ++
+                    b.follows.later))
                     (sym b.long);
                 follows = a.follows.follows;
               };
@@ -209,7 +214,8 @@ module _ {S : Type 0} (heard : S → List Token → S → Type 0) where
   pub target_end : {s t : S} (size zeros : ℕ) (seen : Bytes) (K R : List Token → Bytes → Type 0)
       → heard s (LinkTo seen ∷ []) t → length seen ≡ size → zeros ≡ (8 - size % 8) % 8
       → IsSame (After close K) R
-      → IsStep heard s t (λ ts u. Sized size (link K) ts (seen ++ u)) (After (replicate zeros 0) R) []
+      → IsStep heard s t (λ ts u. Sized size (link K) ts (seen ++ u)) (After (replicate zeros 0) R)
+      []
   target_end size zeros seen K R h long is e =
       step_from heard (same_whole (link K) seen size long)
       (step_to heard (padded size zeros is e)
@@ -283,7 +289,8 @@ module _ {S : Type 0} (heard : S → List Token → S → Type 0) where
   more_one zeros seen before text outer names M none h e f =
       step_from heard (same_names (mode_rest More seen) names (before ∷ outer) e)
       (step_from heard (same_more before outer)
-      (step_to heard (same_both f (subst (λ z. IsSame (After text M) (After (replicate z 0) (After text M)))
+      (step_to heard (same_both f (subst
+      (λ z. IsSame (After text M) (After (replicate z 0) (After text M)))
       (sym none) (after_none (After text M))))
       (second_step heard 5 1 (tail_of entry_text) (tail_of close) (ended before ++ FolderEnded ∷ [])
       (Says (ended before) (Counted (named before outer))) (Outer outer)
@@ -347,9 +354,11 @@ module _ {S : Type 0} (heard : S → List Token → S → Type 0) where
       k q.0 u q.1
 
   -- one more byte of a length
-  pub size_on : (s : S) (what : What) (seen more : Bytes) (byte : ℕ) (names : List Bytes) → heard s [] s
+  pub size_on : (s : S) (what : What) (seen more : Bytes) (byte : ℕ) (names : List Bytes) → heard s
+      [] s
       → more ≡ seen ++ byte ∷ []
-      → IsStep heard s s (mode_rest (Size what) seen names) (mode_rest (Size what) more names) (byte ∷ [])
+      → IsStep heard s s (mode_rest (Size what) seen names) (mode_rest (Size what) more names)
+      (byte ∷ [])
   size_on s (OfFile x) seen more byte names h e =
       seen_step heard s (Counted (file x (Outer names))) seen more byte h e
   size_on s OfTarget seen more byte names h e =
@@ -359,9 +368,11 @@ module _ {S : Type 0} (heard : S → List Token → S → Type 0) where
       seen_step heard s (Counted (named before outer)) seen more byte h e
 
   -- one more byte of a name
-  pub name_on : (s : S) (size : ℕ) (seen more : Bytes) (byte : ℕ) (names : List Bytes) → heard s [] s
+  pub name_on : (s : S) (size : ℕ) (seen more : Bytes) (byte : ℕ) (names : List Bytes) → heard s []
+      s
       → more ≡ seen ++ byte ∷ []
-      → IsStep heard s s (mode_rest (Name size) seen names) (mode_rest (Name size) more names) (byte ∷ [])
+      → IsStep heard s s (mode_rest (Name size) seen names) (mode_rest (Name size) more names)
+      (byte ∷ [])
   name_on s size seen more byte [] h e = silent heard (byte ∷ []) s h (λ ts u q. q) (λ ts u p. p)
   name_on s size seen more byte (before ∷ outer) h e =
       seen_step heard s (Sized size (named before outer)) seen more byte h e
@@ -379,4 +390,5 @@ pub same_target : (K : List Token → Bytes → Type 0) (seen now : Bytes) (size
     → ((i : ℕ) → get_or seen i 0 < 256) → size < 2 ^ 64 → size ≡ from_le_bytes w64 seen → now ≡ []
     → IsSame (λ ts u. Counted (link K) ts (seen ++ u)) (λ ts u. Sized size (link K) ts (now ++ u))
 same_target K seen now size long fits lt is none =
-    same_both (same_size (link K) seen size long fits lt is) (same_seen (Sized size (link K)) now none)
+    same_both (same_size (link K) seen size long fits lt is)
+    (same_seen (Sized size (link K)) now none)

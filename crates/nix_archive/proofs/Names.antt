@@ -45,7 +45,8 @@ no_name_byte seen more byte other h =
     let dot : Bool = not (pointwise nat_eq name (codes ".")) in
     let dots : Bool = not (pointwise nat_eq name (codes "..")) in
     let all : list_all is_name_byte name ≡ true =
-    and_left (list_all is_name_byte name) dot (and_left (list_all is_name_byte name && dot) dots h.allowed) in
+    and_left (list_all is_name_byte name) dot
+    (and_left (list_all is_name_byte name && dot) dots h.allowed) in
     let here : is_name_byte byte ≡ true = and_left (is_name_byte byte) (list_all is_name_byte more)
     (and_right (list_all is_name_byte seen) (list_all is_name_byte (byte ∷ more))
     (sym (list_all-append is_name_byte seen (byte ∷ more)) ∙ all)) in cc

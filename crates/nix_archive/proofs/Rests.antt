@@ -33,7 +33,11 @@ pub after_same : (a : Bytes) {P Q : List Token → Bytes → Type 0} → IsSame 
     → IsSame (After a P) (After a Q)
 after_same a e = record {
   to = λ ts u h. record { rest = h.rest; begins = h.begins; follows = e.to ts h.rest h.follows };
-  from = λ ts u h. record { rest = h.rest; begins = h.begins; follows = e.from ts h.rest h.follows };
+  from = λ ts u h. record {
+    rest = h.rest;
+    begins = h.begins;
+    follows = e.from ts h.rest h.follows;
+  };
 }
 
 pub after_none : (P : List Token → Bytes → Type 0) → IsSame P (After [] P)
@@ -133,8 +137,14 @@ module _ {S : Type 0} (heard : S → List Token → S → Type 0) where
     };
     complete = λ ts u h. elim h [
       | inl w ↦
-          let e = (fixed_out b b x (Says said P) ts u w).1 in
-          (e.follows.later, record { rest = e.rest; begins = e.begins; follows = e.follows.follows })
+          let e = (fixed_out b b x (Says said P) ts u w).1 in (
+            e.follows.later,
+            record {
+              rest = e.rest;
+              begins = e.begins;
+              follows = e.follows.follows;
+            },
+          )
       | inr w ↦ absurd (ne (fixed_out c b y Q ts u w).0)
     ];
   }
@@ -153,8 +163,14 @@ module _ {S : Type 0} (heard : S → List Token → S → Type 0) where
     complete = λ ts u h. elim h [
       | inl w ↦ absurd (ne (fixed_out b c x P ts u w).0)
       | inr w ↦
-          let e = (fixed_out c c y (Says said Q) ts u w).1 in
-          (e.follows.later, record { rest = e.rest; begins = e.begins; follows = e.follows.follows })
+          let e = (fixed_out c c y (Says said Q) ts u w).1 in (
+            e.follows.later,
+            record {
+              rest = e.rest;
+              begins = e.begins;
+              follows = e.follows.follows;
+            },
+          )
     ];
   }
 
@@ -214,10 +230,12 @@ same_size Q seen size long fits lt is = record {
         sized = subst (λ n. n < 2 ^ 64) (sym h.long) lt;
         follows = record {
           rest = h.follows.follows.rest;
-          begins = ap (λ l. seen ++ l) (e ∙ sym (append_assoc h.bytes (padding size) h.follows.follows.rest))
+          begins = ap (λ l. seen ++ l) (e ∙ sym
+              (append_assoc h.bytes (padding size) h.follows.follows.rest))
               ∙ ap (λ l. l ++ ((h.bytes ++ padding size) ++ h.follows.follows.rest)) (sym told)
               ∙ sym (append_assoc (size_text size) (h.bytes ++ padding size) h.follows.follows.rest)
-              ∙ ap (λ n. (size_text n ++ (h.bytes ++ padding n)) ++ h.follows.follows.rest) (sym h.long);
+              ∙ ap (λ n. (size_text n ++ (h.bytes ++ padding n)) ++ h.follows.follows.rest)
+              (sym h.long);
           follows = h.follows.follows.follows;
         };
       };
@@ -234,7 +252,8 @@ same_whole Q seen size long = record {
       record {
         rest = h.follows.follows.rest;
         begins = parts.1 ∙ h.follows.follows.begins;
-        follows = subst (λ l. Q l ts h.follows.follows.rest) (sym parts.0) h.follows.follows.follows;
+        follows = subst (λ l. Q l ts h.follows.follows.rest) (sym parts.0)
+            h.follows.follows.follows;
       };
   from = λ ts u h. record {
     bytes = seen;
@@ -279,7 +298,8 @@ module _ {S : Type 0} (heard : S → List Token → S → Type 0) where
   pub first_quiet : (s : S) (b c : ℕ) (x y : Bytes) (P Q : List Token → Bytes → Type 0) → b ≢ c
       → heard s [] s → IsStep heard s s (Either (b ∷ x) P (c ∷ y) Q) (After x P) (b ∷ [])
   first_quiet s b c x y P Q ne h =
-      step_from heard (either_left (b ∷ x) (c ∷ y) Q (says_none P)) (first_step heard b c x y [] P Q ne h)
+      step_from heard (either_left (b ∷ x) (c ∷ y) Q (says_none P))
+      (first_step heard b c x y [] P Q ne h)
 
   pub second_quiet : (s : S) (b c : ℕ) (x y : Bytes) (P Q : List Token → Bytes → Type 0) → c ≢ b
       → heard s [] s → IsStep heard s s (Either (b ∷ x) P (c ∷ y) Q) (After y Q) (c ∷ [])

@@ -26,7 +26,8 @@ size_long n = refl
 size_tells : (m n : ℕ) → m < 2 ^ 64 → n < 2 ^ 64 → size_text m ≡ size_text n → m ≡ n
 unfolding size_text
 size_tells m n a b e =
-    sym (from_le_bytes-to_le_bytes_8 m a) ∙ ap (from_le_bytes w64) e ∙ from_le_bytes-to_le_bytes_8 n b
+    sym (from_le_bytes-to_le_bytes_8 m a) ∙ ap (from_le_bytes w64) e ∙ from_le_bytes-to_le_bytes_8 n
+    b
 
 -- one string, whatever follows it
 str_tells : (a b r q : List ℕ) → length a < 2 ^ 64 → length b < 2 ^ 64 → str a ++ r ≡ str b ++ q
@@ -92,7 +93,8 @@ words_file : (x y : Bool) (b c : List ℕ) (r q : List (List ℕ))
 words_file true true b c r q e = let f : b ≡ c = cc in let g : r ≡ q = cc in (ap (File true) f, g)
 words_file true false b c r q e = absurd (omega (arith, ap fourth e))
 words_file false true b c r q e = absurd (omega (arith, ap fourth e))
-words_file false false b c r q e = let f : b ≡ c = cc in let g : r ≡ q = cc in (ap (File false) f, g)
+words_file false false b c r q e = let f : b ≡ c = cc in let g : r ≡ q = cc in
+    (ap (File false) f, g)
 
 mutual
   words_tell : (s t : Tree) (r q : List (List ℕ)) → words s ++ r ≡ words t ++ q → (s ≡ t) × (r ≡ q)
@@ -126,12 +128,15 @@ mutual
       words_tell s t (close ∷ (words_among ms ++ close ∷ r)) (close ∷ (words_among ns ++ close ∷ q))
       (sym (append_assoc (words s) (close ∷ words_among ms) (close ∷ r)) ∙ tails
       ∙ append_assoc (words t) (close ∷ words_among ns) (close ∷ q)) in
-      let after : close ∷ (words_among ms ++ close ∷ r) ≡ close ∷ (words_among ns ++ close ∷ q) = first.1 in
+      let after : close ∷ (words_among ms ++ close ∷ r) ≡ close ∷ (words_among ns ++ close ∷ q) =
+      first.1 in
       let rests : words_among ms ++ close ∷ r ≡ words_among ns ++ close ∷ q = cc in
       let more : (ms ≡ ns) × (r ≡ q) = entries_tell ms ns r q rests in
       let trees : s ≡ t = first.0 in
-      let entries : ms ≡ ns = more.0 in
-      (ap (λ l. Entry l s ms) names ∙ ap (λ l. Entry m l ms) trees ∙ ap (λ l. Entry m t l) entries, more.1)
+      let entries : ms ≡ ns = more.0 in (
+        ap (λ l. Entry l s ms) names ∙ ap (λ l. Entry m l ms) trees ∙ ap (λ l. Entry m t l) entries,
+        more.1,
+      )
 
 -- trees whose archives begin alike are one tree, and the same follows both
 archives_tell : (s t : Tree) (r q : List ℕ) → IsArchivable s → IsArchivable t

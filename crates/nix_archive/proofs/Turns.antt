@@ -52,7 +52,8 @@ module _ {S : Type 0} (heard : S → List Token → S → Type 0) (zeros : ℕ) 
 
 module _ (K : List Token → Bytes → Type 0) (zeros : ℕ) (none : zeros ≡ 0) where
   -- a file's type
-  pub letter_r : IsStep Unheard 0 0 (LetterRest K) (Next zeros (codes "egular" ++ 0 ∷ []) (MarkRest K))
+  pub letter_r : IsStep Unheard 0 0 (LetterRest K)
+      (Next zeros (codes "egular" ++ 0 ∷ []) (MarkRest K))
       (114 ∷ [])
   unfolding str size_text padding
   letter_r = turn_first Unheard zeros none 114 115 (codes "egular" ++ 0 ∷ [])
@@ -83,7 +84,8 @@ module _ (K : List Token → Bytes → Type 0) (zeros : ℕ) (none : zeros ≡ 0
       → IsStep Unheard 0 0 (MarkRest K) (Next zeros (tail_of (mark true ++ str (codes "contents")))
       (λ ts u. Counted (file true K) ts (seen ++ u))) (10 ∷ [])
   unfolding str size_text padding
-  mark_yes seen is = turn_first Unheard zeros none 10 8 (tail_of (mark true ++ str (codes "contents")))
+  mark_yes seen is = turn_first Unheard zeros none 10 8
+      (tail_of (mark true ++ str (codes "contents")))
       (tail_of (str (codes "contents"))) (Counted (file true K))
       (λ ts u. Counted (file true K) ts (seen ++ u)) (Counted (file false K))
       (λ n. absurd (omega (arith, n))) refl (same_seen (Counted (file true K)) seen is)
@@ -92,7 +94,8 @@ module _ (K : List Token → Bytes → Type 0) (zeros : ℕ) (none : zeros ≡ 0
       → IsStep Unheard 0 0 (MarkRest K) (Next zeros (tail_of (str (codes "contents")))
       (λ ts u. Counted (file false K) ts (seen ++ u))) (8 ∷ [])
   unfolding str size_text padding
-  mark_not seen is = turn_second Unheard zeros none 10 8 (tail_of (mark true ++ str (codes "contents")))
+  mark_not seen is = turn_second Unheard zeros none 10 8
+      (tail_of (mark true ++ str (codes "contents")))
       (tail_of (str (codes "contents"))) (Counted (file true K)) (Counted (file false K))
       (λ ts u. Counted (file false K) ts (seen ++ u))
       (λ n. absurd (omega (arith, n))) refl (same_seen (Counted (file false K)) seen is)
@@ -105,7 +108,8 @@ module _ (K : List Token → Bytes → Type 0) (zeros : ℕ) (none : zeros ≡ 0
 module _ {S : Type 0} (heard : S → List Token → S → Type 0) (K : List Token → Bytes → Type 0)
     (zeros : ℕ) (none : zeros ≡ 0) where
   pub kind_seven : (s : S) → heard s [] s
-      → IsStep heard s s (λ ts u. Node K ts (open_text ++ u)) (Next zeros (replicate 7 0) (LetterRest K))
+      → IsStep heard s s (λ ts u. Node K ts (open_text ++ u))
+      (Next zeros (replicate 7 0) (LetterRest K))
       (7 ∷ [])
   unfolding str size_text padding
   kind_seven s h = step_from heard (same_kind K)
@@ -126,7 +130,8 @@ module _ {S : Type 0} (heard : S → List Token → S → Type 0) (K : List Toke
       → IsRefused (λ ts u. Node K ts (open_text ++ u)) (byte ∷ [])
   unfolding str size_text padding
   kind_no byte a b ts u h = neither 7 9 byte (replicate 7 0) (tail_of (str (codes "directory")))
-      (LetterRest K) (Says (FolderBegun ∷ []) (Nodes [] K)) a b ts u ((same_kind K).to ts (byte ∷ u) h)
+      (LetterRest K) (Says (FolderBegun ∷ []) (Nodes [] K)) a b ts u
+      ((same_kind K).to ts (byte ∷ u) h)
 
 -- a folder was opened
 pub pushed : (folders more : List (Vec ℕ Global)) (name : Vec ℕ Global)
@@ -136,7 +141,8 @@ pushed folders more name is =
     ap names_of is ∙ ap reverse (map-append f folders (name ∷ []))
     ∙ reverse-append (map f folders) (name.items ∷ [])
 
-pub same_opened : (outer names : List Bytes) (seen first : Bytes) → names ≡ first ∷ outer → first ≡ []
+pub same_opened : (outer names : List Bytes) (seen first : Bytes) → names ≡ first ∷ outer → first ≡
+    []
     → IsSame (Nodes [] (Outer outer)) (mode_rest More seen names)
 same_opened outer names seen first is none =
     subst (λ l. IsSame (Nodes [] (Outer outer)) (mode_rest More seen l))

@@ -68,7 +68,8 @@ module _ {S : Type 0} (heard : S → List Token → S → Type 0) where
 pub zero_step : (zeros now : ℕ) (P : List Token → Bytes → Type 0) → zeros ≡ suc now
     → IsStep Unheard 0 0 (After (replicate zeros 0) P) (After (replicate now 0) P) (0 ∷ [])
 zero_step zeros now P e =
-    subst (λ z. IsStep Unheard 0 0 (After (replicate z 0) P) (After (replicate now 0) P) (0 ∷ [])) (sym e)
+    subst (λ z. IsStep Unheard 0 0 (After (replicate z 0) P) (After (replicate now 0) P) (0 ∷ []))
+    (sym e)
     (fixed_step Unheard 0 0 (replicate now 0) P refl)
 
 pub zero_no : (zeros now byte : ℕ) (P : List Token → Bytes → Type 0) → zeros ≡ suc now → byte ≢ 0
@@ -110,14 +111,17 @@ text_step zeros first text rest M none e =
           (l.0, to.to l.0 u l.1);
     }
 
-pub text_no : (zeros first byte : ℕ) (text rest : Bytes) (M : List Token → Bytes → Type 0) → zeros ≡ 0
+pub text_no : (zeros first byte : ℕ) (text rest : Bytes) (M : List Token → Bytes → Type 0) → zeros ≡
+    0
     → text ≡ first ∷ rest → byte ≢ first → IsRefused (Next zeros text M) (byte ∷ [])
 text_no zeros first byte text rest M none e ne = λ ts u h.
-    refused Unheard first byte rest M ne ts u ((after_none (After (first ∷ rest) M)).from ts (byte ∷ u)
+    refused Unheard first byte rest M ne ts u
+    ((after_none (After (first ∷ rest) M)).from ts (byte ∷ u)
     ((same_next zeros 0 text (first ∷ rest) M none e).to ts (byte ∷ u) h))
 
 -- what follows at the start is an archive
-pub same_start : IsSame (After [] (After (magic ++ open_text) (λ ts u. Node Nothing ts (open_text ++ u))))
+pub same_start : IsSame (After []
+    (After (magic ++ open_text) (λ ts u. Node Nothing ts (open_text ++ u))))
     IsArchive
 same_start =
     let M : List Token → Bytes → Type 0 = λ ts u. Node Nothing ts (open_text ++ u) in
@@ -132,7 +136,8 @@ same_start =
             archivable = n.archivable;
             said = n.follows.begins ∙ ap (λ l. tokens_of n.tree ++ l) o.follows.0
                 ∙ append-nil (tokens_of n.tree);
-            read = a.begins ∙ ap (λ l. magic ++ l) (o.begins ∙ ap (λ l. node n.tree ++ l) o.follows.1
+            read = a.begins ∙ ap (λ l. magic ++ l)
+                (o.begins ∙ ap (λ l. node n.tree ++ l) o.follows.1
                 ∙ append-nil (node n.tree));
           };
       from = λ ts u h. e.to ts u record {
@@ -144,7 +149,12 @@ same_start =
           follows = record {
             later = [];
             begins = h.said ∙ sym (append-nil (tokens_of h.tree));
-            follows = record { rest = []; begins = sym (append-nil (node h.tree)); follows = (refl, refl) };
+            follows = record {
+              rest = [];
+              begins = sym (append-nil (node h.tree));
+              follows =
+                  (refl, refl);
+            };
           };
         };
       };
@@ -163,7 +173,10 @@ link_some K u h = let e = h.follows.follows.begins in cc
 
 mark_some : (K : List Token → Bytes → Type 0) (u : Bytes) → MarkRest K [] u → ⊥
 mark_some K u h =
-    elim h [ inl w ↦ file_some true K w.rest w.follows | inr w ↦ file_some false K w.rest w.follows ]
+    elim h [
+      | inl w ↦ file_some true K w.rest w.follows
+      | inr w ↦ file_some false K w.rest w.follows
+    ]
 
 letter_some : (K : List Token → Bytes → Type 0) (u : Bytes) → LetterRest K [] u → ⊥
 letter_some K u h =
@@ -188,7 +201,8 @@ ended_mode (Size (OfFile x)) seen names h = absurd (file_some x (Outer names) (s
 ended_mode (Size OfTarget) seen names h = absurd (link_some (Outer names) (seen ++ []) h)
 ended_mode (Size OfName) seen [] h = absurd h
 ended_mode (Size OfName) seen (before ∷ outer) h = let e = h.follows.follows.2.begins in cc
-ended_mode (Contents size more) seen names h = absurd (last_some _ h.follows.later _ h.follows.begins)
+ended_mode (Contents size more) seen names h = absurd
+    (last_some _ h.follows.later _ h.follows.begins)
 ended_mode (Name size) seen [] h = absurd h
 ended_mode (Name size) seen (before ∷ outer) h = let e = h.follows.follows.follows.2.begins in cc
 ended_mode (Target size) seen names h = let e = h.follows.follows.follows.begins in cc
@@ -203,7 +217,8 @@ pub ended_at : (zeros : ℕ) (text : Bytes) (mode : Mode) (seen : Bytes) (names 
     → Next zeros text (mode_rest mode seen names) [] []
     → (zeros ≡ 0) × (text ≡ []) × (is_end mode ≡ true)
 ended_at zeros text mode seen names h =
-    let a : (replicate zeros 0 ≡ []) × (h.rest ≡ []) = nil_front (replicate zeros 0) h.rest h.begins in
+    let a : (replicate zeros 0 ≡ []) × (h.rest ≡ []) = nil_front (replicate zeros 0) h.rest h.begins
+    in
     let b : (text ≡ []) × (h.follows.rest ≡ []) =
     nil_front text h.follows.rest (sym a.1 ∙ h.follows.begins) in
     let none : zeros ≡ 0 = sym (length-replicate zeros 0) ∙ ap length a.0 in (

@@ -1,5 +1,5 @@
--- What may follow what a reader has read. Contracts say all that a caller needs of it: what it is at
--- first, and how it changes.
+-- What may follow what a reader has read. Contracts say all that a caller needs of it: what it is
+-- at first, and how it changes.
 use Rattle.std.specs.Prelude.{suc, ℕ, List, [], ◌∷◌, ◌++◌, map, reverse, Vec}
 use Rattle.std.specs.declared.alloc.Global.{Global}
 use Rattle.std.proofs.Math.ListN.{replicate}
@@ -18,7 +18,8 @@ mode_rest Letter seen outer ts u = LetterRest (Outer outer) ts u
 mode_rest Mark seen outer ts u = MarkRest (Outer outer) ts u
 mode_rest More seen [] ts u = ⊥
 mode_rest More seen (before ∷ outer) ts u = Nodes before (Outer outer) ts u
-mode_rest (Size (OfFile executable)) seen outer ts u = Counted (file executable (Outer outer)) ts (seen ++ u)
+mode_rest (Size (OfFile executable)) seen outer ts u = Counted (file executable (Outer outer)) ts
+    (seen ++ u)
 mode_rest (Size OfTarget) seen outer ts u = Counted (link (Outer outer)) ts (seen ++ u)
 mode_rest (Size OfName) seen [] ts u = ⊥
 mode_rest (Size OfName) seen (before ∷ outer) ts u = Counted (named before outer) ts (seen ++ u)

@@ -1,5 +1,5 @@
-//! Bytes that decide what comes next: the types of trees, the marks of files, and what comes next in
-//! a folder.
+//! Bytes that decide what comes next: types of trees, marks of files, and what comes next in a
+//! folder.
 ghost use Rattle.std.specs.Prelude.{◌≡◌, ◌∷◌, ◌++◌, [], IfOk, OnOk};
 ghost use Rattle.nix_archive.specs.Parts.{After, close, ended};
 ghost use Rattle.nix_archive.specs.Reading.{IsSame};
@@ -44,7 +44,8 @@ impl ArchiveReader {
     pub(crate) fn take_letter(&mut self, byte: u8) -> bool
         requires zeros { self.old.zeros ≡ 0 }
         requires letter { self.old.mode ≡ Mode.Letter }
-        ensures { IsTaken Unheard 0 0 (now_rest self.old) (reader_rest self.new) (byte ∷ []) result }
+        ensures { IsTaken Unheard 0 0 (now_rest self.old) (reader_rest self.new) (byte ∷ [])
+            result }
     {
         match byte {
             b'r' => {
@@ -66,7 +67,8 @@ impl ArchiveReader {
     pub(crate) fn take_mark(&mut self, byte: u8) -> bool
         requires zeros { self.old.zeros ≡ 0 }
         requires mark { self.old.mode ≡ Mode.Mark }
-        ensures { IsTaken Unheard 0 0 (now_rest self.old) (reader_rest self.new) (byte ∷ []) result }
+        ensures { IsTaken Unheard 0 0 (now_rest self.old) (reader_rest self.new) (byte ∷ [])
+            result }
     {
         self.seen.clear();
         match byte {

@@ -14,8 +14,8 @@ pub fn events_write_archives()
     ensures { TokensWriteArchives }
 {}
 
-/// What readings in a row have read, from the first byte on until nothing is left, is the archive of
-/// the tree that the hearer heard of, and what is written at its events.
+/// What readings in a row have read, from the first byte on until nothing is left, is the archive
+/// of the tree that the hearer heard of, and what is written at its events.
 pub fn readings_are_written_again<H: Hear>()
     ensures join { ReadingsJoin H.heard }
     ensures whole { ReadingsTellTrees H.heard }

@@ -130,7 +130,8 @@ impl ArchiveReader {
     // Takes a byte that is fixed, or says that it can't stand there.
     fn take_fixed(&mut self, byte: u8) -> bool
         requires { (self.old.zeros ≡ 0) → (self.old.text.now ≡ []) → ⊥ }
-        ensures { IsTaken Unheard 0 0 (reader_rest self.old) (reader_rest self.new) (byte ∷ []) result }
+        ensures { IsTaken Unheard 0 0 (reader_rest self.old) (reader_rest self.new) (byte ∷ [])
+            result }
     {
         if self.zeros != 0 {
             if byte != 0 {

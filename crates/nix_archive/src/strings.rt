@@ -1,4 +1,4 @@
-//! Lengths and what they are of: the bytes of files, the targets of links, and the names of entries.
+//! Lengths and what they are of: the bytes of files, the targets of links and the names of entries.
 ghost use Rattle.std.specs.Prelude.{◌≡◌, ◌∷◌, ◌++◌, [], ◌<◌, ◌↔◌, IfOk, OnOk, IsTrue, List, ℕ, ◌%◌, ◌-◌, length, slice_index};
 ghost use Rattle.std.specs.Int.{w64, from_le_bytes};
 ghost use Rattle.nix_archive.specs.Trees.{IsAfter, IsName};

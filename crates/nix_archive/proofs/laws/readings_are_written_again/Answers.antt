@@ -13,7 +13,8 @@ returns g c = record {
       let archive : read ≡ nar p.tree = sym (append-nil read) ∙ p.read in record {
         tree = p.tree;
         archivable = p.archivable;
-        hears = subst (λ l. g.H.Hear.heard before l after) (sym (append-nil step.said) ∙ p.said) step.hears;
+        hears = subst (λ l. g.H.Hear.heard before l after) (sym (append-nil step.said) ∙ p.said)
+            step.hears;
         archive = archive;
         again = ap (λ l. magic ++ l) (text_of_tree p.tree) ∙ sym archive;
       };

@@ -10,13 +10,15 @@ pub returns-then-size-eq0 : goal.returns-then-size-eq0
 returns-then-size-eq0 g c =
     on_ok_weaker _ (λ h. steps _ g.met.H.Hear.joins [] []
     (step_to _ (same_left c.args.size c.args.size 0 (outer_rest c.args.self.now) c.if-size-eq0.true)
-    (file_begin _ c.args.executable c.args.size (outer_rest c.args.self.now) c.in_ok-hear.ensures)) h)
+    (file_begin _ c.args.executable c.args.size (outer_rest c.args.self.now) c.in_ok-hear.ensures))
+    h)
     c.end_file.ensures
 
 pub returns : goal.returns
 unfolding reader_rest
 returns g c =
     step_to _ (same_both
-    (same_left c.args.size c.args.size (suc (c.args.size - 1)) (outer_rest c.args.self.now) (omega arith))
+    (same_left c.args.size c.args.size (suc (c.args.size - 1)) (outer_rest c.args.self.now)
+    (omega arith))
     (unfixed c.args.self.now.zeros c.args.self.now.text.now _ c.requires.zeros c.requires.text))
     (file_begin _ c.args.executable c.args.size (outer_rest c.args.self.now) c.in_ok-hear.ensures)

@@ -15,7 +15,8 @@ returns-then-not-is_name_byte c = λ t ts u h.
     let found = innermost folders c.in-Some.before.now last in
     let no : is_name_byte c.args.byte ≡ false = sym c.if-not-is_name_byte.ensures in
     let lt : length seen < c.args.size = omega arith in
-    no_name c.args.size seen c.in-Some.before.now.items found.0 (names_of folders) c.args.byte found.1
+    no_name c.args.size seen c.in-Some.before.now.items found.0 (names_of folders) c.args.byte
+    found.1
     lt (λ more n a. no_name_byte seen more c.args.byte no n) ts u h
 
 pub returns : goal.returns
@@ -30,5 +31,6 @@ returns c = λ t ts u h.
     let lt : length seen < c.args.size = omega arith in
     no_name c.args.size seen before found.0 (names_of folders) c.args.byte found.1 lt
     (λ more n a. c.comes_before.ensures t more
-    (subst (λ l. IsAfter l (c.deref-2.result.now ++ c.args.byte ∷ more)) (sym c.deref-3.ensures.value)
+    (subst (λ l. IsAfter l (c.deref-2.result.now ++ c.args.byte ∷ more))
+    (sym c.deref-3.ensures.value)
     (subst (λ l. IsAfter before (l ++ c.args.byte ∷ more)) (sym c.deref-2.ensures.value) a))) ts u h

@@ -12,5 +12,6 @@ go_up-requires g c = refl
 pub returns : goal.returns
 unfolding reader_rest str size_text padding
 returns g c =
-    file_end _ c.args.size c.go_up.new.self.zeros (outer_rest c.args.self.now) _ c.in_ok-hear.ensures
+    file_end _ c.args.size c.go_up.new.self.zeros (outer_rest c.args.self.now) _
+    c.in_ok-hear.ensures
     (c.go_up.ensures.zeros ∙ c.padding_length-self.ensures) c.go_up.ensures.same

@@ -16,7 +16,8 @@ go_up-requires g c = refl
 pub returns-then-len-size : goal.returns-then-len-size
 unfolding reader_rest
 returns-then-len-size g c =
-    idle _ _ _ _ (now_rest c.args.self.now) (g.met.H.Hear.silence _) c.requires.zeros c.requires.text
+    idle _ _ _ _ (now_rest c.args.self.now) (g.met.H.Hear.silence _) c.requires.zeros
+    c.requires.text
 
 pub returns : goal.returns
 unfolding reader_rest str size_text padding
@@ -24,7 +25,9 @@ returns g c =
     let long : length c.args.self.now.seen.items ≡ c.args.size = omega arith in
     step_from _ (same_mode _ (Target c.args.size) c.args.self.now.seen.items
     (names_of c.args.self.now.folders.items) c.requires.target)
-    (target_end _ c.args.size c.go_up.new.self.zeros c.args.self.now.seen.items (outer_rest c.args.self.now) _
-    (subst (λ l. g.H.Hear.heard c.args.hearer.now (LinkTo l ∷ []) c.hear.new.self) c.deref.ensures.value
+    (target_end _ c.args.size c.go_up.new.self.zeros c.args.self.now.seen.items
+    (outer_rest c.args.self.now) _
+    (subst (λ l. g.H.Hear.heard c.args.hearer.now (LinkTo l ∷ []) c.hear.new.self)
+    c.deref.ensures.value
     c.in_ok-hear.ensures) long
     (c.go_up.ensures.zeros ∙ c.padding_length-self.ensures) c.go_up.ensures.same)

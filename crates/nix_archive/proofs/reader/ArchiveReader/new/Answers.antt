@@ -11,4 +11,5 @@ pub returns : goal.returns
 unfolding reader_rest str size_text padding
 returns c =
     subst (λ l. IsSame (After [] (After (magic ++ open_text)
-    (λ ts u. Node (Outer (names_of l)) ts (open_text ++ u)))) IsArchive) (sym c.new-2.ensures.items) same_start
+    (λ ts u. Node (Outer (names_of l)) ts (open_text ++ u)))) IsArchive) (sym c.new-2.ensures.items)
+    same_start

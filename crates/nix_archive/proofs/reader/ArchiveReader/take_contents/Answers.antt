@@ -15,7 +15,8 @@ returns-then-length-more g c =
     taken_all _ _ _ c.args.piece.now c.requires.some
     (step_from _ (same_mode _ (Contents c.args.size c.args.more) c.args.self.now.seen.items
     (names_of c.args.self.now.folders.items) c.requires.contents)
-    (step_to _ (unfixed c.args.self.now.zeros c.args.self.now.text.now _ c.requires.zeros c.requires.text)
+    (step_to _ (unfixed c.args.self.now.zeros c.args.self.now.text.now _ c.requires.zeros
+    c.requires.text)
     (contents_step _ c.args.size (suc c.args.more) (suc (c.args.more - length c.args.piece.now))
     (outer_rest c.args.self.now) c.args.piece.now c.in_ok-hear.ensures (omega arith))))
 
@@ -30,5 +31,6 @@ returns g c =
     (step_from _ (same_mode _ (Contents c.args.size c.args.more) c.args.self.now.seen.items
     (names_of c.args.self.now.folders.items) c.requires.contents)
     (steps _ g.met.H.Hear.joins w []
-    (contents_step _ c.args.size (suc c.args.more) 0 (outer_rest c.args.self.now) w c.in_ok-hear-2.ensures long)
+    (contents_step _ c.args.size (suc c.args.more) 0 (outer_rest c.args.self.now) w
+    c.in_ok-hear-2.ensures long)
     c.in_ok-end_file.ensures)))

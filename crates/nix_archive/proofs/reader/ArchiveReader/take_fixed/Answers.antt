@@ -26,7 +26,8 @@ returns-then-self-ne0 c =
 pub returns-then-byte-first : goal.returns-then-byte-first
 unfolding reader_rest
 returns-then-byte-first c =
-    text_no c.args.self.now.zeros c.in-Some.first.now c.args.byte c.args.self.now.text.now c.in-Some.rest.now
+    text_no c.args.self.now.zeros c.in-Some.first.now c.args.byte c.args.self.now.text.now
+    c.in-Some.rest.now
     (now_rest c.args.self.now) (omega arith) c.in-Some.ensures.cases.0 (omega arith)
 
 pub returns : goal.returns
@@ -34,6 +35,8 @@ unfolding reader_rest
 returns c =
     let e : c.args.byte ≡ c.in-Some.first.now = omega arith in
     subst (λ b. IsStep Unheard 0 0 (reader_rest c.args.self.now)
-    (After (replicate c.args.self.now.zeros 0) (After c.in-Some.rest.now (now_rest c.args.self.now))) (b ∷ []))
-    (sym e) (text_step c.args.self.now.zeros c.in-Some.first.now c.args.self.now.text.now c.in-Some.rest.now
+    (After (replicate c.args.self.now.zeros 0)
+    (After c.in-Some.rest.now (now_rest c.args.self.now))) (b ∷ []))
+    (sym e) (text_step c.args.self.now.zeros c.in-Some.first.now c.args.self.now.text.now
+    c.in-Some.rest.now
     (now_rest c.args.self.now) (omega arith) c.in-Some.ensures.cases.0)

@@ -9,7 +9,8 @@ use Rattle.nix_archive.proofs.reader.ArchiveReader.take_free.Goals as goal
 pub returns : goal.returns
 returns g c =
     let piece = c.args.piece.now in
-    subst (λ n. IsTakenOf g.H.Hear.heard c.args.hearer.now c.take_byte.new.hearer (now_rest c.args.self.now)
+    subst (λ n. IsTakenOf g.H.Hear.heard c.args.hearer.now c.take_byte.new.hearer
+    (now_rest c.args.self.now)
     (reader_rest c.take_byte.new.self) piece n) (sym c.count_of.ensures)
     (taken_one g.H.Hear.heard c.args.hearer.now c.take_byte.new.hearer (now_rest c.args.self.now)
     (reader_rest c.take_byte.new.self) piece (get_or piece 0 0) c.in_ok-taken.taken

@@ -25,6 +25,7 @@ returns-in_ok-push-in-9 g c =
 
 pub returns-in_default : goal.returns-in_default
 returns-in_default g c = λ ts u h.
-    kind_no g.H.Hear.heard (outer_rest c.args.self.now) c.args.self.now.zeros c.requires.zeros c.args.byte
+    kind_no g.H.Hear.heard (outer_rest c.args.self.now) c.args.self.now.zeros c.requires.zeros
+    c.args.byte
     (omega arith) (omega arith) ts u ((same_mode _ Kind c.args.self.now.seen.items
     (names_of c.args.self.now.folders.items) c.requires.kind).to ts (c.args.byte ∷ u) h)

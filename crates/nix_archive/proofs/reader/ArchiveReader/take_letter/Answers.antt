@@ -16,4 +16,5 @@ pub returns-in-115 : goal.returns-in-115
 unfolding reader_rest str size_text padding
 returns-in-115 c =
     rw c.in-115.is (step_from _ (same_mode _ Letter _ _ c.requires.letter)
-    (letter_s (outer_rest c.args.self.now) c.args.self.now.zeros c.requires.zeros _ c.clear.ensures.items))
+    (letter_s (outer_rest c.args.self.now) c.args.self.now.zeros c.requires.zeros _
+    c.clear.ensures.items))

@@ -19,12 +19,16 @@ returns-in_ok-push-in-5 g c =
     rw c.in-5.is (step_from _ (same_mode _ More c.args.self.now.seen.items
     (names_of c.args.self.now.folders.items) c.requires.more)
     (more_five _ c.args.self.now.zeros c.args.self.now.seen.items _ c.in-Some.before.items
-    (names_of c.pop.new.self.items) (names_of c.args.self.now.folders.items) (names_of c.push.new.self.items)
+    (names_of c.pop.new.self.items) (names_of c.args.self.now.folders.items)
+    (names_of c.push.new.self.items)
     c.requires.zeros
-    (subst (λ l. g.H.Hear.heard c.args.hearer.now (ended l) c.hear_end.new.hearer) c.deref.ensures.value
+    (subst (λ l. g.H.Hear.heard c.args.hearer.now (ended l) c.hear_end.new.hearer)
+    c.deref.ensures.value
     c.in_ok-hear_end-in-5.ensures)
-    (pushed c.pop.new.self.items c.args.self.now.folders.items c.in-Some.before c.in-Some.ensures.items)
-    (pushed c.pop.new.self.items c.push.new.self.items c.in-Some.before c.in_ok-push-in-5.ensures.items)
+    (pushed c.pop.new.self.items c.args.self.now.folders.items c.in-Some.before
+    c.in-Some.ensures.items)
+    (pushed c.pop.new.self.items c.push.new.self.items c.in-Some.before
+    c.in_ok-push-in-5.ensures.items)
     c.clear.ensures.items))
 
 pub returns-in_ok-hear-in-1 : goal.returns-in_ok-hear-in-1
@@ -33,18 +37,22 @@ returns-in_ok-hear-in-1 g c =
     rw c.in-1.is (step_from _ (same_mode _ More c.args.self.now.seen.items
     (names_of c.args.self.now.folders.items) c.requires.more)
     (more_one _ c.go_up.new.self.zeros c.args.self.now.seen.items c.in-Some.before.items
-    c.go_up.new.self.text.now (names_of c.pop.new.self.items) (names_of c.args.self.now.folders.items)
+    c.go_up.new.self.text.now (names_of c.pop.new.self.items)
+    (names_of c.args.self.now.folders.items)
     (now_rest c.go_up.new.self) (c.go_up.ensures.zeros ∙ c.requires.zeros)
     (g.met.H.Hear.joins _ _ _ _ _
-    (subst (λ l. g.H.Hear.heard c.args.hearer.now (ended l) c.hear_end-in-1.new.hearer) c.deref-in-1.ensures.value
+    (subst (λ l. g.H.Hear.heard c.args.hearer.now (ended l) c.hear_end-in-1.new.hearer)
+    c.deref-in-1.ensures.value
     c.in_ok-hear_end-in-1.ensures) c.in_ok-hear-in-1.ensures)
-    (pushed c.pop.new.self.items c.args.self.now.folders.items c.in-Some.before c.in-Some.ensures.items)
+    (pushed c.pop.new.self.items c.args.self.now.folders.items c.in-Some.before
+    c.in-Some.ensures.items)
     c.go_up.ensures.same))
 
 pub returns-in_default-byte : goal.returns-in_default-byte
 returns-in_default-byte g c = λ ts u h.
     more_no c.args.self.now.seen.items c.in-Some.before.items (names_of c.pop.new.self.items)
     (names_of c.args.self.now.folders.items) c.args.byte
-    (pushed c.pop.new.self.items c.args.self.now.folders.items c.in-Some.before c.in-Some.ensures.items)
+    (pushed c.pop.new.self.items c.args.self.now.folders.items c.in-Some.before
+    c.in-Some.ensures.items)
     (omega arith) (omega arith) ts u ((same_mode _ More c.args.self.now.seen.items
     (names_of c.args.self.now.folders.items) c.requires.more).to ts (c.args.byte ∷ u) h)

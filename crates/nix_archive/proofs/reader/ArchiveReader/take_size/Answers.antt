@@ -13,10 +13,14 @@ use Rattle.nix_archive.proofs.reader.ArchiveReader.take_size.Goals as goal
 pub returns-then-len-ne8 : goal.returns-then-len-ne8
 unfolding reader_rest
 returns-then-len-ne8 g c =
-    step_to _ (unfixed c.args.self.now.zeros c.args.self.now.text.now _ c.requires.zeros c.requires.text)
-    (step_from _ (same_mode _ (Size c.args.what) c.args.self.now.seen.items (names_of c.args.self.now.folders.items) c.requires.size)
-    (step_to _ (same_mode (Size c.args.what) _ c.push.new.self.items (names_of c.args.self.now.folders.items) (sym c.requires.size))
-    (size_on _ c.args.hearer.now c.args.what c.args.self.now.seen.items c.push.new.self.items c.args.byte (names_of c.args.self.now.folders.items)
+    step_to _ (unfixed c.args.self.now.zeros c.args.self.now.text.now _ c.requires.zeros
+    c.requires.text)
+    (step_from _ (same_mode _ (Size c.args.what) c.args.self.now.seen.items
+    (names_of c.args.self.now.folders.items) c.requires.size)
+    (step_to _ (same_mode (Size c.args.what) _ c.push.new.self.items
+    (names_of c.args.self.now.folders.items) (sym c.requires.size))
+    (size_on _ c.args.hearer.now c.args.what c.args.self.now.seen.items c.push.new.self.items
+    c.args.byte (names_of c.args.self.now.folders.items)
     (g.met.H.Hear.silence _) c.in_ok-push.ensures.items)))
 
 pub returns-in_ok-begin_file-in-File : goal.returns-in_ok-begin_file-in-File
@@ -30,11 +34,15 @@ returns-in_ok-begin_file-in-File g c =
     let is : size ≡ from_le_bytes w64 more = c.size_of-size.ensures.value
     ∙ ap (from_le_bytes w64) c.deref.ensures.value in
     steps _ g.met.H.Hear.joins (c.args.byte ∷ []) []
-    (step_from _ (same_mode _ (Size (OfFile c.in-File.executable)) c.args.self.now.seen.items (names_of c.args.self.now.folders.items)
+    (step_from _ (same_mode _ (Size (OfFile c.in-File.executable)) c.args.self.now.seen.items
+    (names_of c.args.self.now.folders.items)
     (c.requires.size ∙ ap Size c.in-File.is))
-    (step_to _ (same_size (file c.in-File.executable (outer_rest c.args.self.now)) more size long fits lt is)
-    (seen_step _ c.args.hearer.now (Counted (file c.in-File.executable (outer_rest c.args.self.now)))
-    c.args.self.now.seen.items more c.args.byte (g.met.H.Hear.silence _) c.in_ok-push.ensures.items)))
+    (step_to _ (same_size (file c.in-File.executable (outer_rest c.args.self.now)) more size long
+    fits lt is)
+    (seen_step _ c.args.hearer.now (Counted
+    (file c.in-File.executable (outer_rest c.args.self.now)))
+    c.args.self.now.seen.items more c.args.byte (g.met.H.Hear.silence _)
+    c.in_ok-push.ensures.items)))
     c.in_ok-begin_file-in-File.ensures
 
 pub returns-in_ok-end_target-in-Target : goal.returns-in_ok-end_target-in-Target
@@ -48,12 +56,15 @@ returns-in_ok-end_target-in-Target g c =
     let is : size ≡ from_le_bytes w64 more = c.size_of-size.ensures.value
     ∙ ap (from_le_bytes w64) c.deref.ensures.value in
     steps _ g.met.H.Hear.joins (c.args.byte ∷ []) []
-    (step_from _ (same_mode _ (Size OfTarget) c.args.self.now.seen.items (names_of c.args.self.now.folders.items)
+    (step_from _ (same_mode _ (Size OfTarget) c.args.self.now.seen.items
+    (names_of c.args.self.now.folders.items)
     (c.requires.size ∙ ap Size c.in-Target.is))
-    (step_to _ (same_target (outer_rest c.args.self.now) more c.clear.new.self.items size long fits lt is
+    (step_to _ (same_target (outer_rest c.args.self.now) more c.clear.new.self.items size long fits
+    lt is
     c.clear.ensures.items)
     (seen_step _ c.args.hearer.now (Counted (link (outer_rest c.args.self.now)))
-    c.args.self.now.seen.items more c.args.byte (g.met.H.Hear.silence _) c.in_ok-push.ensures.items)))
+    c.args.self.now.seen.items more c.args.byte (g.met.H.Hear.silence _)
+    c.in_ok-push.ensures.items)))
     c.in_ok-end_target-in-Target.ensures
 
 pub returns-in_ok-taken-in-Name : goal.returns-in_ok-taken-in-Name
@@ -67,12 +78,16 @@ returns-in_ok-taken-in-Name g c =
     let is : size ≡ from_le_bytes w64 more = c.size_of-size.ensures.value
     ∙ ap (from_le_bytes w64) c.deref.ensures.value in
     taken_after _ g.met.H.Hear.joins c.args.hearer.now c.args.hearer.now c.end_name.new.hearer
-    (now_rest c.args.self.now) (mode_rest (Name size) c.clear-in-Name.new.self.items (names_of c.args.self.now.folders.items))
+    (now_rest c.args.self.now) (mode_rest (Name size) c.clear-in-Name.new.self.items
+    (names_of c.args.self.now.folders.items))
     (reader_rest c.end_name.new.self) c.args.byte c.in_ok-taken-in-Name.taken
-    (step_from _ (same_mode _ (Size OfName) c.args.self.now.seen.items (names_of c.args.self.now.folders.items)
+    (step_from _ (same_mode _ (Size OfName) c.args.self.now.seen.items
+    (names_of c.args.self.now.folders.items)
     (c.requires.size ∙ ap Size c.in-Name.is))
-    (step_to _ (same_name more c.clear-in-Name.new.self.items size (names_of c.args.self.now.folders.items) long fits lt is
+    (step_to _ (same_name more c.clear-in-Name.new.self.items size
+    (names_of c.args.self.now.folders.items) long fits lt is
     c.clear-in-Name.ensures.items)
-    (size_on _ c.args.hearer.now OfName c.args.self.now.seen.items more c.args.byte (names_of c.args.self.now.folders.items)
+    (size_on _ c.args.hearer.now OfName c.args.self.now.seen.items more c.args.byte
+    (names_of c.args.self.now.folders.items)
     (g.met.H.Hear.silence _) c.in_ok-push.ensures.items)))
     c.in_ok-taken-in-Name.ensures
