@@ -1,9 +1,7 @@
-//! Why a line is over before its end.
+//! Why a line is over before its end, and the calls that it makes.
 
-use crate::faults::Fault;
-use crate::teller::Teller;
 use nix_names::NameFault;
-use std::alloc::{AllocError, AllocFailed, Global};
+use std::alloc::{AllocError, AllocFailed};
 
 /// Why a line is over before its end.
 #[derive(Clone, Copy)]
@@ -37,27 +35,12 @@ impl From<NameFault> for Stop {
 /// What the taking of a line answers.
 pub(crate) type Taken = Result<(), Stop>;
 
-/// What a call answered. The line is over where that is a fault, which is told.
-pub(crate) fn answered<T: Drop, F: Fault + Drop>(
-    teller: &mut Teller<'_>,
-    alloc: Global,
-    answer: Result<T, F>,
-) -> Result<T, Stop> {
-    teller.answered(alloc, answer).ok_or(Stop::Told)
-}
-
-/// Tells why a line was over before its end, if it was.
-pub(crate) fn end(teller: &mut Teller<'_>, end: Result<(), Stop>) {
-    match end {
-        Ok(()) | Err(Stop::Told) => {}
-        Err(Stop::NotAllowed) => teller.not_allowed(),
-        Err(Stop::Lost(why)) => teller.lost(why),
-    }
-}
+/// The same of a line that may be another module's: whether its call was found.
+pub(crate) type Found = Result<bool, Stop>;
 
 // Makes a call between the two lines that say where it begins and ends, and gives its answer.
 macro_rules! call {
-    ($teller:expr, $name:expr, $call:expr) => {{
+    ($teller:expr, $name:expr => $call:expr) => {{
         $teller.begins($name);
         let answer = $call;
         $teller.ends($name);
@@ -65,16 +48,42 @@ macro_rules! call {
     }};
 }
 
-// Makes a call so, and tells its answer where that is a fault.
+// Makes a call so. Where it answers a fault, that is told, and the line is over.
 macro_rules! tried {
-    ($teller:expr, $name:expr, $call:expr) => {{
+    ($teller:expr, $name:expr => $call:expr) => {{
         $teller.begins($name);
         let answer = $call;
         $teller.ends($name);
-        let alloc = $teller.rt().alloc();
-        answered($teller, alloc, answer)
+        $teller.answered(answer)
+    }};
+}
+
+// Takes each line up to a last one by an expression, and once more where memory was refused to a
+// call of it. What is given of all that the line may change has to be as it was then.
+macro_rules! take_lines {
+    (
+        $teller:ident, $last:literal, $line:ident => $taken:expr,
+        $before:ident = $given:expr, $same:expr
+    ) => {{
+        for _ in 0..$teller.rest.len() {
+            let Some($line) = $teller.next($last)? else { break };
+            let $before = $given;
+            let taken = $taken;
+            if !$teller.wants() {
+                $teller.end(taken);
+            } else if $same {
+                $teller.say("memory was refused");
+                let taken = $taken;
+                let wants = $teller.wants();
+                $teller.end(if wants { Err(Stop::Lost("it was refused twice")) } else { taken });
+            } else {
+                $teller.end(Err(Stop::Lost("what was given is not as it was")));
+            }
+        }
+        Ok(())
     }};
 }
 
 pub(crate) use call;
+pub(crate) use take_lines;
 pub(crate) use tried;

@@ -1,8 +1,9 @@
-//! What is printed of calls and their answers.
+//! What reads the lines, and prints the calls and their answers.
 
-use crate::faults::Fault;
+use crate::line::{Line, halves};
+use crate::stop::{Found, Stop};
+use crate::words::faults::Fault;
 use nix_names::StorePath;
-use std::alloc::Global;
 use std::fmt::Display;
 use std::io::Print;
 use std::mem;
@@ -19,13 +20,17 @@ enum Stand {
     Lost,
 }
 
-/// What prints, and how it stands with the line that is taken.
+/// What reads and prints, and how it stands with the line that is taken.
 #[derive(Drop)]
 pub(crate) struct Teller<'a> {
-    rt: &'a HostRuntime,
+    /// What the program stands on.
+    pub(crate) rt: &'a HostRuntime,
+    /// What was not read yet.
+    pub(crate) rest: &'a [u8],
     number: u64,
     stand: Stand,
-    tells_times: bool,
+    /// Whether the time of each call is printed.
+    pub(crate) tells_times: bool,
     start: Option<Instant>,
     is_hushed: bool,
     // The nanoseconds of the calls of which nothing was printed.
@@ -33,10 +38,11 @@ pub(crate) struct Teller<'a> {
 }
 
 impl<'a> Teller<'a> {
-    /// Of a new program. `tells_times` says whether the time of each call is printed.
-    pub(crate) fn new(rt: &'a HostRuntime, tells_times: bool) -> Teller<'a> {
+    /// Of a new program, which reads a text.
+    pub(crate) fn new(rt: &'a HostRuntime, rest: &'a [u8], tells_times: bool) -> Teller<'a> {
         Teller {
             rt,
+            rest,
             number: 0,
             stand: Stand::Answered,
             tells_times,
@@ -46,24 +52,32 @@ impl<'a> Teller<'a> {
         }
     }
 
-    /// Prints nothing from now on, or prints again: first the time of the calls of which nothing was
-    /// printed.
+    /// The next line that is not empty; none where it has the last call of some lines, or where no
+    /// line can be taken any more.
+    pub(crate) fn next(&mut self, last: &str) -> Result<Option<Line<'a>>, Stop> {
+        for _ in 0..self.rest.len() {
+            let (text, rest) = halves(self.rest, b'\n');
+            self.rest = rest;
+            if !text.is_empty() {
+                let line = Line::of(self.rt.alloc(), text)?;
+                return Ok(if line.call == last || !self.goes_on() {
+                    None
+                } else {
+                    Some(line)
+                });
+            }
+        }
+        Ok(None)
+    }
+
+    /// Prints nothing from now on, or prints again: first the time of the calls of which nothing
+    /// was printed.
     pub(crate) fn hush(&mut self, is_hushed: bool) {
         self.is_hushed = is_hushed;
         let passed = mem::replace(&mut self.hushed, 0);
         if self.tells_times {
             self.say(format_args!("took {passed} ns"));
         }
-    }
-
-    /// What the program stands on.
-    pub(crate) fn rt(&self) -> &'a HostRuntime {
-        self.rt
-    }
-
-    /// Whether the time of each call is printed.
-    pub(crate) fn tells_times(&self) -> bool {
-        self.tells_times
     }
 
     /// Prints a line.
@@ -97,13 +111,17 @@ impl<'a> Teller<'a> {
         }
     }
 
-    /// Says that a call may not be made with its arguments.
-    pub(crate) fn not_allowed(&mut self) {
-        self.say("not allowed");
+    /// Tells why a line was over before its end, if it was.
+    pub(crate) fn end(&mut self, taken: Found) {
+        match taken {
+            Ok(true) | Err(Stop::Told) => {}
+            Ok(false) => self.lose("there is no such call"),
+            Err(Stop::NotAllowed) => self.say("not allowed"),
+            Err(Stop::Lost(why)) => self.lose(why),
+        }
     }
 
-    /// Notes that a line means nothing, and says why.
-    pub(crate) fn lost(&mut self, why: &str) {
+    fn lose(&mut self, why: &str) {
         self.say(format_args!("no such line: {why}"));
         self.stand = Stand::Lost;
     }
@@ -122,38 +140,24 @@ impl<'a> Teller<'a> {
         wants
     }
 
-    /// What a call answered, if it is no fault. A fault is told.
-    pub(crate) fn answered<T: Drop, F: Fault + Drop>(
-        &mut self,
-        alloc: Global,
-        answer: Result<T, F>,
-    ) -> Option<T> {
+    /// What a call answered. The line is over where that is a fault, which is told.
+    pub(crate) fn answered<T, F: Fault + Drop>(&mut self, answer: Result<T, F>) -> Result<T, Stop> {
         match answer {
-            Ok(value) => Some(value),
+            Ok(value) => Ok(value),
             Err(fault) => {
-                self.tell_fault(alloc, &fault);
-                None
+                self.tell_fault(&fault);
+                Err(Stop::Told)
             }
         }
     }
 
-    /// Says that memory was refused to a call of the line, which is taken again.
-    pub(crate) fn takes_again(&mut self, is_as_it_was: bool) {
-        if is_as_it_was {
-            self.say("memory was refused");
-        } else {
-            self.lost("memory was refused, and what was lent is not as it was");
-        }
-    }
-
-    /// Tells a fault.
-    pub(crate) fn tell_fault<F: Fault>(&mut self, alloc: Global, fault: &F) {
-        if fault.is_want() {
-            self.stand = Stand::Wanting;
-            return;
-        }
-        match fault.words(alloc) {
-            Ok(words) => self.say(words.as_str()),
+    /// Tells a fault, or notes that memory was refused.
+    pub(crate) fn tell_fault<F: Fault>(&mut self, fault: &F) {
+        match fault.words(self.rt.alloc()) {
+            Ok(words) => match words.as_str() {
+                "NoMemory" | "OutOfMemory" | "AllocError" => self.stand = Stand::Wanting,
+                words => self.say(words),
+            },
             Err(_) => self.stand = Stand::Lost,
         }
     }
@@ -166,6 +170,14 @@ impl<'a> Teller<'a> {
         }
     }
 
+    /// Prints bytes in hex digits.
+    pub(crate) fn hex(&mut self, bytes: &[u8]) {
+        match hex::encode(self.rt.alloc(), bytes) {
+            Ok(digits) => self.say(digits.as_str()),
+            Err(_) => self.stand = Stand::Lost,
+        }
+    }
+
     /// Prints each line of a text. A last line without an end is marked.
     pub(crate) fn lines(&mut self, text: &[u8]) {
         match text.strip_suffix(b"\n") {
@@ -175,6 +187,11 @@ impl<'a> Teller<'a> {
                 self.say("(without an end of line)");
             }
         }
+    }
+
+    /// Prints how many paths there are.
+    pub(crate) fn count(&mut self, paths: &[StorePath]) {
+        self.say(format_args!("{} paths", paths.len()));
     }
 
     /// Prints each path.

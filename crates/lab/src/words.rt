@@ -1,89 +1,125 @@
 //! The calls, by the library.
 
-// What a call answers, between the lines that say where it begins and ends.
-macro_rules! called {
-    ($teller:expr, $name:expr, $call:expr) => {{
-        $teller.begins($name);
-        let answer = $call;
-        $teller.ends($name);
-        answer
+// Words of a line as an argument of a call. A kind that is none of the others is a shelf.
+macro_rules! argument {
+    ($t:ident $w:ident $line:ident text $n:literal) => { $w.text($line.argument($n)) };
+    ($t:ident $w:ident $line:ident copy $n:literal) => {
+        $w.text($line.argument($n)).to_vec($w.alloc)?
+    };
+    ($t:ident $w:ident $line:ident copies $n:literal) => { $w.copies($line.arguments($n))? };
+    ($t:ident $w:ident $line:ident number $n:literal) => { $line.number($n).unwrap_or(0) };
+    ($t:ident $w:ident $line:ident path $n:literal) => { $w.path($line.argument($n))? };
+    ($t:ident $w:ident $line:ident paths $n:literal) => { $w.paths($line.arguments($n))? };
+    ($t:ident $w:ident $line:ident rising $n:literal) => { rising($w, $line.arguments($n))? };
+    ($t:ident $w:ident $line:ident known $n:literal) => {
+        $w.path($line.argument($n)).ok().ok_or(Stop::NotAllowed)?
+    };
+    ($t:ident $w:ident $line:ident digest $n:literal) => { digest_of($line.argument($n))? };
+    ($t:ident $w:ident $line:ident digests $n:literal) => {
+        digests($w.alloc, $line.arguments($n))?
+    };
+    ($t:ident $w:ident $line:ident written $n:literal) => {
+        Digest::of_text($line.argument($n)).ok_or(Stop::Lost("no digest"))?
+    };
+    ($t:ident $w:ident $line:ident table $n:literal) => { table($t, $w, $line)? };
+    ($t:ident $w:ident $line:ident $shelf:ident $n:literal) => {
+        $w.$shelf.get($line.argument($n))?
+    };
+}
+
+// The name of a call: that of its word, unless another is given.
+macro_rules! name {
+    ($word:literal) => { $word };
+    ($word:literal $name:literal) => { $name };
+}
+
+// Gives an answer, or has the teller tell it.
+macro_rules! given {
+    ($teller:ident $world:ident $line:ident $answer:ident) => {
+        $answer.give($teller, $world, $line)
+    };
+    ($teller:ident $world:ident $line:ident $answer:ident $tell:ident) => {{
+        let value = $teller.answered($answer)?;
+        $teller.$tell(&value);
+        Ok(())
+    }};
+}
+
+// Takes a line, if its word is one of these: `WORD as NAME (ARGUMENTS) if ALLOWED => CALL => TELL`
+// is a word that makes one call, `keep WORD (ARGUMENTS) => VALUE` one that only keeps a value, and
+// `do WORD => TAKEN` any other one.
+macro_rules! words {
+    (
+        $teller:ident, $world:ident, $line:ident;
+        $($word:literal $(as $name:literal)?
+            $(($($argument:pat = $kind:ident $n:literal),*))?
+            $(if $allowed:expr)?
+            => $call:expr $(=> $tell:ident)?;)*
+        $(keep $kept:literal $(($($own:pat = $own_kind:ident $own_n:literal),*))? => $value:expr;)*
+        $(do $($other:literal)|+ => $taken:expr;)*
+    ) => {{
+        let taken = match $line.call {
+            $($word => {
+                let answer = {
+                    let $world = &*$world;
+                    $($(let $argument = argument!($teller $world $line $kind $n);)*)?
+                    $(if !$allowed {
+                        return Err(Stop::NotAllowed);
+                    })?
+                    $teller.begins(name!($word $($name)?));
+                    let answer = $call;
+                    $teller.ends(name!($word $($name)?));
+                    answer
+                };
+                given!($teller $world $line answer $($tell)?)
+            })*
+            $($kept => {
+                let kept = {
+                    $($(let $own = argument!($teller $world $line $own_kind $own_n);)*)?
+                    $value
+                };
+                kept.give($teller, $world, $line)
+            })*
+            $($($other)|+ => $taken,)*
+            _ => return Ok(false),
+        };
+        taken.map(|()| true)
     }};
 }
 
 mod books;
-mod drvs;
-mod entries;
-mod faults;
+mod derivations;
+pub(crate) mod faults;
 mod forecasts;
 mod journals;
-mod lines;
-mod measures;
 mod names;
-mod plans;
 mod scans;
 mod tables;
 mod views;
 
-use crate::line::{Line, Lines};
+use crate::line::Line;
+use crate::stop::Found;
 use crate::teller::Teller;
 use crate::world::World;
-use std::alloc::AllocError;
 use std::sync::Wait;
+pub(crate) use tables::given;
 
-/// Takes a line. Where a call of it was answered by want of memory, it is taken again.
+/// Takes a line, and the lines after it that are of its book or its view.
 pub(crate) fn take<W: Wait>(
     wait: &W,
     teller: &mut Teller<'_>,
     world: &mut World,
-    lines: &mut Lines<'_>,
-    text: &[u8],
-) -> Result<(), AllocError> {
-    let line = Line::of(world.alloc, text)?;
-    let before = lent(teller, world, &line)?;
-    take_once(wait, teller, world, lines, &line)?;
-    if teller.wants() {
-        let is_as_it_was = lent(teller, world, &line)? == before;
-        teller.takes_again(is_as_it_was);
-        take_once(wait, teller, world, lines, &line)?;
-    }
-    if teller.wants() {
-        teller.lost("memory was refused twice");
-    }
-    Ok(())
-}
-
-// The text of what a line lends to be changed; no bytes where there is nothing, or times are told.
-fn lent(teller: &Teller<'_>, world: &World, line: &Line<'_>) -> Result<Vec<u8>, AllocError> {
-    if teller.tells_times() {
-        return Ok(Vec::new(world.alloc));
-    }
-    let mut text = journals::lent(world, line)?;
-    text.extend_from_slice(&tables::lent(world, line)?)?;
-    Ok(text)
-}
-
-fn take_once<W: Wait>(
-    wait: &W,
-    teller: &mut Teller<'_>,
-    world: &mut World,
-    lines: &mut Lines<'_>,
     line: &Line<'_>,
-) -> Result<(), AllocError> {
-    let is_taken = names::take(teller, world, lines, line)?
-        || drvs::take(teller, world, lines, line)?
-        || plans::take(teller, world, lines, line)?
-        || scans::take(teller, world, lines, line)?
-        || entries::take(teller, world, lines, line)?
-        || journals::take(teller, world, lines, line)?
-        || tables::take(teller, world, lines, line)?
-        || books::take(teller, world, lines, line)?
-        || lines::take(teller, world, lines, line)?
-        || forecasts::take(teller, world, lines, line)?
-        || views::take(wait, teller, world, lines, line)?
-        || faults::take(teller, world, lines, line)?
-        || measures::take(teller, world, line)?;
-    if !is_taken {
-        teller.lost("there is no such call");
-    }
-    Ok(())
+) -> Found {
+    Ok(
+        names::take(teller, world, line)?
+            || derivations::take(teller, world, line)?
+            || scans::take(teller, world, line)?
+            || journals::take(teller, world, line)?
+            || tables::take(teller, world, line)?
+            || books::take(teller, world, line)?
+            || forecasts::take(teller, world, line)?
+            || views::take(wait, teller, world, line)?
+            || faults::take(teller, world, line)?,
+    )
 }

@@ -1,17 +1,13 @@
 //! What is kept under names, by kind.
 
-use crate::shelf::Shelf;
+use crate::stop::{Stop, Taken};
 use drv_graph::Plan;
-use forecast::Forecast;
 use nix_drv::Derivation;
 use nix_names::{NameFault, StoreDir, StorePath, parse_path};
-use ref_scan::{Scanner, Tree};
+use ref_scan::Tree;
 use std::alloc::{AllocError, Global};
 use std::slice;
 use valid_table::{Journal, Table};
-
-/// The store folder of all paths, until a line names another.
-const STORE: &[u8] = b"/nix/store";
 
 /// A table, and the paths of which a line asked it or which a line gave to it.
 #[derive(Drop)]
@@ -24,7 +20,7 @@ pub(crate) struct KeptTable {
 #[derive(Drop)]
 pub(crate) struct World {
     pub(crate) alloc: Global,
-    pub(crate) dir: Vec<u8>,
+    pub(crate) dir: StoreDir,
     pub(crate) texts: Shelf<Vec<u8>>,
     pub(crate) lists: Shelf<Vec<StorePath>>,
     pub(crate) drvs: Shelf<Derivation>,
@@ -32,16 +28,14 @@ pub(crate) struct World {
     pub(crate) journals: Shelf<Journal>,
     pub(crate) tables: Shelf<KeptTable>,
     pub(crate) trees: Shelf<Tree>,
-    pub(crate) scanners: Shelf<Scanner>,
-    pub(crate) forecasts: Shelf<Forecast>,
 }
 
 impl World {
-    /// Nothing is kept yet.
-    pub(crate) fn new(alloc: Global) -> Result<World, AllocError> {
+    /// Nothing is kept yet, and the store folder is Nix's until a line names another.
+    pub(crate) fn new(alloc: Global) -> Result<World, NameFault> {
         Ok(World {
             alloc,
-            dir: STORE.to_vec(alloc)?,
+            dir: StoreDir::new(alloc, b"/nix/store")?,
             texts: Shelf::new(alloc),
             lists: Shelf::new(alloc),
             drvs: Shelf::new(alloc),
@@ -49,54 +43,108 @@ impl World {
             journals: Shelf::new(alloc),
             tables: Shelf::new(alloc),
             trees: Shelf::new(alloc),
-            scanners: Shelf::new(alloc),
-            forecasts: Shelf::new(alloc),
         })
     }
 
     /// The bytes that a word stands for: those of the text under its name, or its own.
     pub(crate) fn text<'a>(&'a self, word: &'a [u8]) -> &'a [u8] {
         match self.texts.get(word) {
-            Some(text) => text,
-            None => word,
+            Ok(text) => text,
+            Err(_) => word,
         }
-    }
-
-    /// The store folder.
-    pub(crate) fn dir(&self) -> Result<StoreDir, NameFault> {
-        StoreDir::new(self.alloc, &self.dir)
     }
 
     /// The path whose text a word stands for.
     pub(crate) fn path(&self, word: &[u8]) -> Result<StorePath, NameFault> {
-        parse_path(self.alloc, &self.dir()?, self.text(word))
+        parse_path(self.alloc, &self.dir, self.text(word))
     }
 
     /// The paths that words stand for, each a path or a list under its name.
     pub(crate) fn paths(&self, words: &[&[u8]]) -> Result<Vec<StorePath>, NameFault> {
-        let dir = self.dir()?;
         let mut paths = Vec::new(self.alloc);
         for word in words {
             match self.lists.get(word) {
-                Some(list) => push_copies(self.alloc, &mut paths, list)?,
-                None => {
-                    let path = parse_path(self.alloc, &dir, self.text(word))?;
-                    push_copies(self.alloc, &mut paths, slice::from_ref(&path))?;
-                }
+                Ok(list) => push_copies(&mut paths, list)?,
+                Err(_) => push_copies(&mut paths, slice::from_ref(&self.path(word)?))?,
             }
         }
         Ok(paths)
     }
+
+    /// The texts that words stand for.
+    pub(crate) fn copies(&self, words: &[&[u8]]) -> Result<Vec<Vec<u8>>, AllocError> {
+        let mut texts = Vec::new(self.alloc);
+        for word in words {
+            texts.push(self.text(word).to_vec(self.alloc)?)?;
+        }
+        Ok(texts)
+    }
 }
 
-/// Adds copies of some paths to a list.
-pub(crate) fn push_copies(
-    alloc: Global,
-    list: &mut Vec<StorePath>,
-    paths: &[StorePath],
-) -> Result<(), AllocError> {
+// Adds copies of some paths to a list.
+fn push_copies(list: &mut Vec<StorePath>, paths: &[StorePath]) -> Result<(), AllocError> {
+    let alloc = *list.allocator();
     for path in paths {
         list.push(path.copy(alloc)?)?;
     }
     Ok(())
+}
+
+/// Values of one kind, each under a name of its own.
+#[derive(Drop)]
+pub(crate) struct Shelf<T> {
+    kept: Vec<(Vec<u8>, T)>,
+}
+
+impl<T: Drop> Shelf<T> {
+    pub(crate) fn new(alloc: Global) -> Shelf<T> {
+        Shelf {
+            kept: Vec::new(alloc),
+        }
+    }
+
+    // Where the value that `$NAME` stands for is kept; past the end where none is.
+    fn place(&self, word: &[u8]) -> usize {
+        let place = match word.strip_prefix(b"$") {
+            Some(name) => self.kept.iter().position(|kept| kept.0.as_slice() == name),
+            None => None,
+        };
+        place.unwrap_or(self.kept.len())
+    }
+
+    /// The value that `$NAME` stands for.
+    pub(crate) fn get(&self, word: &[u8]) -> Result<&T, Stop> {
+        match self.kept.get(self.place(word)) {
+            Some(kept) => Ok(&kept.1),
+            None => Err(Stop::Lost("nothing is kept so")),
+        }
+    }
+
+    /// The value that `$NAME` stands for, to be changed.
+    pub(crate) fn get_mut(&mut self, word: &[u8]) -> Result<&mut T, Stop> {
+        let place = self.place(word);
+        match self.kept.get_mut(place) {
+            Some(kept) => Ok(&mut kept.1),
+            None => Err(Stop::Lost("nothing is kept so")),
+        }
+    }
+
+    /// Takes out the value that `$NAME` stands for.
+    pub(crate) fn take(&mut self, word: &[u8]) -> Result<T, Stop> {
+        let place = self.place(word);
+        if place < self.kept.len() {
+            return Ok(self.kept.swap_remove(place).1);
+        }
+        Err(Stop::Lost("nothing is kept so"))
+    }
+
+    /// Keeps a value under a name, in place of what was kept there; under no name not at all.
+    pub(crate) fn keep(&mut self, name: &[u8], value: T) -> Taken {
+        if !name.is_empty() {
+            self.kept.retain(|kept| kept.0.as_slice() != name);
+            let name = name.to_vec(*self.kept.allocator())?;
+            self.kept.push((name, value))?;
+        }
+        Ok(())
+    }
 }

@@ -1,153 +1,328 @@
 //! Books, their leases and verdicts.
 //!
 //! `Book::open PLAN JOURNAL SYSTEM` begins the lines of a book, which end with `close` (`session`).
-ghost use Rattle.std.specs.Prelude.{◌≡◌, ◌++◌, ⊤, IfOk, MatchOption};
+//! What a builder leaves is a status, or `killed`, and a tree for each output: `-` where nothing
+//! lies, `file:TEXT`, `zeros:N` for a file of N bytes, `parts:A:B` for a file in these pieces, or
+//! `folder:N` for a folder of N empty files. The last tree stands for those that are left out.
+ghost use Rattle.std.specs.Prelude.{◌≡◌, ◌++◌, IfOk};
 ghost use Rattle.nix_names.specs.Rising.{IsRising};
+ghost use Rattle.build_outcome.specs.Verdicts.{IsExamining};
+ghost use Rattle.sched_core.specs.Books.{IsBooksLease, MayAllRefer};
 
-mod answers;
-mod looks;
-mod outlet;
 mod session;
-mod verdicts;
 
-use crate::faults::Fault;
-use crate::line::{Line, Lines};
+use crate::line::{Line, halves, number_of};
+use crate::stop::{Found, Stop, Taken, call, tried};
 use crate::teller::Teller;
-use crate::words::names::{Done, lost};
+use crate::words::journals::push_known;
+use crate::words::scans::wide;
 use crate::world::World;
-pub(crate) use answers::halves;
-use answers::{answer, listed_paths, made_job};
-use drv_graph::Plan;
-use nix_names::StorePath;
-use outlet::Counting;
-use sched_core::{Book, BookFault, Reason, permitted_beside};
-use session::take_lines;
+use drv_graph::{Kind, Method, Plan};
+use nix_names::{Digest, StorePath};
+use ref_scan::Tree;
+use sched_core::{
+    Answer, Book, BookFault, Checked, Job, JobOutput, Lease, Reason, examine as verdict_on,
+    permitted_beside,
+};
+use session::take_session;
 use std::alloc::{AllocError, Global};
-use valid_table::{Journal, ListOutlet};
-use verdicts::{examined, text_of};
-
-impl Fault for BookFault {
-    fn is_want(&self) -> bool {
-        matches!(self, BookFault::NoMemory)
-    }
-
-    fn words(&self, alloc: Global) -> Result<String, AllocError> {
-        format!(in alloc; "{self:?}")
-    }
-}
-
-impl Fault for Reason {
-    fn is_want(&self) -> bool {
-        matches!(self, Reason::OutOfMemory)
-    }
-
-    fn words(&self, alloc: Global) -> Result<String, AllocError> {
-        format!(in alloc; "{self:?}")
-    }
-}
+use valid_table::{Entry, Journal, ListOutlet, Outlet, OutletFault, Record};
 
 /// Takes a line, if its call is one of these.
-pub(crate) fn take(
-    teller: &mut Teller<'_>,
-    world: &mut World,
-    lines: &mut Lines<'_>,
-    line: &Line<'_>,
-) -> Result<bool, AllocError> {
-    match line.call() {
-        b"Book::open" => {
-            if let Some(book) = opened(teller, world, line) {
-                take_lines(teller, world, lines, book)?;
-            }
-        }
-        b"examine" => examine(teller, world, line)?,
-        b"permitted_beside" => beside(teller, world, line)?,
-        _ => return Ok(false),
+pub(crate) fn take(teller: &mut Teller<'_>, world: &World, line: &Line<'_>) -> Found {
+    words! { teller, world, line;
+        do "Book::open" => take_session(teller, world, line);
+        do "examine" => examine(teller, world, line);
+        do "permitted_beside" => beside(teller, world, line);
     }
-    Ok(true)
 }
 
-/// Copies of the plan and of the journal that a line names first.
-pub(crate) fn opening(world: &World, line: &Line<'_>) -> Option<(Plan, Journal)> {
-    let plan = world.plans.get(line.argument(0))?.copy(world.alloc).ok()?;
+/// Copies of the plan and of the journal that a line names first, and the system.
+pub(crate) fn opening(world: &World, line: &Line<'_>) -> Result<(Plan, Journal, Vec<u8>), Stop> {
+    let system = line.argument(2).to_vec(world.alloc)?;
+    let plan = world.plans.get(line.argument(0))?;
     let journal = world.journals.get(line.argument(1))?;
-    Some((plan, journal.copy(world.alloc).ok()?))
+    match (plan.copy(world.alloc), journal.copy(world.alloc)) {
+        (Ok(plan), Ok(journal)) => Ok((plan, journal, system)),
+        _ => Err(Stop::Lost("no memory")),
+    }
 }
 
 // An outlet that shows a journal's entries.
-fn counting(alloc: Global, journal: &Journal) -> Option<Counting>
-    ensures { MatchOption result ⊤
-        (λ o. o.outlet.shown ++ o.outlet.pending ≡ journal.now.entries) }
+fn outlet_of(alloc: Global, journal: &Journal) -> Result<Counting, Stop>
+    ensures { IfOk result (λ o. o.outlet.shown ++ o.outlet.pending ≡ journal.now.entries) }
 {
-    let outlet = ListOutlet::open(alloc, journal).ok()?;
-    Some(Counting {
-        outlet,
-        appends: 0,
-        publishes: 0,
-    })
+    match ListOutlet::open(alloc, journal) {
+        Ok(outlet) => Ok(Counting {
+            outlet,
+            appends: 0,
+            publishes: 0,
+        }),
+        Err(_) => Err(Stop::Lost("no memory")),
+    }
 }
 
 /// The book that a line opens.
-fn opened(teller: &mut Teller<'_>, world: &World, line: &Line<'_>) -> Option<Book<Counting>> {
-    let alloc = world.alloc;
-    let Some((plan, journal)) = opening(world, line) else {
-        teller.lost("no plan or no journal");
-        return None;
-    };
-    let system = line.argument(2).to_vec(alloc).ok()?;
-    let outlet = counting(alloc, &journal)?;
-    match called!(
-        teller,
-        "Book::open",
-        Book::open(alloc, plan, journal, system, outlet)
-    ) {
-        Ok(book) => Some(book),
-        Err(fault) => {
-            teller.tell_fault(alloc, &fault);
-            None
-        }
-    }
+fn opened(teller: &mut Teller<'_>, world: &World, line: &Line<'_>) -> Result<Book<Counting>, Stop> {
+    let (plan, journal, system) = opening(world, line)?;
+    let outlet = outlet_of(world.alloc, &journal)?;
+    tried!(teller, "Book::open" => Book::open(world.alloc, plan, journal, system, outlet))
 }
 
 // `examine KIND OUTPUTS STATUS TREE..`: the outputs may refer to each other.
-fn examine(teller: &mut Teller<'_>, world: &World, line: &Line<'_>) -> Done {
-    let alloc = world.alloc;
-    let Some(job) = made_job(world, line.argument(0), line.argument(1)) else {
-        return lost(teller, "no paths");
-    };
+fn examine(teller: &mut Teller<'_>, world: &World, line: &Line<'_>) -> Taken {
+    let job = made_job(world, line.argument(0), line.argument(1))?;
     let answer = answer(world, line.arguments(2), job.outputs.len())?;
-    let Ok(permitted) = permitted_beside(alloc, Vec::new(alloc), &job) else {
-        return Err(AllocError);
+    let Ok(permitted) = permitted_beside(world.alloc, Vec::new(world.alloc), &job) else {
+        return Err(Stop::Lost("no memory"));
     };
     let verdict = examined(teller, &job, &permitted, answer);
-    if let Some(checked) = teller.answered(alloc, verdict) {
-        let records = called!(teller, "Checked::records", checked.records());
-        teller.lines(&text_of(alloc, records)?);
-    }
+    let checked = teller.answered(verdict)?;
+    let records = call!(teller, "Checked::records" => checked.records());
+    teller.lines(&text_of(world.alloc, records)?);
     Ok(())
 }
 
 // The closure of the paths of a line in its journal.
-fn reached(world: &World, line: &Line<'_>) -> Option<Vec<StorePath>>
-    ensures { MatchOption result ⊤ (λ paths. IsRising paths.items) }
+fn reached(world: &World, line: &Line<'_>) -> Result<Vec<StorePath>, Stop>
+    ensures { IfOk result (λ paths. IsRising paths.items) }
 {
     let journal = world.journals.get(line.argument(0))?;
     let roots = listed_paths(world, line.argument(1))?;
-    journal.table().closure(world.alloc, &roots).ok()
+    match journal.table().closure(world.alloc, &roots) {
+        Ok(all) => Ok(all),
+        Err(_) => Err(Stop::Lost("no closure")),
+    }
 }
 
 // `permitted_beside JOURNAL ROOTS OUTPUTS`: beside the closure of the roots.
-fn beside(teller: &mut Teller<'_>, world: &World, line: &Line<'_>) -> Done {
-    let (alloc, job) = (world.alloc, made_job(world, b"", line.argument(2)));
-    let (Some(reached), Some(job)) = (reached(world, line), job) else {
-        return lost(teller, "no journal or no paths");
-    };
-    let answer = called!(
-        teller,
-        "permitted_beside",
-        permitted_beside(alloc, reached, &job)
-    );
-    if let Some(paths) = teller.answered(alloc, answer) {
-        teller.paths(&paths);
+fn beside(teller: &mut Teller<'_>, world: &World, line: &Line<'_>) -> Taken {
+    let job = made_job(world, b"", line.argument(2))?;
+    let reached = reached(world, line)?;
+    let paths = tried!(teller, "permitted_beside" =>
+        permitted_beside(world.alloc, reached, &job))?;
+    teller.paths(&paths);
+    Ok(())
+}
+
+/// What the outlet tells: how many entries it shows, how many were added to it, and how often it
+/// published.
+pub(crate) type Told = (usize, usize, usize);
+
+/// The outlet.
+pub(crate) struct Counting {
+    pub(crate) outlet: ListOutlet,
+    pub(crate) appends: usize,
+    pub(crate) publishes: usize,
+}
+
+impl Outlet for Counting {
+    ghost use Rattle.valid_table.specs.Outlets.{CountsEntries};
+
+    type Told = Told;
+
+    ghost shown = { λ counting. counting.outlet.shown };
+
+    ghost pending = { λ counting. counting.outlet.pending };
+
+    ghost names = { λ told entries. CountsEntries told.0 entries };
+
+    fn append(&mut self, entry: Entry) -> Result<(), OutletFault> {
+        self.appends = self.appends.wrapping_add(1);
+        self.outlet.append(entry)
+    }
+
+    fn publish(&mut self) -> Result<(), OutletFault> {
+        self.publishes = self.publishes.wrapping_add(1);
+        self.outlet.publish()
+    }
+
+    fn tell(&self) -> Told {
+        (self.outlet.tell(), self.appends, self.publishes)
+    }
+
+    fn close(self) {
+        let Counting {
+            outlet,
+            appends: _,
+            publishes: _,
+        } = self;
+        outlet.close();
+    }
+}
+
+// A file in the pieces between the colons of a word.
+fn parts(alloc: Global, word: &[u8]) -> Result<Tree, AllocError> {
+    let mut pieces = Vec::new(alloc);
+    for piece in word.split(|byte| *byte == b':') {
+        pieces.push(piece.to_vec(alloc)?)?;
+    }
+    Ok(Tree::Pieces(pieces))
+}
+
+// What lies at an output, by a word.
+fn tree(world: &World, word: &[u8]) -> Result<Option<Tree>, AllocError> {
+    let (kind, rest) = halves(word, b':');
+    let count = number_of(rest).unwrap_or(0);
+    Ok(Some(match kind {
+        b"file" => Tree::File(world.text(rest).to_vec(world.alloc)?),
+        b"zeros" => Tree::File(vec![in world.alloc; 0; count]?),
+        b"parts" => parts(world.alloc, rest)?,
+        b"folder" => wide(world.alloc, count, b"f")?,
+        _ => return Ok(None),
+    }))
+}
+
+/// The number that a word is, if it is one: a status.
+pub(crate) fn status_of(word: &[u8]) -> Option<i32> {
+    str::from_utf8(word).ok()?.parse().ok()
+}
+
+/// The answer of a builder at so many outputs, by the words of its status and of its trees.
+pub(crate) fn answer(world: &World, words: &[&[u8]], count: usize) -> Result<Answer, AllocError> {
+    let mut trees = Vec::new(world.alloc);
+    for place in 0..count.max(words.len().saturating_sub(1)) {
+        trees.push(match words.iter().skip(1).nth(place).or(words.last()) {
+            Some(word) => tree(world, word)?,
+            None => None,
+        })?;
+    }
+    let status = words.first().and_then(|word| status_of(word));
+    Ok(Answer { status, trees })
+}
+
+/// The paths in a list of words with commas between them; none where it is `-`.
+pub(crate) fn listed_paths(world: &World, word: &[u8]) -> Result<Vec<StorePath>, Stop> {
+    let mut words = Vec::new(world.alloc);
+    for path in word.split(|byte| *byte == b',') {
+        if path != b"-".as_slice() {
+            words.push(path)?;
+        }
+    }
+    Ok(world.paths(&words)?)
+}
+
+/// A job for outputs at listed paths, without a builder. They are fixed where the kind is a digest.
+pub(crate) fn made_job(world: &World, kind: &[u8], word: &[u8]) -> Result<Job, Stop> {
+    let (alloc, mut outputs) = (world.alloc, Vec::new(world.alloc));
+    for path in listed_paths(world, word)? {
+        let name = Vec::new(alloc);
+        outputs.push(JobOutput { name, path })?;
+    }
+    let fixed = Digest::of_text(kind).map(|digest| Kind::Fixed(Method::Flat, digest));
+    Ok(Job {
+        derivation: 0,
+        builder: Vec::new(alloc),
+        args: Vec::new(alloc),
+        env: Vec::new(alloc),
+        outputs,
+        kind: fixed.unwrap_or(Kind::Addressed),
+        seeds: Vec::new(alloc),
+    })
+}
+
+/// The verdict on an answer to a job.
+pub(crate) fn examined(
+    teller: &mut Teller<'_>,
+    job: &Job,
+    permitted: &[StorePath],
+    answer: Answer,
+) -> Result<Checked, Reason>
+    requires { IsRising permitted.now }
+    ensures { IsExamining job.now permitted.now answer result }
+{
+    let alloc = *job.outputs.allocator();
+    call!(teller, "examine" => verdict_on(alloc, job, permitted, answer))
+}
+
+/// The same, where a job may refer to what is permitted to a lease: to nothing, where the lease
+/// isn't the book's.
+pub(crate) fn found(
+    teller: &mut Teller<'_>,
+    book: &Book<Counting>,
+    lease: &Lease<Told>,
+    job: &Job,
+    answer: Answer,
+) -> Result<Result<Checked, Reason>, BookFault>
+    ensures { IfOk result (λ verdict. IfOk verdict (λ checked.
+        IsBooksLease book.now.run book.now.history lease.now.job lease.now.number
+        → MayAllRefer book.now.history.entries lease.now.job checked)) }
+{
+    match call!(teller, "Book::permitted" => book.permitted(lease)) {
+        Ok(paths) => Ok(examined(teller, job, &paths, answer)),
+        Err(BookFault::ForeignLease) => Ok(examined(teller, job, &[], answer)),
+        Err(fault) => Err(fault),
+    }
+}
+
+/// The text of records.
+pub(crate) fn text_of(alloc: Global, records: &[Record]) -> Result<Vec<u8>, AllocError> {
+    let mut text = Vec::new(alloc);
+    for record in records {
+        text.extend_from_slice(b"record")?;
+        push_known(&mut text, record.digest(), record.references())?;
+        text.push(b'\n')?;
+    }
+    Ok(text)
+}
+
+/// Tells what a book answers about itself.
+pub(crate) fn look(teller: &mut Teller<'_>, book: &Book<Counting>) -> Taken {
+    const CALLS: &str = "Book::steps Book::unsettled Book::settled Book::can_begin Book::opening \
+        Book::tell Book::plan Book::system Book::journal Book::events";
+    teller.begins(CALLS);
+    let (steps, unsettled, opening) = (book.steps(), book.unsettled(), book.opening());
+    let (settled, can_begin, told) = (book.settled(), book.can_begin(), book.tell());
+    let (entries, count) = (book.journal().entries().len(), book.plan().len());
+    let (system, events) = (book.system(), book.events());
+    teller.ends(CALLS);
+    let system = system.escape_ascii();
+    teller.say(format_args!("{count} for {system}, {opening} of {entries} entries, {told:?}"));
+    teller.say(format_args!("{steps} steps, {unsettled} unsettled, {settled} {can_begin}"));
+    teller.say(format_args!("{events:?}"));
+    Ok(())
+}
+
+/// Tells the state of each derivation: one line for neighbours of the same state.
+pub(crate) fn tell_states(teller: &mut Teller<'_>, alloc: Global, book: &Book<Counting>) -> Taken {
+    let mut states = Vec::new(alloc);
+    for d in 0..book.plan().len() {
+        states.push(call!(teller, "Book::state" => book.state(d)))?;
+    }
+    for run in states.chunk_by(|before, state| before == state) {
+        if let Some(state) = run.first() {
+            teller.say(format_args!("{state:?} {}", run.len()));
+        }
     }
     Ok(())
+}
+
+/// Tells a lease's number and its job.
+pub(crate) fn tell_lease(teller: &mut Teller<'_>, lease: &Lease<Told>) -> Taken {
+    const CALLS: &str = "Lease::job Lease::number";
+    let (job, number) = call!(teller, CALLS => (lease.job(), lease.number()));
+    teller.say(format_args!("lease {number} of {}, {:?}", job.derivation, job.kind));
+    tell_job(teller, job);
+    Ok(())
+}
+
+/// Tells what the outlet told of a lease, asked twice.
+fn tell_told(teller: &mut Teller<'_>, lease: &mut Lease<Told>) -> Taken {
+    let told = call!(teller, "Lease::told" => [lease.told(), lease.told()]);
+    teller.say(format_args!("{told:?}"));
+    Ok(())
+}
+
+fn tell_job(teller: &mut Teller<'_>, job: &Job) {
+    teller.text(&job.builder);
+    job.args.iter().for_each(|arg| teller.text(arg));
+    for entry in &job.env {
+        let (key, value) = (entry.key.escape_ascii(), entry.value.escape_ascii());
+        teller.say(format_args!("{key}={value}"));
+    }
+    job.outputs.iter().for_each(|output| {
+        let name = output.name.escape_ascii();
+        teller.say(format_args!("{name} {}", output.path.as_str()));
+    });
+    teller.paths(&job.seeds);
 }

@@ -1,7 +1,7 @@
-//! Every fault, with its number and its words.
+//! Faults in words, the name of the variant with its values, and every fault with its number.
 
-use crate::faults::Fault;
-use crate::line::{Line, Lines};
+use crate::line::Line;
+use crate::stop::{Found, Stop, Taken, call};
 use crate::teller::Teller;
 use crate::world::World;
 use drv_graph::{GraphFault, NodeFault, OutputFault};
@@ -15,24 +15,124 @@ use store_run::RunFault;
 use valid_table::{Journal, OutletFault, Record, TableFault};
 use valid_view::{OpenFault, ViewFault};
 
+/// The words of a fault.
+pub(crate) type Words = Result<String, AllocError>;
+
+/// A fault of a call.
+pub(crate) trait Fault: Debug {
+    /// The name of the variant, with its values.
+    fn words(&self, alloc: Global) -> Words {
+        format!(in alloc; "{self:?}")
+    }
+}
+
+impl Fault for AllocError {}
+
+impl Fault for BookFault {}
+
+impl Fault for NameFault {}
+
+impl Fault for OpenFault {}
+
+impl Fault for OutletFault {}
+
+impl Fault for Reason {}
+
+impl Fault for RunFault {}
+
+impl Fault for ScanFault {}
+
+impl Fault for SourceFault {}
+
+// The name of a variant, with a value or two.
+macro_rules! told {
+    ($alloc:ident, $name:literal, $value:expr) => { format!(in $alloc; "{}({})", $name, $value) };
+    ($alloc:ident, $name:literal, $one:expr, $two:expr) => {
+        format!(in $alloc; "{}({}, {})", $name, $one, $two)
+    };
+}
+
+impl Fault for ViewFault {
+    fn words(&self, alloc: Global) -> Words {
+        match self {
+            ViewFault::NotValid(path) => told!(alloc, "NotValid", path.as_str()),
+            ViewFault::NoView(_) => format!(in alloc; "NoView"),
+            fault => format!(in alloc; "{fault:?}"),
+        }
+    }
+}
+
+impl Fault for TableFault {
+    fn words(&self, alloc: Global) -> Words {
+        match self {
+            TableFault::NotValid(path) => told!(alloc, "NotValid", path.as_str()),
+            TableFault::AlreadyValid(path) => told!(alloc, "AlreadyValid", path.as_str()),
+            TableFault::Unclosed(one) => told!(alloc, "Unclosed", one.path().as_str()),
+            fault => format!(in alloc; "{fault:?}"),
+        }
+    }
+}
+
+impl Fault for DrvFault {
+    fn words(&self, alloc: Global) -> Words {
+        match self {
+            DrvFault::TextPathMismatch(own) => told!(alloc, "TextPathMismatch", own.as_str()),
+            DrvFault::BadReference(text) => told!(alloc, "BadReference", text.escape_ascii()),
+            fault => format!(in alloc; "{fault:?}"),
+        }
+    }
+}
+
+impl Fault for OutputFault {
+    fn words(&self, alloc: Global) -> Words {
+        match self {
+            OutputFault::UnknownMethod(name) => told!(alloc, "UnknownMethod", name.escape_ascii()),
+            OutputFault::UnknownOutput(drv, name) => {
+                told!(alloc, "UnknownOutput", drv.as_str(), name.escape_ascii())
+            }
+            OutputFault::OutputMismatch(name, path) => {
+                told!(alloc, "OutputMismatch", name.escape_ascii(), path.as_str())
+            }
+            OutputFault::EnvMismatch(name) => told!(alloc, "EnvMismatch", name.escape_ascii()),
+            fault => format!(in alloc; "{fault:?}"),
+        }
+    }
+}
+
+impl Fault for NodeFault {
+    fn words(&self, alloc: Global) -> Words {
+        match self {
+            NodeFault::Text(fault) => told!(alloc, "Text", fault.words(alloc)?.as_str()),
+            NodeFault::Outputs(fault) => told!(alloc, "Outputs", fault.words(alloc)?.as_str()),
+            fault => format!(in alloc; "{fault:?}"),
+        }
+    }
+}
+
+impl Fault for GraphFault {
+    fn words(&self, alloc: Global) -> Words {
+        match self {
+            GraphFault::At(path, fault) => {
+                told!(alloc, "At", path.as_str(), fault.words(alloc)?.as_str())
+            }
+            GraphFault::Draft(fault) => told!(alloc, "Draft", fault.words(alloc)?.as_str()),
+            fault => format!(in alloc; "{fault:?}"),
+        }
+    }
+}
+
 /// Takes a line, if its call is one of these. `faults` tells each fault but that of a reader whose
 /// writer is gone: a line that begins with the call by which the number is asked.
-pub(crate) fn take(
-    teller: &mut Teller<'_>,
-    world: &mut World,
-    _lines: &mut Lines<'_>,
-    line: &Line<'_>,
-) -> Result<bool, AllocError> {
-    if line.call() != b"faults".as_slice() {
+pub(crate) fn take(teller: &mut Teller<'_>, world: &World, line: &Line<'_>) -> Found {
+    if line.call != "faults" {
         return Ok(false);
     }
-    let (Ok(x), Ok(y)) = (world.path(X), world.path(Y)) else {
-        return Err(AllocError);
-    };
+    let (x, y) = (world.path(X)?, world.path(Y)?);
     of_derivations(teller, world.alloc, &x)?;
     of_plans(teller, world.alloc, &x)?;
     of_tables(teller, world.alloc, &x, y)?;
-    of_runs(teller);
+    of_views(teller, x)?;
+    of_runs(teller)?;
     Ok(true)
 }
 
@@ -50,64 +150,35 @@ pub(crate) fn tell_all<F: Fault + Display, N: Fn(&F) -> u8>(
     requires { N.IsAlwaysCallable number_of }
 {
     for fault in faults {
-        let number = called!(teller, call, number_of(fault));
-        let words = fault.words(teller.rt().alloc())?;
+        let number = call!(teller, call => number_of(fault));
+        let words = fault.words(teller.rt.alloc())?;
         teller.say(format_args!("{call} {} {number} {fault}", words.as_str()));
     }
     Ok(())
 }
 
-// The same for faults that hold no path.
-fn tell_plain<F: Debug + Display, N: Fn(&F) -> u8>(
-    teller: &mut Teller<'_>,
-    call: &str,
-    faults: &[F],
-    number_of: N,
-)
-    requires { N.IsAlwaysCallable number_of }
-{
-    for fault in faults {
-        let number = called!(teller, call, number_of(fault));
-        teller.say(format_args!("{call} {fault:?} {number} {fault}"));
-    }
+// These faults of a type.
+macro_rules! faults {
+    ($fault:ident: $($variant:ident $(($($value:expr),*))?),*) => {
+        [$($fault::$variant $(($($value),*))?),*]
+    };
 }
 
-const NAME_FAULTS: [NameFault; 8] = [
-    NameFault::BadLength,
-    NameFault::BadChar(4),
-    NameFault::Overflow,
-    NameFault::NotInStore,
-    NameFault::BadHashPart,
-    NameFault::BadName,
-    NameFault::BadStoreDir,
-    NameFault::NoMemory,
-];
-
-const SOURCE_FAULTS: [SourceFault; 3] = [
-    SourceFault::NoMemory,
-    SourceFault::Missing,
-    SourceFault::Device,
-];
+// Tells these faults of a type.
+macro_rules! tell_all {
+    ($teller:ident, $call:literal; $($fault:tt)*) => {{
+        let faults = faults!($($fault)*);
+        tell_all($teller, $call, &faults, |it| it.number())
+    }};
+}
 
 fn of_derivations(teller: &mut Teller<'_>, alloc: Global, x: &StorePath) -> Result<(), AllocError> {
-    tell_plain(teller, "NameFault::number", &NAME_FAULTS, |it| it.number());
-    tell_plain(
-        teller,
-        "SourceFault::number",
-        &SOURCE_FAULTS,
-        |it| it.number(),
-    );
-    let faults = [
-        DrvFault::NoMemory,
-        DrvFault::Syntax(7),
-        DrvFault::Order(35),
-        DrvFault::TooLong,
-        DrvFault::TextPathMismatch(x.copy(alloc)?),
-        DrvFault::NotADrvName,
-        DrvFault::NotSorted,
-        DrvFault::BadReference(out(alloc)?),
-    ];
-    tell_all(teller, "DrvFault::number", &faults, |it| it.number())
+    tell_all!(teller, "NameFault::number"; NameFault: BadLength, BadChar(4), Overflow, NotInStore,
+        BadHashPart, BadName, BadStoreDir, NoMemory)?;
+    tell_all!(teller, "SourceFault::number"; SourceFault: NoMemory, Missing, Device)?;
+    let (own, text) = (x.copy(alloc)?, out(alloc)?);
+    tell_all!(teller, "DrvFault::number"; DrvFault: NoMemory, Syntax(7), Order(35), TooLong,
+        TextPathMismatch(own), NotADrvName, NotSorted, BadReference(text))
 }
 
 fn out(alloc: Global) -> Result<Vec<u8>, AllocError> {
@@ -115,127 +186,55 @@ fn out(alloc: Global) -> Result<Vec<u8>, AllocError> {
 }
 
 fn of_plans(teller: &mut Teller<'_>, alloc: Global, x: &StorePath) -> Result<(), AllocError> {
-    let faults = [
-        OutputFault::NoMemory,
-        OutputFault::MixedOutputs,
-        OutputFault::UnknownMethod(out(alloc)?),
-        OutputFault::BadName,
-        OutputFault::UnknownOutput(x.copy(alloc)?, out(alloc)?),
-        OutputFault::OutputMismatch(out(alloc)?, x.copy(alloc)?),
-        OutputFault::EnvMismatch(out(alloc)?),
-    ];
-    tell_all(teller, "OutputFault::number", &faults, |it| it.number())?;
-    let faults = [
-        NodeFault::Unreadable,
-        NodeFault::TooMany,
-        NodeFault::Text(DrvFault::TooLong),
-        NodeFault::Cycle,
-        NodeFault::Outputs(OutputFault::BadName),
-        NodeFault::OutputClash,
-    ];
-    tell_all(teller, "NodeFault::number", &faults, |it| it.number())?;
-    let faults = [
-        GraphFault::NoMemory,
-        GraphFault::Name,
-        GraphFault::At(x.copy(alloc)?, NodeFault::Cycle),
-        GraphFault::Draft(NodeFault::Outputs(OutputFault::MixedOutputs)),
-    ];
-    tell_all(teller, "GraphFault::number", &faults, |it| it.number())
+    let (path, other, own) = (x.copy(alloc)?, x.copy(alloc)?, x.copy(alloc)?);
+    let (method, name) = (out(alloc)?, out(alloc)?);
+    tell_all!(teller, "OutputFault::number"; OutputFault: NoMemory, MixedOutputs,
+        UnknownMethod(method), BadName, UnknownOutput(path, name),
+        OutputMismatch(out(alloc)?, other), EnvMismatch(out(alloc)?))?;
+    tell_all!(teller, "NodeFault::number"; NodeFault: Unreadable, TooMany, Text(DrvFault::TooLong),
+        Cycle, Outputs(OutputFault::BadName), OutputClash)?;
+    tell_all!(teller, "GraphFault::number"; GraphFault: NoMemory, Name, At(own, NodeFault::Cycle),
+        Draft(NodeFault::Outputs(OutputFault::MixedOutputs)))
 }
 
-// The fault of an entry that adds a path, and refers to another that is not valid.
-fn unclosed(alloc: Global, x: &StorePath, y: StorePath) -> Result<TableFault, AllocError> {
+// `unclosed` is the fault of an entry that adds a path, and refers to another that is not valid.
+fn of_tables(teller: &mut Teller<'_>, alloc: Global, x: &StorePath, y: StorePath) -> Taken {
     let info = Record::new(vec![in alloc; y]?, None)?;
-    match Journal::new(alloc).add(x.copy(alloc)?, info) {
-        Ok(()) => Err(AllocError),
-        Err(fault) => Ok(fault),
-    }
-}
-
-fn of_tables(
-    teller: &mut Teller<'_>,
-    alloc: Global,
-    x: &StorePath,
-    y: StorePath,
-) -> Result<(), AllocError> {
-    let faults = [
-        TableFault::NoMemory,
-        TableFault::BadLine(2),
-        TableFault::NotClosed(3),
-        TableFault::Twice(4),
-        TableFault::WrongVersion,
-        TableFault::NotValid(x.copy(alloc)?),
-        TableFault::TooLong,
-        unclosed(alloc, x, y)?,
-        TableFault::AlreadyValid(x.copy(alloc)?),
-    ];
+    let Err(unclosed) = Journal::new(alloc).add(x.copy(alloc)?, info) else {
+        return Err(Stop::Lost("the entry was added"));
+    };
+    let faults = faults!(TableFault: NoMemory, BadLine(2), NotClosed(3), Twice(4), WrongVersion,
+        NotValid(x.copy(alloc)?), TooLong);
     tell_all(teller, "TableFault::number", &faults, |it| it.number())?;
-    let faults = [ViewFault::NoMemory, ViewFault::NotValid(x.copy(alloc)?)];
-    tell_all(teller, "ViewFault::number", &faults, |it| it.number())?;
-    let faults = [OutletFault::NoMemory, OutletFault::NoView];
-    tell_plain(teller, "OutletFault::number", &faults, |it| it.number());
-    tell_plain(
-        teller,
-        "OpenFault::number",
-        &[OpenFault::NoMemory],
-        |it| it.number(),
-    );
-    tell_plain(
-        teller,
-        "ScanFault::number",
-        &[ScanFault::NoMemory],
-        |it| it.number(),
-    );
-    Ok(())
+    let faults = [unclosed, TableFault::AlreadyValid(x.copy(alloc)?)];
+    Ok(tell_all(teller, "TableFault::number", &faults, |it| it.number())?)
 }
 
-const REASONS: [Reason; 10] = [
-    Reason::ExitStatus(7),
-    Reason::NoStart,
-    Reason::MissingOutput(0),
-    Reason::NotFlatFile,
-    Reason::HashMismatch,
-    Reason::OutputCycle,
-    Reason::TooLarge,
-    Reason::ReadFault,
-    Reason::OutOfMemory,
-    Reason::Killed,
-];
+fn of_views(teller: &mut Teller<'_>, x: StorePath) -> Result<(), AllocError> {
+    tell_all!(teller, "ViewFault::number"; ViewFault: NoMemory, NotValid(x))?;
+    tell_all!(teller, "OutletFault::number"; OutletFault: NoMemory, NoView)?;
+    tell_all!(teller, "OpenFault::number"; OpenFault: NoMemory)?;
+    tell_all!(teller, "ScanFault::number"; ScanFault: NoMemory)
+}
 
-const REFUSALS: [Refusal; 5] = [
-    Refusal::WrongSystem,
-    Refusal::Unsupported,
-    Refusal::MissingSource(0),
-    Refusal::InputNotRealised(0),
-    Refusal::PartlyValid(0),
-];
-
-fn of_runs(teller: &mut Teller<'_>) {
+fn of_runs(teller: &mut Teller<'_>) -> Result<(), AllocError> {
+    const REASONS: [Reason; 10] = faults!(Reason: ExitStatus(7), NoStart, MissingOutput(0),
+        NotFlatFile, HashMismatch, OutputCycle, TooLarge, ReadFault, OutOfMemory, Killed);
     for reason in REASONS {
-        let number = called!(teller, "Reason::number", reason.number());
+        let number = call!(teller, "Reason::number" => reason.number());
         teller.say(format_args!("Reason::number {reason:?} {number}"));
     }
     of_refusals(teller);
-    let faults = [
-        BookFault::NoMemory,
-        BookFault::NoView,
-        BookFault::ForeignLease,
-        BookFault::NotLawful,
-    ];
-    tell_plain(teller, "BookFault::number", &faults, |it| it.number());
-    let faults = [
-        RunFault::NoView,
-        RunFault::NoWorkers,
-        RunFault::ThreadFault,
-        RunFault::NoMemory,
-        RunFault::ForeignPlan,
-    ];
-    tell_plain(teller, "RunFault::number", &faults, |it| it.number());
+    tell_all!(teller, "BookFault::number"; BookFault: NoMemory, NoView, ForeignLease, NotLawful)?;
+    tell_all!(teller, "RunFault::number"; RunFault: NoView, NoWorkers, ThreadFault, NoMemory,
+        ForeignPlan)
 }
 
 fn of_refusals(teller: &mut Teller<'_>) {
+    const REFUSALS: [Refusal; 5] = faults!(Refusal: WrongSystem, Unsupported, MissingSource(0),
+        InputNotRealised(0), PartlyValid(0));
     for refusal in REFUSALS {
-        let number = called!(teller, "Refusal::number", refusal.number());
+        let number = call!(teller, "Refusal::number" => refusal.number());
         teller.say(format_args!("Refusal::number {refusal:?} {number}"));
     }
 }

@@ -1,4 +1,7 @@
-//! Journals, and the plain outlet.
+//! Journals, their entries and what these are made of, and the plain outlet.
+//!
+//! An added path is given, and printed, as `PATH DIGEST REFERENCE ..`, where the digest is left out
+//! if there is none, and the outputs of a derivation as `DERIVER : PATH .. / PATH ..`.
 //!
 //! `Journal::append_each J` is a journal to which each entry of another one was added or appended,
 //! and `outlet J ENTRY` opens an outlet with a journal, in which an entry waits and is published.
@@ -6,120 +9,45 @@ ghost use Rattle.std.specs.Prelude.{◌≡◌, ◌≤◌, ◌++◌, IsTrue, leng
 ghost use Rattle.valid_table.specs.Entries.{registered_by};
 ghost use Rattle.valid_table.specs.Valid.{HasDrvPath};
 
-use crate::line::{Line, Lines};
-use crate::stop::{Stop, answered, call, end};
+use crate::give::Give;
+use crate::line::Line;
+use crate::rising::rising;
+use crate::stop::{Found, Stop, Taken, call, tried};
 use crate::teller::Teller;
-use crate::words::entries::entry_of;
-use crate::words::tables::{check_reference, push_told, push_told_of_words, tell_obstacle};
+use crate::words::tables::{check_reference, tell_obstacle};
 use crate::world::World;
-use nix_names::is_drv_name;
+use nix_names::{Digest, StorePath, is_drv_name};
 use std::alloc::{AllocError, Global};
-use valid_table::{Entry, Journal, ListOutlet, Outlet, TableFault, write_lines};
+use valid_table::{
+    Entry, Journal, ListOutlet, Outlet, Outputs, Record, Registration, TableFault, write_lines,
+};
 
 /// Takes a line, if its call is one of these.
-pub(crate) fn take(
-    teller: &mut Teller<'_>,
-    world: &mut World,
-    _lines: &mut Lines<'_>,
-    line: &Line<'_>,
-) -> Result<bool, AllocError> {
-    let done = match line.call() {
-        b"Journal::new" => new(teller, world, line),
-        b"Journal::read" => read(teller, world, line),
-        b"Journal::copy" => copy(teller, world, line),
-        b"Journal::append_each" => append_each(teller, world, line),
-        b"Journal::write" => write(teller, world, line),
-        b"write_lines" => lines_of(teller, world, line),
-        b"Journal::add" | b"Journal::append" => add(teller, world, line),
-        b"Journal::reserve" => reserve(teller, world, line),
-        b"Journal::push_reserved" => push_reserved(teller, world, line),
-        b"Journal::registers" => registers(teller, world, line),
-        b"outlet" => outlet(teller, world, line),
-        _ => return Ok(false),
-    };
-    end(teller, done);
-    Ok(true)
-}
-
-/// The text of the journal that a line lends to be changed, and what its table says; no bytes where
-/// there is none.
-pub(crate) fn lent(world: &World, line: &Line<'_>) -> Result<Vec<u8>, AllocError> {
-    let Some(journal) = world.journals.get(line.argument(0)) else {
-        return Ok(Vec::new(world.alloc));
-    };
-    let Ok(mut text) = journal.write(world.alloc) else {
-        return Err(AllocError);
-    };
-    for entry in journal.entries() {
-        if let Some(first) = entry.registrations().first() {
-            push_told(&mut text, journal.table(), &first.path)?;
-        }
+pub(crate) fn take(teller: &mut Teller<'_>, world: &mut World, line: &Line<'_>) -> Found {
+    words! { teller, world, line;
+        "Journal::new" => Journal::new(world.alloc);
+        "Journal::read" (text = text 0) => Journal::read(world.alloc, &world.dir, text);
+        "Journal::copy" (journal = journals 0) => journal.copy(world.alloc);
+        "Journal::registers" (journal = journals 0, path = path 1) => journal.registers(&path);
+        do "Journal::append_each" => append_each(teller, world, line);
+        do "Journal::write" | "write_lines" => write(teller, world, line);
+        do "Journal::add" | "Journal::append" => add(teller, world, line);
+        do "Journal::push_reserved" => push_reserved(teller, world, line);
+        do "Record::new" => record(teller, world, line);
+        do "Outputs::new" => one_output(teller, world, line);
+        do "Outputs::sorted" => sorted(teller, world, line);
+        do "Entry::copy" => copy(teller, world, line);
+        do "outlet" => outlet(teller, world, line);
     }
-    push_told_of_words(&mut text, world, journal.table(), line.arguments(1))?;
-    Ok(text)
 }
 
-fn journal<'a>(world: &'a World, line: &Line<'_>) -> Result<&'a Journal, Stop> {
-    world
-        .journals
-        .get(line.argument(0))
-        .ok_or(Stop::Lost("no journal"))
-}
-
-fn journal_mut<'a>(world: &'a mut World, line: &Line<'_>) -> Result<&'a mut Journal, Stop> {
-    world
-        .journals
-        .get_mut(line.argument(0))
-        .ok_or(Stop::Lost("no journal"))
-}
-
-// Keeps a journal under the line's name, and says how many entries it has.
-fn keep(
-    teller: &mut Teller<'_>,
-    world: &mut World,
-    line: &Line<'_>,
-    journal: Journal,
-) -> Result<(), Stop> {
-    let count = call!(teller, "Journal::entries", journal.entries()).len();
-    teller.say(format_args!("{count} entries"));
-    Ok(world.journals.keep(world.alloc, line.name(), journal)?)
-}
-
-fn new(teller: &mut Teller<'_>, world: &mut World, line: &Line<'_>) -> Result<(), Stop> {
-    let journal = call!(teller, "Journal::new", Journal::new(world.alloc));
-    keep(teller, world, line, journal)
-}
-
-fn read(teller: &mut Teller<'_>, world: &mut World, line: &Line<'_>) -> Result<(), Stop> {
-    let (dir, text) = (world.dir()?, world.text(line.argument(0)));
-    let answer = call!(
-        teller,
-        "Journal::read",
-        Journal::read(world.alloc, &dir, text)
-    );
-    let journal = answered(teller, world.alloc, answer)?;
-    keep(teller, world, line, journal)
-}
-
-fn copy(teller: &mut Teller<'_>, world: &mut World, line: &Line<'_>) -> Result<(), Stop> {
-    let journal = journal(world, line)?;
-    let answer = call!(teller, "Journal::copy", journal.copy(world.alloc));
-    let copy = answered(teller, world.alloc, answer)?;
-    keep(teller, world, line, copy)
-}
-
-fn append_each(teller: &mut Teller<'_>, world: &mut World, line: &Line<'_>) -> Result<(), Stop> {
+fn append_each(teller: &mut Teller<'_>, world: &mut World, line: &Line<'_>) -> Taken {
     let mut entries = Vec::new(world.alloc);
-    for entry in journal(world, line)?.entries() {
+    for entry in world.journals.get(line.argument(0))?.entries() {
         entries.push(entry.copy(world.alloc)?)?;
     }
-    let answer = call!(
-        teller,
-        "Journal::append often",
-        journal_of(world.alloc, entries)
-    );
-    let journal = answered(teller, world.alloc, answer)?;
-    keep(teller, world, line, journal)
+    let answer = call!(teller, "Journal::append often" => journal_of(world.alloc, entries));
+    answer.give(teller, world, line)
 }
 
 // A journal to which these entries were added.
@@ -144,79 +72,52 @@ fn added(journal: &mut Journal, entry: Entry) -> Option<Result<(), TableFault>> 
     }
 }
 
-fn write(teller: &mut Teller<'_>, world: &mut World, line: &Line<'_>) -> Result<(), Stop> {
-    let journal = journal(world, line)?;
-    let answer = call!(teller, "Journal::write", journal.write(world.alloc));
-    let text = answered(teller, world.alloc, answer)?;
-    give_text(teller, world, line, text)
-}
-
-// `write_lines J FIRST END`: the lines of the entries with these numbers.
-fn lines_of(teller: &mut Teller<'_>, world: &mut World, line: &Line<'_>) -> Result<(), Stop> {
+// The text of a journal, or by `write_lines J FIRST END` the lines of the entries with these
+// numbers. It is printed, or kept, and then its length is told.
+fn write(teller: &mut Teller<'_>, world: &mut World, line: &Line<'_>) -> Taken {
+    let journal = world.journals.get(line.argument(0))?;
     let (first, end) = (line.number(1).unwrap_or(0), line.number(2).unwrap_or(0));
-    let entries = journal(world, line)?.entries().get(first..end);
-    let entries = entries.ok_or(Stop::NotAllowed)?;
-    let answer = call!(teller, "write_lines", write_lines(world.alloc, entries));
-    let text = answered(teller, world.alloc, answer)?;
-    give_text(teller, world, line, text)
-}
-
-// Keeps a text under the line's name and tells its length; where it has no name, prints it.
-fn give_text(
-    teller: &mut Teller<'_>,
-    world: &mut World,
-    line: &Line<'_>,
-    text: Vec<u8>,
-) -> Result<(), Stop> {
-    if line.name().is_empty() {
+    let answer = match (line.call, journal.entries().get(first..end)) {
+        ("Journal::write", _) => call!(teller, "Journal::write" => journal.write(world.alloc)),
+        (_, Some(entries)) => call!(teller, "write_lines" => write_lines(world.alloc, entries)),
+        (_, None) => return Err(Stop::NotAllowed),
+    };
+    let text = teller.answered(answer)?;
+    if line.name.is_empty() {
         teller.lines(&text);
-        return Ok(());
+    } else {
+        teller.say(format_args!("{} bytes", text.len()));
     }
-    teller.say(format_args!("{} bytes", text.len()));
-    Ok(world.texts.keep(world.alloc, line.name(), text)?)
+    world.texts.keep(line.name, text)
 }
 
-fn add(teller: &mut Teller<'_>, world: &mut World, line: &Line<'_>) -> Result<(), Stop> {
-    let (alloc, entry) = (world.alloc, entry_of(world, line.arguments(1))?);
+fn add(teller: &mut Teller<'_>, world: &mut World, line: &Line<'_>) -> Taken {
+    let entry = entry_of(world, line.arguments(1))?;
     let call = match entry {
         Entry::Add(_) => "Journal::add",
         Entry::Done(..) => "Journal::append",
     };
-    let journal = journal_mut(world, line)?;
-    let answer = call!(teller, call, added(journal, entry)).ok_or(Stop::NotAllowed)?;
-    check_reference(teller, &answer);
-    answered(teller, alloc, answer)?;
+    let journal = world.journals.get_mut(line.argument(0))?;
+    let answer = call!(teller, call => added(journal, entry)).ok_or(Stop::NotAllowed)?;
+    check_reference(teller, &answer)?;
+    teller.answered(answer)?;
     teller.say("added");
     Ok(())
 }
 
-fn reserve(teller: &mut Teller<'_>, world: &mut World, line: &Line<'_>) -> Result<(), Stop> {
-    let (alloc, paths) = (world.alloc, line.number(1).unwrap_or(0));
-    let journal = journal_mut(world, line)?;
-    let answer = call!(teller, "Journal::reserve", journal.reserve(paths));
-    answered(teller, alloc, answer)?;
-    teller.say("reserved");
-    Ok(())
-}
-
 // Makes room for an entry, and pushes it.
-fn push_reserved(teller: &mut Teller<'_>, world: &mut World, line: &Line<'_>) -> Result<(), Stop> {
-    let (alloc, entry) = (world.alloc, entry_of(world, line.arguments(1))?);
-    let copy = entry.copy(alloc)?;
-    let journal = journal_mut(world, line)?;
+fn push_reserved(teller: &mut Teller<'_>, world: &mut World, line: &Line<'_>) -> Taken {
+    let entry = entry_of(world, line.arguments(1))?;
+    let copy = entry.copy(world.alloc)?;
+    let journal = world.journals.get_mut(line.argument(0))?;
     let paths = entry.registrations().len();
-    match call!(teller, "Journal::reserve", journal.reserve(paths)) {
+    match call!(teller, "Journal::reserve" => journal.reserve(paths)) {
         Ok(()) => push(teller, journal, entry, copy),
-        Err(fault) => answered(teller, alloc, Err(fault)),
+        Err(fault) => teller.answered(Err(fault)),
     }
 }
 
-fn push(
-    teller: &mut Teller<'_>,
-    journal: &mut Journal,
-    entry: Entry,
-    copy: Entry,
-) -> Result<(), Stop>
+fn push(teller: &mut Teller<'_>, journal: &mut Journal, entry: Entry, copy: Entry) -> Taken
     requires room { length (registered_by entry) ≤ journal.old.room }
     requires same { copy ≡ entry }
 {
@@ -227,11 +128,7 @@ fn push(
         tell_obstacle(teller, obstacle);
         return Err(Stop::Told);
     }
-    call!(
-        teller,
-        "Journal::push_reserved",
-        journal.push_reserved(entry, copy)
-    );
+    call!(teller, "Journal::push_reserved" => journal.push_reserved(entry, copy));
     teller.say("pushed");
     Ok(())
 }
@@ -246,69 +143,175 @@ fn is_derived(entry: &Entry) -> bool
     }
 }
 
-fn registers(teller: &mut Teller<'_>, world: &World, line: &Line<'_>) -> Result<(), Stop> {
-    let (journal, path) = (journal(world, line)?, world.path(line.argument(1))?);
-    let answer = call!(teller, "Journal::registers", journal.registers(&path));
-    teller.say(answer);
-    Ok(())
-}
-
-fn outlet(teller: &mut Teller<'_>, world: &World, line: &Line<'_>) -> Result<(), Stop> {
+fn outlet(teller: &mut Teller<'_>, world: &World, line: &Line<'_>) -> Taken {
     let entry = entry_of(world, line.arguments(1))?;
-    let journal = journal(world, line)?;
-    let answer = call!(
-        teller,
-        "ListOutlet::open",
-        ListOutlet::open(world.alloc, journal)
-    );
-    match answer {
-        Ok(outlet) => append(teller, world.alloc, journal, outlet, entry),
-        Err(fault) => answered(teller, world.alloc, Err(fault)),
+    let journal = world.journals.get(line.argument(0))?;
+    match call!(teller, "ListOutlet::open" => ListOutlet::open(world.alloc, journal)) {
+        Ok(outlet) => append(teller, journal, outlet, entry),
+        Err(fault) => teller.answered(Err(fault)),
     }
 }
 
 // Appends an entry to the outlet that opens with a journal.
-fn append(
-    teller: &mut Teller<'_>,
-    alloc: Global,
-    journal: &Journal,
-    mut outlet: ListOutlet,
-    entry: Entry,
-) -> Result<(), Stop>
+fn append(teller: &mut Teller<'_>, journal: &Journal, mut outlet: ListOutlet, entry: Entry) -> Taken
     requires { outlet.shown ++ outlet.pending ≡ journal.now.entries }
 {
     if let Some(_) = journal.table().obstacle(&entry) {
         return Err(Stop::NotAllowed);
     }
-    teller.begins("ListOutlet::append");
-    let answer = outlet.append(entry);
-    teller.ends("ListOutlet::append");
+    let answer = call!(teller, "ListOutlet::append" => outlet.append(entry));
     if answer.is_err() && (outlet.shown() != journal.entries() || !outlet.pending().is_empty()) {
         return Err(Stop::Lost("memory was refused, and the outlet is not as it was"));
     }
-    answered(teller, alloc, answer)?;
+    teller.answered(answer)?;
     publish(teller, outlet)
 }
 
 // Publishes what waits in an outlet, and tells how that stands before and after that.
-fn publish(teller: &mut Teller<'_>, mut outlet: ListOutlet) -> Result<(), Stop> {
+fn publish(teller: &mut Teller<'_>, mut outlet: ListOutlet) -> Taken {
     tell_outlet(teller, &outlet);
-    if call!(teller, "ListOutlet::publish", outlet.publish()).is_err() {
+    if call!(teller, "ListOutlet::publish" => outlet.publish()).is_err() {
         return Err(Stop::Lost("the outlet did not publish"));
     }
     tell_outlet(teller, &outlet);
-    call!(teller, "ListOutlet::close", outlet.close());
+    call!(teller, "ListOutlet::close" => outlet.close());
     Ok(())
 }
 
 fn tell_outlet(teller: &mut Teller<'_>, outlet: &ListOutlet) {
     const CALLS: &str = "ListOutlet::shown ListOutlet::pending ListOutlet::tell";
-    teller.begins(CALLS);
-    let (shown, pending, told) = (outlet.shown(), outlet.pending(), outlet.tell());
-    teller.ends(CALLS);
+    let (shown, pending, told) =
+        call!(teller, CALLS => (outlet.shown(), outlet.pending(), outlet.tell()));
     let (count, waiting) = (shown.len(), pending.len());
     teller.say(format_args!("{told} told, {count} shown, {waiting} pending"));
     if let Some(Entry::Add(last)) = shown.last() {
         teller.say(last.path.as_str());
     }
+}
+
+/// The entry that words stand for.
+pub(crate) fn entry_of(world: &World, words: &[&[u8]]) -> Result<Entry, Stop> {
+    match words {
+        [deriver, b":", outputs @ ..] => {
+            let outputs = Outputs::sorted(registrations_of(world, outputs)?);
+            let outputs = outputs.ok_or(Stop::NotAllowed)?;
+            Ok(Entry::Done(world.path(deriver)?, outputs))
+        }
+        words => Ok(Entry::Add(registration_of(world, words)?)),
+    }
+}
+
+// The registrations that words stand for, with `/` between them; none for no words.
+fn registrations_of(world: &World, words: &[&[u8]]) -> Result<Vec<Registration>, Stop> {
+    let mut registrations = Vec::new(world.alloc);
+    for words in words.split(|word| *word == b"/".as_slice()) {
+        if !words.is_empty() {
+            registrations.push(registration_of(world, words)?)?;
+        }
+    }
+    Ok(registrations)
+}
+
+fn registration_of(world: &World, words: &[&[u8]]) -> Result<Registration, Stop> {
+    let (path, known) = words.split_first().ok_or(Stop::Lost("no path"))?;
+    let (digest, references) = digest_first(known);
+    let info = Record::new(rising(world, references)?, digest)?;
+    let path = world.path(path)?;
+    Ok(Registration { path, info })
+}
+
+// The digest that the first of some words is, if it is one, and the words after it.
+fn digest_first<'a, 'b>(words: &'a [&'b [u8]]) -> (Option<Digest>, &'a [&'b [u8]]) {
+    match words {
+        [first, rest @ ..] => match Digest::of_text(first) {
+            None => (None, words),
+            digest => (digest, rest),
+        },
+        [] => (None, words),
+    }
+}
+
+/// Adds a digest, if there is one, and paths to a text.
+pub(crate) fn push_known(
+    text: &mut Vec<u8>,
+    digest: Option<Digest>,
+    references: &[StorePath],
+) -> Result<(), AllocError> {
+    if let Some(digest) = digest {
+        text.push(b' ')?;
+        digest.push_text(text)?;
+    }
+    for reference in references {
+        text.push(b' ')?;
+        text.extend_from_slice(reference.text())?;
+    }
+    Ok(())
+}
+
+// Prints registrations after some text.
+fn tell(teller: &mut Teller<'_>, mut text: Vec<u8>, registrations: &[Registration]) -> Taken {
+    let front = text.len();
+    for Registration { path, info } in registrations {
+        text.extend_from_slice(if text.len() > front { b" / " } else { b"" })?;
+        text.extend_from_slice(path.text())?;
+        push_known(&mut text, info.digest(), info.references())?;
+    }
+    teller.text(&text);
+    Ok(())
+}
+
+// A record, its copy, and what that says.
+fn record(teller: &mut Teller<'_>, world: &World, line: &Line<'_>) -> Taken {
+    let (digest, references) = digest_first(line.arguments(0));
+    let references = rising(world, references)?;
+    let info = tried!(teller, "Record::new" => Record::new(references, digest))?;
+    let copy = tried!(teller, "Record::copy" => info.copy(world.alloc))?;
+    let references = call!(teller, "Record::references" => copy.references());
+    let digest = call!(teller, "Record::digest" => copy.digest());
+    let mut text = Vec::from_slice(world.alloc, b"known:")?;
+    push_known(&mut text, digest, references)?;
+    teller.text(&text);
+    Ok(())
+}
+
+fn one_output(teller: &mut Teller<'_>, world: &World, line: &Line<'_>) -> Taken {
+    let one = vec![in world.alloc; registration_of(world, line.arguments(0))?]?;
+    let outputs = call!(teller, "Outputs::new" => Outputs::new(one));
+    tell(teller, Vec::new(world.alloc), outputs.as_slice())
+}
+
+fn sorted(teller: &mut Teller<'_>, world: &World, line: &Line<'_>) -> Taken {
+    let registrations = registrations_of(world, line.arguments(0))?;
+    match call!(teller, "Outputs::sorted" => Outputs::sorted(registrations)) {
+        Some(outputs) => {
+            let sorted = call!(teller, "Outputs::as_slice" => outputs.as_slice());
+            tell(teller, Vec::new(world.alloc), sorted)
+        }
+        None => tell(teller, Vec::from_slice(world.alloc, b"none")?, &[]),
+    }
+}
+
+// A copy of an entry, and a copy of what that adds, or of its outputs.
+fn copy(teller: &mut Teller<'_>, world: &World, line: &Line<'_>) -> Taken {
+    let entry = entry_of(world, line.arguments(0))?;
+    let copy = match tried!(teller, "Entry::copy" => entry.copy(world.alloc))? {
+        Entry::Add(one) => {
+            Entry::Add(tried!(teller, "Registration::copy" => one.copy(world.alloc))?)
+        }
+        Entry::Done(deriver, outputs) => {
+            let outputs = tried!(teller, "Outputs::copy" => outputs.copy(world.alloc))?;
+            Entry::Done(deriver, outputs)
+        }
+    };
+    tell_entry(teller, world.alloc, &copy)
+}
+
+fn tell_entry(teller: &mut Teller<'_>, alloc: Global, entry: &Entry) -> Taken {
+    let mut text = Vec::new(alloc);
+    if let Entry::Done(deriver, _) = entry {
+        text.extend_from_slice(deriver.text())?;
+        text.extend_from_slice(b" : ")?;
+    }
+    let registrations = call!(teller, "Entry::registrations" => entry.registrations());
+    tell(teller, text, registrations)
 }

@@ -1,77 +1,76 @@
-//! Names, paths and digests.
+//! Names, paths and digests, and what `bench/` measures by: plans of files on disk, a pass over a
+//! text, and the memory that is held.
 
-use crate::line::{Line, Lines};
-use crate::stop::{Stop, Taken, answered, call, end, tried};
+use crate::give::{Appended, Give};
+use crate::line::{Line, number_of};
+use crate::stop::{Found, Stop, Taken, call, tried};
 use crate::teller::Teller;
 use crate::world::World;
+use drv_graph::Plan;
+use memchr::memmem;
+use nix_drv::{DrvSource, SourceFault};
 use nix_names::{
     Algorithm, Digest, StoreDir, StorePath, fold20, from_base32, is_drv_name, is_name, known_path,
     make_named_path, make_path, parse_path, to_base32,
 };
-use std::alloc::{AllocError, Global};
+use std::alloc::Global;
 use std::mem::size_of;
 use std::{fs, str};
 
-/// What the taking of a line answers: nothing, unless there is no memory to go on.
-pub(crate) type Done = Result<(), AllocError>;
-
-/// Notes that a line means nothing.
-pub(crate) fn lost(teller: &mut Teller<'_>, why: &str) -> Done {
-    teller.lost(why);
-    Ok(())
-}
-
 /// Takes a line, if its call is one of these.
-pub(crate) fn take(
-    teller: &mut Teller<'_>,
-    world: &mut World,
-    _lines: &mut Lines<'_>,
-    line: &Line<'_>,
-) -> Result<bool, AllocError> {
-    let done = match line.call() {
-        b"bytes" => bytes(world, line),
-        b"file" => file(teller, world, line),
-        b"dir" => dir(teller, world, line),
-        b"to_base32" => encoded(teller, world, line),
-        b"from_base32" => decoded(teller, world, line),
-        b"parse_path" => parsed(teller, world, line),
-        b"known_path" => known(teller, world, line),
-        b"make_path" => made(teller, world, line),
-        b"make_named_path" => made_named(teller, world, line),
-        b"fold20" => folded(teller, world, line),
-        b"is_name" => names(teller, world, line),
-        b"path" => path(teller, world, line),
-        b"compare" => compare(teller, world, line),
-        b"Digest::of_text" => of_text(teller, world, line),
-        b"Digest::of_digits" => of_digits(teller, world, line),
-        b"Digest::push_text" => push_text(teller, world, line),
-        b"Digest::push_digits" => push_digits(teller, world, line),
-        _ => return Ok(false),
-    };
-    end(teller, done);
-    Ok(true)
+pub(crate) fn take(teller: &mut Teller<'_>, world: &mut World, line: &Line<'_>) -> Found {
+    Ok(of_paths(teller, world, line)? || of_texts(teller, world, line)?)
 }
 
-// Keeps a text, which is given in hex digits.
-fn bytes(world: &mut World, line: &Line<'_>) -> Taken {
-    match hex::decode(world.alloc, line.argument(0)) {
-        Ok(bytes) => Ok(world.texts.keep(world.alloc, line.name(), bytes)?),
-        Err(_) => Err(Stop::Lost("no such bytes")),
+fn of_paths(teller: &mut Teller<'_>, world: &mut World, line: &Line<'_>) -> Found {
+    words! { teller, world, line;
+        "parse_path" (text = text 0) => parse_path(world.alloc, &world.dir, text);
+        "known_path" (path = known 0) => known_path(world.alloc, path.text());
+        "make_path" (kind = text 0, inner = digest 1, name = text 2)
+            => make_path(world.alloc, kind, &inner, &world.dir, name);
+        "make_named_path" (kind = text 0, inner = digest 1, name = text 2) if is_name(name)
+            => make_named_path(world.alloc, kind, &inner, &world.dir, name);
+        "is_name" as "is_name is_drv_name" (name = text 0) => (is_name(name), is_drv_name(name));
+        "compare" as "StorePath::cmp StorePath::eq" (path = path 0, other = path 1)
+            => (path.cmp(&other), path == other);
+        do "load_files" => load(teller, world, line);
+        do "memmem" => find(teller, world, line);
+        do "memory" => memory(teller);
+        do "path" => path(teller, world, line);
+        do "dir" => dir(teller, world, line);
     }
 }
 
-// Keeps the bytes of a file as a text.
-fn file(teller: &Teller<'_>, world: &mut World, line: &Line<'_>) -> Taken {
-    let bytes = file_bytes(teller, line.argument(0)).ok_or(Stop::Lost("no file"))?;
-    Ok(world.texts.keep(world.alloc, line.name(), bytes)?)
+fn of_texts(teller: &mut Teller<'_>, world: &mut World, line: &Line<'_>) -> Found {
+    words! { teller, world, line;
+        "to_base32" (bytes = text 0) => to_base32(world.alloc, bytes);
+        "from_base32" (text = text 0, count = number 1)
+            => from_base32(world.alloc, text, count) => hex;
+        "fold20" (digest = digest 0) => fold20(&digest);
+        "Digest::of_text" (text = text 0) => Digest::of_text(text);
+        "Digest::push_text" (mut out = copy 0, digest = written 1)
+            => Appended(digest.push_text(&mut out), out);
+        "Digest::push_digits" (mut out = copy 0, digest = written 1)
+            => Appended(digest.push_digits(&mut out), out);
+        keep "bytes" => decoded(world.alloc, line.argument(0))?;
+        keep "file" => file_bytes(teller, line.argument(0))?;
+        do "Digest::of_digits" => of_digits(teller, world, line);
+    }
 }
 
-/// The bytes of the file at a path, if there is one.
-pub(crate) fn file_bytes(teller: &Teller<'_>, path: &[u8]) -> Option<Vec<u8>> {
-    match str::from_utf8(path) {
-        Ok(path) => fs::read(teller.rt(), path).ok(),
+/// The bytes of the file at a path.
+pub(crate) fn file_bytes(teller: &Teller<'_>, path: &[u8]) -> Result<Vec<u8>, Stop> {
+    let bytes = match str::from_utf8(path) {
+        Ok(path) => fs::read(teller.rt, path).ok(),
         Err(_) => None,
-    }
+    };
+    bytes.ok_or(Stop::Lost("no file"))
+}
+
+// The bytes that are written in hex digits.
+fn decoded(alloc: Global, digits: &[u8]) -> Result<Vec<u8>, Stop> {
+    let bytes = hex::decode(alloc, digits).ok();
+    bytes.ok_or(Stop::Lost("no such bytes"))
 }
 
 /// The 32 bytes that are written in hex digits.
@@ -83,101 +82,13 @@ pub(crate) fn digest_of(digits: &[u8]) -> Result<[u8; 32], Stop> {
     }
 }
 
-// Prints bytes in hex digits.
-fn tell_hex(teller: &mut Teller<'_>, alloc: Global, bytes: &[u8]) -> Taken {
-    let digits = hex::encode(alloc, bytes)?;
-    teller.say(digits.as_str());
-    Ok(())
-}
-
 // Makes a folder the store folder of the lines that follow.
 fn dir(teller: &mut Teller<'_>, world: &mut World, line: &Line<'_>) -> Taken {
     let text = world.text(line.argument(0));
-    let dir = tried!(teller, "StoreDir::new", StoreDir::new(world.alloc, text))?;
-    let text = call!(teller, "StoreDir::text", dir.text());
+    let dir = tried!(teller, "StoreDir::new" => StoreDir::new(world.alloc, text))?;
+    let text = call!(teller, "StoreDir::text" => dir.text());
     teller.text(text);
-    world.dir = text.to_vec(world.alloc)?;
-    Ok(())
-}
-
-fn encoded(teller: &mut Teller<'_>, world: &World, line: &Line<'_>) -> Taken {
-    let bytes = world.text(line.argument(0));
-    let text = tried!(teller, "to_base32", to_base32(world.alloc, bytes))?;
-    teller.say(text.as_str());
-    Ok(())
-}
-
-fn decoded(teller: &mut Teller<'_>, world: &World, line: &Line<'_>) -> Taken {
-    let text = world.text(line.argument(0));
-    let count = line.number(1).ok_or(Stop::Lost("no such bytes"))?;
-    let bytes = tried!(teller, "from_base32", from_base32(world.alloc, text, count))?;
-    tell_hex(teller, world.alloc, &bytes)
-}
-
-/// Prints a path and keeps its text.
-pub(crate) fn keep_path(
-    teller: &mut Teller<'_>,
-    world: &mut World,
-    line: &Line<'_>,
-    path: &StorePath,
-) -> Taken {
-    teller.say(path.as_str());
-    let text = path.text().to_vec(world.alloc)?;
-    Ok(world.texts.keep(world.alloc, line.name(), text)?)
-}
-
-fn parsed(teller: &mut Teller<'_>, world: &mut World, line: &Line<'_>) -> Taken {
-    let (dir, text) = (world.dir()?, world.text(line.argument(0)));
-    let path = tried!(teller, "parse_path", parse_path(world.alloc, &dir, text))?;
-    keep_path(teller, world, line, &path)
-}
-
-fn known(teller: &mut Teller<'_>, world: &mut World, line: &Line<'_>) -> Taken {
-    let path = world.path(line.argument(0)).ok().ok_or(Stop::NotAllowed)?;
-    let path = tried!(teller, "known_path", known_path(world.alloc, path.text()))?;
-    keep_path(teller, world, line, &path)
-}
-
-fn made(teller: &mut Teller<'_>, world: &mut World, line: &Line<'_>) -> Taken {
-    let (kind, name) = (line.argument(0), world.text(line.argument(2)));
-    let (dir, inner) = (world.dir()?, digest_of(line.argument(1))?);
-    let path = tried!(
-        teller,
-        "make_path",
-        make_path(world.alloc, kind, &inner, &dir, name)
-    )?;
-    keep_path(teller, world, line, &path)
-}
-
-fn made_named(teller: &mut Teller<'_>, world: &mut World, line: &Line<'_>) -> Taken {
-    let (kind, name) = (line.argument(0), world.text(line.argument(2)));
-    let (dir, inner) = (world.dir()?, digest_of(line.argument(1))?);
-    if !is_name(name) {
-        return Err(Stop::NotAllowed);
-    }
-    let path = tried!(
-        teller,
-        "make_named_path",
-        make_named_path(world.alloc, kind, &inner, &dir, name)
-    )?;
-    keep_path(teller, world, line, &path)
-}
-
-fn folded(teller: &mut Teller<'_>, world: &World, line: &Line<'_>) -> Taken {
-    let digest = digest_of(line.argument(0))?;
-    let folded = call!(teller, "fold20", fold20(&digest));
-    tell_hex(teller, world.alloc, &folded)
-}
-
-// Whether a text is a name, and whether a name is that of a derivation's file.
-fn names(teller: &mut Teller<'_>, world: &World, line: &Line<'_>) -> Taken {
-    let name = world.text(line.argument(0));
-    let found = call!(
-        teller,
-        "is_name is_drv_name",
-        (is_name(name), is_drv_name(name))
-    );
-    teller.say(format_args!("{} {}", found.0, found.1));
+    world.dir = dir;
     Ok(())
 }
 
@@ -185,104 +96,67 @@ fn names(teller: &mut Teller<'_>, world: &World, line: &Line<'_>) -> Taken {
 fn path(teller: &mut Teller<'_>, world: &World, line: &Line<'_>) -> Taken {
     const TEXTS: &str = "StorePath::text StorePath::as_str StorePath::hash_part StorePath::name";
     let path = world.path(line.argument(0))?;
-    let copy = tried!(teller, "StorePath::copy", path.copy(world.alloc))?;
-    drop(path);
-    let texts = call!(
-        teller,
-        TEXTS,
-        (copy.text(), copy.as_str(), copy.hash_part(), copy.name())
-    );
-    let key = call!(teller, "StorePath::key", copy.key());
-    teller.text(texts.0);
-    teller.say(texts.1);
-    teller.text(texts.2);
-    teller.text(texts.3);
+    let copy = tried!(teller, "StorePath::copy" => path.copy(world.alloc))?;
+    let (text, string, part, name) =
+        call!(teller, TEXTS => (copy.text(), copy.as_str(), copy.hash_part(), copy.name()));
+    let key = call!(teller, "StorePath::key" => copy.key());
+    teller.text(text);
+    teller.say(string);
+    teller.text(part);
+    teller.text(name);
     teller.say(format_args!("{key:x}, in {} bytes", size_of::<StorePath>()));
     Ok(())
 }
 
-// How two paths compare.
-fn compare(teller: &mut Teller<'_>, world: &World, line: &Line<'_>) -> Taken {
-    let (path, other) = (world.path(line.argument(0))?, world.path(line.argument(1))?);
-    let found = call!(
-        teller,
-        "StorePath::cmp StorePath::eq",
-        (path.cmp(&other), path == other)
-    );
-    teller.say(format_args!("{:?} {}", found.0, found.1));
+fn of_digits(teller: &mut Teller<'_>, world: &mut World, line: &Line<'_>) -> Taken {
+    let (name, digits) = (line.argument(0), world.text(line.argument(1)));
+    let found = match call!(teller, "Algorithm::of_name" => Algorithm::of_name(name)) {
+        Some(named) => call!(teller, "Digest::of_digits" => Digest::of_digits(named, digits)),
+        None => None,
+    };
+    found.give(teller, world, line)
+}
+
+// Derivations' files on disk, each under the text of its path.
+#[derive(Drop)]
+struct Folder<'a> {
+    files: &'a HostRuntime,
+}
+
+impl DrvSource for Folder<'_> {
+    ghost use Rattle.std.specs.Prelude.{⊤};
+
+    ghost gives = { λ _ _ _. ⊤ };
+
+    ghost failures = { λ _. 0 };
+
+    fn fetch(&mut self, _: Global, path: &StorePath) -> Result<Vec<u8>, SourceFault> {
+        fs::read(self.files, path.as_str()).map_err(|_| SourceFault::Missing)
+    }
+}
+
+// `load_files ROOT..`: the plan of some roots, from the files of the store folder.
+fn load(teller: &mut Teller<'_>, world: &mut World, line: &Line<'_>) -> Taken {
+    let roots = world.paths(line.arguments(0))?;
+    let mut source = Folder { files: teller.rt };
+    let plan = call!(teller, "Plan::load" =>
+        Plan::load(world.alloc, &mut source, &world.dir, &roots));
+    plan.give(teller, world, line)
+}
+
+// One pass over a text, which `scan` is compared with.
+fn find(teller: &mut Teller<'_>, world: &World, line: &Line<'_>) -> Taken {
+    let (text, wanted) = (world.text(line.argument(0)), world.text(line.argument(1)));
+    let place = call!(teller, "memmem" => memmem::find(text, wanted));
+    teller.say(format_args!("{place:?}"));
     Ok(())
 }
 
-fn of_text(teller: &mut Teller<'_>, world: &World, line: &Line<'_>) -> Taken {
-    let text = world.text(line.argument(0));
-    let found = call!(teller, "Digest::of_text", Digest::of_text(text));
-    tell_digest(teller, world.alloc, found)
-}
-
-fn of_digits(teller: &mut Teller<'_>, world: &World, line: &Line<'_>) -> Taken {
-    let (name, digits) = (line.argument(0), world.text(line.argument(1)));
-    let algorithm = call!(teller, "Algorithm::of_name", Algorithm::of_name(name));
-    let found = match algorithm {
-        Some(named) => {
-            call!(
-                teller,
-                "Digest::of_digits",
-                Digest::of_digits(named, digits)
-            )
-        }
-        None => None,
-    };
-    tell_digest(teller, world.alloc, found)
-}
-
-// Prints the algorithm and the bytes of a digest, if there is one.
-fn tell_digest(teller: &mut Teller<'_>, alloc: Global, found: Option<Digest>) -> Taken {
-    let Some(digest) = found else {
-        teller.say("none");
-        return Ok(());
-    };
-    let algorithm = call!(teller, "Digest::algorithm", digest.algorithm());
-    let name = call!(teller, "Algorithm::name", algorithm.name());
-    let bytes = call!(teller, "Digest::bytes", digest.bytes());
-    teller.text(name);
-    tell_hex(teller, alloc, bytes)
-}
-
-// The digest whose text the second argument is, and a copy of the text to which it is to be added.
-fn adding(world: &World, line: &Line<'_>) -> Result<(Digest, Vec<u8>), Stop> {
-    let digest = Digest::of_text(line.argument(1)).ok_or(Stop::Lost("no such bytes"))?;
-    Ok((digest, world.text(line.argument(0)).to_vec(world.alloc)?))
-}
-
-fn push_text(teller: &mut Teller<'_>, world: &mut World, line: &Line<'_>) -> Taken {
-    let (digest, mut out) = adding(world, line)?;
-    let answer = call!(teller, "Digest::push_text", digest.push_text(&mut out));
-    Ok(appended(teller, world, line, out, answer)?)
-}
-
-fn push_digits(teller: &mut Teller<'_>, world: &mut World, line: &Line<'_>) -> Taken {
-    let (digest, mut out) = adding(world, line)?;
-    let answer = call!(teller, "Digest::push_digits", digest.push_digits(&mut out));
-    Ok(appended(teller, world, line, out, answer)?)
-}
-
-/// Prints and keeps a copy of the first argument's text to which a call added, if it could. What
-/// stood there before has to stand there still.
-pub(crate) fn appended(
-    teller: &mut Teller<'_>,
-    world: &mut World,
-    line: &Line<'_>,
-    out: Vec<u8>,
-    answer: Result<(), AllocError>,
-) -> Done {
-    if !out.starts_with(world.text(line.argument(0))) {
-        return lost(teller, "what stood before is gone");
-    }
-    match teller.answered(world.alloc, answer) {
-        Some(()) => {
-            teller.text(&out);
-            world.texts.keep(world.alloc, line.name(), out)
-        }
-        None => Ok(()),
-    }
+// Says how many bytes of memory the program holds.
+fn memory(teller: &mut Teller<'_>) -> Taken {
+    let pages = file_bytes(teller, b"/proc/self/statm")?;
+    let held = pages.split(|byte| *byte == b' ').nth(1).and_then(number_of);
+    let pages = held.ok_or(Stop::Lost("the system does not tell how much memory is held"))?;
+    teller.say(format_args!("holds {} bytes", pages.saturating_mul(4096)));
+    Ok(())
 }

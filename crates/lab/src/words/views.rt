@@ -3,7 +3,9 @@ ghost use Rattle.std.specs.Prelude.{◌≡◌, ◌≤◌, ◌++◌, IfOk, IfSome
 ghost use Rattle.valid_table.specs.Entries.{registered_by};
 ghost use Rattle.valid_table.specs.Valid.{HasDrvPath};
 
-use crate::line::{Line, Lines};
+use crate::give::Give;
+use crate::line::Line;
+use crate::stop::{Found, Stop, Taken, call, take_lines, tried};
 use crate::teller::Teller;
 use crate::words::faults::tell_all;
 use crate::world::World;
@@ -21,76 +23,46 @@ use valid_view::{ListId, Name, Seen, Tells, ViewReader, ViewWriter, open};
 pub(crate) fn take<W: Wait>(
     wait: &W,
     teller: &mut Teller<'_>,
-    world: &World,
-    lines: &mut Lines<'_>,
+    world: &mut World,
     line: &Line<'_>,
-) -> Result<bool, AllocError> {
-    if line.call() != b"view".as_slice() {
+) -> Found {
+    if line.call != "view" {
         return Ok(false);
     }
     let readers = line.number(1).unwrap_or(0);
-    let Some(journal) = world.journals.get(line.argument(0)) else {
-        teller.lost("no journal");
-        return Ok(true);
+    let Ok(journal) = world.journals.get(line.argument(0))?.copy(world.alloc) else {
+        return Err(Stop::Lost("no memory"));
     };
     if readers == 0 || readers > 64 {
-        teller.not_allowed();
-        return Ok(true);
+        return Err(Stop::NotAllowed);
     }
-    let name = called!(teller, "Name::new", Name::new());
-    let opening = Opening {
-        journal,
-        readers,
-        name,
-    };
-    opened::<Brand, W>(wait, teller, world, lines, opening)?;
+    let name = call!(teller, "Name::new" => Name::new());
+    opened::<Brand, W>(wait, teller, world, name, (journal, readers))?;
     Ok(true)
 }
 
-// What a view opens with.
-struct Opening<'a> {
-    journal: &'a Journal,
-    readers: usize,
-    name: Name,
-}
-
-// Opens a view with this name, and takes the lines of its calls.
+// Opens a view of a journal with so many readers, and takes the lines of its calls.
 fn opened<J: ListId + Send, W: Wait>(
     wait: &W,
     teller: &mut Teller<'_>,
-    world: &World,
-    lines: &mut Lines<'_>,
-    opening: Opening<'_>,
-) -> Result<(), AllocError>
-    requires name { opening.name ≡ J.book }
-    requires readers { (1 ≤ opening.readers) × (opening.readers ≤ 64) }
+    world: &mut World,
+    name: Name,
+    opening: (Journal, usize),
+) -> Taken
+    requires name { name ≡ J.book }
+    requires readers { (1 ≤ opening.1) × (opening.1 ≤ 64) }
 {
-    let Opening {
-        journal,
-        readers,
-        name,
-    } = opening;
-    let Ok(journal) = journal.copy(world.alloc) else {
-        return Err(AllocError);
-    };
-    let view = called!(
-        teller,
-        "open",
-        open::<J, &W>(world.alloc, wait, name, &journal, readers)
-    );
-    match view {
+    let (journal, readers) = opening;
+    match call!(teller, "open" => open::<J, &W>(world.alloc, wait, name, &journal, readers)) {
         Ok((writer, readers)) => {
             let view = View {
                 journal,
                 writer,
                 readers,
             };
-            view.talk(teller, world, lines)
+            view.talk(teller, world)
         }
-        Err(fault) => {
-            teller.tell_fault(world.alloc, &fault);
-            Ok(())
-        }
+        Err(fault) => teller.answered(Err(fault)),
     }
 }
 
@@ -105,78 +77,37 @@ struct View<'a, J: ListId, W> {
 impl<J: ListId + Send, W: Wait> View<'_, J, W> {
     // Takes the lines of the calls of the writer and the readers, and closes the writer. Then takes
     // those of the calls of readers whose writer is gone.
-    fn talk(
-        mut self,
-        teller: &mut Teller<'_>,
-        world: &World,
-        lines: &mut Lines<'_>,
-    ) -> Result<(), AllocError> {
+    fn talk(mut self, teller: &mut Teller<'_>, world: &mut World) -> Taken {
         teller.say(format_args!("{} readers", self.readers.len()));
-        let taken = self.take_lines(teller, world, lines);
+        let taken = self.take_lines(teller, world);
         let View {
             journal: _,
             writer,
             mut readers,
         } = self;
-        let shown = called!(teller, "ViewWriter::close", writer.close());
+        let shown = call!(teller, "ViewWriter::close" => writer.close());
         teller.say(format_args!("closed with {} entries", shown.len()));
         taken?;
-        take_last_lines(teller, world, lines, &mut readers)
+        take_last_lines(teller, world, &mut readers)
     }
 
     // Takes each line up to `close`.
-    fn take_lines(
-        &mut self,
-        teller: &mut Teller<'_>,
-        world: &World,
-        lines: &mut Lines<'_>,
-    ) -> Result<(), AllocError> {
-        for _ in 0..lines.rest.len() {
-            let Some(text) = lines.next() else { break };
-            let line = Line::of(world.alloc, text)?;
-            if line.call() == b"close".as_slice() {
-                break;
-            }
-            self.take_line(teller, world, &line)?;
-            if !teller.goes_on() {
-                break;
-            }
-        }
-        Ok(())
+    fn take_lines(&mut self, teller: &mut Teller<'_>, world: &mut World) -> Taken {
+        take_lines!(teller, "close", line => self.take_once(teller, world, &line),
+            shown = self.writer.tell().len(), self.shows(shown))
     }
 
-    // Takes a line. Where a call of it was answered by want of memory, it is taken again.
-    fn take_line(
-        &mut self,
-        teller: &mut Teller<'_>,
-        world: &World,
-        line: &Line<'_>,
-    ) -> Result<(), AllocError> {
-        let shown = self.writer.tell().len();
-        self.take_once(teller, world, line)?;
-        if teller.wants() {
-            let is_as_it_was = self.writer.tell().len() == shown && self.shows(shown);
-            teller.takes_again(is_as_it_was);
-            self.take_once(teller, world, line)?;
-        }
-        if teller.wants() {
-            teller.lost("memory was refused twice");
-        }
-        Ok(())
-    }
-
-    // Whether the first reader finds what so many entries register, and none of what the others do.
+    // Whether the writer shows so many entries, and the first reader finds what these register, and
+    // none of what the others do.
     fn shows(&mut self, shown: u64) -> bool {
+        let mut is_so = self.writer.tell().len() == shown;
         let Some(reader) = self.readers.get_mut(0) else {
             return false;
         };
         let mut number = 0u64;
-        let mut is_so = true;
         for entry in self.journal.entries() {
-            let seen = entry
-                .registrations()
-                .first()
-                .map(|one| reader.look(&one.path));
+            let first = entry.registrations().first();
+            let seen = first.map(|one| reader.look(&one.path));
             let is_shown = matches!(seen, Some(Ok(Seen::Valid(_))));
             is_so = is_so && is_shown == (number < shown);
             number = number.wrapping_add(1);
@@ -184,143 +115,103 @@ impl<J: ListId + Send, W: Wait> View<'_, J, W> {
         is_so
     }
 
-    fn take_once(
-        &mut self,
-        teller: &mut Teller<'_>,
-        world: &World,
-        line: &Line<'_>,
-    ) -> Result<(), AllocError> {
-        match line.call() {
-            b"append" => self.append(teller, world, line)?,
-            b"publish" => self.publish(teller, world.alloc),
-            b"tell" => self.tell(teller),
-            b"learn" => self.learn(teller, line),
-            b"longer" => self.longer(teller, line),
-            _ => ask(teller, world, line, &mut self.readers)?,
-        }
-        Ok(())
+    fn take_once(&mut self, teller: &mut Teller<'_>, world: &mut World, line: &Line<'_>) -> Found {
+        let taken = match line.call {
+            "append" => self.append(teller, world, line),
+            "publish" => self.publish(teller),
+            "tell" => self.tell(teller),
+            "learn" => self.learn(teller, line),
+            "longer" => self.longer(teller, line),
+            _ => return ask(teller, world, line, &mut self.readers),
+        };
+        taken.map(|()| true)
     }
 
     // Appends the entries of a kept journal up to a number, from the number of entries on that the
     // view has.
-    fn append(
-        &mut self,
-        teller: &mut Teller<'_>,
-        world: &World,
-        line: &Line<'_>,
-    ) -> Result<(), AllocError> {
+    fn append(&mut self, teller: &mut Teller<'_>, world: &World, line: &Line<'_>) -> Taken {
         let first = self.journal.entries().len();
         for number in first..line.number(1).unwrap_or(first) {
             let Some(entry) = kept_entry(world, line.argument(0), number) else {
-                teller.lost("no entry");
-                break;
+                return Err(Stop::Lost("no entry"));
             };
             let copies = thrice(world.alloc, entry)?;
             self.journal.reserve(entry.registrations().len())?;
-            if !self.is_appended(teller, world.alloc, copies) {
-                return Ok(());
-            }
+            self.append_one(teller, copies)?;
         }
         teller.say(format_args!("{} entries", self.journal.entries().len()));
         Ok(())
     }
 
     // Appends an entry, if it may come next.
-    fn is_appended(
-        &mut self,
-        teller: &mut Teller<'_>,
-        alloc: Global,
-        copies: (Entry, Entry, Entry),
-    ) -> bool
+    fn append_one(&mut self, teller: &mut Teller<'_>, copies: (Entry, Entry, Entry)) -> Taken
         requires alike { (copies.1 ≡ copies.0) × (copies.2 ≡ copies.0) }
         requires derived { HasDrvPath copies.0 }
         requires room { length (registered_by copies.0) ≤ self.old.journal.room }
     {
         let (entry, copy, shown) = copies;
         if let Some(_) = self.journal.table().obstacle(&entry) {
-            teller.not_allowed();
-            return false;
+            return Err(Stop::NotAllowed);
         }
-        match called!(teller, "ViewWriter::append", self.writer.append(shown)) {
+        match call!(teller, "ViewWriter::append" => self.writer.append(shown)) {
             Ok(()) => {
                 self.journal.push_reserved(entry, copy);
-                true
+                Ok(())
             }
-            Err(fault) => {
-                teller.tell_fault(alloc, &fault);
-                false
-            }
+            Err(fault) => teller.answered(Err(fault)),
         }
     }
 
-    fn publish(&mut self, teller: &mut Teller<'_>, alloc: Global) {
+    fn publish(&mut self, teller: &mut Teller<'_>) -> Taken {
         let is_idle = self.writer.tell().len() == self.journal.entries().len() as u64;
-        let call = if is_idle {
-            "ViewWriter::publish idle"
-        } else {
-            "ViewWriter::publish"
-        };
-        let answer = called!(teller, call, self.writer.publish());
-        if let Some(()) = teller.answered(alloc, answer) {
-            teller.say("published");
-        }
+        let call = ["ViewWriter::publish", "ViewWriter::publish idle"][is_idle as usize];
+        tried!(teller, call => self.writer.publish())?;
+        teller.say("published");
+        Ok(())
     }
 
-    fn tell(&self, teller: &mut Teller<'_>) {
-        let told = called!(teller, "ViewWriter::tell", self.writer.tell());
-        let length = called!(teller, "Prefix::len", told.len());
+    fn tell(&self, teller: &mut Teller<'_>) -> Taken {
+        let told = call!(teller, "ViewWriter::tell" => self.writer.tell());
+        let length = call!(teller, "Prefix::len" => told.len());
         teller.say(format_args!("{length} entries are shown"));
+        Ok(())
     }
 
     // Has a reader learn of the list that is shown.
-    fn learn(&mut self, teller: &mut Teller<'_>, line: &Line<'_>) {
+    fn learn(&mut self, teller: &mut Teller<'_>, line: &Line<'_>) -> Taken {
         let told = self.writer.tell();
-        let Some(reader) = reader_of(line, &mut self.readers) else {
-            return teller.lost("no reader");
-        };
-        let prefix = called!(
-            teller,
-            "ViewWriter::prefix",
-            <ViewWriter<J, &W> as Tells<J>>::prefix(told)
-        );
-        called!(teller, "ViewReader::learn", reader.learn(prefix));
+        let reader = reader_of(line, &mut self.readers)?;
+        let prefix = call!(teller, "ViewWriter::prefix" =>
+            <ViewWriter<J, &W> as Tells<J>>::prefix(told));
+        call!(teller, "ViewReader::learn" => reader.learn(prefix));
+        Ok(())
     }
 
     // The longer of the list that is shown and the one that a reader saw.
-    fn longer(&mut self, teller: &mut Teller<'_>, line: &Line<'_>) {
+    fn longer(&mut self, teller: &mut Teller<'_>, line: &Line<'_>) -> Taken {
         let told = self.writer.tell();
-        let Some(reader) = reader_of(line, &mut self.readers) else {
-            return teller.lost("no reader");
-        };
-        let again = called!(teller, "Prefix::again", told.again());
-        let longer = called!(teller, "Prefix::longer", reader.seen().longer(&again));
+        let reader = reader_of(line, &mut self.readers)?;
+        let again = call!(teller, "Prefix::again" => told.again());
+        let longer = call!(teller, "Prefix::longer" => reader.seen().longer(&again));
         teller.say(format_args!("{} and {} entries", again.len(), longer.len()));
+        Ok(())
     }
 }
 
 // Takes each line up to `end`.
 fn take_last_lines<J: ListId>(
     teller: &mut Teller<'_>,
-    world: &World,
-    lines: &mut Lines<'_>,
+    world: &mut World,
     readers: &mut [ViewReader<J>],
-) -> Result<(), AllocError> {
-    for _ in 0..lines.rest.len() {
-        let Some(text) = lines.next() else { break };
-        let line = Line::of(world.alloc, text)?;
-        if line.call() == b"end".as_slice() || !teller.goes_on() {
-            break;
-        }
-        ask(teller, world, &line, readers)?;
-    }
-    Ok(())
+) -> Taken {
+    take_lines!(teller, "end", line => ask(teller, world, &line, readers), _before = (), true)
 }
 
 // The entry with this number of a kept journal.
 fn kept_entry<'a>(world: &'a World, journal: &[u8], number: usize) -> Option<&'a Entry>
     ensures { IfSome result (λ entry. HasDrvPath entry.now) }
 {
-    world.journals.get(journal)?.entries().get(number)
+    world.journals.get(journal).ok()?.entries().get(number)
 }
 
 // Three copies of an entry.
@@ -335,66 +226,46 @@ fn thrice(alloc: Global, entry: &Entry) -> Result<(Entry, Entry, Entry), AllocEr
 fn reader_of<'a, J: ListId>(
     line: &Line<'_>,
     readers: &'a mut [ViewReader<J>],
-) -> Option<&'a mut ViewReader<J>> {
-    let number = line.number(0)?;
-    readers.get_mut(number)
+) -> Result<&'a mut ViewReader<J>, Stop> {
+    let number = line.number(0).unwrap_or(readers.len());
+    readers.get_mut(number).ok_or(Stop::Lost("no reader"))
 }
 
 // Takes the line of a call of a reader.
 fn ask<J: ListId>(
     teller: &mut Teller<'_>,
-    world: &World,
+    world: &mut World,
     line: &Line<'_>,
     readers: &mut [ViewReader<J>],
-) -> Result<(), AllocError> {
-    let (Some(reader), Ok(paths)) = (reader_of(line, readers), world.paths(line.arguments(1)))
-    else {
-        teller.lost("no reader, or no path");
-        return Ok(());
-    };
-    match (line.call(), paths.first()) {
-        (b"look", Some(path)) => {
-            let answer = called!(teller, "ViewReader::look", reader.look(path));
-            if let Some(seen) = teller.answered(world.alloc, answer) {
-                tell_seen(teller, world.alloc, seen)?;
-            }
-        }
-        (b"closure" | b"closure_len", _) => {
-            let answer = called!(
-                teller,
-                "ViewReader::closure",
-                reader.closure(world.alloc, &paths)
-            );
-            match teller.answered(world.alloc, answer) {
-                Some(all) if line.call() == b"closure".as_slice() => teller.paths(&all),
-                Some(all) => teller.say(format_args!("{} paths", all.len())),
-                None => {}
-            }
-        }
-        (b"fault", Some(path)) => {
-            if let Err(fault) = reader.look(path) {
-                let faults = [fault];
-                tell_all(teller, "ViewFault::number", &faults, |it| it.number())?;
-            }
-        }
-        (b"seen", _) => {
-            let seen = called!(teller, "ViewReader::seen", reader.seen());
-            teller.say(format_args!("{} entries were seen", seen.len()));
-        }
-        _ => teller.lost("there is no such call of a view"),
+) -> Found {
+    let reader = reader_of(line, readers)?;
+    words! { teller, world, line;
+        "look" as "ViewReader::look" (path = path 1) => reader.look(&path);
+        "closure" as "ViewReader::closure" (roots = paths 1)
+            => reader.closure(world.alloc, &roots) => paths;
+        "closure_len" as "ViewReader::closure" (roots = paths 1)
+            => reader.closure(world.alloc, &roots) => count;
+        do "seen" => seen(teller, reader);
+        do "fault" => fault(teller, world, line, reader);
     }
+}
+
+fn seen<J: ListId>(teller: &mut Teller<'_>, reader: &ViewReader<J>) -> Taken {
+    let seen = call!(teller, "ViewReader::seen" => reader.seen());
+    teller.say(format_args!("{} entries were seen", seen.len()));
     Ok(())
 }
 
-fn tell_seen(teller: &mut Teller<'_>, alloc: Global, seen: Seen) -> Result<(), AllocError> {
-    match seen {
-        Seen::Absent => teller.say("absent"),
-        Seen::Valid(None) => teller.say("valid"),
-        Seen::Valid(Some(digest)) => {
-            let mut text = Vec::from_slice(alloc, b"valid, ")?;
-            digest.push_text(&mut text)?;
-            teller.text(&text);
-        }
+// Tells the fault of a reader whose writer is gone.
+fn fault<J: ListId>(
+    teller: &mut Teller<'_>,
+    world: &World,
+    line: &Line<'_>,
+    reader: &mut ViewReader<J>,
+) -> Taken {
+    if let Err(fault) = reader.look(&world.path(line.argument(1))?) {
+        let faults = [fault];
+        tell_all(teller, "ViewFault::number", &faults, |it| it.number())?;
     }
     Ok(())
 }

@@ -2,16 +2,15 @@
 ghost use Rattle.std.specs.Prelude.{IfOk};
 ghost use Rattle.sched_core.specs.Books.{IsBooksLease, MayAllRefer};
 
-use super::answers::{answer, made_job, status_of};
-use super::looks::{look, tell_lease, tell_states};
-use super::opened;
-use super::outlet::{Counting, Told};
-use super::verdicts::{found, text_of};
-use crate::line::{Line, Lines};
+use super::{
+    Counting, Told, answer, found, look, made_job, opened, status_of, tell_lease, tell_states,
+    tell_told, text_of,
+};
+use crate::line::Line;
+use crate::stop::{Found, Stop, Taken, call, take_lines, tried};
 use crate::teller::Teller;
-use crate::words::names::Done;
 use crate::world::World;
-use sched_core::{Answer, Book, BookFault, Checked, Job, Lease, Reason};
+use sched_core::{Book, BookFault, Checked, Lease, Reason};
 use std::alloc::{AllocError, Global};
 use std::mem;
 
@@ -21,16 +20,11 @@ struct Desk {
     leases: [Option<Lease<Told>>; 4],
 }
 
-/// Takes the lines of a book.
-pub(crate) fn take_lines(
-    teller: &mut Teller<'_>,
-    world: &World,
-    lines: &mut Lines<'_>,
-    book: Book<Counting>,
-) -> Done {
-    let leases = [None, None, None, None];
+/// Opens a book, and takes its lines.
+pub(crate) fn take_session(teller: &mut Teller<'_>, world: &World, line: &Line<'_>) -> Taken {
+    let (book, leases) = (opened(teller, world, line)?, [None, None, None, None]);
     let mut desk = Desk { book, leases };
-    let taken = desk.take_all(teller, world, lines);
+    let taken = desk.take_all(teller, world);
     desk.close(teller);
     taken
 }
@@ -48,11 +42,12 @@ fn place_of(name: &[u8]) -> usize {
 }
 
 impl Desk {
-    fn take_out(&mut self, name: &[u8]) -> Option<Lease<Told>> {
-        match self.leases.get_mut(place_of(name)) {
+    fn take_out(&mut self, name: &[u8]) -> Result<Lease<Told>, Stop> {
+        let lease = match self.leases.get_mut(place_of(name)) {
             Some(slot) => slot.take(),
             None => None,
-        }
+        };
+        lease.ok_or(Stop::Lost("there is no such call of a book, or no lease"))
     }
 
     // Puts a lease under a name. What stood there is given up.
@@ -81,115 +76,97 @@ impl Desk {
         give_up(b);
         give_up(c);
         give_up(d);
-        called!(teller, "Book::close", book.close());
+        call!(teller, "Book::close" => book.close());
     }
 
-    fn take_all(&mut self, teller: &mut Teller<'_>, world: &World, lines: &mut Lines<'_>) -> Done {
-        for _ in 0..lines.rest.len() {
-            let Some(text) = lines.next() else { break };
-            if text == b"close".as_slice() || !teller.goes_on() {
-                break;
-            }
-            self.take(teller, world, &Line::of(world.alloc, text)?)?;
-        }
-        Ok(())
+    fn take_all(&mut self, teller: &mut Teller<'_>, world: &World) -> Taken {
+        take_lines!(teller, "close", line => self.take_once(teller, world, &line),
+            before = self.text(world.alloc)?, self.text(world.alloc)? == before)
     }
 
-    // Takes a line. Where a call of it was answered by want of memory, it is taken again.
-    fn take(&mut self, teller: &mut Teller<'_>, world: &World, line: &Line<'_>) -> Done {
-        let before = self.text(world.alloc)?;
-        self.take_once(teller, world, line)?;
-        if teller.wants() {
-            let is_as_it_was = self.text(world.alloc)? == before;
-            teller.takes_again(is_as_it_was);
-            self.take_once(teller, world, line)?;
-        }
-        if teller.wants() {
-            teller.lost("memory was refused twice");
-        }
-        Ok(())
+    fn take_once(&mut self, teller: &mut Teller<'_>, world: &World, line: &Line<'_>) -> Found {
+        Ok(self.of_book(teller, world, line)? || self.of_lease(teller, world, line)?)
     }
 
-    fn take_once(&mut self, teller: &mut Teller<'_>, world: &World, line: &Line<'_>) -> Done {
-        let name = line.argument(0);
-        match line.call() {
-            b"next" => self.next(teller, world.alloc, line.name()),
-            b"drive" => self.drive(teller, world, line)?,
-            b"reopen" => {
-                if let Some(book) = opened(teller, world, line) {
-                    mem::replace(&mut self.book, book).close();
-                }
-            }
-            b"look" => look(teller, &self.book),
-            b"states" => tell_states(teller, world.alloc, &self.book)?,
-            b"journal" => match self.book.journal().write(world.alloc) {
-                Ok(text) => teller.lines(&text),
-                Err(_) => return Err(AllocError),
-            },
-            b"report" => self.report(teller, world.alloc),
-            b"finish" => self.finish(teller, world, line)?,
-            _ => match self.take_out(name) {
-                Some(lease) => self.take_lease(teller, line, lease),
-                None => teller.lost("there is no such call of a book, or no lease"),
-            },
+    fn of_book(&mut self, teller: &mut Teller<'_>, world: &World, line: &Line<'_>) -> Found {
+        words! { teller, world, line;
+            "report" as "Book::report" if self.book.settled() => self.book.report() => lines;
+            do "next" => self.next(teller, line.name);
+            do "finish" => self.finish(teller, world, line);
+            do "drive" => self.drive(teller, world, line);
+            do "reopen" => self.reopen(teller, world, line);
+            do "look" => look(teller, &self.book);
+            do "states" => tell_states(teller, world.alloc, &self.book);
+            do "journal" => self.journal(teller, world.alloc);
         }
-        Ok(())
     }
 
     // Takes a line over a lease, which is put back under its name if it comes back.
-    fn take_lease(&mut self, teller: &mut Teller<'_>, line: &Line<'_>, mut lease: Lease<Told>) {
+    fn of_lease(&mut self, teller: &mut Teller<'_>, world: &World, line: &Line<'_>) -> Found {
         let name = line.argument(0);
-        match line.call() {
-            b"fail" => return self.fail(teller, name, lease, reason_of(line.argument(1))),
-            b"give_up" => return called!(teller, "Lease::give_up", lease.give_up()),
-            b"permitted" => self.permitted(teller, &lease),
-            b"lease" => tell_lease(teller, &lease),
-            b"told" => {
-                let told = called!(teller, "Lease::told", [lease.told(), lease.told()]);
-                teller.say(format_args!("{told:?}"));
+        let mut lease = self.take_out(name)?;
+        match line.call {
+            "fail" => self.fail(teller, name, lease, reason_of(line.argument(1))),
+            "give_up" => call!(teller, "Lease::give_up" => lease.give_up()),
+            _ => {
+                let taken = self.ask(teller, world, line, &mut lease);
+                self.put(name, lease);
+                return taken;
             }
-            _ => teller.lost("there is no such call of a lease"),
         }
-        self.put(name, lease);
+        Ok(true)
+    }
+
+    fn ask(
+        &self,
+        teller: &mut Teller<'_>,
+        world: &World,
+        line: &Line<'_>,
+        lease: &mut Lease<Told>,
+    ) -> Found {
+        words! { teller, world, line;
+            "permitted" as "Book::permitted" => self.book.permitted(lease) => paths;
+            do "lease" => tell_lease(teller, lease);
+            do "told" => tell_told(teller, lease);
+        }
+    }
+
+    fn reopen(&mut self, teller: &mut Teller<'_>, world: &World, line: &Line<'_>) -> Taken {
+        let book = opened(teller, world, line)?;
+        mem::replace(&mut self.book, book).close();
+        Ok(())
     }
 
     // Keeps the next lease, if there is one.
-    fn next(&mut self, teller: &mut Teller<'_>, alloc: Global, name: &[u8]) {
-        let is_idle = !self.book.can_begin();
-        let call = if is_idle {
-            "Book::next idle"
-        } else {
-            "Book::next"
-        };
-        match called!(teller, call, self.book.next()) {
-            Ok(Some(lease)) => {
+    fn next(&mut self, teller: &mut Teller<'_>, name: &[u8]) -> Taken {
+        let can_begin = self.book.can_begin();
+        let call = ["Book::next idle", "Book::next"][can_begin as usize];
+        match tried!(teller, call => self.book.next())? {
+            Some(lease) => {
                 let (number, d) = (lease.number(), lease.job().derivation);
                 teller.say(format_args!("lease {number} of {d}"));
                 self.put(name, lease);
             }
-            Ok(None) => teller.say("nothing to begin"),
-            Err(fault) => teller.tell_fault(alloc, &fault),
+            None => teller.say("nothing to begin"),
         }
+        Ok(())
     }
 
     // `finish LEASE OUTPUTS STATUS TREE..`, where OUTPUTS is `*`, or lists the outputs of another
     // job, for which the verdict is found. Where that is a reason, the lease ends by it.
-    fn finish(&mut self, teller: &mut Teller<'_>, world: &World, line: &Line<'_>) -> Done {
-        let made = made_job(world, b"", line.argument(1));
-        let Some(lease) = self.take_out(line.argument(0)) else {
-            teller.lost("no lease");
-            return Ok(());
-        };
+    fn finish(&mut self, teller: &mut Teller<'_>, world: &World, line: &Line<'_>) -> Taken {
+        let (name, outputs) = (line.argument(0), line.argument(1));
+        let made = made_job(world, b"", outputs).ok();
+        let lease = self.take_out(name)?;
         let job = made.as_ref().unwrap_or(lease.job());
         match answer(world, line.arguments(2), job.outputs.len()) {
             Ok(answer) => {
                 let verdict = found(teller, &self.book, &lease, job, answer);
-                self.end(teller, line.argument(0), lease, verdict);
-                Ok(())
+                self.end(teller, name, lease, verdict)
             }
-            Err(fault) => {
-                self.put(line.argument(0), lease);
-                Err(fault)
+            Err(_) => {
+                self.put(name, lease);
+                Err(Stop::Lost("no memory"))
             }
         }
     }
@@ -201,7 +178,7 @@ impl Desk {
         name: &[u8],
         lease: Lease<Told>,
         verdict: Result<Result<Checked, Reason>, BookFault>,
-    )
+    ) -> Taken
         requires { IfOk verdict (λ found. IfOk found (λ checked.
             IsBooksLease self.old.book.run self.old.book.history lease.job lease.number
             → MayAllRefer self.old.book.history.entries lease.job checked)) }
@@ -209,10 +186,13 @@ impl Desk {
         match verdict {
             Ok(Ok(checked)) => self.register(teller, name, lease, checked),
             Ok(Err(Reason::OutOfMemory)) | Err(_) => {
-                teller.tell_fault(*lease.job().outputs.allocator(), &Reason::OutOfMemory);
                 self.put(name, lease);
+                teller.answered(Err(BookFault::NoMemory))
             }
-            Ok(Err(reason)) => self.fail(teller, name, lease, reason),
+            Ok(Err(reason)) => {
+                self.fail(teller, name, lease, reason);
+                Ok(())
+            }
         }
     }
 
@@ -223,28 +203,31 @@ impl Desk {
         name: &[u8],
         lease: Lease<Told>,
         checked: Checked,
-    )
+    ) -> Taken
         requires { IsBooksLease self.old.book.run self.old.book.history lease.job lease.number
             → MayAllRefer self.old.book.history.entries lease.job checked }
     {
         let alloc = *lease.job().outputs.allocator();
         let before = text_of(alloc, checked.records());
-        match called!(teller, "Book::finish", self.book.finish(lease, checked)) {
-            Ok(()) => teller.say("finished"),
+        match call!(teller, "Book::finish" => self.book.finish(lease, checked)) {
+            Ok(()) => {
+                teller.say("finished");
+                Ok(())
+            }
             Err((fault, lease, checked)) => {
-                teller.tell_fault(alloc, &fault);
-                if text_of(alloc, checked.records()) != before {
-                    teller.lost("other records came back");
-                }
                 self.put(name, lease);
+                if text_of(alloc, checked.records()) != before {
+                    return Err(Stop::Lost("other records came back"));
+                }
+                teller.answered(Err(fault))
             }
         }
     }
 
     fn fail(&mut self, teller: &mut Teller<'_>, name: &[u8], lease: Lease<Told>, reason: Reason) {
         let answer = match reason {
-            Reason::OutOfMemory => called!(teller, "Book::abandon", self.book.abandon(lease)),
-            reason => called!(teller, "Book::fail", self.book.fail(lease, reason)),
+            Reason::OutOfMemory => call!(teller, "Book::abandon" => self.book.abandon(lease)),
+            reason => call!(teller, "Book::fail" => self.book.fail(lease, reason)),
         };
         match answer {
             Ok(()) => teller.say(format_args!("failed by {reason:?}")),
@@ -257,38 +240,27 @@ impl Desk {
 
     // `drive LEASE OUTPUTS STATUS TREE..`: each derivation that can be begun is begun under this
     // name, and ends like this. No call is told.
-    fn drive(&mut self, teller: &mut Teller<'_>, world: &World, line: &Line<'_>) -> Done {
+    fn drive(&mut self, teller: &mut Teller<'_>, world: &World, line: &Line<'_>) -> Taken {
         teller.hush(true);
         for _ in 0..self.book.plan().len() {
             if self.book.can_begin() {
-                self.next(teller, world.alloc, line.argument(0));
-                self.finish(teller, world, line)?;
+                let begun = self.next(teller, line.argument(0)).map(|()| true);
+                teller.end(begun);
+                let ended = self.finish(teller, world, line).map(|()| true);
+                teller.end(ended);
             }
         }
         teller.hush(false);
         let (events, steps) = (self.book.events().len(), self.book.steps());
-        teller.say(format_args!(
-            "events {events}, steps {steps}, settled {}",
-            self.book.settled()
-        ));
+        let settled = self.book.settled();
+        teller.say(format_args!("events {events}, steps {steps}, settled {settled}"));
         Ok(())
     }
 
-    fn report(&self, teller: &mut Teller<'_>, alloc: Global) {
-        if !self.book.settled() {
-            return teller.not_allowed();
-        }
-        let answer = called!(teller, "Book::report", self.book.report());
-        if let Some(text) = teller.answered(alloc, answer) {
-            teller.lines(&text);
-        }
-    }
-
-    fn permitted(&self, teller: &mut Teller<'_>, lease: &Lease<Told>) {
-        let answer = called!(teller, "Book::permitted", self.book.permitted(lease));
-        if let Some(paths) = teller.answered(*lease.job().outputs.allocator(), answer) {
-            teller.paths(&paths);
-        }
+    fn journal(&self, teller: &mut Teller<'_>, alloc: Global) -> Taken {
+        let text = self.book.journal().write(alloc);
+        teller.lines(&text.ok().ok_or(Stop::Lost("no memory"))?);
+        Ok(())
     }
 }
 

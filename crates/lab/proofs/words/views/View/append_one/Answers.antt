@@ -1,4 +1,4 @@
-use Rattle.lab.proofs.words.views.View.is_appended.Goals as goal
+use Rattle.lab.proofs.words.views.View.append_one.Goals as goal
 
 pub append-answer-requires-clause-new : goal.append-answer-requires-clause-new
 append-answer-requires-clause-new g c =

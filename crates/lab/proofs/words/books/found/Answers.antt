@@ -2,7 +2,7 @@ use Rattle.std.proofs.Common.{List, ℕ, subst, sym}
 use Rattle.sched_core.specs.Books.{ArePermittedPaths, IsBooksLease}
 use Rattle.build_outcome.specs.declared.job.Job.{Job}
 use Rattle.lab.proofs.OtherJobs.{may_refer_by_permitted, may_refer_by_none, under}
-use Rattle.lab.proofs.words.books.verdicts.found.Goals as goal
+use Rattle.lab.proofs.words.books.found.Goals as goal
 
 pub returns-in-Ok : goal.returns-in-Ok
 returns-in-Ok c =
