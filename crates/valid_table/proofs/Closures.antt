@@ -1,5 +1,5 @@
 -- The rows that were found are those of the closure.
-use Rattle.std.proofs.Common.{◌≡◌, ℕ, List, [], length, sym, subst, All, Contains, Result, Ok, Err, IfOk, IfErr, rules}
+use Rattle.std.proofs.Common.{ℕ, List, [], length, sym, subst, All, Contains, Ok, rules}
 use Rattle.std.specs.Global.{Vec}
 use Rattle.std.proofs.Math.Seq.{take-length}
 use Rattle.std.proofs.lemmas.List.Elements.{All-contains}
@@ -8,8 +8,6 @@ use Rattle.valid_table.specs.private.Closing.{AddsRows, HasReferences, HaveSame,
 use Rattle.valid_table.specs.Closure.{IsClosing, IsClosure}
 use Rattle.valid_table.specs.Valid.{IsValid}
 use Rattle.valid_table.specs.declared.entry.Registration.{Registration}
-use Rattle.valid_table.specs.declared.fault.TableFault.{TableFault}
-use Rattle.valid_table.specs.declared.fault.TableFault.TheVariants.{NoMemory}
 use Rattle.valid_table.proofs.Reaching.{has_reached}
 
 -- the sorted paths of the followed rows are the closure of the roots
@@ -54,16 +52,11 @@ closure_found registrations roots start found all valid begins followed rising s
         subst (λ (rows : List ℕ). All (HasReferences registrations (paths_at registrations found))
         (paths_at registrations rows)) (take-length found) followed.followed
 
--- where the paths of those rows are sorted, or memory is refused for it, the question for the
--- closure is answered
+-- where the paths of those rows are sorted, the question for the closure is answered
 pub closing_answered : (registrations : List Registration) (roots : List (List ℕ))
-    (start found : List ℕ) (answer : Result (Vec (List ℕ)) TableFault)
+    (start found : List ℕ) (paths : Vec (List ℕ))
     → All (IsValid registrations) roots → AddsRows registrations [] roots start
-    → IsFollowed registrations start found (length found)
-    → IfOk answer (λ paths. IsRising paths.items)
-    → IfOk answer (λ paths. HaveSame paths.items (paths_at registrations found))
-    → IfErr answer (λ fault. fault ≡ NoMemory) → IsClosing registrations roots answer
-closing_answered registrations roots start found (Ok paths) valid begins followed rising same
-    refused = search (rules, closure_found)
-closing_answered registrations roots start found (Err fault) valid begins followed rising same
-    refused = search rules
+    → IsFollowed registrations start found (length found) → IsRising paths.items
+    → HaveSame paths.items (paths_at registrations found) → IsClosing registrations roots (Ok paths)
+closing_answered registrations roots start found paths valid begins followed rising same =
+    search (rules, closure_found)

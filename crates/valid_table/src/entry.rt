@@ -90,7 +90,7 @@ impl Record {
         }
     }
 
-    /// The same record again, which shares what is known. Fails only where the shared memory can
+    /// A copy of the record, which shares what is known. Fails only where the shared memory can
     /// have no more owners.
     pub fn copy(&self, _alloc: Global) -> Result<Record, AllocError>
         ensures ok { IfOk result (λ r. r ≡ self.now) }
@@ -145,7 +145,7 @@ pub struct Registration {
 }
 
 impl Registration {
-    /// The same registration again. Want of memory is its only fault.
+    /// A copy of the registration. Want of memory is its only fault.
     pub fn copy(&self, alloc: Global) -> Result<Registration, AllocError>
         ensures ok { IfOk result (λ r. r ≡ self.now) }
     {
@@ -218,7 +218,7 @@ impl Outputs {
         self.registrations
     }
 
-    /// The same outputs again. Want of memory is its only fault.
+    /// A copy of the outputs. Want of memory is its only fault.
     pub fn copy(&self, alloc: Global) -> Result<Outputs, AllocError>
         ensures ok { IfOk result (λ o. o ≡ self.now) }
     {
@@ -249,6 +249,14 @@ impl Entry {
         }
     }
 
+    // Shows the prover that an entry registers at least one path, and that the paths rise.
+    pub(crate) fn show_registered(&self)
+        ensures some { registered_by self.now ≢ [] }
+        ensures rising { IsRising (paths_registered (registered_by self.now)) }
+    {
+        let _ = self.registrations();
+    }
+
     // The registration at a place, taken out.
     pub(crate) fn into_registration(self, place: usize) -> Registration
         requires { place < length (registered_by self) }
@@ -260,7 +268,7 @@ impl Entry {
         }
     }
 
-    /// The same entry again. Want of memory is its only fault.
+    /// A copy of the entry. Want of memory is its only fault.
     pub fn copy(&self, alloc: Global) -> Result<Entry, AllocError>
         ensures ok { IfOk result (λ e. e ≡ self.now) }
     {
@@ -287,7 +295,7 @@ fn is_rising(registrations: &[Registration]) -> bool
     true
 }
 
-// The same registrations again.
+// Copies of the registrations, with room for these alone.
 fn copy_registrations(
     alloc: Global,
     registrations: &[Registration],
@@ -302,7 +310,7 @@ fn copy_registrations(
     Ok(copied)
 }
 
-// The same entries again.
+// Copies of the entries, with room for these alone.
 pub(crate) fn copy_entries(alloc: Global, entries: &[Entry]) -> Result<Vec<Entry>, AllocError>
     ensures items { IfOk result (λ copied. copied.items ≡ entries.now) }
     ensures room { IfOk result (λ copied. vec_capacity copied ≡ length entries.now) }

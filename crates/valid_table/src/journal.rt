@@ -132,13 +132,12 @@ impl Journal {
         ensures entries { self.new.entries ≡ self.old.entries ++ entry ∷ [] }
         ensures room { self.old.room ≤ self.new.room + length (registered_by entry) }
     {
-        // Its contract says that an entry registers at least one path.
-        let _ = entry.registrations();
-        let _ = self.entries.push(entry);
+        entry.show_registered();
+        self.entries.push_reserved(entry);
         self.table.register_reserved(copy);
     }
 
-    /// The same journal again. Answers `NoMemory` where memory is refused, and no other fault.
+    /// A copy of the journal. Answers `NoMemory` where memory is refused, and no other fault.
     /// Costs one look-up by hash for each registered path and each reference.
     pub fn copy(&self, alloc: Global) -> Result<Journal, TableFault>
         ensures ok { IfOk result (λ journal. journal.entries ≡ self.now.entries) }

@@ -37,6 +37,13 @@ pub(crate) fn behind_letter(letter: u8, bytes: &[u8]) -> Option<&[u8]>
     }
 }
 
+// Shows the prover that a folder's text is one: it has neither spaces nor newlines.
+pub(crate) fn show_store_dir(dir: &StoreDir)
+    ensures { IsStoreDir dir.now }
+{
+    let _ = dir.text();
+}
+
 // The path that is spelled by these bytes, if they are one of the store folder.
 pub(crate) fn path_of(
     alloc: Global,
@@ -48,8 +55,7 @@ pub(crate) fn path_of(
         (λ found. MatchOption found (IsPathOf dir.now text.now → ⊥)
         (λ path. (path ≡ text.now) × IsPathOf dir.now text.now)) }
 {
-    // Its contract says that a folder's text has neither spaces nor newlines.
-    let _ = dir.text();
+    show_store_dir(dir);
     match parse_path(alloc, dir, text) {
         Ok(path) => Ok(Some(path)),
         Err(fault) => match fault {
@@ -112,7 +118,8 @@ pub(crate) fn path_line<'a>(
     }
 }
 
-// The same for the path of a derivation's file, where an output's line follows.
+// The path of a derivation's file and the newline at the head of the bytes, and what is after them,
+// where that begins an output's line.
 pub(crate) fn deriver_line<'a>(
     alloc: Global,
     dir: &StoreDir,

@@ -16,6 +16,7 @@ use crate::fault::TableFault;
 use crate::journal::Journal;
 use crate::journal_text::lines::{
     behind_letter, deriver_line, fields_line, is_other_version, line_number, path_line,
+    show_store_dir,
 };
 use crate::path_table::version::{Version, is_too_long, version_of};
 use nix_names::{Digest, StoreDir, StorePath};
@@ -285,8 +286,7 @@ pub(crate) fn entries_of(
         → (version : AVersion) × BeginsVersion version bytes.now }
     ensures room { IfOk result (λ entries. bytes.now ≡ [] → vec_capacity entries ≡ 0) }
 {
-    // Its contract says that the text is a folder's: without spaces and newlines.
-    let _ = dir.text();
+    show_store_dir(dir);
     let mut entries = Vec::new(alloc);
     if bytes.is_empty() {
         return Ok(entries);

@@ -19,7 +19,7 @@ impl Journal {
         ensures ok { IfOk result (λ bytes. bytes.items ≡ written_text self.now.entries) }
         ensures err { IfErr result (λ e. e ≡ TableFault.NoMemory) }
     {
-        write_text(alloc, self.entries())
+        Ok(write_text(alloc, self.entries())?)
     }
 }
 
@@ -37,9 +37,8 @@ pub fn write_lines(alloc: Global, entries: &[Entry]) -> Result<Vec<u8>, TableFau
 
 // The text of the entries.
 #[tactic(auto, unfolding(crate::specs::Texts::text))]
-pub(crate) fn write_text(alloc: Global, entries: &[Entry]) -> Result<Vec<u8>, TableFault>
-    ensures ok { IfOk result (λ bytes. bytes.items ≡ text Version.Two entries.now) }
-    ensures err { IfErr result (λ e. e ≡ TableFault.NoMemory) }
+fn write_text(alloc: Global, entries: &[Entry]) -> Result<Vec<u8>, AllocError>
+    ensures { IfOk result (λ bytes. bytes.items ≡ text Version.Two entries.now) }
 {
     let mut out = Vec::from_slice(alloc, Version::Two.line())?;
     add_lines(entries, &mut out)?;

@@ -3,7 +3,7 @@ ghost use Rattle.std.specs.Prelude.{◌≡◌, ◌<◌, ◌≤◌, [], nat_eq, I
 ghost use Rattle.std.specs.List.{IsDistinct, list_any};
 ghost use Rattle.indexmap.specs.IndexSet.{insert_key};
 
-use std::alloc::{AllocError, AllocFailed, Global};
+use std::alloc::{AllocError, Global};
 use std::marker::Model;
 
 // Its rows, and a mark for each row of a table, which is set where the row is among them.
@@ -56,7 +56,7 @@ impl RowSet {
     }
 
     // Adds a row at the end, where it isn't there yet.
-    pub(crate) fn insert(&mut self, row: usize) -> Result<(), AllocFailed<usize>>
+    pub(crate) fn insert(&mut self, row: usize) -> Result<(), AllocError>
         requires { row < self.old.room }
         ensures rows { OnOk result (self.new.rows ≡ insert_key nat_eq self.old.rows row) }
         ensures distinct { IsDistinct nat_eq self.new.rows }

@@ -1,5 +1,5 @@
 //! The rows of a table: how they are looked up, copied in and moved in.
-ghost use Rattle.std.specs.Prelude.{◌≡◌, ◌≤◌, ◌<◌, ◌+◌, ◌++◌, ◌↔◌, [], ◌∷◌, IfErr, IfOk, IsTrue, MatchOption, OnOk, length, take};
+ghost use Rattle.std.specs.Prelude.{◌≡◌, ◌≤◌, ◌<◌, ◌+◌, ◌++◌, ◌↔◌, [], ◌∷◌, IfOk, IsTrue, MatchOption, OnOk, length, take};
 ghost use Rattle.indexmap.specs.IndexMap.{spare};
 ghost use Rattle.valid_table.specs.private.Closing.{IsRowOf};
 ghost use Rattle.nix_names.specs.Rising.{IsRising};
@@ -9,10 +9,9 @@ ghost use Rattle.valid_table.specs.Tables.{registrations_of};
 ghost use Rattle.valid_table.specs.Valid.{IsNotValid, IsOnce, IsValid};
 
 use crate::entry::{Entry, Record, Registration};
-use crate::fault::TableFault;
 use indexmap::IndexMap;
 use nix_names::StorePath;
-use std::alloc::Global;
+use std::alloc::{AllocError, Global};
 
 // Whether a path has a row.
 pub(crate) fn has_row(rows: &IndexMap<StorePath, Record>, path: &StorePath) -> bool
@@ -34,12 +33,11 @@ pub(crate) fn add_rows(
     alloc: Global,
     rows: &mut IndexMap<StorePath, Record>,
     registrations: &[Registration],
-) -> Result<(), TableFault>
-    requires once { IsOnce (registrations_of rows.old.entries ++ registrations.now) }
-    ensures ok { OnOk result
+) -> Result<(), AllocError>
+    requires { IsOnce (registrations_of rows.old.entries ++ registrations.now) }
+    ensures { OnOk result
         (registrations_of rows.new.entries
         ≡ registrations_of rows.old.entries ++ registrations.now) }
-    ensures err { IfErr result (λ e. e ≡ TableFault.NoMemory) }
 {
     for registration in registrations {
         let path = registration.path.copy(alloc)?;
@@ -55,7 +53,7 @@ pub(crate) fn add_new(
     alloc: Global,
     rows: &mut IndexMap<StorePath, Record>,
     registrations: &[Registration],
-) -> Result<usize, TableFault>
+) -> Result<usize, AllocError>
     requires once { IsOnce (registrations_of rows.old.entries) }
     requires rising { IsRising (paths_registered registrations.now) }
     ensures prefix { IfOk result
@@ -68,7 +66,6 @@ pub(crate) fn add_new(
     ensures whole { IfOk result
         (λ count. length registrations.now ≤ count → registrations_of rows.new.entries
         ≡ registrations_of rows.old.entries ++ registrations.now) }
-    ensures err { IfErr result (λ e. e ≡ TableFault.NoMemory) }
 {
     for (count, registration) in registrations.iter().enumerate() {
         if put_row(rows, registration.copy(alloc)?)? {
@@ -83,11 +80,10 @@ pub(crate) fn add_new(
 fn put_row(
     rows: &mut IndexMap<StorePath, Record>,
     registration: Registration,
-) -> Result<bool, TableFault>
-    ensures put { IfOk result
+) -> Result<bool, AllocError>
+    ensures { IfOk result
         (IsPut (registrations_of rows.old.entries) (registrations_of rows.new.entries)
         registration) }
-    ensures err { IfErr result (λ e. e ≡ TableFault.NoMemory) }
 {
     let Registration { path, info } = registration;
     Ok(rows.insert(path, info)?.is_some())

@@ -1,5 +1,5 @@
 //! The paths of rows that were found, in rising order.
-ghost use Rattle.std.specs.Prelude.{◌≡◌, ◌<◌, ◌≤◌, ◌/◌, ◌++◌, ◌⊎◌, [], ℕ, All, IfErr, IfOk, IsTrue, OnOk, length, map, nat_eq, nat_lt, not, vec_capacity};
+ghost use Rattle.std.specs.Prelude.{◌≡◌, ◌<◌, ◌≤◌, ◌/◌, ◌++◌, ◌⊎◌, [], ℕ, All, IfOk, IsTrue, OnOk, length, map, nat_eq, nat_lt, not, vec_capacity};
 ghost use Rattle.std.specs.Cmp.Lexicographic.{slice_cmp};
 ghost use Rattle.std.specs.List.{filter, list_any};
 ghost use Rattle.std.specs.List.Sorted.{IsPermutation, IsSorted};
@@ -12,12 +12,11 @@ ghost use Rattle.valid_table.specs.Tables.{registrations_of};
 ghost use Rattle.valid_table.specs.Valid.{IsOnce};
 
 use crate::entry::Record;
-use crate::fault::TableFault;
 use crate::path_table::order::{RowOrder, folder_of, key_of};
 use crate::path_table::row_set::RowSet;
 use indexmap::IndexMap;
 use nix_names::StorePath;
-use std::alloc::{AllocFailed, Global};
+use std::alloc::{AllocError, Global};
 
 // A pass over the ordered rows costs less than a sort where one in `SWEEP` of them was found.
 const SWEEP: usize = 16;
@@ -28,7 +27,7 @@ pub(crate) fn sorted_paths(
     rows: &IndexMap<StorePath, Record>,
     order: &RowOrder,
     found: &RowSet,
-) -> Result<Vec<StorePath>, TableFault>
+) -> Result<Vec<StorePath>, AllocError>
     requires once { IsOnce (registrations_of rows.now.entries) }
     requires first { AreFirst (length rows.now.entries) (rows_behind order.now.keyed.items) }
     requires keys { AreKeyed (registrations_of rows.now.entries) order.now.keyed.items }
@@ -37,7 +36,6 @@ pub(crate) fn sorted_paths(
     ensures same { IfOk result
         (λ paths. HaveSame paths.items
         (paths_at (registrations_of rows.now.entries) found.now.rows)) }
-    ensures err { IfErr result (λ e. e ≡ TableFault.NoMemory) }
 {
     let mut keyed = keyed_rows(alloc, rows, order, found)?;
     keyed.sort()?;
@@ -54,7 +52,7 @@ fn keyed_rows(
     rows: &IndexMap<StorePath, Record>,
     order: &RowOrder,
     found: &RowSet,
-) -> Result<Vec<(u64, usize)>, TableFault>
+) -> Result<Vec<(u64, usize)>, AllocError>
     requires first { AreFirst (length rows.now.entries) (rows_behind order.now.keyed.items) }
     requires keys { AreKeyed (registrations_of rows.now.entries) order.now.keyed.items }
     requires rows { AreRows (registrations_of rows.now.entries) found.now.rows }
@@ -65,7 +63,6 @@ fn keyed_rows(
         ≡ list_any (nat_eq row) found.now.rows) }
     ensures keys { IfOk result
         (λ keyed. AreKeyed (registrations_of rows.now.entries) keyed.items) }
-    ensures err { IfErr result (λ e. e ≡ TableFault.NoMemory) }
 {
     let mut keyed = Vec::with_capacity(alloc, found.rows().len())?;
     let ordered = rows_to_sweep(order, found);
@@ -93,7 +90,7 @@ fn push_found(
     ordered: &[(u64, usize)],
     found: &RowSet,
     keyed: &mut Vec<(u64, usize)>,
-) -> Result<(), AllocFailed<(u64, usize)>>
+) -> Result<(), AllocError>
     ensures { OnOk result
         (keyed.new.items ≡ keyed.old.items
         ++ filter (λ k. list_any (nat_eq k.1) found.now.rows) ordered.now) }
@@ -112,7 +109,7 @@ fn push_late(
     first: usize,
     found: &RowSet,
     keyed: &mut Vec<(u64, usize)>,
-) -> Result<(), AllocFailed<(u64, usize)>>
+) -> Result<(), AllocError>
     requires rows { AreRows (registrations_of rows.now.entries) found.now.rows }
     requires keys { AreKeyed (registrations_of rows.now.entries) keyed.old.items }
     ensures rows { OnOk result
@@ -136,12 +133,11 @@ fn copy_paths(
     alloc: Global,
     rows: &IndexMap<StorePath, Record>,
     keyed: &[(u64, usize)],
-) -> Result<Vec<StorePath>, TableFault>
+) -> Result<Vec<StorePath>, AllocError>
     requires { All (λ k. k.1 < length (registrations_of rows.now.entries)) keyed.now }
     ensures paths { IfOk result (λ paths. paths.items
         ≡ paths_at (registrations_of rows.now.entries) (map (λ k. k.1) keyed.now)) }
     ensures room { IfOk result (λ paths. vec_capacity paths ≡ length keyed.now) }
-    ensures err { IfErr result (λ e. e ≡ TableFault.NoMemory) }
 {
     let texts = rows.keys();
     let mut paths = Vec::with_capacity(alloc, keyed.len())?;

@@ -73,7 +73,7 @@ impl Table {
         ensures ok { IfOk result (λ table. table.registrations ≡ registered journal.now.entries) }
         ensures err { IfErr result (λ e. e ≡ TableFault.NoMemory) }
     {
-        Table::of_entries(alloc, journal.entries())
+        Ok(Table::of_entries(alloc, journal.entries())?)
     }
 
     /// Whether a path is valid. Costs one look-up by hash.
@@ -181,17 +181,15 @@ impl Table {
             ≡ self.old.registrations ++ registered_by entry }
         ensures room { self.old.room ≤ self.new.room + length (registered_by entry) }
     {
-        // Its contract says that the registrations rise.
-        let _ = entry.registrations();
+        entry.show_registered();
         push_entry(&mut self.rows, entry);
     }
 
     // The table of what entries register.
-    pub(crate) fn of_entries(alloc: Global, entries: &[Entry]) -> Result<Table, TableFault>
+    pub(crate) fn of_entries(alloc: Global, entries: &[Entry]) -> Result<Table, AllocError>
         requires closed { IsClosed entries.now }
         requires once { IsOnce (registered entries.now) }
-        ensures ok { IfOk result (λ table. table.registrations ≡ registered entries.now) }
-        ensures err { IfErr result (λ e. e ≡ TableFault.NoMemory) }
+        ensures { IfOk result (λ table. table.registrations ≡ registered entries.now) }
     {
         let mut rows = IndexMap::new(alloc);
         for entry in entries {

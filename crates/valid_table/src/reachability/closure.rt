@@ -17,7 +17,7 @@ use crate::path_table::sort_paths::sorted_paths;
 use crate::reachability::links::Links;
 use indexmap::IndexMap;
 use nix_names::StorePath;
-use std::alloc::{AllocFailed, Global};
+use std::alloc::{AllocError, Global};
 
 // The closure of some roots by the references of rows, in rising order.
 pub(crate) fn close(
@@ -36,7 +36,7 @@ pub(crate) fn close(
 {
     let mut found = root_rows(alloc, rows, roots)?;
     follow_all(rows, links, &mut found)?;
-    sorted_paths(alloc, rows, order, &found)
+    Ok(sorted_paths(alloc, rows, order, &found)?)
 }
 
 // The rows of the roots, each once. `NotValid` with the first root that has none.
@@ -67,7 +67,7 @@ fn follow_all(
     rows: &IndexMap<StorePath, Record>,
     links: &Links,
     found: &mut RowSet,
-) -> Result<(), AllocFailed<usize>>
+) -> Result<(), AllocError>
     requires once { IsOnce (registrations_of rows.now.entries) }
     requires linked { AreLinked (registrations_of rows.now.entries) links.now.ends.items
         links.now.numbers.items }
@@ -92,7 +92,7 @@ fn follow(
     links: &Links,
     row: usize,
     found: &mut RowSet,
-) -> Result<(), AllocFailed<usize>>
+) -> Result<(), AllocError>
     requires linked { AreLinked (registrations_of rows.now.entries) links.now.ends.items
         links.now.numbers.items }
     requires within { row < length rows.now.entries }
@@ -113,7 +113,7 @@ fn add_numbers(
     rows: &IndexMap<StorePath, Record>,
     numbers: &[u32],
     found: &mut RowSet,
-) -> Result<(), AllocFailed<usize>>
+) -> Result<(), AllocError>
     requires below { All (λ row. row < length (registrations_of rows.now.entries)) numbers.now }
     requires rows { AreRows (registrations_of rows.now.entries) found.old.rows }
     requires room { length rows.now.entries ≤ found.old.room }
@@ -133,7 +133,7 @@ fn add_rows(
     rows: &IndexMap<StorePath, Record>,
     paths: &[StorePath],
     found: &mut RowSet,
-) -> Result<(), AllocFailed<usize>>
+) -> Result<(), AllocError>
     requires rows { AreRows (registrations_of rows.now.entries) found.old.rows }
     requires room { length rows.now.entries ≤ found.old.room }
     ensures adds { OnOk result

@@ -91,7 +91,7 @@ impl Links {
         let end = u32::try_from(self.numbers.len() + numbers.len()).ok()?;
         self.ends.reserve(1).ok()?;
         self.numbers.extend_from_slice(&numbers).ok()?;
-        let _ = self.ends.push(end);
+        self.ends.push_reserved(end);
         Some(())
     }
 }

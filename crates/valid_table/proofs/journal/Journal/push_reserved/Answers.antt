@@ -1,8 +1,6 @@
-use Rattle.std.proofs.Common.{◌≡◌, ◌∙◌, ◌++◌, ◌∷◌, [], ap, subst, sym, arith}
-use Rattle.std.specs.Prelude.{if◌then◌else◌}
-use Rattle.nix_names.specs.Rising.{IsRising}
+use Rattle.std.proofs.Common.{◌≡◌, ◌++◌, ◌∷◌, [], ap, sym, arith}
 use Rattle.valid_table.specs.Adding.{AreClosed, AreNew}
-use Rattle.valid_table.specs.Entries.{paths_registered, registered, registered_by}
+use Rattle.valid_table.specs.Entries.{registered, registered_by}
 use Rattle.valid_table.specs.Tables.{JournalValue}
 use Rattle.valid_table.proofs.AddedEntries.{journal_push, registered_push}
 use Rattle.valid_table.proofs.TakenIn.{once_more, some_elements}
@@ -18,23 +16,23 @@ register_reserved-requires-clause-closed c =
     rw (c.self.invariant.1, ap (λ (j : JournalValue). j.entries) c.self.view_is, c.requires.same)
     c.requires.closed
 
+pub push_reserved-requires : goal.push_reserved-requires
+push_reserved-requires c =
+    let some = some_elements _ c.show_registered.ensures.some in
+    let room = ap (λ (j : JournalValue). j.room) c.self.view_is in
+    omega (arith, c.requires.room, some, room)
+
 pub invariant_of-self : goal.invariant_of-self
 invariant_of-self c =
     let entries = c.self.inside.entries.items in
     let entry = c.args.entry in
     let same : entries ≡ c.args.self.now.entries =
     ap (λ (j : JournalValue). j.entries) c.self.view_is in
-    let own = c.registrations.ensures.value in
-    let some = some_elements _
-    (λ none. c.registrations.ensures.some (own ∙ none)) in
-    let room = ap (λ (j : JournalValue). j.room) c.self.view_is in
-    let pushed : c.push.new.self.items ≡ entries ++ entry ∷ [] =
-    c.push.ensures.items ∙ ap (λ b. if b then entries ++ entry ∷ [] else entries)
-    (c.push.ensures.succeeds (omega (arith, c.requires.room, some, room))) in
+    let pushed : c.push_reserved.new.self.items ≡ entries ++ entry ∷ [] =
+    c.push_reserved.ensures.items in
     let new : AreNew (registered entries) (registered_by entry) = rw same c.requires.new in
     let closed : AreClosed (registered entries) (registered_by entry) = rw same c.requires.closed in
-    let rising = subst (λ rs. IsRising (paths_registered rs)) own c.registrations.ensures.rising in
-    let once = once_more _ _ c.self.invariant.0.once rising
+    let once = once_more _ _ c.self.invariant.0.once c.show_registered.ensures.rising
     new in
     rw pushed (
       journal_push _ _ c.self.invariant.0 c.requires.derived closed once,

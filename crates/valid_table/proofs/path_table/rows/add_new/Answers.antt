@@ -9,7 +9,7 @@ pub loop-count-preserved : goal.loop-count-preserved
 loop-count-preserved c =
     let put : IsPut (registrations_of c.loop-count.rows.entries)
     (registrations_of c.put_row.new.rows.entries) c.index-registrations-count.result false =
-    rw (c.if-branch.false, c.in_ok-copy.ensures.ok) at c.in_ok-put_row.ensures.put in
+    rw (c.if-branch.false, c.in_ok-copy.ensures.ok) at c.in_ok-put_row.ensures in
     let more = put_more _ _
     _ _
     _ _ c.loop-count.invariant.rows
@@ -20,7 +20,7 @@ pub returns-then-branch : goal.returns-then-branch
 returns-then-branch c =
     let put : IsPut (registrations_of c.loop-count.rows.entries)
     (registrations_of c.put_row.new.rows.entries) c.index-registrations-count.result true =
-    rw (c.if-branch.true, c.in_ok-copy.ensures.ok) at c.in_ok-put_row.ensures.put in
+    rw (c.if-branch.true, c.in_ok-copy.ensures.ok) at c.in_ok-put_row.ensures in
     let twice = put_twice _ _
     _ _
     _ _ c.requires.rising
@@ -30,7 +30,6 @@ returns-then-branch c =
       prefix = twice.0;
       paths = twice.1;
       whole = λ long. absurd (omega (arith, long, c.loop-count-test.true));
-      err = tt;
     }
 
 pub returns-clause-prefix : goal.returns-clause-prefix

@@ -33,7 +33,6 @@ returns c =
             same = same_paths _ _ _ _
                 c.in_ok-keyed.ensures.same
                 (sorted_same _ _ _ refl sorted);
-            err = tt;
           })
       | else-not-keys_rise w ↦
           rw w.paths-is (record {
@@ -45,6 +44,5 @@ returns c =
             same = same_paths _ _ _ _
                 c.in_ok-keyed.ensures.same
                 (sorted_same _ _ _ refl moved);
-            err = tt;
           })
     ]

@@ -1,7 +1,6 @@
-use Rattle.std.proofs.Common.{◌≡◌, ap, subst}
-use Rattle.nix_names.specs.Rising.{IsRising}
+use Rattle.std.proofs.Common.{◌≡◌, ap}
 use Rattle.valid_table.specs.Adding.{AreClosed, AreNew}
-use Rattle.valid_table.specs.Entries.{paths_registered, registered_by}
+use Rattle.valid_table.specs.Entries.{registered_by}
 use Rattle.valid_table.specs.Tables.{TableValue, registrations_of}
 use Rattle.valid_table.proofs.FirstRows.{first_of_more}
 use Rattle.valid_table.proofs.Keys.{keyed_of_more}
@@ -16,8 +15,7 @@ push_entry-requires-clause-once c =
     ap (λ (t : TableValue). t.registrations) c.self.view_is in
     let new : AreNew known (registered_by c.args.entry) = rw same c.requires.new in
     once_more _ _ c.self.invariant.0
-    (subst (λ rs. IsRising (paths_registered rs)) c.registrations.ensures.value
-    c.registrations.ensures.rising) new
+    c.show_registered.ensures.rising new
 
 pub invariant_of-self : goal.invariant_of-self
 invariant_of-self c =
@@ -26,10 +24,8 @@ invariant_of-self c =
     ap (λ (t : TableValue). t.registrations) c.self.view_is in
     let new : AreNew known (registered_by c.args.entry) = rw same c.requires.new in
     let closed : AreClosed known (registered_by c.args.entry) = rw same c.requires.closed in
-    let rising = subst (λ rs. IsRising (paths_registered rs)) c.registrations.ensures.value
-    c.registrations.ensures.rising in
     rw c.push_entry.ensures.rows (
-      once_more _ _ c.self.invariant.0 rising new,
+      once_more _ _ c.self.invariant.0 c.show_registered.ensures.rising new,
       valid_with_more _ _ c.self.invariant.1 closed,
       links_stay _ _ _
           _ c.self.invariant.2,

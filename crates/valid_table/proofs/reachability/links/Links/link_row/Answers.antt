@@ -1,5 +1,4 @@
-use Rattle.std.proofs.Common.{◌≡◌, ◌+◌, ◌++◌, ◌∷◌, [], ◌∙◌, ap, arith, subst, sym, true, List, ℕ}
-use Rattle.std.specs.Prelude.{is_ok}
+use Rattle.std.proofs.Common.{◌≡◌, ◌+◌, ◌++◌, ◌∷◌, [], ◌∙◌, ap, arith, subst, sym, List, ℕ}
 use Rattle.valid_table.specs.private.Closing.{path_at}
 use Rattle.valid_table.specs.private.Linking.{AreRowsOf}
 use Rattle.valid_table.specs.Tables.{registrations_of}
@@ -10,6 +9,11 @@ use Rattle.valid_table.proofs.RowNumbers.{row_count}
 use Rattle.valid_table.proofs.TableRows.{on_ok}
 use Rattle.valid_table.proofs.reachability.links.Links.link_row.Goals as goal
 
+pub push_reserved-requires : goal.push_reserved-requires
+push_reserved-requires c =
+    let room = on_ok _ (sym c.in_ok-ok.ensures.variant) c.reserve.ensures.ok in
+    omega (arith, room)
+
 pub returns-clause-linked : goal.returns-clause-linked
 returns-clause-linked c =
     let rows = c.args.rows.now.entries in
@@ -17,10 +21,8 @@ returns-clause-linked c =
     let ends = c.args.self.now.ends.items in
     let numbers = c.args.self.now.numbers.items in
     let more = c.in_ok-numbers.numbers.items in
-    let room = on_ok _ (sym c.in_ok-ok.ensures.variant) c.reserve.ensures.ok in
-    let done : is_ok c.push.result ≡ true = c.push.ensures.succeeds (omega (arith, room)) in
-    let pushed : c.push.new.self.items ≡ ends ++ c.in_ok-end.end ∷ [] =
-    (rw done at c.push.ensures.items)
+    let pushed : c.push_reserved.new.self.items ≡ ends ++ c.in_ok-end.end ∷ [] =
+    c.push_reserved.ensures.items
     ∙ ap (λ (es : List ℕ). es ++ c.in_ok-end.end ∷ []) c.reserve.ensures.items in
     let added : c.extend_from_slice.new.self.items ≡ numbers ++ more =
     (rw (← c.in_ok-ok-2.ensures.variant) at c.extend_from_slice.ensures.items)
