@@ -32,14 +32,16 @@ nix_realise/src/cli/program.rt print_usage
     # clap was refused memory
 nix_realise/src/cli/program.rt refuse_words | Err ( _ ) => print_no_memory ( err )
     # the fault of a call whose only fault is AllocError
-nix_realise/src/cli/program.rt print_stop | Err ( refused ) => return print_no_line ( refused , err )
+nix_realise/src/cli/program.rt print_stop
+    | Err ( refused ) => return print_no_line ( refused , err )
     # there was no memory for the line; its call's fault is handed over
 nix_realise/src/cli/program.rt print_no_line
     | match print_bytes ( NO_MEMORY_LINE , err ) { Ok ( ( ) ) => Exit :: NoMemory
     # what the call means
 nix_realise/src/cli/program.rt print_no_memory | print_bytes ( NO_MEMORY_LINE , err )
     # what the call means
-nix_realise/src/building/realise.rt keep | Err ( refused ) => JournalOutcome :: no_memory ( refused )
+nix_realise/src/building/realise.rt keep
+    | Err ( refused ) => JournalOutcome :: no_memory ( refused )
     # the only fault of the call is want of memory
 nix_realise/src/cli/process.rt run_process | Err ( _ ) => print_no_memory ( err )
     # there was no memory for the buffer of standard output
@@ -57,29 +59,34 @@ process_build/src/observe/trace.rt text | Err ( AllocError )
     # memory was refused when a lease was noted, so that the trace has a gap
 process_build/src/process/start.rt start | match command . spawn ( processes ) {
     # starts a process; its error is std's, and goes through Failure
-"""
-)
-
-# A size that is no sum of lengths, or the length of an array, and what it is.
-SIZES = listed(
-    """
-nix_names/src/base32.rt base32_text | len # the characters of the text of some bytes
-nix_names/src/base32.rt bytes_of | n # at most the characters of a text (`within`)
-process_build/src/disk/kept_folders.rt new | count # the derivations of a plan
-process_build/src/disk/outputs.rt - | MAX_PIECE # the bytes of a piece, 65,536
-process_build/src/disk/outputs.rt new | MAX_PIECE # the same
-process_build/src/disk/outputs.rt names | NAMES_AT_ONCE # 4,096 bytes of names
-process_build/src/disk/left_paths.rt left_paths | NAMES_AT_ONCE # the same
+nix_names/src/base32.rt base32_text | with_capacity ( alloc , len )
+    # the characters of the text of some bytes
+nix_names/src/base32.rt bytes_of | with_capacity ( alloc , n )
+    # at most the characters of a text (`within`)
+process_build/src/disk/kept_folders.rt new | with_capacity ( alloc , count )
+    # the derivations of a plan
+process_build/src/disk/outputs.rt - | [ u8 ; MAX_PIECE ] # the bytes of a piece, 65,536
+process_build/src/disk/outputs.rt new | [ 0 ; MAX_PIECE ] # the same
+process_build/src/disk/outputs.rt names | [ 0 ; NAMES_AT_ONCE ] # 4,096 bytes of names
+process_build/src/disk/left_paths.rt left_paths | [ 0 ; NAMES_AT_ONCE ] # the same
 process_build/src/observe/counts.rt new | unsettled : usize :: MAX # no size: no count reaches it
-process_build/src/observe/time.rt micros_of | unwrap_or ( u64 :: MAX
+process_build/src/observe/time.rt micros_of | unwrap_or ( u64 :: MAX )
     # no size: the greatest time that is told
-ref_scan/src/index.rt sieve_of | slots # the slots of a sieve, at most 1,048,576
-build_outcome/src/links.rt no_links | count # a list for each output of a derivation
-run_states/src/users.rt open | pairs_in ( plan , twins ) # derivations with who waits for them
-valid_table/src/path_table/row_set.rt new | count / 64 + 1 # a bit for each row
-valid_table/src/journal.rt reserve | paths # what the caller asks for
-valid_table/src/path_table/table.rt reserve | paths # what the caller asks for
-valid_view/src/prefix.rt len | self . count # the entries of a list that is there
-valid_view/src/opening.rt make_readers | count # the number of readers, at most 64
+ref_scan/src/index.rt sieve_of | vec ! [ in alloc ; NONE ; slots ]
+    # the slots of a sieve, at most 1,048,576
+build_outcome/src/links.rt no_links | with_capacity ( alloc , count )
+    # a list for each output of a derivation
+run_states/src/users.rt open
+    | vec ! [ in alloc ; Edge { user : 0 , place : 0 } ; pairs_in ( plan , twins ) ]
+    # derivations with who waits for them
+valid_table/src/path_table/row_set.rt new | vec ! [ in alloc ; 0u64 ; count / 64 + 1 ]
+    # a bit for each row
+valid_table/src/journal.rt reserve | entries . reserve ( paths ) # what the caller asks for
+valid_table/src/journal.rt reserve | table . reserve ( paths ) # the same
+valid_table/src/path_table/table.rt reserve | rows . reserve ( paths ) # what the caller asks for
+valid_view/src/prefix.rt len | fn len ( & self ) -> u64 { self . count }
+    # the entries of a list that is there
+valid_view/src/opening.rt make_readers | with_capacity ( alloc , count )
+    # the number of readers, at most 64
 """
 )
