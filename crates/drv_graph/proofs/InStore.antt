@@ -1,20 +1,16 @@
 -- The paths that a derivation names are paths of the folder where they were found to be, and the
 -- paths that are expected of its outputs always are.
-use Rattle.std.proofs.Common.{◌≡◌, ◌∙◌, ℕ, ◌<◌, List, [], ◌∷◌, length, map, get_or, inl, inr, sym, ap, subst, true, None, Ok, Some, rules}
-use Rattle.std.specs.Prelude.{◌≢◌, ◌⊎◌, All, Contains, codes}
+use Rattle.std.proofs.Common.{◌≡◌, ◌∙◌, ℕ, ◌<◌, List, [], ◌∷◌, length, map, get_or, sym, ap, subst, true, Ok, rules}
+use Rattle.std.specs.Prelude.{All, Contains, codes}
 use Rattle.std.proofs.lemmas.List.Elements.{All-contains, Contains-append_right}
 use Rattle.nix_names.specs.Names.{is_name}
-use Rattle.nix_names.specs.StorePaths.{IsPathOf, path_fault}
-use Rattle.nix_names.specs.declared.fault.NameFault.{NameFault}
-use Rattle.nix_names.specs.declared.fault.NameFault.TheVariants.{NoMemory}
-use Rattle.nix_names.proofs.PathFaults.{no_fault_of_path}
+use Rattle.nix_names.specs.StorePaths.{IsPathOf}
 use Rattle.nix_names.proofs.PathDigests.{store_path_is_path}
 use Rattle.nix_names.proofs.Lists.{All-from_contains, All-left, Contains-first, Contains-from_map, Contains-map}
 use Rattle.nix_drv.specs.Derivation.{Drv, Output}
 use Rattle.nix_drv.specs.OwnPath.{referenced_paths}
 use Rattle.nix_drv.specs.Parts.{output_of}
 use Rattle.nix_drv.specs.declared.derivation.Output.{Output as OutputStruct}
-use Rattle.std.proofs.lemmas.Option.{none-some}
 use Rattle.drv_graph.specs.Expected.{IsExpected, drv_name_of, path_name}
 use Rattle.drv_graph.specs.Kinds.{HasKind}
 use Rattle.drv_graph.specs.Nodes.{Node, inputs_of}
@@ -35,14 +31,6 @@ pub item_named : (name : List ℕ) (outputs : List OutputStruct) (i : ℕ) (x : 
     → i < length outputs → x ≡ get_or outputs i x → All (IsWellNamed name) (map output_of outputs)
     → is_name (path_name name x.name.items) ≡ true
 item_named name outputs i x lt is all = (item_is (IsWellNamed name) output_of _ i x lt is all).1
-
--- nothing but want of memory is answered for a path of the folder
-pub only_memory : (dir text : List ℕ) (fault : NameFault) → IsPathOf dir text
-    → (path_fault dir text ≡ Some fault) ⊎ ((path_fault dir text ≡ None) × (fault ≡ NoMemory))
-    → fault ≢ NoMemory → ⊥
-only_memory dir text fault is (inl wrong) other =
-    none-some fault (sym (no_fault_of_path _ _ is) ∙ wrong)
-only_memory dir text fault is (inr none) other = other none.1
 
 -- a derivation's inputs and sources are in the folder where all of its paths are
 pub inputs_in_store : (dir : List ℕ) (drv : Drv) → All (IsPathOf dir) (referenced_paths drv)

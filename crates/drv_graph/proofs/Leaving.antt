@@ -1,6 +1,6 @@
 -- How an open derivation whose inputs were all left is left itself.
-use Rattle.std.proofs.Common.{◌≡◌, ◌∙◌, ℕ, Bool, List, [], ◌∷◌, ◌++◌, length, map, refl, sym, ap, subst, inl, inr, ⊎_elim, Option, Some, Ok, Err, Result, IfErr, OnOk, rules}
-use Rattle.std.specs.Prelude.{◌⊎◌, ⊤, All, Contains, slice_get}
+use Rattle.std.proofs.Common.{◌≡◌, ◌∙◌, ℕ, Bool, List, [], ◌∷◌, ◌++◌, length, map, refl, sym, ap, subst, inl, inr, ⊎_elim, Option, Some, Ok, Err, rules}
+use Rattle.std.specs.Prelude.{◌⊎◌, All, Contains, slice_get}
 use Rattle.std.specs.Global.{Vec}
 use Rattle.std.specs.List.{position_or_len}
 use Rattle.std.proofs.lemmas.List.{append_assoc, map_push, same_from_push, take_all}
@@ -18,10 +18,9 @@ use Rattle.drv_graph.specs.Nodes.{Node, inputs_of, output_paths_of, paths_of}
 use Rattle.drv_graph.specs.private.Owners.{AreOwnedBy, AreOwners, IsClash, IsOwning, outputs_of, owned}
 use Rattle.drv_graph.specs.Plans.{AreLawful, AreNumbers, AreTwins, IsLawful, MayAnswer, ShareOutput}
 use Rattle.drv_graph.specs.PlanNodes.{AreKept, HasHash, IsPlanNode, node_of, nodes_of, text_path_of}
-use Rattle.drv_graph.specs.private.Walks.{HasAllNumbers, IsWalkSoFar, IsLeaving, IsLeavingFault, IsVisit, SetsEntry, kept_visit, marked, visited}
+use Rattle.drv_graph.specs.private.Walks.{HasAllNumbers, IsWalkSoFar, IsLeavingFault, IsVisit, LeavesVisit, SetsEntry, kept_visit, marked, visited}
 use Rattle.indexmap.specs.IndexMap.{keys}
 use Rattle.drv_graph.specs.declared.fault.GraphFault.{GraphFault}
-use Rattle.drv_graph.specs.declared.fault.GraphFault.TheVariants.{NoMemory}
 use Rattle.drv_graph.specs.declared.walk_state.WalkState.{WalkState}
 use Rattle.drv_graph.specs.declared.walk_state.Visit.{Visit}
 use Rattle.drv_graph.specs.declared.kinds.Kind.{Kind}
@@ -225,7 +224,7 @@ its_first dir kept visit kind owners first entered right are owned_right =
 pub leaving_kept :
     (dir : List ℕ) (before after : WalkState) (visit : Visit) (kind : Kind) (hash : List ℕ)
     (outputs sources : Vec (List ℕ)) (first : ℕ) (given : List PlanNode) (entered : List (List ℕ))
-    (owners : List ℕ → Option ℕ) (result : Result ⊤ GraphFault) →
+    (owners : List ℕ → Option ℕ) →
     IsWalkSoFar dir before →
     IsVisit (nodes_of before.nodes.items) visit →
     HasAllNumbers visit →
@@ -238,19 +237,15 @@ pub leaving_kept :
     entered ≡ outputs.items →
     IsRising (output_names visit.drv) →
     AreOwners owners (outputs_of given ++ entered ∷ []) × AreOwnedBy owners first entered →
-    OnOk result (after.nodes.items ≡ before.nodes.items
-    ++ kept_visit visit kind hash outputs sources first ∷ []) →
-    OnOk result (owned after.owners ≡ owners) →
-    OnOk result (SetsEntry (marked before.marks) (marked after.marks) visit.path
-    (Some (length before.nodes.items))) →
-    OnOk result (length (keys after.marks) ≡ length (keys before.marks)) →
-    IfErr result (λ fault. fault ≡ NoMemory) →
-    IsLeaving dir before after visit result
-leaving_kept dir before after visit kind hash outputs sources first given entered owners (Err fault)
-    found is all new right are lent same own rising owning grown owners_same marks count err =
-    search rules
-leaving_kept dir before after visit kind hash outputs sources first given entered owners (Ok made)
-    found is all new right are lent same own rising owning grown owners_same marks count err =
+    after.nodes.items ≡ before.nodes.items
+    ++ kept_visit visit kind hash outputs sources first ∷ [] →
+    owned after.owners ≡ owners →
+    SetsEntry (marked before.marks) (marked after.marks) visit.path
+    (Some (length before.nodes.items)) →
+    length (keys after.marks) ≡ length (keys before.marks) →
+    LeavesVisit dir before after visit
+leaving_kept dir before after visit kind hash outputs sources first given entered owners
+    found is all new right are lent same own rising owning grown owners_same marks count =
     let kept = before.nodes.items in
     let one : PlanNode = kept_visit visit kind hash outputs sources first in
     let numbers = all_numbers _ _ is all in

@@ -23,7 +23,7 @@ use crate::plan::Plan;
 use crate::walk_state::used_inputs;
 use nix_drv::{Derivation, DrvFault, DrvSource, MAX_LEN, named_text_path, references, write};
 use nix_names::{StoreDir, StorePath, is_name};
-use std::alloc::Global;
+use std::alloc::{AllocError, Global};
 
 // The file of a filled derivation: its name, and the references of its text.
 #[derive(Debug, Drop)]
@@ -185,8 +185,7 @@ fn own_path(
     ensures err { IfErr result (IsTextRefused filled.now) }
 {
     let text = filled_text(alloc, filled)?;
-    let path = named_text_path(alloc, dir, &target.file, &text, &target.refs)?;
-    Ok(path)
+    Ok(named_text_path(alloc, dir, &target.file, &text, &target.refs)?)
 }
 
 // The text of a filled derivation, within the limit.
@@ -203,13 +202,12 @@ fn filled_text(alloc: Global, filled: &Derivation) -> Result<Vec<u8>, GraphFault
 }
 
 // The text of a derivation.
-fn text_of(alloc: Global, drv: &Derivation) -> Result<Vec<u8>, GraphFault>
-    ensures ok { IfOk result (λ text. IsDrvText drv.now text.items) }
-    ensures err { IfErr result (λ fault. fault ≡ GraphFault.NoMemory) }
+fn text_of(alloc: Global, drv: &Derivation) -> Result<Vec<u8>, AllocError>
+    ensures { IfOk result (λ text. IsDrvText drv.now text.items) }
 {
     match write(alloc, drv) {
         Ok(text) => Ok(text),
-        Err(DrvFault::NoMemory) => Err(GraphFault::NoMemory),
+        Err(DrvFault::NoMemory) => Err(AllocError),
         // A text is refused for want of memory alone.
         Err(_) => unreachable!(),
     }

@@ -34,7 +34,7 @@ pub fn modulo_text(
     Ok(text_by_hashes(alloc, drv, hashes, mask)?)
 }
 
-// The same text for callers in the crate: its only fault is refused memory.
+// The modulo text, as `modulo_text` gives it, for callers in the crate.
 pub(crate) fn text_by_hashes(
     alloc: Global,
     drv: &Derivation,

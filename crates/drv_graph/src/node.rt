@@ -1,16 +1,15 @@
 //! A derivation of a plan, and what is kept beside it.
-ghost use Rattle.std.specs.Prelude.{◌≡◌, length, vec_capacity, IfErr, IfOk};
+ghost use Rattle.std.specs.Prelude.{◌≡◌, length, vec_capacity, IfOk};
 ghost use Rattle.std.specs.Cmp.Lexicographic.{pointwise};
 ghost use Rattle.std.specs.List.{AllZip};
 ghost use Rattle.drv_graph.specs.Equality.{same_node};
 ghost use Rattle.drv_graph.specs.PlanNodes.{IsSameNode, nodes_of};
 
-use crate::fault::GraphFault;
 use crate::kinds::Kind;
 use crate::paths::copy_paths;
 use nix_drv::{Derivation, DrvFault};
 use nix_names::StorePath;
-use std::alloc::Global;
+use std::alloc::{AllocError, Global};
 
 // A derivation of a plan.
 #[derive(Debug, Drop)]
@@ -33,38 +32,17 @@ pub(crate) struct PlanNode {
 
 impl PlanNode {
     // A copy of the derivation.
-    fn copy(&self, alloc: Global) -> Result<PlanNode, GraphFault>
-        ensures ok { IfOk result (IsSameNode self.now) }
-        ensures err { IfErr result (λ fault. fault ≡ GraphFault.NoMemory) }
+    fn copy(&self, alloc: Global) -> Result<PlanNode, AllocError>
+        ensures { IfOk result (IsSameNode self.now) }
     {
-        let outputs = copy_paths(alloc, &self.outputs)?;
-        let sources = copy_paths(alloc, &self.sources)?;
-        self.copy_beside(alloc, outputs, sources)
-    }
-
-    // A copy of the derivation, with these copies of its lists of paths.
-    fn copy_beside(
-        &self,
-        alloc: Global,
-        outputs: Vec<StorePath>,
-        sources: Vec<StorePath>,
-    ) -> Result<PlanNode, GraphFault>
-        requires outputs { outputs.items ≡ self.now.outputs.items }
-        requires sources { sources.items ≡ self.now.sources.items }
-        ensures ok { IfOk result (IsSameNode self.now) }
-        ensures err { IfErr result (λ fault. fault ≡ GraphFault.NoMemory) }
-    {
-        let path = self.path.copy(alloc)?;
-        let drv = copy_drv(alloc, &self.drv)?;
-        let inputs = Vec::from_slice(alloc, &self.inputs)?;
         Ok(PlanNode {
-            path,
-            drv,
+            path: self.path.copy(alloc)?,
+            drv: copy_drv(alloc, &self.drv)?,
             kind: self.kind,
             hash: self.hash,
-            inputs,
-            outputs,
-            sources,
+            inputs: Vec::from_slice(alloc, &self.inputs)?,
+            outputs: copy_paths(alloc, &self.outputs)?,
+            sources: copy_paths(alloc, &self.sources)?,
             first: self.first,
         })
     }
@@ -99,10 +77,9 @@ pub(crate) fn same_nodes(a: &[PlanNode], b: &[PlanNode]) -> bool
 }
 
 // Copies of the derivations, with room for these alone.
-pub(crate) fn copy_nodes(alloc: Global, nodes: &[PlanNode]) -> Result<Vec<PlanNode>, GraphFault>
+pub(crate) fn copy_nodes(alloc: Global, nodes: &[PlanNode]) -> Result<Vec<PlanNode>, AllocError>
     ensures ok { IfOk result (λ copies. AllZip IsSameNode nodes.now copies.items) }
     ensures room { IfOk result (λ copies. vec_capacity copies ≡ length nodes.now) }
-    ensures err { IfErr result (λ fault. fault ≡ GraphFault.NoMemory) }
 {
     let mut copies = Vec::with_capacity(alloc, nodes.len())?;
     for node in nodes {
@@ -112,13 +89,12 @@ pub(crate) fn copy_nodes(alloc: Global, nodes: &[PlanNode]) -> Result<Vec<PlanNo
 }
 
 // A copy of a derivation as it was read.
-fn copy_drv(alloc: Global, drv: &Derivation) -> Result<Derivation, GraphFault>
-    ensures ok { IfOk result (λ copy. copy ≡ drv.now) }
-    ensures err { IfErr result (λ fault. fault ≡ GraphFault.NoMemory) }
+fn copy_drv(alloc: Global, drv: &Derivation) -> Result<Derivation, AllocError>
+    ensures { IfOk result (λ copy. copy ≡ drv.now) }
 {
     match drv.copy(alloc) {
         Ok(copy) => Ok(copy),
-        Err(DrvFault::NoMemory) => Err(GraphFault::NoMemory),
+        Err(DrvFault::NoMemory) => Err(AllocError),
         // A copy is refused for want of memory alone.
         Err(_) => unreachable!(),
     }

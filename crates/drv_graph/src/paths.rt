@@ -1,27 +1,22 @@
-//! Store paths: parsed where they were checked before, and copied.
-ghost use Rattle.std.specs.Prelude.{◌≡◌, All, IfErr, IfOk, length, map, take, vec_capacity};
+//! Store paths: made of texts that were checked before, and copied.
+ghost use Rattle.std.specs.Prelude.{◌≡◌, All, IfOk, length, map, take, vec_capacity};
 ghost use Rattle.nix_names.specs.Bytes.{Path};
 ghost use Rattle.nix_names.specs.StorePaths.{IsPathOf};
 ghost use Rattle.nix_drv.specs.Parts.{bytes_of, path_of};
 ghost use Rattle.drv_graph.specs.PlanNodes.{text_path_of};
 
-use crate::fault::GraphFault;
 use nix_drv::{Input, Output};
-use nix_names::{NameFault, StoreDir, StorePath, parse_path};
-use std::alloc::Global;
+use nix_names::{StoreDir, StorePath};
+use std::alloc::{AllocError, Global};
 
 // The path of the folder that a text spells.
-fn known_path(alloc: Global, dir: &StoreDir, text: &[u8]) -> Result<StorePath, GraphFault>
+fn known_path(alloc: Global, dir: &StoreDir, text: &[u8]) -> Result<StorePath, AllocError>
     requires { IsPathOf dir.now text.now }
-    ensures ok { IfOk result (λ path. path ≡ text.now) }
-    ensures err { IfErr result (λ fault. fault ≡ GraphFault.NoMemory) }
+    ensures { IfOk result (λ path. path ≡ text.now) }
 {
-    match parse_path(alloc, dir, text) {
-        Ok(path) => Ok(path),
-        Err(NameFault::NoMemory) => Err(GraphFault::NoMemory),
-        // Nothing else is wrong with a path of the folder.
-        Err(_) => unreachable!(),
-    }
+    // Shows the prover that the folder is a store folder.
+    let _ = dir.text();
+    nix_names::known_path(alloc, text)
 }
 
 // A value in which a text names a store path.
@@ -63,24 +58,22 @@ pub(crate) fn known_paths<T: NamesPath>(
     alloc: Global,
     dir: &StoreDir,
     named: &[T],
-) -> Result<Vec<StorePath>, GraphFault>
+) -> Result<Vec<StorePath>, AllocError>
     requires { All (IsPathOf dir.now) (map T.path_text named.now) }
     ensures ok { IfOk result (λ paths. paths.items ≡ map T.path_text named.now) }
     ensures room { IfOk result (λ paths. vec_capacity paths ≡ length named.now) }
-    ensures err { IfErr result (λ fault. fault ≡ GraphFault.NoMemory) }
 {
     let mut paths = Vec::with_capacity(alloc, named.len())?;
-    for one in named {
-        paths.push_reserved(known_path(alloc, dir, one.path_text())?);
+    for value in named {
+        paths.push_reserved(known_path(alloc, dir, value.path_text())?);
     }
     Ok(paths)
 }
 
 // Copies of the paths, with room for these alone. Each shares its text.
-pub(crate) fn copy_paths(alloc: Global, paths: &[StorePath]) -> Result<Vec<StorePath>, GraphFault>
+pub(crate) fn copy_paths(alloc: Global, paths: &[StorePath]) -> Result<Vec<StorePath>, AllocError>
     ensures ok { IfOk result (λ copies. copies.items ≡ paths.now) }
     ensures room { IfOk result (λ copies. vec_capacity copies ≡ length paths.now) }
-    ensures err { IfErr result (λ fault. fault ≡ GraphFault.NoMemory) }
 {
     let mut copies = Vec::with_capacity(alloc, paths.len())?;
     for path in paths {

@@ -15,7 +15,7 @@ use crate::walk_state::{Visit, WalkState, leave};
 use indexmap::IndexMap;
 use nix_drv::{Derivation, DrvFault, DrvSource, SourceFault, check_text};
 use nix_names::{StoreDir, StorePath};
-use std::alloc::Global;
+use std::alloc::{AllocError, Global};
 
 // The greatest number of derivations in a plan.
 const MAX_NODES: usize = 65536;
@@ -174,13 +174,12 @@ fn begin(
     dir: &StoreDir,
     path: &StorePath,
     drv: Derivation,
-) -> Result<Visit, GraphFault>
+) -> Result<Visit, AllocError>
     requires { All (IsPathOf dir.now) (inputs_of drv) }
     ensures path { IfOk result (λ visit. visit.path ≡ path.now) }
     ensures drv { IfOk result (λ visit. visit.drv ≡ drv) }
     ensures inputs { IfOk result (λ visit. visit.inputs.items ≡ inputs_of drv) }
     ensures numbers { IfOk result (λ visit. visit.numbers.items ≡ []) }
-    ensures err { IfErr result (λ fault. fault ≡ GraphFault.NoMemory) }
 {
     let inputs = known_paths(alloc, dir, drv.inputs())?;
     Ok(Visit {

@@ -7,7 +7,7 @@ ghost use Rattle.drv_graph.specs.Expected.{drv_name_of};
 ghost use Rattle.drv_graph.specs.Nodes.{inputs_of, paths_of};
 ghost use Rattle.drv_graph.specs.Plans.{AreNumbers};
 ghost use Rattle.drv_graph.specs.PlanNodes.{AreKept, nodes_of};
-ghost use Rattle.drv_graph.specs.private.Walks.{HasAllNumbers, IsOutputsChecking, IsWalkSoFar, IsLeaving, IsOutputFaultAt, IsUsed, IsVisit, SetsEntry, kept_visit, marked};
+ghost use Rattle.drv_graph.specs.private.Walks.{HasAllNumbers, IsOutputsChecking, IsWalkSoFar, IsLeaving, IsOutputFaultAt, IsUsed, IsVisit, SetsEntry, marked};
 
 use crate::fault::{GraphFault, NodeFault, OutputFault};
 use crate::kinds::Kind;
@@ -18,7 +18,7 @@ use crate::paths::known_paths;
 use indexmap::IndexMap;
 use nix_drv::Derivation;
 use nix_names::{StoreDir, StorePath};
-use std::alloc::Global;
+use std::alloc::{AllocError, Global};
 
 // The length of `.drv`, in which the name of a derivation's file ends.
 const SUFFIX_LEN: usize = 4;
@@ -73,7 +73,23 @@ pub(crate) fn leave(
         &visit.path,
         &outputs,
     )?;
-    keep(alloc, found, visit, kind, hash, outputs, sources, first)
+    let Visit {
+        path,
+        drv,
+        inputs: _,
+        numbers,
+    } = visit;
+    let node = PlanNode {
+        path,
+        drv,
+        kind,
+        hash,
+        inputs: numbers,
+        outputs,
+        sources,
+        first,
+    };
+    Ok(add_node(alloc, found, node)?)
 }
 
 // The kind of the outputs and the modulo hash of an open derivation whose inputs were all left.
@@ -114,11 +130,10 @@ pub(crate) fn used_inputs<'a>(
     alloc: Global,
     kept: &'a [PlanNode],
     numbers: &[usize],
-) -> Result<Vec<UsedInput<'a>>, GraphFault>
+) -> Result<Vec<UsedInput<'a>>, AllocError>
     requires { All (λ number. number < length kept.now) numbers.now }
     ensures ok { IfOk result (λ used. AllZip (IsUsed kept.now) numbers.now used.items) }
     ensures room { IfOk result (λ used. vec_capacity used ≡ length numbers.now) }
-    ensures err { IfErr result (λ fault. fault ≡ GraphFault.NoMemory) }
 {
     let mut used = Vec::with_capacity(alloc, numbers.len())?;
     for number in numbers {
@@ -140,44 +155,18 @@ fn drv_name(path: &StorePath) -> &[u8]
     &name[..name.len().saturating_sub(SUFFIX_LEN)]
 }
 
-// Keeps a derivation under the next number.
-fn keep(
-    alloc: Global,
-    found: &mut WalkState,
-    visit: Visit,
-    kind: Kind,
-    hash: [u8; 32],
-    outputs: Vec<StorePath>,
-    sources: Vec<StorePath>,
-    first: usize,
-) -> Result<(), GraphFault>
-    requires { marked found.old.marks visit.path ≡ Some None }
-    ensures nodes { OnOk result (found.new.nodes.items ≡ found.old.nodes.items
-        ++ kept_visit visit kind hash outputs sources first ∷ []) }
+// Adds a derivation under the next number.
+fn add_node(alloc: Global, found: &mut WalkState, node: PlanNode) -> Result<(), AllocError>
+    requires { marked found.old.marks node.path ≡ Some None }
+    ensures nodes { OnOk result (found.new.nodes.items ≡ found.old.nodes.items ++ node ∷ []) }
     ensures owners { OnOk result (found.new.owners ≡ found.old.owners) }
     ensures marks { OnOk result
-        (SetsEntry (marked found.old.marks) (marked found.new.marks) visit.path
+        (SetsEntry (marked found.old.marks) (marked found.new.marks) node.path
         (Some (length found.old.nodes.items))) }
     ensures count { OnOk result (length (keys found.new.marks) ≡ length (keys found.old.marks)) }
-    ensures err { IfErr result (λ fault. fault ≡ GraphFault.NoMemory) }
 {
-    let path = visit.path.copy(alloc)?;
+    let path = node.path.copy(alloc)?;
     found.marks.insert(path, Some(found.nodes.len()))?;
-    let Visit {
-        path,
-        drv,
-        inputs: _,
-        numbers,
-    } = visit;
-    found.nodes.push(PlanNode {
-        path,
-        drv,
-        kind,
-        hash,
-        inputs: numbers,
-        outputs,
-        sources,
-        first,
-    })?;
+    found.nodes.push(node)?;
     Ok(())
 }

@@ -7,7 +7,7 @@ ghost use Rattle.nix_drv.specs.Sources.{IsFetched, GivesSame, IsCounted, IsGiven
 use crate::source::{DrvSource, SourceFault};
 use indexmap::IndexMap;
 use nix_names::StorePath;
-use std::alloc::Global;
+use std::alloc::{AllocError, Global};
 use std::marker::Model;
 
 /// A file of a list.
@@ -114,11 +114,10 @@ impl DrvSource for ListSource {
 fn by_path(
     alloc: Global,
     mut files: Vec<ListedFile>,
-) -> Result<IndexMap<Vec<u8>, Vec<u8>>, SourceFault>
-    ensures ok { IfOk result
+) -> Result<IndexMap<Vec<u8>, Vec<u8>>, AllocError>
+    ensures { IfOk result
         (λ map. (path : List ℕ)
         → bytes_at (entries_of map.entries) path ≡ bytes_at (pairs_of files.items) path) }
-    ensures err { IfErr result (λ fault. fault ≡ SourceFault.NoMemory) }
 {
     let mut by_path = IndexMap::new(alloc);
     'files: while let Some(file) = files.pop() {

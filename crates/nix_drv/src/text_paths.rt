@@ -30,7 +30,8 @@ pub fn text_path(
     Ok(named_text_path(alloc, dir, name, bytes, refs)?)
 }
 
-/// The same as `text_path`, for a name that is known to be that of a store path. Costs the same.
+/// The path of a text, as `text_path` gives it, for a name that is known to be that of a store path.
+/// Want of memory is its only fault. Costs as `text_path` does.
 #[tactic(auto, unfolding(crate::specs::OwnPath::text_path))]
 pub fn named_text_path(
     alloc: Global,

@@ -1,7 +1,8 @@
-use Rattle.std.proofs.Common.{rules}
-use Rattle.drv_graph.proofs.InStore.{only_memory}
 use Rattle.drv_graph.proofs.paths.known_path.Goals as goal
 
-pub unreachable-requires : goal.unreachable-requires
-unreachable-requires c =
-    only_memory _ _ _ c.requires c.in-Err.ensures (search rules)
+pub known_path-requires : goal.known_path-requires
+known_path-requires c = record {
+  dir = c.args.dir.now;
+  is_dir = c.text.ensures.is_dir;
+  is_path = c.requires;
+}

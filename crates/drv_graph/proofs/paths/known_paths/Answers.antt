@@ -6,5 +6,5 @@ use Rattle.drv_graph.proofs.paths.known_paths.Goals as goal
 pub known_path-requires : goal.known_path-requires
 known_path-requires g c =
     subst (IsPathOf _) (sym c.path_text.ensures)
-    (item_is (IsPathOf _) g.T.NamesPath.path_text _ _ _ c.loop-one-test.true c.one-item.is
+    (item_is (IsPathOf _) g.T.NamesPath.path_text _ _ _ c.loop-value-test.true c.value-item.is
     c.requires)

@@ -52,12 +52,17 @@ returns-in_err-first c = rw (err_is _ _ c.from_residual-in_err-first.ensures.1)
 
 pub returns : goal.returns
 returns c =
-    search (
-      rules,
-      leaving_kept,
-      checking_right,
-      outputs_are,
-      parts_outputs,
-      parts_sources,
-      outputs_rise,
-    )
+    let lent = parts_outputs c.parts-parts.result.now _ _
+    c.parts-parts.ensures.parts c.deref-2.ensures.value in
+    leaving_kept _ _ _ c.args.visit
+    _ _ c.in_ok-outputs.outputs c.in_ok-sources.sources _ _ _ (owned c.own.new.owners)
+    c.requires.found c.requires.visit c.requires.walked c.requires.is_new
+    (checking_right _ _ _ c.args.visit
+    _ _ c.deref.ensures.value c.in_ok-kind.ensures)
+    (outputs_are _ c.args.visit.drv
+    _ lent c.in_ok-outputs.ensures.ok)
+    (search (rules, parts_sources))
+    c.deref-4.ensures.value c.deref-5.ensures.value
+    (search (rules, outputs_rise)) c.in_ok-first.ensures
+    c.in_ok-add_node.ensures.nodes (search rules)
+    c.in_ok-add_node.ensures.marks c.in_ok-add_node.ensures.count
