@@ -1,4 +1,11 @@
+pub mod Drawn
+pub mod Foretelling
+pub mod Held
 pub mod Listings
 pub mod OneReport
+pub mod Passing
 pub mod RunReports
+pub mod Spared
+pub mod Telling
 pub mod Wordings
+pub mod Writing

@@ -8,10 +8,9 @@ use crate::stop::{Found, Stop, Taken, call, tried};
 use crate::teller::Teller;
 use crate::world::World;
 use drv_graph::Plan;
-use forecast::Forecast;
 use run_report::{
-    marked_by_path, write_name, write_outputs, write_path_line, write_refusal, write_refused,
-    write_with_number, write_with_string, write_with_value,
+    Forecast, marked_by_path, write_name, write_outputs, write_path_line, write_refusal,
+    write_refused, write_with_number, write_with_string, write_with_value,
 };
 use run_states::{Refusal, mark, standings_of, wanted_of};
 use std::alloc::AllocError;

@@ -10,7 +10,7 @@ use crate::cli::exit::Status;
 use crate::cli::printing::print_bytes;
 use crate::cli::run_error::RunError;
 use command_line::{PlanRequest, RunRequest};
-use forecast::Forecast;
+use run_report::Forecast;
 use sched_core::BookFault;
 use std::alloc::Global;
 use std::io::Write;

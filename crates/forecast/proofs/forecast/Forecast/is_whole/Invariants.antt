@@ -1,6 +1,0 @@
-use Rattle.forecast.proofs.Passing.{AreGood}
-use Rattle.forecast.proofs.forecast.Forecast.is_whole.Given as goal
-
--- the roots so far are built or reused
-abbrev pub invariant-roots : goal.invariant-roots
-invariant-roots l = AreGood l.self-inside.prospects.items l.root-items l.root-index

@@ -1,9 +1,0 @@
-use Rattle.forecast.specs.Holding.{state_of}
-use Rattle.forecast.proofs.Drawn.{node_told}
-use Rattle.forecast.proofs.picture.write_node.Goals as goal
-
-pub returns : goal.returns
-returns c =
-    rw (node_told c.args.plan.now.nodes c.args.number c.path-path.result.now
-    (state_of c.args.prospect) c.args.is_root c.path-path.ensures.value)
-    at c.write_node_line.ensures

@@ -1,5 +1,0 @@
-use Rattle.forecast.proofs.Passing.{read_state}
-use Rattle.forecast.proofs.prospect.prospect_at.Goals as goal
-
-pub returns : goal.returns
-returns c = read_state c.args.prospects.now c.args.number c.requires

@@ -1,0 +1,6 @@
+use Rattle.run_report.proofs.Passing.{AreGood}
+use Rattle.run_report.proofs.forecast.Forecast.is_whole.Given as goal
+
+-- the roots so far are built or reused
+abbrev pub invariant-roots : goal.invariant-roots
+invariant-roots l = AreGood l.self-inside.prospects.items l.root-items l.root-index

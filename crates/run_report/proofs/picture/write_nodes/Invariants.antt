@@ -1,0 +1,10 @@
+use Rattle.run_report.specs.Holding.{state_at}
+use Rattle.run_report.specs.private.Marks.{is_marked}
+use Rattle.run_report.specs.Pictures.{node_at}
+use Rattle.run_report.proofs.Writing.{AreWritten}
+use Rattle.run_report.proofs.picture.write_nodes.Given as goal
+
+abbrev pub invariant-listed : goal.invariant-listed
+invariant-listed l = AreWritten l.listed l.one-index
+    (λ one. node_at l.plan.nodes (state_at l.prospects) (is_marked l.roots) one.number)
+    l.initial.out.items l.out.items
