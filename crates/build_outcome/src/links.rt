@@ -6,7 +6,7 @@ ghost use Rattle.build_outcome.specs.private.Linking.{AddsLinks, AreEachOnce, Ha
 
 use indexmap::IndexSet;
 use nix_names::StorePath;
-use std::alloc::{AllocError, AllocFailed, Global};
+use std::alloc::{AllocError, Global};
 use valid_table::Record;
 
 // For each different one of the outputs' paths, the places of those that its outputs refer to.
@@ -30,7 +30,7 @@ fn fill_links(
     outputs: &[StorePath],
     records: &[Record],
     links: &mut Vec<Vec<usize>>,
-) -> Result<(), AllocFailed<usize>>
+) -> Result<(), AllocError>
     requires same { length records.now ≡ length outputs.now }
     requires once { AreEachOnce outputs.now paths.now.keys }
     requires count { length links.old.items ≡ length paths.now.keys }
@@ -82,7 +82,7 @@ fn add_links(
     paths: &IndexSet<StorePath>,
     references: &[StorePath],
     own: &mut Vec<usize>,
-) -> Result<(), AllocFailed<usize>>
+) -> Result<(), AllocError>
     requires { IsDistinct (pointwise nat_eq) paths.now.keys }
     ensures { OnOk result (AddsLinks paths.now.keys references.now own.old.items own.new.items) }
 {

@@ -3,7 +3,6 @@ ghost use Rattle.std.specs.Prelude.{◌≡◌};
 ghost use Rattle.build_outcome.specs.Numbers.{reason_number_of};
 ghost use Rattle.build_outcome.specs.declared.reason.Reason.TheVariants.{OutOfMemory};
 
-use ref_scan::ScanFault;
 use std::alloc::{AllocError, AllocFailed};
 
 /// Why the building of a derivation failed.
@@ -64,15 +63,5 @@ impl<T: Drop> From<AllocFailed<T>> for Reason {
 
     fn from(_: AllocFailed<T>) -> Self {
         Reason::OutOfMemory
-    }
-}
-
-impl From<ScanFault> for Reason {
-    ghost from_gives = { λ _ reason. reason ≡ OutOfMemory };
-
-    fn from(fault: ScanFault) -> Self {
-        match fault {
-            ScanFault::NoMemory => Reason::OutOfMemory,
-        }
     }
 }

@@ -3,7 +3,6 @@ ghost use Rattle.std.specs.Prelude.{◌≡◌, ◌↔◌, ℕ, List, Ok, Err, po
 ghost use Rattle.nix_names.specs.Rising.{IsRising};
 ghost use Rattle.build_outcome.specs.declared.job.JobOutput.{JobOutput};
 ghost use Rattle.build_outcome.specs.Verdicts.{AreRecords, IsCyclic, IsExamining, IsRecordOf, IsTaken, AreOutputsThere, IsTreeFault, IsVerdict, algorithm_for, digest_of, outputs_of};
-ghost use Rattle.build_outcome.specs.declared.reason.Reason.TheVariants.{OutOfMemory};
 
 use crate::checked::Checked;
 use crate::cycle::is_cyclic;
@@ -12,7 +11,7 @@ use crate::job::{Answer, Job, JobOutput};
 use crate::reason::Reason;
 use drv_graph::Kind;
 use nix_names::{Algorithm, Digest, StorePath};
-use ref_scan::{Tree, scan};
+use ref_scan::{ScanFault, Tree, scan};
 use std::alloc::{AllocError, Global};
 use valid_table::Record;
 
@@ -138,14 +137,13 @@ fn records_of(
     job: &Job,
     permitted: &[StorePath],
     answer: &Answer,
-) -> Result<Vec<Record>, Reason>
+) -> Result<Vec<Record>, AllocError>
     requires rising { IsRising permitted.now }
     requires taken { IsTaken job.now answer.now }
     ensures records { IfOk result
         (λ records. AreRecords job.now permitted.now answer.now records.items) }
     ensures room { IfOk result
         (λ records. vec_capacity records ≡ length job.now.outputs.items) }
-    ensures err { IfErr result (λ why. why ≡ OutOfMemory) }
 {
     let mut records = Vec::with_capacity(alloc, job.outputs.len())?;
     for n in 0..job.outputs.len() {
@@ -163,15 +161,16 @@ fn record_of(
     kind: &Kind,
     permitted: &[StorePath],
     tree: &Tree,
-) -> Result<Record, Reason>
+) -> Result<Record, AllocError>
     requires rising { IsRising permitted.now }
     requires taken { (why : Reason) → IsTreeFault kind.now tree.now why → ⊥ }
-    ensures record { IfOk result (λ info.
+    ensures { IfOk result (λ info.
         IsRecordOf (algorithm_for kind.now) permitted.now tree.now info) }
-    ensures err { IfErr result (λ why. why ≡ OutOfMemory) }
 {
-    let references = scan(alloc, tree, permitted)?;
-    Ok(Record::new(references, output_digest(kind, tree))?)
+    match scan(alloc, tree, permitted) {
+        Ok(references) => Record::new(references, output_digest(kind, tree)),
+        Err(ScanFault::NoMemory) => Err(AllocError),
+    }
 }
 
 // The digest of an output's tree, which is taken: a fixed output has the declared one.

@@ -1,6 +1,6 @@
 -- What a scanner keeps, as it is made, fed and cut, and what it finds.
 use Rattle.std.proofs.Common.{◌≡◌, ◌∙◌, sym, ℕ, ◌<◌, Bool, false, List, [], ◌∷◌, ◌++◌, ◌⊎◌, ◌↔◌, inl, inr, ⊎_elim, length, take, replicate, get_or, refl, ap, subst, append_assoc, Some, rules}
-use Rattle.std.specs.Prelude.{Any, Contains, IsTrue, IfOk, Result, Ok, Err}
+use Rattle.std.specs.Prelude.{Any, Contains, IsTrue}
 use Rattle.std.proofs.lemmas.Bool.{false≢true, cases_lt}
 use Rattle.std.proofs.lemmas.List.{get_or-replicate, length-map, length-replicate, get_or-map, get_or_past, take_at}
 use Rattle.nix_names.specs.StorePaths.{hash_part_of, is_hash_part}
@@ -120,11 +120,6 @@ place_in_order paths parts in_order number of ordered lt = search (rules, length
 -- a slice of a list that was lent whole, and written
 pub written : {X : Type 0} (new rest : List X) (n : ℕ) → length new ≡ n → take n (new ++ rest) ≡ new
 written new rest n long = take_at new rest n long
-
-pub if_ok : {T E : Type 0} (r : Result T E) (P Q : T → Type 0) → ((x : T) → P x → Q x) → IfOk r P
-    → IfOk r Q
-if_ok (Ok x) P Q step h = step x h
-if_ok (Err e) P Q step h = tt
 
 -- one member's name and tree, fed each as lists of their own
 pub member_fed :

@@ -145,7 +145,7 @@ impl Index {
         }
     }
 
-    // The same where the parts stand as the paths do.
+    // Which path's hash part a window is, where the parts stand as the paths do.
     fn place_by_key(&self, window: &[u8; 32]) -> Option<usize>
         requires { IsTrue self.now.in_order }
         ensures { IsPlaceOfPart self.now.parts window.now result }
@@ -160,7 +160,7 @@ impl Index {
     }
 }
 
-// The same paths once more.
+// Copies of the paths, with room for these alone.
 fn copies(alloc: Global, paths: &[StorePath]) -> Result<Vec<StorePath>, AllocError>
     ensures items { IfOk result (λ copies. copies.items ≡ paths.now) }
     ensures room { IfOk result (λ copies. vec_capacity copies ≡ length paths.now) }

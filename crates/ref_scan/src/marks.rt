@@ -4,7 +4,6 @@ ghost use Rattle.nix_names.specs.Rising.{IsRising};
 ghost use Rattle.nix_names.specs.StorePaths.{hash_part_of, is_hash_part};
 ghost use Rattle.ref_scan.specs.Scan.{IsFoundIn, OccursIn};
 
-use crate::fault::ScanFault;
 use crate::fed::{FedBytes, Piece};
 use crate::index::{Index, part_of};
 use crate::seam::{KEPT, seam, tail_behind};
@@ -84,7 +83,7 @@ impl Marks {
     }
 
     // Those of the permitted paths whose hash part stands within a list.
-    pub(crate) fn found(&self) -> Result<Vec<StorePath>, ScanFault>
+    pub(crate) fn found(&self) -> Result<Vec<StorePath>, AllocError>
         requires { IsRising self.now.permitted }
         ensures found { IfOk result
             (λ found. IsFoundIn (self.now.ended ++ self.now.present ∷ []) self.now.permitted
@@ -95,8 +94,8 @@ impl Marks {
         self.found_among(self.index.paths())
     }
 
-    // The same, of the permitted paths at hand.
-    fn found_among(&self, paths: &[StorePath]) -> Result<Vec<StorePath>, ScanFault>
+    // Those of these paths, which are the permitted ones, whose hash part stands within a list.
+    fn found_among(&self, paths: &[StorePath]) -> Result<Vec<StorePath>, AllocError>
         requires permitted { paths.now ≡ self.now.permitted }
         requires rising { IsRising paths.now }
         ensures { IfOk result

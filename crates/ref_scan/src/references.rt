@@ -30,7 +30,7 @@ pub fn scan(
 {
     let mut marks = Marks::new(alloc, permitted)?;
     feed_tree(alloc, &mut marks, tree)?;
-    marks.found()
+    Ok(marks.found()?)
 }
 
 // Feeds each file, each link's target and each entry's name as a list of its own.

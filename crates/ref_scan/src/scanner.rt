@@ -76,6 +76,6 @@ impl Scanner {
         ensures are_parts { (path : List ℕ) → Contains self.permitted path
             → IsTrue (is_hash_part (hash_part_of path)) }
     {
-        self.marks.found()
+        Ok(self.marks.found()?)
     }
 }

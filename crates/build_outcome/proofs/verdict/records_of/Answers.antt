@@ -18,7 +18,7 @@ loop-n-preserved c =
       records = records_more (algorithm_for c.args.job.now.kind) c.args.permitted.now c.args.answer.now
           c.loop-n.records.items
           c.push_reserved.new.self.items c.loop-n.n c.in-Some.tree.now _
-          c.loop-n.invariant.records c.in-Some.ensures c.in_ok-record_of.ensures.record
+          c.loop-n.invariant.records c.in-Some.ensures c.in_ok-record_of.ensures
           c.push_reserved.ensures.items;
       room = c.push_reserved.ensures.capacity ∙ c.loop-n.invariant.room;
     }

@@ -3,7 +3,7 @@ use Rattle.std.specs.Prelude.{Contains}
 use Rattle.ref_scan.specs.Scan.{IsFoundIn}
 use Rattle.ref_scan.specs.Trees.{pieces}
 use Rattle.ref_scan.proofs.Pieces.{found_before_none}
-use Rattle.ref_scan.proofs.Scanning.{if_ok, sought_of}
+use Rattle.ref_scan.proofs.Scanning.{sought_of}
 use Rattle.ref_scan.proofs.references.scan.Goals as goal
 
 pub found-requires : goal.found-requires
@@ -23,10 +23,9 @@ returns c =
     ∙ ap (λ ps. sought_of ps marks.parts marks.in_order (pieces tree) [])
     c.in_ok-marks.ensures.permitted
     in
-    if_ok c.found.result _ _
-    (λ found h.
-    found_before_none (pieces tree) permitted found.items
-    (λ path has. c.found.ensures.are_parts path
+    let found = c.in_ok-found.field-0.items in
+    found_before_none (pieces tree) permitted found
+    (λ path has. c.in_ok-found.ensures.are_parts path
     (subst (λ ps. Contains ps path) (sym (ap (λ m. m.permitted) fed)) has))
-    (subst (λ f. IsFoundIn (f.ended ++ f.present ∷ []) f.permitted found.items) fed h))
-    c.found.ensures.found
+    (subst (λ f. IsFoundIn (f.ended ++ f.present ∷ []) f.permitted found) fed
+    c.in_ok-found.ensures.found)
