@@ -105,9 +105,9 @@ fn memo_by_inputs(
 // The memo of a derivation that is told of the end of another one, which stands at this place
 // among what it waits for: that one was built or was valid, or it failed or is refused. The place
 // after the inputs is that of the nearest earlier twin.
-pub(crate) fn input_ended(memo: NodeState, place: usize, one: usize, good: bool) -> NodeState
-    requires { (awaited : Awaited) × (heard : List News) × CanHear awaited heard memo place one }
-    ensures is { (awaited : Awaited) (heard : List News) → CanHear awaited heard memo place one
+pub(crate) fn input_ended(memo: NodeState, place: usize, ended: usize, good: bool) -> NodeState
+    requires { (awaited : Awaited) × (heard : List News) × CanHear awaited heard memo place ended }
+    ensures is { (awaited : Awaited) (heard : List News) → CanHear awaited heard memo place ended
         → IsMemo awaited (slice_set heard place (news_by good)) result }
     ensures same { IsSameElse memo result }
     ensures turns { Turns memo.state result.state }
@@ -123,11 +123,11 @@ pub(crate) fn input_ended(memo: NodeState, place: usize, one: usize, good: bool)
             ..memo
         }
     } else if place < memo.first {
-        let state = state_after_bad(memo.standing, memo.state, memo.held, one);
+        let state = state_after_bad(memo.standing, memo.state, memo.held, ended);
         NodeState {
             state,
             first: place,
-            failed: Some(one),
+            failed: Some(ended),
             ..memo
         }
     } else {

@@ -192,7 +192,7 @@ fn memos_of(
     standings: &[Precondition],
     wanted: &[bool],
     twins: &[Option<usize>],
-) -> Result<Vec<NodeState>, BookFault>
+) -> Result<Vec<NodeState>, AllocError>
     requires standings { length standings.now ≡ length plan.now.nodes }
     requires wanted { length wanted.now ≡ length plan.now.nodes }
     requires twins { length twins.now ≡ length plan.now.nodes }
@@ -200,7 +200,6 @@ fn memos_of(
     ensures ok { IfOk result
         (λ memos. AreOpening plan.now standings.now wanted.now twins.now memos.items) }
     ensures room { IfOk result (λ memos. vec_capacity memos ≡ length plan.now.nodes) }
-    ensures err { IfErr result (λ fault. fault ≡ NoMemory) }
 {
     let mut memos = Vec::with_capacity(alloc, plan.len())?;
     for d in 0..plan.len() {

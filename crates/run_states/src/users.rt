@@ -174,7 +174,7 @@ fn add_user(
     spans: &mut [Span],
     edges: &mut [Edge],
 )
-    requires within { All (λ one. one < length spans.old) (inputs.now ++ listed twin) }
+    requires within { All (λ input. input < length spans.old) (inputs.now ++ listed twin) }
     requires room { HaveRoom spans.old (length edges.old)
         (λ n. often n (inputs.now ++ listed twin)) }
     ensures spans { length spans.new ≡ length spans.old }
@@ -209,24 +209,24 @@ fn add_edges(user: usize, inputs: &[usize], spans: &mut [Span], edges: &mut [Edg
     }
 }
 
-// Adds the edge from `one` to a user, at the end of its span. It stands at this place among what
-// the user waits for.
-fn add_edge(user: usize, place: usize, one: usize, spans: &mut [Span], edges: &mut [Edge])
-    requires within { one < length spans.old }
-    requires room { HaveRoom spans.old (length edges.old) (λ n. often n (one ∷ [])) }
+// Adds the edge from a derivation to a user that waits for it, at the end of its span. It stands at
+// this place among what the user waits for.
+fn add_edge(user: usize, place: usize, awaited: usize, spans: &mut [Span], edges: &mut [Edge])
+    requires within { awaited < length spans.old }
+    requires room { HaveRoom spans.old (length edges.old) (λ n. often n (awaited ∷ [])) }
     ensures spans { length spans.new ≡ length spans.old }
     ensures edges { length edges.new ≡ length edges.old }
     ensures room { (left : ℕ → ℕ)
-        → HaveRoom spans.old (length edges.old) (λ n. often n (one ∷ []) + left n)
+        → HaveRoom spans.old (length edges.old) (λ n. often n (awaited ∷ []) + left n)
         → HaveRoom spans.new (length edges.new) left }
     ensures adds { (before : List ℕ) (old : ℕ → List Edge) → length before ≡ place
         → AddsUser user before (length spans.old) old (users_of (parts spans.old edges.old))
-        → AddsUser user (before ++ one ∷ []) (length spans.old) old
+        → AddsUser user (before ++ awaited ∷ []) (length spans.old) old
         (users_of (parts spans.new edges.new)) }
 {
-    let span = spans[one];
+    let span = spans[awaited];
     edges[span.end] = Edge { user, place };
-    spans[one] = Span {
+    spans[awaited] = Span {
         end: span.end + 1,
         ..span
     };

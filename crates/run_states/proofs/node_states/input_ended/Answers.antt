@@ -12,8 +12,8 @@ pub returns-then-place-memo-clause-is : goal.returns-then-place-memo-clause-is
 returns-then-place-memo-clause-is c = λ awaited heard can.
     subst (λ n. IsMemo awaited (slice_set heard n (news_by c.args.good)) c.hear_twin_end.result)
     (sym c.if-place-memo.true)
-    (c.hear_twin_end.ensures.is awaited heard c.args.one
-    (subst (λ n. CanHear awaited heard c.args.memo n c.args.one) c.if-place-memo.true can))
+    (c.hear_twin_end.ensures.is awaited heard c.args.ended
+    (subst (λ n. CanHear awaited heard c.args.memo n c.args.ended) c.if-place-memo.true can))
 
 pub returns-then-good-clause-is : goal.returns-then-good-clause-is
 returns-then-good-clause-is c = λ awaited heard can.

@@ -29,7 +29,7 @@ pub returns-clause-adds : goal.returns-clause-adds
 returns-clause-adds c = λ before old size prior.
     let spans = c.args.spans.now in
     let edges = c.args.edges.now in
-    let i = c.args.one in
+    let i = c.args.awaited in
     let edge : Edge = record { user = c.args.user; place = c.args.place } in
     let room = c.requires.room in
     let some : 0 < often i (i ∷ []) = omega (arith, often_one i) in
