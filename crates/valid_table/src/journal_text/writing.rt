@@ -1,7 +1,7 @@
 //! Writing a journal's text.
 ghost use Rattle.std.specs.Prelude.{◌≡◌, ◌++◌, ◌∷◌, IfOk, IfErr, OnOk};
 ghost use Rattle.valid_table.specs.private.LineTexts.{fields_text, lines_text, path_line, registration_text};
-ghost use Rattle.valid_table.specs.Texts.{digest_text, entry_lines, text};
+ghost use Rattle.valid_table.specs.Texts.{digest_text, entry_lines};
 ghost use Rattle.valid_table.specs.Written.{written_lines, written_text};
 
 use crate::entry::{Entry, Outputs, Record, Registration};
@@ -15,11 +15,14 @@ impl Journal {
     /// The journal's text, in version 2: its line and each entry's lines, each with its newline.
     /// Answers `NoMemory` where memory is refused, and no other fault. Costs one pass over the
     /// entries, and memory for the text alone.
+    #[tactic(auto, unfolding(crate::specs::Texts::text))]
     pub fn write(&self, alloc: Global) -> Result<Vec<u8>, TableFault>
         ensures ok { IfOk result (λ bytes. bytes.items ≡ written_text self.now.entries) }
         ensures err { IfErr result (λ e. e ≡ TableFault.NoMemory) }
     {
-        Ok(write_text(alloc, self.entries())?)
+        let mut out = Vec::from_slice(alloc, Version::Two.line())?;
+        add_lines(self.entries(), &mut out)?;
+        Ok(out)
     }
 }
 
@@ -31,16 +34,6 @@ pub fn write_lines(alloc: Global, entries: &[Entry]) -> Result<Vec<u8>, TableFau
     ensures err { IfErr result (λ e. e ≡ TableFault.NoMemory) }
 {
     let mut out = Vec::new(alloc);
-    add_lines(entries, &mut out)?;
-    Ok(out)
-}
-
-// The text of the entries.
-#[tactic(auto, unfolding(crate::specs::Texts::text))]
-fn write_text(alloc: Global, entries: &[Entry]) -> Result<Vec<u8>, AllocError>
-    ensures { IfOk result (λ bytes. bytes.items ≡ text Version.Two entries.now) }
-{
-    let mut out = Vec::from_slice(alloc, Version::Two.line())?;
     add_lines(entries, &mut out)?;
     Ok(out)
 }
