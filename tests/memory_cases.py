@@ -159,32 +159,23 @@ a module of another file: #[path = "more.txt"] mod more;
 """
 )
 
-# Bugs that change a line: the file, the line, and what stands in its place.
-EDITED = {
-    "a listed size in another function": (
-        "nix_names/src/base32.rt",
-        "// How many characters the text of `n` bytes has.\n",
-        "fn p(alloc: Global, len: usize) -> Result<Vec<u8>, AllocError> {\n"
-        "    Ok(Vec::with_capacity(alloc, len)?)\n}\n"
-        "// How many characters the text of `n` bytes has.\n",
-    ),
-    "a second lease failed where one is listed": (
-        "sched_core/src/book.rt",
-        "        self.fail(lease, Reason::OutOfMemory)\n",
-        "        if lease.number() > 9 { return self.fail(lease, Reason::OutOfMemory); }\n"
-        "        self.fail(lease, Reason::OutOfMemory)\n",
-    ),
-    "a listed place for another cause": (
-        "process_build/src/failures.rt",
-        "ErrorKind::OutOfMemory if error.raw_os_error().is_none() => Failure::NoMemory",
-        "ErrorKind::OutOfMemory => Failure::NoMemory",
-    ),
-    "a variant with another meaning": (
-        "run_states/src/fault.rt",
-        "    NoMemory,\n",
-        "    NoMemory(u8),\n",
-    ),
-}
+# Bugs that change a line: the file, a part of the line, and what stands in its place.
+EDITED = cases(
+    r"""
+a listed size in another function: nix_names/src/base32.rt
+    | // How many characters the text of `n` bytes has.
+    | fn p(alloc: Global, len: usize) -> Result<Vec<u8>, AllocError> {
+    Ok(Vec::with_capacity(alloc, len)?) }
+a second lease failed where one is listed: sched_core/src/book.rt
+    | self.fail(lease, Reason::OutOfMemory)
+    | if lease.number() > 9 { return self.fail(lease, Reason::OutOfMemory); }
+    self.fail(lease, Reason::OutOfMemory)
+a listed place for another cause: process_build/src/failures.rt
+    | ErrorKind::OutOfMemory if error.raw_os_error().is_none() => Failure::NoMemory
+    | ErrorKind::OutOfMemory => Failure::NoMemory
+a variant with another meaning: run_states/src/fault.rt |     NoMemory, |     NoMemory(u8),
+"""
+)
 
 # Code that has to pass.
 ALLOWED = cases(

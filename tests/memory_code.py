@@ -33,7 +33,8 @@ TOKEN = re.compile(
     re.X | re.S,
 )
 # A function up to its body, and something like `Err(BookFault::NoMemory)`.
-FRONT = r"fn \w+ (?:\[[^\]]*\]|[^{;\[])*"
+AFTER_NAME = r"(?:\[[^\]]*\]|[^{;\[])*"
+FRONT = rf"fn \w+ {AFTER_NAME}"
 WANT = rf"(?:\w+ :: )+(?:{VARIANTS})"
 CONVERSION = (
     r"impl (?:< T : Drop > )?From < (?P<of>AllocError|AllocFailed < T >) > for (?P<to>\w+)"
