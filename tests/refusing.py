@@ -3,8 +3,7 @@
 import collections
 import functools
 import os
-import pathlib
-import struct
+import re
 import subprocess
 import sys
 
@@ -22,20 +21,6 @@ class Wrong(Exception):
     """What is not as it should be."""
 
 
-def functions_in(elf):
-    """Where each function of a 64-bit ELF file lies, by its table of symbols: begin and end."""
-    at, size, count = *struct.unpack_from("<Q", elf, 40), *struct.unpack_from("<HH", elf, 58)
-    sections = [struct.unpack_from("<IIQQQQIIQQ", elf, at + size * n) for n in range(count)]
-    lie = {}
-    for _, kind, _, _, start, length, link, _, _, each in sections:
-        for symbol in range(start, start + length, each) if kind == 2 else []:
-            name, info, _, _, value, width = struct.unpack_from("<IBBHQQ", elf, symbol)
-            if info & 15 == 2:
-                begin = sections[link][4] + name
-                lie[elf[begin : elf.index(0, begin)].decode()] = value, value + width
-    return lie
-
-
 class Refusing:
     """The library, in a folder."""
 
@@ -47,12 +32,11 @@ class Refusing:
     @functools.cache
     def own(self, program):
         """Where the functions lie by which a program asks for memory: begin and end of each."""
-        lie = functions_in(pathlib.Path(program).read_bytes())
-        try:
-            names = ("rattle_alloc", "rattle_realloc")
-            return " ".join(f"{lie[name][0]:x} {lie[name][1]:x}" for name in names)
-        except KeyError as lacking:
-            raise Wrong(f"{program} has no function {lacking}") from None
+        symbols = run(["nm", "--print-size", program])[1]
+        found = re.findall(r"(?m)^(\w+) (\w+) [tT] rattle_(?:re)?alloc$", symbols)
+        if len(found) != 2:
+            raise Wrong(f"{program} has not the functions rattle_alloc and rattle_realloc")
+        return " ".join(f"{at} {int(at, 16) + int(size, 16):x}" for at, size in found)
 
     def settings(self, program, **settings):
         chosen = {name: str(value) for name, value in settings.items()}

@@ -35,13 +35,12 @@ needs_library = lambda step: bool(LABELS & set(step.texts) or NUMBERS & set(step
 lines_of = lambda text: text.replace("; ", "\n").splitlines()
 
 
-def compiled(folder):
-    """The library, or none where there is no compiler."""
+def compiled(folder, source=HERE / "refused_calls.c"):
+    """The library of a source, or none where there is no compiler."""
     compiler = next(filter(shutil.which, ["cc", "clang", "gcc"]), None)
     if compiler is None:
         return None
-    library = os.path.join(folder, "refused_calls.so")
-    source = str(HERE / "refused_calls.c")
+    library = os.path.join(folder, "library.so")
     words = [compiler, "-O1", "-shared", "-fPIC", "-o", library, source, "-ldl"]
     subprocess.run(words, check=True)
     return library
