@@ -74,9 +74,9 @@ def compare_calls(scene, step):
     lines = [line.split(" ", 3) for line in text.splitlines()]
     happened = [line for line in lines if line[0] == "before"]
     expect(str(scene.text(step, "before").count("\n")), str(len(happened)))
-    # What is printed goes to a file of the script.
+    # What is printed and told goes to files of the script, or to its terminal.
     calls = [
-        (kind, "-" if kind == "print" else path or "-")
+        (kind, "-" if kind in ("print", "tell") else path or "-")
         for done, kind, _, path in lines
         if done != "before"
     ]
