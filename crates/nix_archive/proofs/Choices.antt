@@ -1,9 +1,8 @@
 -- How trees and entries begin.
-use Rattle.std.proofs.Common.{◌≡◌, ◌≢◌, ◌∙◌, Bool, true, false, List, [], ◌∷◌, ◌++◌, length, refl, ap, sym, inl, inr, append_assoc, append-nil, drop}
+use Rattle.std.proofs.Common.{◌≡◌, ◌≢◌, ◌∙◌, Bool, true, false, List, [], ◌∷◌, ◌++◌, refl, ap, sym, inl, inr, append_assoc, append-nil, drop}
 use Rattle.std.specs.Prelude.{codes}
 use Rattle.std.proofs.Math.ListN.{replicate}
-use Rattle.std.proofs.Common.{◌<◌, ◌^◌}
-use Rattle.nix_archive.specs.Trees.{IsArchivable, AreEntries, Bytes, Tree, Entries, File, Link, Folder, NoEntries, Entry}
+use Rattle.nix_archive.specs.Trees.{IsArchivable, IsString, AreEntries, Bytes, Tree, Entries, File, Link, Folder, NoEntries, Entry}
 use Rattle.nix_archive.specs.Archive.{mark, node, nodes, padding, size_text, str, strs}
 use Rattle.nix_archive.specs.Tokens.{Token, FolderBegun, FolderEnded, EntryBegun, EntryEnded, tokens_of, tokens_among, file_tokens}
 use Rattle.nix_archive.specs.Parts.{After, Says, Either, Counted, Node, Nodes, Outer, LetterRest, MarkRest, close, ended, file, named, open_text}
@@ -47,7 +46,7 @@ file_text x bytes rest = (mark x ++ strs (codes "contents" ∷ bytes ∷ codes "
 record IsMarked (K : List Token → Bytes → Type 0) (ts : List Token) (u : Bytes) : Type 0 where
   executable : Bool
   bytes : Bytes
-  sized : length bytes < 2 ^ 64
+  is_string : IsString bytes
   later : List Token
   said : ts ≡ file_tokens executable bytes ++ later
   rest : Bytes
@@ -55,23 +54,23 @@ record IsMarked (K : List Token → Bytes → Type 0) (ts : List Token) (u : Byt
   follows : K later rest
 
 mark_to : (K : List Token → Bytes → Type 0) (x : Bool) (bytes : Bytes) (ts later : List Token)
-    (rest : Bytes) → length bytes < 2 ^ 64 → ts ≡ file_tokens x bytes ++ later → K later rest
+    (rest : Bytes) → IsString bytes → ts ≡ file_tokens x bytes ++ later → K later rest
     → MarkRest K ts (file_text x bytes rest)
-mark_to K true bytes ts later rest sized said k =
+mark_to K true bytes ts later rest is_string said k =
     inl (put (str bytes ++ (close ++ rest))
     (regroup (mark true) (str (codes "contents")) (str bytes) close rest)
     record {
       bytes = bytes;
-      sized = sized;
+      is_string = is_string;
       follows = put (close ++ rest) refl record
           { later = later; begins = said; follows = put rest refl k };
     })
-mark_to K false bytes ts later rest sized said k =
+mark_to K false bytes ts later rest is_string said k =
     inr (put (str bytes ++ (close ++ rest))
     (regroup [] (str (codes "contents")) (str bytes) close rest)
     record {
       bytes = bytes;
-      sized = sized;
+      is_string = is_string;
       follows = put (close ++ rest) refl record
           { later = later; begins = said; follows = put rest refl k };
     })
@@ -84,7 +83,7 @@ marked K x text ts u is h =
     let d = c.follows.follows in record {
       executable = x;
       bytes = c.bytes;
-      sized = c.sized;
+      is_string = c.is_string;
       later = d.later;
       said = d.begins;
       rest = d.follows.rest;
@@ -124,7 +123,7 @@ kind_to K (Link target) a ts u later rest said e k =
     (regroup_two (str target) close rest))
     (inr (put r refl record {
       bytes = target;
-      sized = a;
+      is_string = a;
       follows = put (close ++ rest) refl record
           { later = later; begins = said; follows = put rest refl k };
     })))
@@ -153,7 +152,7 @@ kind_from K ts u h =
         | inl v ↦
             let m = mark_from K ts v.rest v.follows in record {
               tree = File m.executable m.bytes;
-              archivable = m.sized;
+              archivable = m.is_string;
               follows = record {
                 later = m.later;
                 begins = m.said;
@@ -165,7 +164,7 @@ kind_from K ts u h =
             let c = v.follows in
             let d = c.follows.follows in record {
               tree = Link c.bytes;
-              archivable = c.sized;
+              archivable = c.is_string;
               follows = record {
                 later = d.later;
                 begins = d.begins;
@@ -251,7 +250,7 @@ more_to before outer (Entry name tree others) a ts u later rest said e k =
           later (EntryBegun name) EntryEnded;
       follows = record {
         bytes = name;
-        sized = a.0.sized;
+        is_string = a.0.is_string;
         follows = put r₂ refl (
           a.0,
           a.1,

@@ -1,11 +1,13 @@
 -- Steps of a reader within files, names and targets.
 use Rattle.std.proofs.Common.{◌≡◌, ◌≢◌, ◌∙◌, ℕ, ◌+◌, ◌-◌, ◌%◌, ◌^◌, ◌<◌, ◌≤◌, get_or, zero, suc, if◌then◌else◌, Bool, true, false, List, [], ◌∷◌, ◌++◌, length, map, refl, ap, sym, subst, append_assoc, take, drop, arith, length-append, length-drop}
-use Rattle.std.specs.Prelude.{codes}
+use Rattle.std.specs.Prelude.{codes, OnOk, Result}
+use Rattle.std.proofs.lemmas.Result.{on_ok_weaker}
+use Rattle.std.specs.declared.alloc.AllocError.{AllocError}
 use Rattle.std.proofs.Math.ListN.{replicate}
 use Rattle.std.proofs.lemmas.List.{length-take, map-append, take-append-drop}
 use Rattle.std.proofs.Math.Seq.{take-length}
 use Rattle.std.specs.Int.{w64, from_le_bytes}
-use Rattle.nix_archive.specs.Trees.{Bytes, Tree, File, Link, Folder, IsAfter, IsName}
+use Rattle.nix_archive.specs.Trees.{AreBytes, Bytes, Tree, File, Link, Folder, IsAfter, IsName}
 use Rattle.nix_archive.specs.Archive.{node, padding, size_text, str}
 use Rattle.nix_archive.specs.Tokens.{Token, EntryBegun, FileBegun, FileByte, FileEnded, FolderEnded, LinkTo}
 use Rattle.nix_archive.specs.Parts.{After, Says, Sized, Counted, Bytewise, Node, Outer, close, ended, file, link, named, open_text}
@@ -13,8 +15,12 @@ use Rattle.nix_archive.specs.Rests.{mode_rest}
 use Rattle.nix_archive.specs.Reading.{IsSame, IsStep, IsRefused}
 use Rattle.nix_archive.specs.private.Takes.{IsTaken, IsTakenOf}
 use Rattle.nix_archive.specs.declared.mode.Mode.TheVariants.{More, Name, Size}
+use Rattle.nix_archive.specs.declared.mode.Tie.{Tie}
+use Rattle.nix_archive.specs.declared.mode.Tie.TheVariants.{Free}
 use Rattle.nix_archive.specs.declared.mode.What.{What}
 use Rattle.nix_archive.specs.declared.mode.What.TheVariants.{File as OfFile, Name as OfName, Target as OfTarget}
+use Rattle.nix_archive.specs.private.Ready.{IsBar}
+use Rattle.nix_archive.proofs.Bytes.{back_bytes, both_bytes, no_bytes}
 use Rattle.nix_archive.proofs.Telling.{cut}
 use Rattle.nix_archive.proofs.Rests.{after_both, after_none, after_same, neither, ready, same, same_both, same_seen, same_size, same_whole, seen_step, steps, silent, step_from, step_to, second_step}
 use Rattle.nix_archive.proofs.Choices.{entry_text, same_more}
@@ -100,6 +106,7 @@ module _ {S : Type 0} (heard : S → List Token → S → Type 0) where
         sound = λ ts u r. record {
           bytes = [];
           long = refl;
+          are_bytes = no_bytes;
           follows = record { later = ts; begins = refl; follows = n.to ts u (p.from ts u r) };
         };
         complete = λ ts u b.
@@ -125,6 +132,7 @@ module _ {S : Type 0} (heard : S → List Token → S → Type 0) where
         let a = b.follows.follows in record {
           bytes = b.bytes;
           long = b.long;
+          are_bytes = b.are_bytes;
           follows = record {
             rest = a.rest;
             begins = a.begins;
@@ -148,6 +156,7 @@ module _ {S : Type 0} (heard : S → List Token → S → Type 0) where
           record {
             bytes = p.bytes;
             long = p.long;
+            are_bytes = p.are_bytes;
             follows = record {
               later = s.later;
               begins = refl;
@@ -166,9 +175,9 @@ module _ {S : Type 0} (heard : S → List Token → S → Type 0) where
   }
 
   pub contents_step : {s t : S} (size left after : ℕ) (K : List Token → Bytes → Type 0) (w : Bytes)
-      → heard s (map FileByte w) t → left ≡ length w + after
+      → heard s (map FileByte w) t → AreBytes w → left ≡ length w + after
       → IsStep heard s t (Bytewise size left K) (Bytewise size after K) w
-  contents_step size left after K w h is =
+  contents_step size left after K w h are is =
       let E : List Token = FileEnded size ∷ [] in record {
         said = map FileByte w;
         hears = h;
@@ -176,6 +185,7 @@ module _ {S : Type 0} (heard : S → List Token → S → Type 0) where
             let a = b.follows.follows in record {
               bytes = w ++ b.bytes;
               long = omega (arith, length-append w b.bytes, b.long);
+              are_bytes = both_bytes w b.bytes are b.are_bytes;
               follows = record {
                 later = b.follows.later;
                 begins = ap (λ l. map FileByte w ++ l) b.follows.begins
@@ -202,6 +212,7 @@ module _ {S : Type 0} (heard : S → List Token → S → Type 0) where
               record {
                 bytes = back;
                 long = omega (arith, length-drop n b.bytes, b.long);
+                are_bytes = back_bytes front back (subst AreBytes (sym both) b.are_bytes);
                 follows = record {
                   later = b.follows.later;
                   begins = refl;
@@ -211,53 +222,73 @@ module _ {S : Type 0} (heard : S → List Token → S → Type 0) where
             );
       }
 
-  pub target_end : {s t : S} (size zeros : ℕ) (seen : Bytes) (K R : List Token → Bytes → Type 0)
-      → heard s (LinkTo seen ∷ []) t → length seen ≡ size → zeros ≡ (8 - size % 8) % 8
+  pub target_end : {s t : S} (zeros : ℕ) (target : Bytes) (K R : List Token → Bytes → Type 0)
+      → heard s (LinkTo target ∷ []) t → zeros ≡ (8 - length target % 8) % 8
       → IsSame (After close K) R
-      → IsStep heard s t (λ ts u. Sized size (link K) ts (seen ++ u)) (After (replicate zeros 0) R)
-      []
-  target_end size zeros seen K R h long is e =
-      step_from heard (same_whole (link K) seen size long)
-      (step_to heard (padded size zeros is e)
-      (says_after (padding size) (LinkTo seen ∷ []) (After close K) h))
+      → IsStep heard s t (After (padding (length target)) (link K target))
+      (After (replicate zeros 0) R) []
+  target_end zeros target K R h is e =
+      step_to heard (padded (length target) zeros is e)
+      (says_after (padding (length target)) (LinkTo target ∷ []) (After close K) h)
 
   -- a name that may stand here was read
-  pub name_end : {s t : S} (size zeros : ℕ) (seen before : Bytes) (outer names other : List Bytes)
-      → heard s (EntryBegun seen ∷ []) t → length seen ≡ size → zeros ≡ (8 - size % 8) % 8
-      → IsName seen → IsAfter before seen → names ≡ before ∷ outer → other ≡ seen ∷ outer
-      → IsStep heard s t (mode_rest (Name size) seen names)
+  pub name_end : {s t : S} (zeros : ℕ) (name before : Bytes) (outer names other : List Bytes)
+      → heard s (EntryBegun name ∷ []) t → zeros ≡ (8 - length name % 8) % 8
+      → IsName name → IsAfter before name → names ≡ before ∷ outer → other ≡ name ∷ outer
+      → IsStep heard s t (mode_rest (Name (length name) Free) name names)
       (After (replicate zeros 0) (After (str (codes "node") ++ open_text)
       (λ ts u. Node (Outer other) ts (open_text ++ u)))) []
-  name_end size zeros seen before outer names other h long is a b e f =
+  name_end zeros name before outer names other h is a b e f =
+      let size : ℕ = length name in
       let T : Bytes = str (codes "node") in
       let M : List Token → Bytes → Type 0 = λ ts u. Node (Outer other) ts (open_text ++ u) in
-      let X : List Token → Bytes → Type 0 = After T (Node (Outer (seen ∷ outer))) in
+      let X : List Token → Bytes → Type 0 = After T (Node (Outer (name ∷ outer))) in
       let text : IsSame X (After (T ++ open_text) M) =
-      same_both (same_names (λ l. After T (Node (Outer l))) (seen ∷ outer) other (sym f))
+      same_both (same_names (λ l. After T (Node (Outer l))) (name ∷ outer) other (sym f))
       (same_both (after_same T (same_open (Outer other))) (after_both T open_text M)) in
-      let may : IsSame (named before outer seen) (Says (EntryBegun seen ∷ []) X) = record {
+      let may : IsSame (named before outer name) (Says (EntryBegun name ∷ []) X) = record {
         to = λ ts u p. p.2;
         from = λ ts u p. (a, b, p);
       } in
-      step_from heard (same_names (mode_rest (Name size) seen) names (before ∷ outer) e)
-      (step_from heard (same_whole (named before outer) seen size long)
+      step_from heard (same_names (mode_rest (Name size Free) name) names (before ∷ outer) e)
+      (step_from heard (same_whole (named before outer) name size a.is_string.are_bytes refl)
       (step_from heard (after_same (padding size) may)
       (step_to heard (padded size zeros is text)
-      (says_after (padding size) (EntryBegun seen ∷ []) X h))))
+      (says_after (padding size) (EntryBegun name ∷ []) X h))))
 
 -- a name that may not
-pub name_no : (size : ℕ) (seen before : Bytes) (outer names : List Bytes) → length seen ≡ size
-    → ((IsName seen × IsAfter before seen) → ⊥) → names ≡ before ∷ outer
-    → (ts : List Token) (u : Bytes) → mode_rest (Name size) seen names ts u → ⊥
-name_no size seen before outer names long never e ts u h =
-    let p = (same_whole (named before outer) seen size long).to ts u
-    ((same_names (mode_rest (Name size) seen) names (before ∷ outer) e).to ts u h) in
+pub name_no : (name before : Bytes) (outer names : List Bytes)
+    → ((IsName name × IsAfter before name) → ⊥) → AreBytes name → names ≡ before ∷ outer
+    → (ts : List Token) (u : Bytes) → mode_rest (Name (length name) Free) name names ts u → ⊥
+name_no name before outer names never are e ts u h =
+    let size : ℕ = length name in
+    let p = (same_whole (named before outer) name size are refl).to ts u
+    ((same_names (mode_rest (Name size Free) name) names (before ∷ outer) e).to ts u h) in
     never (p.follows.0, p.follows.1)
 
-pub name_outside : (size : ℕ) (seen : Bytes) (names : List Bytes) → names ≡ []
-    → (ts : List Token) (u : Bytes) → mode_rest (Name size) seen names ts u → ⊥
-name_outside size seen names e ts u h =
-    (same_names (mode_rest (Name size) seen) names [] e).to ts u h
+pub name_outside : (size : ℕ) (tie : Tie) (seen : Bytes) (names : List Bytes) → names ≡ []
+    → (ts : List Token) (u : Bytes) → mode_rest (Name size tie) seen names ts u → ⊥
+name_outside size tie seen names e ts u h =
+    (same_names (mode_rest (Name size tie) seen) names [] e).to ts u h
+
+-- the bytes of a name were seen, and they are these
+pub name_same : (names : List Bytes) (seen bytes : Bytes) (size : ℕ) → bytes ≡ seen
+    → length seen ≡ size
+    → IsSame (mode_rest (Name size Free) seen names)
+    (mode_rest (Name (length bytes) Free) bytes names)
+name_same names seen bytes size e long =
+    subst (λ l. IsSame (mode_rest (Name size Free) seen names)
+    (mode_rest (Name (length l) Free) l names)) (sym e)
+    (subst (λ n. IsSame (mode_rest (Name size Free) seen names) (mode_rest (Name n Free) seen names))
+    (sym long) (same (mode_rest (Name size Free) seen names)))
+
+-- no name of a length may stand here
+pub name_bar : (size : ℕ) (before : Bytes) (outer names : List Bytes) → IsBar before size
+    → names ≡ before ∷ outer
+    → (ts : List Token) (u : Bytes) → mode_rest (Name size Free) [] names ts u → ⊥
+name_bar size before outer names bar e ts u h =
+    let p = (same_names (mode_rest (Name size Free) []) names (before ∷ outer) e).to ts u h in
+    bar p.bytes p.long p.are_bytes p.follows.follows.follows.1
 
 pub more_outside : (seen : Bytes) (names : List Bytes) → names ≡ []
     → (ts : List Token) (u : Bytes) → mode_rest More seen names ts u → ⊥
@@ -306,6 +337,12 @@ more_no seen before outer names byte e a b ts u h =
     ((same_more before outer).to ts (byte ∷ u)
     ((same_names (mode_rest More seen) names (before ∷ outer) e).to ts (byte ∷ u) h))
 
+pub more_other : (seen : Bytes) (names : List Bytes) (byte : ℕ) → byte ≢ 5 → byte ≢ 1
+    → IsRefused (mode_rest More seen names) (byte ∷ [])
+more_other seen [] byte a b ts u h = h
+more_other seen (before ∷ outer) byte a b ts u h =
+    more_no seen before outer (before ∷ outer) byte refl a b ts u h
+
 pub same_left : (size left other : ℕ) (K : List Token → Bytes → Type 0) → left ≡ other
     → IsSame (Bytewise size left K) (Bytewise size other K)
 same_left size left other K e =
@@ -322,7 +359,47 @@ pub name_as : (b n p q : Bytes) → b ≡ p → n ≡ q → IsName n × IsAfter 
 name_as b n p q e f h =
     (subst IsName f h.0, subst (λ l. IsAfter l q) e (subst (λ l. IsAfter b l) f h.1))
 
+-- the bytes of a string were seen, and they are these
+pub whole_as : (Q : Bytes → List Token → Bytes → Type 0) (seen bytes : Bytes) (size : ℕ)
+    → AreBytes seen → length seen ≡ size → bytes ≡ seen
+    → IsSame (λ ts u. Sized size Q ts (seen ++ u)) (After (padding (length bytes)) (Q bytes))
+whole_as Q seen bytes size are long e =
+    subst (λ l. IsSame (λ ts u. Sized size Q ts (seen ++ u)) (After (padding (length l)) (Q l)))
+    (sym e)
+    (subst (λ n. IsSame (λ ts u. Sized size Q ts (seen ++ u)) (After (padding n) (Q seen)))
+    (sym long) (same_whole Q seen size are long))
+
+-- a string of no bytes
+pub no_string : (Q : Bytes → List Token → Bytes → Type 0) (size : ℕ) → size ≡ 0
+    → IsSame (Sized size Q) (After (padding (length {A = ℕ} [])) (Q []))
+no_string Q size e =
+    subst (λ n. IsSame (Sized n Q) (After (padding 0) (Q []))) (sym e)
+    (same_whole Q [] 0 no_bytes refl)
+
 module _ {S : Type 0} (heard : S → List Token → S → Type 0) where
+  pub no_string_read : (s t : S) (R : List Token → Bytes → Type 0)
+      (Q : Bytes → List Token → Bytes → Type 0) (size : ℕ) (r : Result (Unit {0}) AllocError)
+      → size ≡ 0 → OnOk r (IsStep heard s t (After (padding (length {A = ℕ} [])) (Q [])) R [])
+      → OnOk r (IsStep heard s t (Sized size Q) R [])
+  no_string_read s t R Q size r e h = on_ok_weaker r (λ k. step_from heard (no_string Q size e) k) h
+
+  -- the length of a string was read
+  pub begun_string : (s : S) (size zeros : ℕ) (text seen : Bytes)
+      (Q : Bytes → List Token → Bytes → Type 0) → heard s [] s → zeros ≡ 0 → text ≡ [] → seen ≡ []
+      → IsStep heard s s (Sized size Q) (Next zeros text (λ ts u. Sized size Q ts (seen ++ u))) []
+  begun_string s size zeros text seen Q h none blank is =
+      step_from heard (same_seen (Sized size Q) seen is)
+      (idle heard s zeros text (λ ts u. Sized size Q ts (seen ++ u)) h none blank)
+
+  pub begun_name : (s : S) (size zeros : ℕ) (text seen : Bytes) (tie : Tie) (names : List Bytes)
+      → heard s [] s → zeros ≡ 0 → text ≡ [] → seen ≡ []
+      → IsStep heard s s (mode_rest (Name size Free) [] names)
+      (Next zeros text (mode_rest (Name size tie) seen names)) []
+  begun_name s size zeros text seen tie [] h none blank is =
+      silent heard [] s h (λ ts u q. q.follows.follows) (λ ts u p. absurd p)
+  begun_name s size zeros text seen tie (before ∷ outer) h none blank is =
+      begun_string s size zeros text seen (named before outer) h none blank is
+
   pub taken_of : {s t : S} (P Q : List Token → Bytes → Type 0) (piece : Bytes) (n : ℕ) → 0 < n
       → n ≤ length piece → IsStep heard s t P Q (take n piece) → IsTakenOf heard s t P Q piece n
   taken_of P Q piece zero lt le h = absurd (omega arith)
@@ -368,19 +445,19 @@ module _ {S : Type 0} (heard : S → List Token → S → Type 0) where
       seen_step heard s (Counted (named before outer)) seen more byte h e
 
   -- one more byte of a name
-  pub name_on : (s : S) (size : ℕ) (seen more : Bytes) (byte : ℕ) (names : List Bytes) → heard s []
-      s
-      → more ≡ seen ++ byte ∷ []
-      → IsStep heard s s (mode_rest (Name size) seen names) (mode_rest (Name size) more names)
-      (byte ∷ [])
-  name_on s size seen more byte [] h e = silent heard (byte ∷ []) s h (λ ts u q. q) (λ ts u p. p)
-  name_on s size seen more byte (before ∷ outer) h e =
+  pub name_on : (s : S) (size : ℕ) (tie next : Tie) (seen more : Bytes) (byte : ℕ)
+      (names : List Bytes) → heard s [] s → more ≡ seen ++ byte ∷ []
+      → IsStep heard s s (mode_rest (Name size tie) seen names)
+      (mode_rest (Name size next) more names) (byte ∷ [])
+  name_on s size tie next seen more byte [] h e =
+      silent heard (byte ∷ []) s h (λ ts u q. q) (λ ts u p. p)
+  name_on s size tie next seen more byte (before ∷ outer) h e =
       seen_step heard s (Sized size (named before outer)) seen more byte h e
 
 -- the length of a name was seen
 pub same_name : (seen now : Bytes) (size : ℕ) (names : List Bytes) → length seen ≡ 8
     → ((i : ℕ) → get_or seen i 0 < 256) → size < 2 ^ 64 → size ≡ from_le_bytes w64 seen → now ≡ []
-    → IsSame (mode_rest (Size OfName) seen names) (mode_rest (Name size) now names)
+    → IsSame (mode_rest (Size OfName) seen names) (mode_rest (Name size Free) now names)
 same_name seen now size [] long fits lt is none = record { to = λ ts u h. h; from = λ ts u h. h }
 same_name seen now size (before ∷ outer) long fits lt is none =
     same_both (same_size (named before outer) seen size long fits lt is)

@@ -2,8 +2,10 @@ pub mod Texts
 pub mod Words
 pub mod Telling
 pub mod Rests
+pub mod Bytes
 pub mod Choices
 pub mod Turns
 pub mod Ends
 pub mod Wholes
 pub mod Names
+pub mod Opens

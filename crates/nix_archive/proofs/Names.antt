@@ -1,32 +1,24 @@
 -- Bytes with which no name goes on.
-use Rattle.std.proofs.Common.{◌≡◌, ◌∙◌, ℕ, zero, suc, ◌<◌, ◌-◌, ◌&&◌, Bool, true, false, List, Some, [], ◌∷◌, ◌++◌, length, refl, ap, sym, subst, append_assoc, take, drop, arith, length-append}
+use Rattle.std.proofs.Common.{◌≡◌, ◌∙◌, ℕ, zero, suc, ◌≢◌, ◌<◌, ◌+◌, ◌-◌, ◌^◌, ◌&&◌, Bool, true, false, List, Option, Some, None, [], ◌∷◌, ◌++◌, length, refl, ap, sym, subst, append_assoc, take, drop, arith, length-append}
 use Rattle.std.specs.Prelude.{Vec, codes, nat_eq, not}
 use Rattle.std.specs.List.{list_all, slice_get}
-use Rattle.std.specs.Cmp.Lexicographic.{pointwise, slice_cmp}
-use Rattle.std.specs.Ordering.{nat_cmp, ordering_then}
-use Rattle.std.specs.Cmp.{nat_cmp_is}
-use Rattle.std.specs.declared.cmp.Ordering.TheVariants.{Less, Equal, Greater}
+use Rattle.std.specs.Cmp.Lexicographic.{pointwise}
 use Rattle.std.specs.declared.alloc.Global.{Global}
 use Rattle.std.proofs.lemmas.List.{length-take, take-append-drop}
 use Rattle.std.proofs.lemmas.List.Folds.{list_all-append}
-use Rattle.nix_archive.specs.Trees.{Bytes, IsAfter, IsName, is_name_byte, may_be_name}
+use Rattle.nix_archive.specs.Trees.{AreBytes, Bytes, IsAfter, IsName, is_name_byte, may_be_name}
 use Rattle.nix_archive.specs.Reading.{IsRefused}
-use Rattle.nix_archive.specs.Rests.{mode_rest, names_of}
+use Rattle.nix_archive.specs.Rests.{mode_rest}
+use Rattle.nix_archive.specs.Parts.{names_of}
 use Rattle.nix_archive.specs.declared.mode.Mode.TheVariants.{Name}
+use Rattle.nix_archive.specs.declared.mode.Tie.{Tie}
+use Rattle.nix_archive.proofs.Bytes.{back_bytes, byte_more, no_bytes, none_after}
+use Rattle.nix_archive.specs.private.Ready.{AreHeld, IsFit, IsReady, IsTied, IsTiedOn, MayShare}
+use Rattle.nix_archive.specs.declared.mode.Mode.{Mode}
+use Rattle.nix_archive.specs.declared.mode.Tie.TheVariants.{Tied}
 use Rattle.nix_archive.proofs.Telling.{cut}
 use Rattle.nix_archive.proofs.Turns.{pushed}
 use Rattle.nix_archive.proofs.Ends.{same_names}
-
--- of two names that begin with the same bytes the one whose next byte is lower comes first
-pub lower_first : (seen rest more : Bytes) (next byte : ℕ) → byte < next
-    → IsAfter (seen ++ next ∷ rest) (seen ++ byte ∷ more) → ⊥
-lower_first [] rest more next byte lt h =
-    let k : Greater ≡ Less = subst (λ o. ordering_then o (slice_cmp nat_cmp rest more) ≡ Less)
-    (sym (nat_cmp_is next byte Greater lt)) h in cc
-lower_first (x ∷ xs) rest more next byte lt h =
-    lower_first xs rest more next byte lt
-    (subst (λ o. ordering_then o (slice_cmp nat_cmp (xs ++ next ∷ rest) (xs ++ byte ∷ more)) ≡ Less)
-    (sym (nat_cmp_is x x Equal refl)) h)
 
 and_left : (a b : Bool) → (a && b) ≡ true → a ≡ true
 and_left true b h = refl
@@ -52,12 +44,14 @@ no_name_byte seen more byte other h =
     (sym (list_all-append is_name_byte seen (byte ∷ more)) ∙ all)) in cc
 
 -- a byte with which no name that may stand here goes on
-pub no_name : (size : ℕ) (seen before : Bytes) (outer names : List Bytes) (byte : ℕ)
+pub no_name : (size : ℕ) (tie : Tie) (seen before : Bytes) (outer names : List Bytes) (byte : ℕ)
     → names ≡ before ∷ outer → length seen < size
-    → ((more : Bytes) → IsName (seen ++ byte ∷ more) → IsAfter before (seen ++ byte ∷ more) → ⊥)
-    → IsRefused (mode_rest (Name size) seen names) (byte ∷ [])
-no_name size seen before outer names byte e lt never ts u h =
-    let p = (same_names (mode_rest (Name size) seen) names (before ∷ outer) e).to ts (byte ∷ u) h in
+    → ((more : Bytes) → length ((seen ++ byte ∷ []) ++ more) ≡ size → AreBytes more
+    → IsName ((seen ++ byte ∷ []) ++ more) → IsAfter before ((seen ++ byte ∷ []) ++ more) → ⊥)
+    → IsRefused (mode_rest (Name size tie) seen names) (byte ∷ [])
+no_name size tie seen before outer names byte e lt never ts u h =
+    let p = (same_names (mode_rest (Name size tie) seen) names (before ∷ outer) e).to ts (byte ∷ u) h
+    in
     let one : Bytes = seen ++ byte ∷ [] in
     let n : ℕ = length one in
     let front : Bytes = take n p.bytes in
@@ -69,10 +63,11 @@ no_name size seen before outer names byte e lt never ts u h =
     cut one front u (back ++ p.follows.rest) long
     (append_assoc seen (byte ∷ []) u ∙ p.follows.begins
     ∙ ap (λ l. l ++ p.follows.rest) (sym both) ∙ append_assoc front back p.follows.rest) in
-    let is : p.bytes ≡ seen ++ byte ∷ back = sym both ∙ ap (λ l. l ++ back) (sym parts.0)
-    ∙ append_assoc seen (byte ∷ []) back in
+    let is : p.bytes ≡ one ++ back = sym both ∙ ap (λ l. l ++ back) (sym parts.0) in
     let k = p.follows.follows.follows in
-    never back (subst IsName is k.0) (subst (IsAfter before) is k.1)
+    never back (ap length (sym is) ∙ p.long)
+    (back_bytes front back (subst AreBytes (sym both) p.are_bytes))
+    (subst IsName is k.0) (subst (IsAfter before) is k.1)
 
 -- the last of some elements
 last_at : (folders : List (Vec ℕ Global)) (name : Vec ℕ Global) (n : ℕ) → length folders ≡ suc n
@@ -93,8 +88,72 @@ innermost (x ∷ xs) name e =
     let k = last_at (x ∷ xs) name (length (x ∷ xs) - 1) (omega arith) e in
     (names_of k.0, pushed k.0 (x ∷ xs) name k.1)
 
--- the first of some elements
-pub first_is : (list : Bytes) (first : ℕ) → Some first ≡ slice_get list 0
-    → (rest : Bytes) × (list ≡ first ∷ rest)
-first_is [] first e = absurd cc
-first_is (x ∷ xs) first e = let k : x ≡ first = cc in (xs, ap (λ y. y ∷ xs) k)
+-- no folder is open
+pub no_last : (folders : List (Vec ℕ Global)) → slice_get folders (length folders - 1) ≡ None
+    → names_of folders ≡ []
+no_last [] e = refl
+no_last (x ∷ xs) e = absurd (some (x ∷ xs) (length (x ∷ xs) - 1) (omega arith) e)
+  where
+    some : (l : List (Vec ℕ Global)) (i : ℕ) → i < length l → slice_get l i ≡ None → ⊥
+    some [] i lt e = absurd (omega (arith, lt))
+    some (x ∷ xs) zero lt e = cc
+    some (x ∷ xs) (suc i) lt e = some xs i (omega (arith, lt)) e
+
+pub held_first : (names outer : List Bytes) (before : Bytes) → AreHeld names
+    → names ≡ before ∷ outer → AreBytes before × (length before < 2 ^ 63)
+held_first names outer before h e =
+    let k : AreHeld (before ∷ outer) = subst AreHeld e h in (k.0, k.1)
+
+pub fit_name : (mode : Mode) (seen : Bytes) (names outer : List Bytes) (before : Bytes) (size : ℕ)
+    (tie : Tie) → IsFit mode seen names → mode ≡ Name size tie → names ≡ before ∷ outer
+    → IsFit (Name size tie) seen (before ∷ outer)
+fit_name mode seen names outer before size tie h e f =
+    subst (λ l. IsFit (Name size tie) seen l) f (subst (λ m. IsFit m seen names) e h)
+
+-- the length of a name was read
+pub ready_begun : (mode : Mode) (seen : Bytes) (names outer : List Bytes) (before : Bytes)
+    (size most : ℕ) → IsReady mode seen names → seen ≡ [] → names ≡ before ∷ outer → size < 2 ^ 64
+    → MayShare most size before → IsReady (Name size (Tied most)) seen names
+ready_begun mode seen names outer before size most r none e lt may =
+    subst (λ l. IsReady (Name size (Tied most)) l names) (sym none)
+    (subst (λ l. IsReady (Name size (Tied most)) [] l) (sym e) record {
+      are_bytes = no_bytes;
+      held = subst AreHeld e r.held;
+      fit = (some size may, lt, refl, (refl, omega arith, may));
+    })
+  where
+    some : (size : ℕ) → MayShare most size before → 0 < size
+    some zero may = absurd (none_after before ((may [] before refl (omega arith)).0 (omega arith)))
+    some (suc n) may = omega arith
+
+-- one more byte of a name was read
+pub ready_on : (mode : Mode) (seen more : Bytes) (names outer : List Bytes) (before : Bytes)
+    (size byte : ℕ) (tie next : Tie) → IsReady mode seen names → mode ≡ Name size tie
+    → names ≡ before ∷ outer → more ≡ seen ++ byte ∷ [] → byte < 256 → is_name_byte byte ≡ true
+    → length more ≢ size → IsTied next size (seen ++ byte ∷ []) before
+    → IsReady (Name size next) more names
+ready_on mode seen more names outer before size byte tie next r m e is lt name other tied =
+    let fit = fit_name mode seen names outer before size tie r.fit m e in
+    let long : length more ≡ length seen + 1 =
+    ap length is ∙ length-append seen (byte ∷ []) in
+    subst (λ l. IsReady (Name size next) more l) (sym e) record {
+      are_bytes = byte_more seen more byte r.are_bytes lt is;
+      held = subst AreHeld e r.held;
+      fit = (
+        omega (arith, long, fit.0, other),
+        fit.1,
+        ap (list_all is_name_byte) is ∙ list_all-append is_name_byte seen (byte ∷ [])
+            ∙ ap (λ b. b && (is_name_byte byte && true)) fit.2
+            ∙ ap (λ b. b && true) name,
+        subst (λ l. IsTied next size l before) (sym is) tied,
+      );
+    }
+
+-- what is known of a name, by other names of the same bytes
+pub tied_as : (size byte : ℕ) (tie : Tie) (s t a b : Bytes) (r : Option Tie) → s ≡ t → a ≡ b
+    → (IsTied tie size s a → IsTiedOn size (s ++ byte ∷ []) a r) → IsTied tie size t b
+    → IsTiedOn size (t ++ byte ∷ []) b r
+tied_as size byte tie s t a b r e f h k =
+    subst (λ l. IsTiedOn size (l ++ byte ∷ []) b r) e
+    (subst (λ l. IsTiedOn size (s ++ byte ∷ []) l r) f
+    (h (subst (λ l. IsTied tie size s l) (sym f) (subst (λ l. IsTied tie size l b) (sym e) k))))

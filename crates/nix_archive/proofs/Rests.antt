@@ -3,7 +3,7 @@ use Rattle.std.proofs.Common.{◌≡◌, ◌≢◌, ◌∙◌, ℕ, ◌<◌, ◌
 use Rattle.std.specs.Int.{w64, from_le_bytes}
 use Rattle.std.proofs.Math.ListN.{replicate}
 use Rattle.std.proofs.lemmas.Nat.{from_le_bytes-to_le_bytes_8, le_bytes_8}
-use Rattle.nix_archive.specs.Trees.{Bytes}
+use Rattle.nix_archive.specs.Trees.{AreBytes, Bytes}
 use Rattle.nix_archive.specs.Archive.{padding, size_text, str}
 use Rattle.nix_archive.specs.Tokens.{Token}
 use Rattle.nix_archive.specs.Parts.{After, Says, Either, Sized, Counted}
@@ -209,11 +209,12 @@ same_size Q seen size long fits lt is = record {
       let parts : (seen ≡ size_text n) × (u ≡ (h.bytes ++ padding n) ++ h.follows.rest) =
       cut seen (size_text n) u ((h.bytes ++ padding n) ++ h.follows.rest) (long ∙ sym (size_long n))
       (h.follows.begins ∙ append_assoc (size_text n) (h.bytes ++ padding n) h.follows.rest) in
-      let same : n ≡ size = sym (from_le_bytes-to_le_bytes_8 n h.sized)
+      let same : n ≡ size = sym (from_le_bytes-to_le_bytes_8 n h.is_string.sized)
       ∙ ap (from_le_bytes w64) (sym parts.0) ∙ sym is in
       record {
         bytes = h.bytes;
         long = same;
+        are_bytes = h.is_string.are_bytes;
         follows = record {
           rest = padding size ++ h.follows.rest;
           begins = parts.1 ∙ append_assoc h.bytes (padding n) h.follows.rest
@@ -227,7 +228,10 @@ same_size Q seen size long fits lt is = record {
       h.follows.begins ∙ ap (λ l. h.bytes ++ l) h.follows.follows.begins in
       record {
         bytes = h.bytes;
-        sized = subst (λ n. n < 2 ^ 64) (sym h.long) lt;
+        is_string = record {
+          sized = subst (λ n. n < 2 ^ 64) (sym h.long) lt;
+          are_bytes = h.are_bytes;
+        };
         follows = record {
           rest = h.follows.follows.rest;
           begins = ap (λ l. seen ++ l) (e ∙ sym
@@ -243,9 +247,9 @@ same_size Q seen size long fits lt is = record {
 
 -- the bytes of a string were seen
 pub same_whole : (Q : Bytes → List Token → Bytes → Type 0) (seen : Bytes) (size : ℕ)
-    → length seen ≡ size
+    → AreBytes seen → length seen ≡ size
     → IsSame (λ ts u. Sized size Q ts (seen ++ u)) (After (padding size) (Q seen))
-same_whole Q seen size long = record {
+same_whole Q seen size are long = record {
   to = λ ts u h.
       let parts : (seen ≡ h.bytes) × (u ≡ h.follows.rest) =
       cut seen h.bytes u h.follows.rest (long ∙ sym h.long) h.follows.begins in
@@ -258,6 +262,7 @@ same_whole Q seen size long = record {
   from = λ ts u h. record {
     bytes = seen;
     long = long;
+    are_bytes = are;
     follows = record { rest = u; begins = refl; follows = h };
   };
 }

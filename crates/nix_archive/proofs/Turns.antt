@@ -11,7 +11,8 @@ use Rattle.nix_archive.specs.Trees.{Bytes}
 use Rattle.nix_archive.specs.Archive.{mark, padding, size_text, str}
 use Rattle.nix_archive.specs.Tokens.{Token, FolderBegun}
 use Rattle.nix_archive.specs.Parts.{After, Says, Either, Counted, Node, Nodes, Outer, LetterRest, MarkRest, close, file, link, open_text}
-use Rattle.nix_archive.specs.Rests.{mode_rest, names_of}
+use Rattle.nix_archive.specs.Rests.{mode_rest}
+use Rattle.nix_archive.specs.Parts.{names_of}
 use Rattle.nix_archive.specs.Reading.{IsSame, IsStep, IsRefused}
 use Rattle.nix_archive.specs.private.Takes.{Unheard}
 use Rattle.nix_archive.proofs.Rests.{after_both, first_quiet, first_step, neither, ready, same, same_seen, second_quiet, second_step, step_from, step_to}

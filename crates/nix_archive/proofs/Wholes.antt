@@ -203,8 +203,8 @@ ended_mode (Size OfName) seen [] h = absurd h
 ended_mode (Size OfName) seen (before ∷ outer) h = let e = h.follows.follows.2.begins in cc
 ended_mode (Contents size more) seen names h = absurd
     (last_some _ h.follows.later _ h.follows.begins)
-ended_mode (Name size) seen [] h = absurd h
-ended_mode (Name size) seen (before ∷ outer) h = let e = h.follows.follows.follows.2.begins in cc
+ended_mode (Name size tie) seen [] h = absurd h
+ended_mode (Name size tie) seen (before ∷ outer) h = let e = h.follows.follows.follows.2.begins in cc
 ended_mode (Target size) seen names h = let e = h.follows.follows.follows.begins in cc
 ended_mode End seen names h = refl
 
@@ -237,7 +237,7 @@ end_is Mark seen names e = absurd cc
 end_is More seen names e = absurd cc
 end_is (Size w) seen names e = absurd cc
 end_is (Contents s m) seen names e = absurd cc
-end_is (Name s) seen names e = absurd cc
+end_is (Name s t) seen names e = absurd cc
 end_is (Target s) seen names e = absurd cc
 
 pub at_end : (zeros : ℕ) (text : Bytes) (mode : Mode) (seen : Bytes) (names : List Bytes)

@@ -54,12 +54,12 @@ mutual
       (
         omega arith,
         sized_both (mark_words x) _ (sized_mark x)
-            (omega arith, (a, (omega arith, tt))),
+            (omega arith, (a.sized, (omega arith, tt))),
       ),
     ),
   )
   sized_words (Link target) a =
-      (omega arith, (omega arith, (omega arith, (omega arith, (a, (omega arith, tt))))))
+      (omega arith, (omega arith, (omega arith, (omega arith, (a.sized, (omega arith, tt))))))
   sized_words (Folder entries) a = (
     omega arith,
     (
@@ -82,7 +82,7 @@ mutual
       (
         omega arith,
         (
-          a.0.sized,
+          a.0.is_string.sized,
           (
             omega arith,
             sized_both (words tree) _

@@ -1,12 +1,13 @@
 -- Laws of archives.
-use Rattle.std.specs.Prelude.{◌≡◌, ◌++◌, List, []}
+use Rattle.std.specs.Prelude.{◌≡◌, ◌++◌, ◌+◌, ℕ, List, [], Err, take}
 use Rattle.nix_archive.specs.declared.reader.ArchiveReader.{ArchiveReader}
 use Rattle.nix_archive.specs.Trees.{Bytes, Tree, IsArchivable}
 use Rattle.nix_archive.specs.Archive.{magic, nar}
 use Rattle.nix_archive.specs.Tokens.{Token, tokens_of}
 use Rattle.nix_archive.specs.Texts.{text_of}
 use Rattle.nix_archive.specs.Rests.{reader_rest}
-use Rattle.nix_archive.specs.Reading.{IsArchive, IsSame, IsStep}
+use Rattle.nix_archive.specs.Reading.{IsArchive, IsBegun, IsFed, IsRefused, IsSame, IsStep}
+use Rattle.nix_archive.specs.declared.fault.ArchiveFault.TheVariants.{BadNar}
 
 -- trees with one archive are one tree
 abbrev pub ArchivesTellTrees : Type 0
@@ -44,3 +45,18 @@ ReadingsTellTrees {S} heard = (r s : ArchiveReader) (before after : S) (read : B
     → IsSame (reader_rest r) IsArchive
     → IsStep heard before after (reader_rest r) (reader_rest s) read
     → reader_rest s [] [] → IsReadWhole heard before after read
+
+-- some archive begins with what was read
+abbrev pub ReadingsBegin : {S : Type 0} (heard : S → List Token → S → Type 0) → Type 0
+ReadingsBegin {S} heard = (r s : ArchiveReader) (before after : S) (read : Bytes)
+    → IsSame (reader_rest r) IsArchive
+    → IsStep heard before after (reader_rest r) (reader_rest s) read → IsBegun IsArchive read
+
+-- a fault names the first byte with which no archive goes on, also where pieces were read before
+abbrev pub FaultsComeFirst : {S : Type 0} (heard : S → List Token → S → Type 0) → Type 0
+FaultsComeFirst {S} heard = (r s t : ArchiveReader) (before between after : S) (read piece : Bytes)
+    (place : ℕ) → IsSame (reader_rest r) IsArchive
+    → IsStep heard before between (reader_rest r) (reader_rest s) read
+    → IsFed heard between after (reader_rest s) (reader_rest t) piece (Err (BadNar place))
+    → IsBegun IsArchive (read ++ take place piece)
+    × IsRefused IsArchive (read ++ take (place + 1) piece)

@@ -1,7 +1,8 @@
 -- Parts of archives, by what may follow them: the tokens that are still to be heard, with the bytes
 -- that are still to be read.
-use Rattle.std.specs.Prelude.{◌≡◌, ℕ, ◌⊎◌, Bool, true, false, List, [], ◌∷◌, ◌++◌, length, map, codes}
-use Rattle.nix_archive.specs.Trees.{Bytes, Tree, Entries, IsArchivable, AreEntries, IsName, IsAfter, IsSized}
+use Rattle.std.specs.Prelude.{◌≡◌, ℕ, ◌⊎◌, Bool, true, false, List, [], ◌∷◌, ◌++◌, length, map, codes, reverse, Vec}
+use Rattle.std.specs.declared.alloc.Global.{Global}
+use Rattle.nix_archive.specs.Trees.{Bytes, Tree, Entries, IsArchivable, AreBytes, AreEntries, IsName, IsAfter, IsString}
 use Rattle.nix_archive.specs.Archive.{mark, node, nodes, padding, str, strs}
 use Rattle.nix_archive.specs.Tokens.{Token, FolderEnded, EntryBegun, EntryEnded, FileByte, FileEnded, LinkTo, file_tokens, tokens_among, tokens_of}
 
@@ -29,13 +30,14 @@ pub record Sized (size : ℕ) (Q : Bytes → List Token → Bytes → Type 0) (t
     : Type 0 where
   pub bytes : Bytes
   pub long : length bytes ≡ size
+  pub are_bytes : AreBytes bytes
   pub follows : After bytes (After (padding size) (Q bytes)) ts u
 
 -- Any string, and then what may follow it.
 pub record Counted (Q : Bytes → List Token → Bytes → Type 0) (ts : List Token) (u : Bytes)
     : Type 0 where
   pub bytes : Bytes
-  pub sized : IsSized bytes
+  pub is_string : IsString bytes
   pub follows : After (str bytes) (Q bytes) ts u
 
 -- the end of a tree or an entry
@@ -92,6 +94,7 @@ pub record Bytewise (size left : ℕ) (K : List Token → Bytes → Type 0) (ts 
     : Type 0 where
   pub bytes : Bytes
   pub long : length bytes ≡ left
+  pub are_bytes : AreBytes bytes
   pub follows : Says (map FileByte bytes ++ FileEnded size ∷ [])
       (After bytes (After (padding size) (After close K))) ts u
 
@@ -106,3 +109,7 @@ LetterRest K = Either (codes "regular" ++ 0 ∷ [])
 abbrev pub MarkRest : (K : List Token → Bytes → Type 0) → List Token → Bytes → Type 0
 MarkRest K = Either (mark true ++ str (codes "contents")) (Counted (file true K))
     (str (codes "contents")) (Counted (file false K))
+
+-- the names of the open entries, the innermost first
+abbrev pub names_of : List (Vec ℕ Global) → List Bytes
+names_of folders = reverse (map (λ (name : Vec ℕ Global). name.items) folders)

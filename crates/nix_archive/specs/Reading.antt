@@ -15,6 +15,12 @@ pub record IsStep {S : Type 0} (heard : S → List Token → S → Type 0) (befo
   pub sound : (ts : List Token) (u : Bytes) → Q ts u → P (said ++ ts) (read ++ u)
   pub complete : (ts : List Token) (u : Bytes) → P ts (read ++ u) → (later : List Token) × Q later u
 
+-- Something follows that begins with these bytes.
+pub record IsBegun (P : List Token → Bytes → Type 0) (read : Bytes) : Type 0 where
+  pub tokens : List Token
+  pub rest : Bytes
+  pub follows : P tokens (read ++ rest)
+
 -- nothing follows that begins with these bytes
 abbrev pub IsRefused : (P : List Token → Bytes → Type 0) (read : Bytes) → Type 0
 IsRefused P read = (ts : List Token) (u : Bytes) → P ts (read ++ u) → ⊥
@@ -31,11 +37,11 @@ pub record IsArchive (ts : List Token) (u : Bytes) : Type 0 where
   pub said : ts ≡ tokens_of tree
   pub read : u ≡ nar tree
 
--- What is answered for a piece of an archive: it was read; or nothing follows that begins with the
--- piece up to and with some byte; or memory was refused.
+-- What is answered for a piece of an archive: it was read; or the place of the first byte with
+-- which nothing follows; or memory was refused.
 abbrev pub IsFed : {S : Type 0} (heard : S → List Token → S → Type 0) (before after : S)
     (P Q : List Token → Bytes → Type 0) (piece : Bytes) → Result (Unit {0}) ArchiveFault → Type 0
 IsFed heard before after P Q piece (Ok done) = IsStep heard before after P Q piece
 IsFed heard before after P Q piece (Err (BadNar place)) = (place < length piece)
-    × IsRefused P (take (place + 1) piece)
+    × IsBegun P (take place piece) × IsRefused P (take (place + 1) piece)
 IsFed heard before after P Q piece (Err NoMemory) = Unit {0}

@@ -1,7 +1,6 @@
 -- What may follow what a reader has read. Contracts say all that a caller needs of it: what it is
 -- at first, and how it changes.
-use Rattle.std.specs.Prelude.{suc, ℕ, List, [], ◌∷◌, ◌++◌, map, reverse, Vec}
-use Rattle.std.specs.declared.alloc.Global.{Global}
+use Rattle.std.specs.Prelude.{suc, List, [], ◌∷◌, ◌++◌}
 use Rattle.std.proofs.Math.ListN.{replicate}
 use Rattle.nix_archive.specs.Trees.{Bytes}
 use Rattle.nix_archive.specs.Tokens.{Token}
@@ -9,7 +8,7 @@ use Rattle.nix_archive.specs.declared.mode.Mode.{Mode}
 use Rattle.nix_archive.specs.declared.mode.Mode.TheVariants.{Kind, Letter, Mark, More, Size, Contents, Name, Target, End}
 use Rattle.nix_archive.specs.declared.mode.What.TheVariants.{File as OfFile, Target as OfTarget, Name as OfName}
 use Rattle.nix_archive.specs.declared.reader.ArchiveReader.{ArchiveReader}
-use Rattle.nix_archive.specs.Parts.{After, Sized, Counted, open_text, Node, Nodes, Nothing, Outer, file, link, named, Bytewise, LetterRest, MarkRest}
+use Rattle.nix_archive.specs.Parts.{After, Sized, Counted, open_text, Node, Nodes, Nothing, Outer, file, link, named, names_of, Bytewise, LetterRest, MarkRest}
 
 -- what may follow in a mode, by the bytes seen and the names of the open entries
 abbrev pub mode_rest : Mode → (seen : Bytes) (outer : List Bytes) → List Token → Bytes → Type 0
@@ -25,13 +24,10 @@ mode_rest (Size OfName) seen [] ts u = ⊥
 mode_rest (Size OfName) seen (before ∷ outer) ts u = Counted (named before outer) ts (seen ++ u)
 mode_rest (Contents size more) seen outer ts u = Bytewise size (suc more) (Outer outer) ts u
 mode_rest (Target size) seen outer ts u = Sized size (link (Outer outer)) ts (seen ++ u)
-mode_rest (Name size) seen [] ts u = ⊥
-mode_rest (Name size) seen (before ∷ outer) ts u = Sized size (named before outer) ts (seen ++ u)
+mode_rest (Name size tie) seen [] ts u = ⊥
+mode_rest (Name size tie) seen (before ∷ outer) ts u =
+    Sized size (named before outer) ts (seen ++ u)
 mode_rest End seen outer ts u = Nothing ts u
-
--- the names of the open entries, the innermost first
-abbrev pub names_of : List (Vec ℕ Global) → List Bytes
-names_of folders = reverse (map (λ (name : Vec ℕ Global). name.items) folders)
 
 -- what may follow what a reader has read
 unfoldable pub reader_rest : ArchiveReader → List Token → Bytes → Type 0

@@ -1,5 +1,5 @@
 -- Trees, as an archive has them: their times, owners and other modes are left out.
-use Rattle.std.specs.Prelude.{◌≡◌, ◌≢◌, ◌<◌, ◌^◌, ◌==◌, ◌&&◌, not, ℕ, Bool, true, List, [], length, codes, nat_eq}
+use Rattle.std.specs.Prelude.{◌≡◌, ◌≢◌, ◌<◌, ◌^◌, ◌==◌, ◌&&◌, not, ℕ, Bool, true, List, [], length, codes, nat_eq, slice_index}
 use Rattle.std.specs.List.{list_all}
 use Rattle.std.specs.Cmp.Lexicographic.{pointwise, slice_cmp}
 use Rattle.std.specs.Ordering.{nat_cmp}
@@ -21,9 +21,14 @@ mutual
     NoEntries : Entries
     Entry : (name : Bytes) → (tree : Tree) → (rest : Entries) → Entries
 
--- the length is a number of 64 bits
-abbrev pub IsSized : Bytes → Type 0
-IsSized bytes = length bytes < 2 ^ 64
+-- each is a byte
+abbrev pub AreBytes : List ℕ → Type 0
+AreBytes bytes = (i : ℕ) → slice_index bytes i < 256
+
+-- A string of an archive: bytes, of which the number has 64 bits.
+pub record IsString (bytes : Bytes) : Type 0 where
+  pub sized : length bytes < 2 ^ 64
+  pub are_bytes : AreBytes bytes
 
 -- whether a byte may stand in a name: neither zero nor `/`
 unfoldable pub is_name_byte : ℕ → Bool
@@ -37,7 +42,7 @@ may_be_name name =
 
 -- A name of an entry.
 pub record IsName (name : Bytes) : Type 0 where
-  pub sized : IsSized name
+  pub is_string : IsString name
   pub not_empty : name ≢ []
   pub allowed : may_be_name name ≡ true
 
@@ -46,11 +51,11 @@ abbrev pub IsAfter : (before name : Bytes) → Type 0
 IsAfter before name = slice_cmp nat_cmp before name ≡ Less
 
 abbrev mutual
-  -- The tree may stand in an archive: all lengths are numbers of 64 bits, and each folder's entries
-  -- have names that rise strictly by bytes.
+  -- The tree may stand in an archive: it has strings, and each folder's entries have names that
+  -- rise strictly by bytes.
   pub IsArchivable : Tree → Type 0
-  IsArchivable (File executable bytes) = IsSized bytes
-  IsArchivable (Link target) = IsSized target
+  IsArchivable (File executable bytes) = IsString bytes
+  IsArchivable (Link target) = IsString target
   IsArchivable (Folder entries) = AreEntries [] entries
 
   -- the entries may follow one of the name `before`; where this is empty, they begin their folder

@@ -30,10 +30,10 @@ impl ArchiveReader {
                 Ok(true)
             }
             9 => {
-                hearer.hear(Event::BeginFolder)?;
                 self.folders.push(Vec::new(self.alloc))?;
                 self.text = b"\0\0\0\0\0\0\0directory\0\0\0\0\0\0\0";
                 self.mode = Mode::More;
+                hearer.hear(Event::BeginFolder)?;
                 Ok(true)
             }
             _ => Ok(false),
@@ -98,13 +98,12 @@ impl ArchiveReader {
         ensures { IfOk result (λ taken. IsTaken H.heard hearer.old hearer.new
             (now_rest self.old) (reader_rest self.new) (byte ∷ []) taken) }
     {
-        let Some(before) = self.folders.pop() else {
-            return Ok(false);
-        };
         match byte {
             5 => {
-                hear_end(&before, hearer)?;
-                self.folders.push(before)?;
+                let Some(before) = self.folders.last() else {
+                    return Ok(false);
+                };
+                hear_end(before, hearer)?;
                 self.seen.clear();
                 self.text =
                     b"\0\0\0\0\0\0\0entry\0\0\0\x01\0\0\0\0\0\0\0(\0\0\0\0\0\0\0\x04\0\0\0\0\0\0\0name\0\0\0\0";
@@ -112,6 +111,10 @@ impl ArchiveReader {
                 Ok(true)
             }
             1 => {
+                self.mode = Mode::End;
+                let Some(before) = self.folders.pop() else {
+                    return Ok(false);
+                };
                 hear_end(&before, hearer)?;
                 hearer.hear(Event::EndFolder)?;
                 self.go_up(&CLOSE_TWICE[1..16], &CLOSE_TWICE[1..]);

@@ -1,5 +1,5 @@
 //! Laws of archives, proved from the definitions that contracts use.
-ghost use Rattle.nix_archive.specs.Laws.{ArchivesTellTrees, NoArchiveBeginsAnother, ReadingsJoin, ReadingsTellTrees, TokensWriteArchives};
+ghost use Rattle.nix_archive.specs.Laws.{ArchivesTellTrees, FaultsComeFirst, NoArchiveBeginsAnother, ReadingsBegin, ReadingsJoin, ReadingsTellTrees, TokensWriteArchives};
 
 use crate::event::Hear;
 
@@ -19,4 +19,11 @@ pub fn events_write_archives()
 pub fn readings_are_written_again<H: Hear>()
     ensures join { ReadingsJoin H.heard }
     ensures whole { ReadingsTellTrees H.heard }
+{}
+
+/// What readings in a row have read begins some archive. A fault after them names the first byte
+/// with which none goes on, by its place in the piece.
+pub fn faults_come_first<H: Hear>()
+    ensures begun { ReadingsBegin H.heard }
+    ensures first { FaultsComeFirst H.heard }
 {}

@@ -6,9 +6,10 @@
 //! | `sink` | where an archive is written |
 //! | `writer` | the archive of what is heard |
 //! | `reader` | the reader of an archive that comes in pieces |
+//! | `feed` | how it takes a piece |
 //! | `mode` | what comes next in an archive |
 //! | `kinds` | the bytes that decide this |
-//! | `strings` | lengths, and the files, targets and names that they are of |
+//! | `strings` | lengths, and the files and targets that they are of |
 //! | `name` | the names of entries |
 //! | `fault` | why a reading gave up |
 //! | `laws` | laws over the definitions that contracts cite |
@@ -16,6 +17,7 @@
 
 mod event;
 mod fault;
+mod feed;
 mod kinds;
 pub mod laws;
 mod mode;

@@ -15,8 +15,8 @@ pub(crate) enum Mode {
     Size(What),
     /// The bytes of a file: its length, and how many are left after the next one.
     Contents(u64, u64),
-    /// The bytes of a name of this length.
-    Name(u64),
+    /// The bytes of a name of this length, and what is known of it.
+    Name(u64, Tie),
     /// The bytes of a target of this length.
     Target(u64),
     /// Nothing.
@@ -32,4 +32,13 @@ pub(crate) enum What {
     Target,
     /// An entry's name.
     Name,
+}
+
+/// What the first bytes of a name tell of it.
+#[derive(Clone, Copy)]
+pub(crate) enum Tie {
+    /// It comes after the name before it, whatever follows.
+    Free,
+    /// It begins as the name before it does, and may share so many bytes with that at most.
+    Tied(usize),
 }

@@ -1,19 +1,19 @@
-//! Lengths and what they are of: the bytes of files, the targets of links and the names of entries.
+//! Lengths, the bytes of files and the targets of links.
 ghost use Rattle.std.specs.Prelude.{◌≡◌, ◌∷◌, ◌++◌, [], ◌<◌, ◌↔◌, IfOk, OnOk, IsTrue, List, ℕ, ◌%◌, ◌-◌, length, slice_index};
 ghost use Rattle.std.specs.Int.{w64, from_le_bytes};
-ghost use Rattle.nix_archive.specs.Trees.{IsAfter, IsName};
-ghost use Rattle.nix_archive.specs.Parts.{Bytewise, Sized, file};
+ghost use Rattle.nix_archive.specs.Archive.{padding};
+ghost use Rattle.nix_archive.specs.Trees.{AreBytes};
+ghost use Rattle.nix_archive.specs.Parts.{After, Bytewise, Sized, file, link};
 ghost use Rattle.nix_archive.specs.Reading.{IsRefused, IsStep};
-ghost use Rattle.nix_archive.specs.Rests.{mode_rest, names_of, reader_rest};
+ghost use Rattle.nix_archive.specs.Rests.{mode_rest, reader_rest};
+ghost use Rattle.nix_archive.specs.Parts.{names_of};
 ghost use Rattle.nix_archive.specs.private.Takes.{IsTaken, IsTakenOf, now_rest, outer_rest};
 
 use crate::event::{Event, Hear};
 use crate::kinds::CLOSE_TWICE;
 use crate::mode::{Mode, What};
-use crate::name::{is_entry_name, is_name_byte};
 use crate::reader::ArchiveReader;
 use std::alloc::AllocError;
-use std::cmp::Ordering;
 use std::mem;
 
 impl ArchiveReader {
@@ -35,23 +35,17 @@ impl ArchiveReader {
             return Ok(true);
         }
         let size = size_of(&self.seen);
+        self.seen.clear();
         match what {
             What::File(executable) => {
                 self.begin_file(executable, size, hearer)?;
                 Ok(true)
             }
             What::Target => {
-                self.seen.clear();
-                self.mode = Mode::Target(size);
-                self.end_target(size, hearer)?;
+                self.begin_target(size, hearer)?;
                 Ok(true)
             }
-            What::Name => {
-                self.seen.clear();
-                self.mode = Mode::Name(size);
-                let taken = self.end_name(size, hearer)?;
-                Ok(taken)
-            }
+            What::Name => Ok(self.begin_name(size)),
         }
     }
 
@@ -87,6 +81,7 @@ impl ArchiveReader {
         requires text { self.old.text.now ≡ [] }
         requires contents { self.old.mode ≡ Mode.Contents size more }
         requires some { 0 < length piece.now }
+        requires are_bytes { AreBytes piece.now }
         ensures { IfOk result (λ count. IsTakenOf H.heard hearer.old hearer.new
             (now_rest self.old) (reader_rest self.new) piece.now count) }
     {
@@ -113,6 +108,25 @@ impl ArchiveReader {
         Ok(())
     }
 
+    // The target's length was read.
+    pub(crate) fn begin_target<H: Hear>(
+        &mut self,
+        size: u64,
+        hearer: &mut H,
+    ) -> Result<(), AllocError>
+        requires zeros { self.old.zeros ≡ 0 }
+        requires text { self.old.text.now ≡ [] }
+        requires seen { self.old.seen.items ≡ [] }
+        ensures { OnOk result (IsStep H.heard hearer.old hearer.new
+            (Sized size (link (outer_rest self.old))) (reader_rest self.new) []) }
+    {
+        if size == 0 {
+            return self.end_target(b"", hearer);
+        }
+        self.mode = Mode::Target(size);
+        Ok(())
+    }
+
     // Takes a byte of a target.
     pub(crate) fn take_target<H: Hear>(
         &mut self,
@@ -127,126 +141,36 @@ impl ArchiveReader {
             (now_rest self.old) (reader_rest self.new) (byte ∷ []) taken) }
     {
         self.seen.push(byte)?;
-        self.end_target(size, hearer)?;
-        Ok(true)
-    }
-
-    // Goes on where the target was read.
-    pub(crate) fn end_target<H: Hear>(
-        &mut self,
-        size: u64,
-        hearer: &mut H,
-    ) -> Result<(), AllocError>
-        requires zeros { self.old.zeros ≡ 0 }
-        requires text { self.old.text.now ≡ [] }
-        requires target { self.old.mode ≡ Mode.Target size }
-        ensures { OnOk result (IsStep H.heard hearer.old hearer.new
-            (now_rest self.old) (reader_rest self.new) []) }
-    {
-        if self.seen.len() as u64 != size {
-            return Ok(());
-        }
-        hearer.hear(Event::Link(&self.seen))?;
-        self.zeros = padding_length(size);
-        self.go_up(&CLOSE_TWICE[..16], CLOSE_TWICE);
-        Ok(())
-    }
-
-    // Takes a byte of a name.
-    pub(crate) fn take_name<H: Hear>(
-        &mut self,
-        size: u64,
-        byte: u8,
-        hearer: &mut H,
-    ) -> Result<bool, AllocError>
-        requires zeros { self.old.zeros ≡ 0 }
-        requires text { self.old.text.now ≡ [] }
-        requires name { self.old.mode ≡ Mode.Name size }
-        ensures { IfOk result (λ taken. IsTaken H.heard hearer.old hearer.new
-            (now_rest self.old) (reader_rest self.new) (byte ∷ []) taken) }
-    {
-        if self.cannot_stand(size, byte) {
-            return Ok(false);
-        }
-        self.seen.push(byte)?;
-        let taken = self.end_name(size, hearer)?;
-        Ok(taken)
-    }
-
-    // Whether no name of this length that may stand here goes on with the byte, before it is whole.
-    fn cannot_stand(&self, size: u64, byte: u8) -> bool
-        ensures { IsTrue result → IsRefused (mode_rest (Mode.Name size) self.now.seen.items
-            (names_of self.now.folders.items)) (byte ∷ []) }
-    {
-        if self.seen.len() as u64 >= size {
-            return false;
-        }
-        let Some(before) = self.folders.last() else {
-            return false;
-        };
-        if !is_name_byte(byte) {
-            return true;
-        }
-        comes_before(&self.seen, byte, before)
-    }
-
-    // Goes on where the name was read.
-    pub(crate) fn end_name<H: Hear>(
-        &mut self,
-        size: u64,
-        hearer: &mut H,
-    ) -> Result<bool, AllocError>
-        requires zeros { self.old.zeros ≡ 0 }
-        requires text { self.old.text.now ≡ [] }
-        requires name { self.old.mode ≡ Mode.Name size }
-        ensures { IfOk result (λ taken. IsTaken H.heard hearer.old hearer.new
-            (now_rest self.old) (reader_rest self.new) [] taken) }
-    {
         if self.seen.len() as u64 != size {
             return Ok(true);
         }
-        let Some(before) = self.folders.pop() else {
-            return Ok(false);
-        };
-        if !comes_next(&before, &self.seen) {
-            return Ok(false);
-        }
-        hearer.hear(Event::BeginEntry(&self.seen))?;
-        let name = mem::replace(&mut self.seen, before);
-        self.folders.push(name)?;
-        self.zeros = padding_length(size);
-        self.text =
-            b"\x04\0\0\0\0\0\0\0node\0\0\0\0\x01\0\0\0\0\0\0\0(\0\0\0\0\0\0\0\x04\0\0\0\0\0\0\0type\0\0\0\0";
-        self.mode = Mode::Kind;
+        let target = mem::replace(&mut self.seen, Vec::new(self.alloc));
+        self.end_target(&target, hearer)?;
         Ok(true)
+    }
+
+    // The target was read.
+    pub(crate) fn end_target<H: Hear>(
+        &mut self,
+        target: &[u8],
+        hearer: &mut H,
+    ) -> Result<(), AllocError>
+        ensures { OnOk result (IsStep H.heard hearer.old hearer.new
+            (After (padding (length target.now)) (link (outer_rest self.old) target.now))
+            (reader_rest self.new) []) }
+    {
+        hearer.hear(Event::Link(target))?;
+        self.zeros = padding_length(target.len() as u64);
+        self.go_up(&CLOSE_TWICE[..16], CLOSE_TWICE);
+        Ok(())
     }
 }
 
 // How many zeros follow that many bytes.
-fn padding_length(size: u64) -> usize
+pub(crate) fn padding_length(size: u64) -> usize
     ensures { result ≡ (8 - size % 8) % 8 }
 {
     ((8 - size % 8) % 8) as usize
-}
-
-// Whether all names that begin with some bytes and one more come before another one.
-fn comes_before(seen: &[u8], byte: u8, before: &[u8]) -> bool
-    ensures { IsTrue result → (more : List ℕ) → IsAfter before.now (seen.now ++ byte ∷ more) → ⊥ }
-{
-    let Some(rest) = before.strip_prefix(seen) else {
-        return false;
-    };
-    match rest.first() {
-        Some(next) => byte < *next,
-        None => false,
-    }
-}
-
-// Whether some bytes are a name that comes after another.
-fn comes_next(before: &[u8], name: &[u8]) -> bool
-    ensures { IsTrue result ↔ (IsName name.now × IsAfter before.now name.now) }
-{
-    is_entry_name(name) && matches!(before.cmp(&name), Ordering::Less)
 }
 
 // The number in eight bytes.

@@ -5,8 +5,8 @@ use Rattle.nix_archive.specs.Tokens.{Token}
 use Rattle.nix_archive.specs.declared.mode.Mode.{Mode}
 use Rattle.nix_archive.specs.declared.mode.Mode.TheVariants.{End}
 use Rattle.nix_archive.specs.declared.reader.ArchiveReader.{ArchiveReader}
-use Rattle.nix_archive.specs.Parts.{Outer}
-use Rattle.nix_archive.specs.Rests.{mode_rest, names_of}
+use Rattle.nix_archive.specs.Parts.{Outer, names_of}
+use Rattle.nix_archive.specs.Rests.{mode_rest}
 use Rattle.nix_archive.specs.Reading.{IsStep, IsRefused}
 
 -- the bytes were read, or nothing follows that begins with them

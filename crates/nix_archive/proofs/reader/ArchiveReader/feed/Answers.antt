@@ -1,6 +1,7 @@
 use Rattle.nix_archive.specs.private.Takes.{IsTakenOf}
 use Rattle.std.proofs.lemmas.List.{take_rest}
-use Rattle.std.proofs.Common.{arith, subst}
+use Rattle.std.proofs.Common.{arith, subst, take}
+use Rattle.nix_archive.proofs.Opens.{begun_by, open_reader}
 use Rattle.nix_archive.specs.Rests.{reader_rest}
 use Rattle.nix_archive.proofs.Wholes.{fed_no, fed_on, fed_within}
 use Rattle.nix_archive.proofs.reader.ArchiveReader.feed.Goals as goal
@@ -8,6 +9,9 @@ use Rattle.nix_archive.proofs.reader.ArchiveReader.feed.Goals as goal
 pub returns-then-count-eq0 : goal.returns-then-count-eq0
 returns-then-count-eq0 g c = (
   omega arith,
+  begun_by g.H.Hear.heard c.args.hearer.now c.bytes.hearer (reader_rest c.args.self.now)
+      (reader_rest c.bytes.self) (take c.bytes.done c.args.piece.now) c.bytes.invariant.read
+      (open_reader c.bytes.self),
   fed_no g.H.Hear.heard c.args.hearer.now c.bytes.hearer c.take.new.hearer
       (reader_rest c.args.self.now)
       (reader_rest c.bytes.self) (reader_rest c.take.new.self) c.args.piece.now c.bytes.done

@@ -1,5 +1,6 @@
 use Rattle.std.proofs.Common.{arith, ◌∙◌, length, ap, sym}
-use Rattle.nix_archive.specs.Rests.{reader_rest, names_of}
+use Rattle.nix_archive.specs.Rests.{reader_rest}
+use Rattle.nix_archive.specs.Parts.{names_of}
 use Rattle.nix_archive.proofs.Ends.{none_of}
 use Rattle.nix_archive.proofs.Wholes.{at_end, ended_at}
 use Rattle.nix_archive.proofs.reader.ArchiveReader.is_done.Goals as goal

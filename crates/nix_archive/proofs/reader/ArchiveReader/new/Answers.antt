@@ -3,7 +3,8 @@ use Rattle.nix_archive.specs.Reading.{IsArchive, IsSame}
 use Rattle.std.proofs.Common.{[], ◌++◌, sym, subst}
 use Rattle.nix_archive.specs.Archive.{magic, padding, size_text, str}
 use Rattle.nix_archive.specs.Parts.{After}
-use Rattle.nix_archive.specs.Rests.{reader_rest, names_of}
+use Rattle.nix_archive.specs.Rests.{reader_rest}
+use Rattle.nix_archive.specs.Parts.{names_of}
 use Rattle.nix_archive.proofs.Wholes.{same_start}
 use Rattle.nix_archive.proofs.reader.ArchiveReader.new.Goals as goal
 

@@ -27,7 +27,7 @@ returns g c =
     (reader_rest c.take_fixed-taken.new.self) piece n) (sym c.count_of.ensures)
     (taken_one g.H.Hear.heard c.args.hearer.now c.args.hearer.now (reader_rest c.args.self.now)
     (reader_rest c.take_fixed-taken.new.self) piece (get_or piece 0 0) c.take_fixed-taken.result
-    (first_byte piece c.requires) c.requires
+    (first_byte piece c.requires.some) c.requires.some
     (unheard g.H.Hear.heard c.args.hearer.now (reader_rest c.args.self.now)
     (reader_rest c.take_fixed-taken.new.self) (get_or piece 0 0 ∷ []) c.take_fixed-taken.result
     (g.met.H.Hear.silence _) c.take_fixed-taken.ensures))

@@ -1,7 +1,10 @@
-use Rattle.std.proofs.Common.{arith, [], ◌+◌, ◌-◌, ◌≡◌, length, append-nil, subst, ℕ, suc, take}
-use Rattle.std.proofs.lemmas.List.{length-take}
+use Rattle.std.proofs.Common.{arith, [], ◌+◌, ◌-◌, ◌≡◌, length, append-nil, drop, subst, sym, ℕ, suc, take}
+use Rattle.std.proofs.lemmas.List.{length-take, take-append-drop}
+use Rattle.nix_archive.specs.Trees.{AreBytes}
+use Rattle.nix_archive.proofs.Bytes.{front_bytes}
 use Rattle.nix_archive.specs.declared.mode.Mode.TheVariants.{Contents}
-use Rattle.nix_archive.specs.Rests.{reader_rest, names_of}
+use Rattle.nix_archive.specs.Rests.{reader_rest}
+use Rattle.nix_archive.specs.Parts.{names_of}
 use Rattle.nix_archive.specs.Reading.{IsStep}
 use Rattle.nix_archive.specs.private.Takes.{outer_rest, now_rest}
 use Rattle.nix_archive.proofs.Rests.{step_from, step_to, steps}
@@ -18,7 +21,8 @@ returns-then-length-more g c =
     (step_to _ (unfixed c.args.self.now.zeros c.args.self.now.text.now _ c.requires.zeros
     c.requires.text)
     (contents_step _ c.args.size (suc c.args.more) (suc (c.args.more - length c.args.piece.now))
-    (outer_rest c.args.self.now) c.args.piece.now c.in_ok-hear.ensures (omega arith))))
+    (outer_rest c.args.self.now) c.args.piece.now c.in_ok-hear.ensures c.requires.are_bytes
+    (omega arith))))
 
 pub returns : goal.returns
 returns g c =
@@ -32,5 +36,6 @@ returns g c =
     (names_of c.args.self.now.folders.items) c.requires.contents)
     (steps _ g.met.H.Hear.joins w []
     (contents_step _ c.args.size (suc c.args.more) 0 (outer_rest c.args.self.now) w
-    c.in_ok-hear-2.ensures long)
+    c.in_ok-hear-2.ensures (front_bytes w (drop n c.args.piece.now)
+    (subst AreBytes (sym (take-append-drop n c.args.piece.now)) c.requires.are_bytes)) long)
     c.in_ok-end_file.ensures)))

@@ -1,7 +1,8 @@
 use Rattle.std.proofs.Common.{arith, ◌∷◌}
 use Rattle.nix_archive.specs.Archive.{padding, size_text, str}
 use Rattle.nix_archive.specs.declared.mode.Mode.TheVariants.{Kind}
-use Rattle.nix_archive.specs.Rests.{reader_rest, names_of}
+use Rattle.nix_archive.specs.Rests.{reader_rest}
+use Rattle.nix_archive.specs.Parts.{names_of}
 use Rattle.nix_archive.specs.private.Takes.{outer_rest}
 use Rattle.nix_archive.proofs.Rests.{step_from}
 use Rattle.nix_archive.proofs.Turns.{kind_nine, kind_no, kind_seven, pushed, same_mode, same_opened}
@@ -14,9 +15,9 @@ returns-in-7 g c =
     (kind_seven _ (outer_rest c.args.self.now) c.args.self.now.zeros c.requires.zeros _
     (g.met.H.Hear.silence _)))
 
-pub returns-in_ok-push-in-9 : goal.returns-in_ok-push-in-9
+pub returns-in_ok-hear-in-9 : goal.returns-in_ok-hear-in-9
 unfolding reader_rest str size_text padding
-returns-in_ok-push-in-9 g c =
+returns-in_ok-hear-in-9 g c =
     rw c.in-9.is (step_from _ (same_mode _ Kind _ _ c.requires.kind)
     (kind_nine _ (outer_rest c.args.self.now) c.args.self.now.zeros c.requires.zeros _ _ _
     c.in_ok-hear-in-9.ensures

@@ -1,7 +1,8 @@
 use Rattle.std.proofs.Common.{arith, ◌∷◌}
 use Rattle.nix_archive.specs.Archive.{padding, size_text, str}
 use Rattle.nix_archive.specs.declared.mode.Mode.TheVariants.{Mark}
-use Rattle.nix_archive.specs.Rests.{reader_rest, names_of}
+use Rattle.nix_archive.specs.Rests.{reader_rest}
+use Rattle.nix_archive.specs.Parts.{names_of}
 use Rattle.nix_archive.specs.private.Takes.{outer_rest}
 use Rattle.nix_archive.proofs.Rests.{step_from}
 use Rattle.nix_archive.proofs.Turns.{mark_no, mark_not, mark_yes, same_mode}
