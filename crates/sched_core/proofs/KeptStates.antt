@@ -1,5 +1,5 @@
 -- What a course that is kept tells of its run.
-use Rattle.std.proofs.Common.{◌≡◌, ℕ, ◌-◌, Bool, true, false, List, [], ◌++◌, length, Option, Some, None, refl, sym, ap, ◌∙◌, subst, ⊎_elim, arith, rules}
+use Rattle.std.proofs.Common.{◌≡◌, ℕ, ◌<◌, ◌-◌, Bool, true, false, List, [], ◌++◌, length, Option, Some, None, refl, sym, ap, ◌∙◌, subst, ⊎_elim, arith, rules}
 use Rattle.std.specs.Prelude.{IsTrue, MatchOption, ◌↔◌, if◌then◌else◌, slice_get}
 use Rattle.std.specs.List.{slice_index_or}
 use Rattle.std.proofs.Math.Dec.{T, eqb}
@@ -9,6 +9,7 @@ use Rattle.std.proofs.lemmas.List.{get_or_past}
 use Rattle.std.proofs.lemmas.Option.{slice_get_past}
 use Rattle.nix_drv.proofs.Fixed.{eqb_same}
 use Rattle.sched_core.specs.private.Booking.{IsRunKept, run_over}
+use Rattle.sched_core.proofs.Keeping.{has_begun}
 use Rattle.run_states.specs.StateTables.{CanBegin, IsRunSettled, IsUnsettled}
 use Rattle.run_states.specs.Runs.{opened}
 use Rattle.run_states.specs.Counts.{HasCount}
@@ -159,26 +160,19 @@ begun_from_building run history d lease is =
 
 -- ---- whether a lease is out
 
-pub building_told : (system : List ℕ) (history : History) (course : StateTable) (given room : ℕ)
+pub begun_told : (system : List ℕ) (history : History) (course : StateTable) (given room : ℕ)
     → IsRunKept system history course given room
-    → (d lease number : ℕ) → course_state course d ≡ Building lease → IsTrue (eqb lease number)
+    → (d number : ℕ) → ((d < length course.graph.nodes) × (course_state course d ≡ Building number))
     ↔ (phase_of history.events d ≡ Begun number)
-building_told system history course given room kept d lease number is =
-    let begun_is : phase_of history.events d ≡ Begun lease =
-    begun_from_building _ history d _
-    (sym (states_told _ _ _ _ _ kept d) ∙ is) in (
-      λ yes. begun_is ∙ ap Begun (eqb_yes (subst T (sym yes) tt)),
-      λ other. let same : Begun lease ≡ Begun number = sym begun_is ∙ other in let one : lease
-          ≡ number = cc in subst (λ n. IsTrue (eqb lease n)) one (eqb_same _),
-    )
-
-pub not_building : (system : List ℕ) (history : History) (course : StateTable) (given room : ℕ)
-    → IsRunKept system history course given room
-    → (d number : ℕ) → ((lease : ℕ) → course_state course d ≡ Building lease → ⊥)
-    → phase_of history.events d ≡ Begun number → ⊥
-not_building system history course given room kept d number none is =
-    none number (states_told _ _ _ _ _ kept d
-    ∙ building_from_begun (run_over course system) history d _ is)
+begun_told system history course given room kept d number = (
+  λ building.
+      begun_from_building _ history d _ (sym (states_told _ _ _ _ _ kept d) ∙ building.1),
+  λ is. (
+    (has_begun _ _ _ _ _ kept d _ is).0,
+    states_told _ _ _ _ _ kept d
+        ∙ building_from_begun (run_over course system) history d _ is,
+  ),
+)
 
 -- ---- the report
 

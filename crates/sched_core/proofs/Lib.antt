@@ -1,3 +1,4 @@
+pub mod BookSteps
 pub mod Building
 pub mod Comparing
 pub mod DoneEntries

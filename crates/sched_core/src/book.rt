@@ -2,7 +2,7 @@
 ghost use Rattle.std.specs.Prelude.{◌≡◌, ◌<◌, ◌%◌, ◌^◌, ◌↔◌, ◌⊎◌, ◌++◌, ℕ, [], IfErr, IfOk, IsTrue, MatchOption, OnErr, OnOk, length, take, ⊤};
 ghost use Rattle.valid_table.specs.Valid.{IsJournal};
 ghost use Rattle.sched_core.specs.Books.{ArePermittedPaths, AreSeedsValid, BuildsOver, IsBeginning, IsBooksLease, IsFailing, IsFinishFault, IsFinishing, IsSameRun, MayAllRefer};
-ghost use Rattle.run_states.specs.StateTables.{CanBegin, IsRunSettled, IsUnsettled};
+ghost use Rattle.run_states.specs.StateTables.{CanBegin, IsRunSettled, IsUnsettled, course_state};
 ghost use Rattle.run_states.specs.Runs.{opened};
 ghost use Rattle.run_states.specs.Counts.{HasCount};
 ghost use Rattle.run_states.specs.Legal.{IsLegal};
@@ -10,14 +10,20 @@ ghost use Rattle.run_report.specs.Reports.{IsReportIn};
 ghost use Rattle.run_states.specs.Runs.{state_in};
 ghost use Rattle.run_states.specs.Steps.{steps_in};
 ghost use Rattle.run_states.specs.declared.fault.BookFault.TheVariants.{ForeignLease, NoMemory, NoView};
+ghost use Rattle.run_states.specs.declared.state.State.TheVariants.{Building};
 ghost use Rattle.build_outcome.specs.declared.reason.Reason.TheVariants.{OutOfMemory};
 
+use crate::is_job::is_job;
+use crate::job_of::job_of;
 use crate::lease::Lease;
-use crate::progress::{PreparedEntry, Progress};
-use build_outcome::{Checked, Reason};
+use crate::permitted::permitted_to;
+use crate::prepared_entry::PreparedEntry;
+use crate::run_start::RunStart;
+use build_outcome::{Checked, Job, Reason};
 use drv_graph::Plan;
 use nix_names::StorePath;
-use run_states::{BookFault, Event, State};
+use run_report::report_of;
+use run_states::{BookFault, Event, State, StateTable};
 use std::alloc::Global;
 use std::marker::Model;
 use valid_table::{Journal, Outlet};
@@ -30,27 +36,35 @@ use valid_table::{Journal, Outlet};
 /// entries; `journal` and `events` say so.
 #[derive(Debug)]
 pub struct Book<O: Outlet> {
-    progress: Progress,
+    states: StateTable,
+    system: Vec<u8>,
+    journal: Journal,
+    // How many entries the journal opened with.
+    opening: usize,
+    // There is room for all events that may come, two of each derivation.
+    events: Vec<Event>,
+    // How many leases were given.
+    given: u64,
     outlet: O,
 }
 
 impl<O: Outlet> Model for Book<O> {
-    ghost use Rattle.std.specs.Prelude.{◌≡◌, ◌++◌};
-    ghost use Rattle.valid_table.specs.Valid.{IsJournal};
-    ghost use Rattle.sched_core.specs.Books.{BuildsOver, Ledger};
+    ghost use Rattle.std.specs.Prelude.{vec_capacity};
+    ghost use Rattle.sched_core.specs.Books.{Ledger};
+    ghost use Rattle.sched_core.specs.private.Booking.{IsBook, history_of, run_over};
 
     ghost Value = { Ledger };
 
     ghost view = { λ b. record {
-      run = b.progress.run;
-      history = b.progress.history;
+      run = run_over b.states b.system.items;
+      history = history_of b.opening b.journal.entries b.events.items;
       shown = O.shown b.outlet;
       pending = O.pending b.outlet;
     } };
 
-    ghost invariant = { λ b. (O.shown b.outlet ++ O.pending b.outlet ≡ b.progress.history.entries)
-        × BuildsOver b.progress.run b.progress.history (O.shown b.outlet)
-        × IsJournal b.progress.history.entries };
+    ghost invariant = { λ b. IsBook b.states b.system.items b.opening b.journal.entries
+        b.events.items b.given (vec_capacity b.events) (O.shown b.outlet)
+        (O.pending b.outlet) };
 }
 
 impl<O: Outlet> Book<O> {
@@ -73,8 +87,16 @@ impl<O: Outlet> Book<O> {
         ensures pending { IfOk result (λ book. book.pending ≡ O.pending outlet) }
         ensures err { IfErr result (λ fault. fault ≡ NoMemory) }
     {
-        match Progress::open(alloc, plan, journal, system) {
-            Ok(progress) => Ok(Book { progress, outlet }),
+        match RunStart::new(alloc, plan, &journal, &system) {
+            Ok(RunStart { states, events }) => Ok(Book {
+                states,
+                system,
+                opening: journal.entries().len(),
+                journal,
+                events,
+                given: 0,
+                outlet,
+            }),
             Err(fault) => {
                 outlet.close();
                 Err(fault)
@@ -108,12 +130,15 @@ impl<O: Outlet> Book<O> {
         ensures some { OnErr result ((d : ℕ) × CanBegin self.old.run self.old.history d) }
         ensures err { IfErr result (λ fault. (fault ≡ NoMemory) ⊎ (fault ≡ NoView)) }
     {
-        let Some(d) = self.progress.next() else {
+        let Some(d) = self.states.next() else {
             return Ok(None);
         };
         self.outlet.publish()?;
-        let job = self.progress.job(d)?;
-        let number = self.progress.begin(d);
+        let job = job_of(*self.events.allocator(), self.states.plan(), d)?;
+        let number = self.given;
+        self.events.push_reserved(Event::Begin(d, number));
+        self.states.begin(d, number);
+        self.given += 1;
         Ok(Some(Lease::new(job, number, self.outlet.tell())))
     }
 
@@ -160,11 +185,13 @@ impl<O: Outlet> Book<O> {
         ensures back { IfErr result (λ e. e ≡ lease) }
         ensures same { OnErr result (self.new ≡ self.old) }
     {
-        let number = lease.number();
-        if !self.progress.has_given(lease.job(), number) {
+        let job = lease.job();
+        let (d, number) = (job.derivation, lease.number());
+        if !self.has_given(job, number) {
             return Err(lease);
         }
-        self.progress.fail(lease.job().derivation, number, reason);
+        self.events.push_reserved(Event::Fail(d, number, reason));
+        self.states.fail(d, reason);
         lease.give_up();
         Ok(())
     }
@@ -196,10 +223,11 @@ impl<O: Outlet> Book<O> {
             ⊎ ((fault ≡ NoMemory) × IsBooksLease self.now.run self.now.history lease.now.job
             lease.now.number)) }
     {
-        if !self.progress.has_given(lease.job(), lease.number()) {
+        let job = lease.job();
+        if !self.has_given(job, lease.number()) {
             return Err(BookFault::ForeignLease);
         }
-        self.progress.permitted(lease.job())
+        permitted_to(*self.events.allocator(), &self.journal, job)
     }
 
     /// What the outlet tells of the list that it shows. The list is a beginning of the book's
@@ -218,14 +246,14 @@ impl<O: Outlet> Book<O> {
         requires { d < length self.now.run.graph.nodes }
         ensures { result ≡ state_in self.now.run self.now.history d }
     {
-        self.progress.state(d)
+        self.states.state(d)
     }
 
     /// Whether no wanted derivation is blocked, ready or building.
     pub fn settled(&self) -> bool
         ensures { IsTrue result ↔ IsRunSettled self.now.run self.now.history }
     {
-        self.progress.settled()
+        self.states.settled()
     }
 
     /// Whether some wanted derivation is ready, so that `next` would begin one. Goes over none of
@@ -233,14 +261,14 @@ impl<O: Outlet> Book<O> {
     pub fn can_begin(&self) -> bool
         ensures { IsTrue result ↔ ((d : ℕ) × CanBegin self.now.run self.now.history d) }
     {
-        self.progress.next().is_some()
+        self.states.next().is_some()
     }
 
     /// How many wanted derivations are blocked, ready or building. Goes over none of them.
     pub fn unsettled(&self) -> usize
         ensures { HasCount (IsUnsettled self.now.run self.now.history) result }
     {
-        self.progress.unsettled()
+        self.states.unsettled()
     }
 
     /// How much work it was to find the states of derivations: one for each state that an event
@@ -252,7 +280,9 @@ impl<O: Outlet> Book<O> {
     pub fn steps(&self) -> u64
         ensures { result ≡ steps_in self.now.run self.now.history % 2 ^ 64 }
     {
-        self.progress.steps()
+        let events = self.events.len() as u64;
+        let followed = self.states.followed_edges() as u64;
+        events.wrapping_add(followed.wrapping_mul(2))
     }
 
     /// The report of the run, which is settled. For each wanted derivation, by path, it has a line:
@@ -266,21 +296,21 @@ impl<O: Outlet> Book<O> {
         ensures ok { IfOk result (λ text. IsReportIn self.now.run self.now.history text.items) }
         ensures err { IfErr result (λ fault. fault ≡ NoMemory) }
     {
-        self.progress.report()
+        report_of(*self.events.allocator(), &self.states)
     }
 
     /// The plan.
     pub fn plan(&self) -> &Plan
         ensures { result.now ≡ self.now.run.graph }
     {
-        self.progress.plan()
+        self.states.plan()
     }
 
     /// The system for which the run builds.
     pub fn system(&self) -> &[u8]
         ensures { result.now ≡ self.now.run.system }
     {
-        self.progress.system()
+        &self.system
     }
 
     /// The journal: the entries that the book opened with, then one for each derivation that was
@@ -291,7 +321,7 @@ impl<O: Outlet> Book<O> {
         ensures legal { IsLegal self.now.run self.now.history }
         ensures outlet { self.now.shown ++ self.now.pending ≡ self.now.history.entries }
     {
-        self.progress.journal()
+        &self.journal
     }
 
     /// Each Begin, Done and Fail, in order; a Done's records are its entry in the journal.
@@ -299,7 +329,7 @@ impl<O: Outlet> Book<O> {
         ensures value { result.now ≡ self.now.history.events }
         ensures legal { IsLegal self.now.run self.now.history }
     {
-        self.progress.events()
+        &self.events
     }
 
     /// How many of the journal's entries the book opened with: its first ones.
@@ -307,13 +337,18 @@ impl<O: Outlet> Book<O> {
         ensures count { result ≡ length self.now.history.opening }
         ensures first { take result self.now.history.entries ≡ self.now.history.opening }
     {
-        self.progress.opening()
+        self.opening
     }
 
     /// Ends the book, and closes its outlet.
     pub fn close(self) {
         let Book {
-            progress: _progress,
+            states: _states,
+            system: _system,
+            journal: _journal,
+            opening: _,
+            events: _events,
+            given: _,
             outlet,
         } = self;
         outlet.close();
@@ -330,13 +365,46 @@ impl<O: Outlet> Book<O> {
         ensures same { OnErr result (self.new ≡ self.old) }
     {
         let job = lease.job();
-        if !self.progress.has_given(job, lease.number()) {
+        let (d, number) = (job.derivation, lease.number());
+        if !self.has_given(job, number) {
             return Err(BookFault::ForeignLease);
         }
-        let d = job.derivation;
-        let PreparedEntry { entry, copy, shown } = self.progress.prepare(d, checked)?;
+        let alloc = *self.events.allocator();
+        let prepared = PreparedEntry::new(
+            alloc,
+            self.states.plan(),
+            d,
+            checked,
+            &mut self.journal,
+        )?;
+        let PreparedEntry { entry, copy, shown } = prepared;
         self.outlet.append(shown)?;
-        self.progress.finish(d, lease.number(), entry, copy);
+        self.journal.push_reserved(entry, copy);
+        self.events.push_reserved(Event::Done(d, number));
+        self.states.finish(d);
         Ok(())
+    }
+
+    // Whether a lease with this job and this number was given and not ended. Costs a comparison of
+    // the job with the plan's derivation, and takes no memory.
+    fn has_given(&self, job: &Job, number: u64) -> bool
+        ensures { IsTrue result ↔ IsBooksLease self.now.run self.now.history job.now number }
+    {
+        let d = job.derivation;
+        is_building(&self.states, d, number) && is_job(self.states.plan(), d, job)
+    }
+}
+
+// Whether a derivation has begun under the lease with this number and not ended.
+fn is_building(states: &StateTable, d: usize, number: u64) -> bool
+    ensures { IsTrue result ↔ ((d < length states.now.graph.nodes)
+        × (course_state states.now d ≡ Building number)) }
+{
+    if d >= states.plan().len() {
+        return false;
+    }
+    match states.state(d) {
+        State::Building(lease) => lease == number,
+        _ => false,
     }
 }

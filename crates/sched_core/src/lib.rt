@@ -4,9 +4,9 @@
 //! | Module | What is in it |
 //! |---|---|
 //! | `book`, `lease` | the book, and derivations that it gave out to be built |
-//! | `progress` | a run's history, and the states of its derivations |
+//! | `run_start` | the states and the list of events that a book opens with |
 //! | `permitted`, `union` | to what outputs may refer |
-//! | `done_entry` | the entry of a derivation that was built |
+//! | `done_entry`, `prepared_entry` | the entry of a derivation that was built |
 //! | `job_of`, `seeds_of` | the job of a derivation, and the paths that it is built from |
 //! | `is_job`, `has_seeds` | whether a job is that of a derivation |
 //! | `laws` | laws over the definitions that contracts cite |
@@ -20,7 +20,8 @@ mod job_of;
 pub mod laws;
 mod lease;
 mod permitted;
-mod progress;
+mod prepared_entry;
+mod run_start;
 mod seeds_of;
 mod union;
 

@@ -8,6 +8,7 @@ ghost use Rattle.valid_table.specs.Unions.{IsUnion};
 ghost use Rattle.valid_table.specs.Valid.{IsValid};
 ghost use Rattle.build_outcome.specs.Verdicts.{outputs_of};
 ghost use Rattle.run_states.specs.declared.fault.BookFault.TheVariants.{NoMemory};
+ghost use Rattle.sched_core.specs.Books.{ArePermittedPaths, AreSeedsValid};
 
 use crate::union::union_of;
 use build_outcome::Job;
@@ -35,21 +36,35 @@ pub fn permitted_beside(
     Ok(union_of(reached, own)?)
 }
 
+// The paths that are permitted to a job whose seeds are valid by a journal.
+pub(crate) fn permitted_to(
+    alloc: Global,
+    journal: &Journal,
+    job: &Job,
+) -> Result<Vec<StorePath>, BookFault>
+    requires { AreSeedsValid journal.now.entries job.now }
+    ensures ok { IfOk result
+        (λ paths. ArePermittedPaths journal.now.entries job.now paths.items) }
+    ensures err { IfErr result (λ fault. fault ≡ NoMemory) }
+{
+    let reached = closure_of(alloc, journal, &job.seeds)?;
+    permitted_beside(alloc, reached, job)
+}
+
 // What some paths lead to that are valid by a journal.
-pub(crate) fn closure_of(
+fn closure_of(
     alloc: Global,
     journal: &Journal,
     seeds: &[StorePath],
-) -> Result<Vec<StorePath>, BookFault>
+) -> Result<Vec<StorePath>, AllocError>
     requires { All (IsValid (registered journal.now.entries)) seeds.now }
-    ensures ok { IfOk result
+    ensures { IfOk result
         (λ paths. IsClosure (registered journal.now.entries) seeds.now paths.items) }
-    ensures err { IfErr result (λ fault. fault ≡ NoMemory) }
 {
     match journal.table().closure(alloc, seeds) {
         Ok(paths) => Ok(paths),
         Err(fault) => match fault {
-            TableFault::NoMemory => Err(BookFault::NoMemory),
+            TableFault::NoMemory => Err(AllocError),
             _ => unreachable!(),
         },
     }

@@ -1,19 +1,15 @@
 -- How a book keeps its run.
-use Rattle.std.specs.Prelude.{◌≡◌, ◌≤◌, ◌+◌, ℕ, List, length, sum_by, take}
+use Rattle.std.specs.Prelude.{◌≡◌, ◌≤◌, ◌+◌, ◌++◌, ℕ, List, length, sum_by, take}
 use Rattle.std.specs.List.{slice_index_or}
 use Rattle.nix_names.specs.Bytes.{Bytes}
+use Rattle.valid_table.specs.Valid.{IsJournal}
 use Rattle.valid_table.specs.declared.entry.Entry.{Entry}
+use Rattle.sched_core.specs.Books.{BuildsOver}
 use Rattle.run_states.specs.StateTables.{AreNearest, AreStandings, AreWanted, StateTable}
 use Rattle.run_states.specs.Legal.{IsLegal, begins}
 use Rattle.run_states.specs.Runs.{History, Run}
 use Rattle.run_states.specs.States.{Phase, Idle, Begun, Ended, Broken, phase_of}
 use Rattle.run_states.specs.declared.state.Event.{Event}
-
--- A run and its history, and how many more paths its journal can register without taking memory.
-pub record Progress : Type 0 where
-  pub run : Run
-  pub history : History
-  pub room : ℕ
 
 -- how many events a derivation in this phase may still have
 abbrev pub events_left : Phase → ℕ
@@ -24,7 +20,7 @@ events_left (Broken reason) = 0
 
 -- the run over a course's plan, for a system
 abbrev pub run_over : StateTable → (system : Bytes) → Run
-run_over course system = record { graph = course.graph; system = system }
+run_over states system = record { graph = states.graph; system = system }
 
 -- the history with these entries and events, which opened with the first `opening` entries
 abbrev pub history_of : (opening : ℕ) → List Entry → List Event → History
@@ -46,3 +42,14 @@ pub record IsRunKept (system : Bytes) (history : History) (course : StateTable) 
   pub phases : (d : ℕ) → slice_index_or course.phases d Idle ≡ phase_of history.events d
   pub given_is : given ≡ begins history.events
   pub has_room : length history.events + sum_by events_left course.phases ≡ room
+
+-- What holds in a book: its run is kept, its entries are a journal that begins with the opening
+-- ones, the outlet holds just the entries, and what is building is built from what is valid by the
+-- shown ones.
+pub record IsBook (states : StateTable) (system : Bytes) (opening : ℕ) (entries : List Entry)
+    (events : List Event) (given room : ℕ) (shown pending : List Entry) : Type 0 where
+  pub kept : IsRunKept system (history_of opening entries events) states given room
+  pub opened : opening ≤ length entries
+  pub is_journal : IsJournal entries
+  pub holds : shown ++ pending ≡ entries
+  pub builds : BuildsOver (run_over states system) (history_of opening entries events) shown

@@ -1,5 +1,6 @@
 use Rattle.std.proofs.Common.{◌↔◌, ℕ, IsTrue, MatchOption, Option, Some, None, rules}
 use Rattle.std.specs.Option.{is_some}
+use Rattle.sched_core.proofs.KeptStates.{can_begin, is_next, match_weaker}
 use Rattle.sched_core.proofs.book.Book.can_begin.Goals as goal
 
 -- what is found is there, and where nothing is found nothing is there
@@ -9,4 +10,10 @@ found_is_there None none = search rules
 found_is_there (Some d) can = search rules
 
 pub returns : goal.returns
-returns g c = rw (← c.self.view_is, c.is_some.ensures) (found_is_there _ c.next.ensures.can)
+returns g c =
+    let kept = c.self.invariant.kept in
+    rw (← c.self.view_is, c.is_some.ensures)
+    (found_is_there _
+    (match_weaker c.next.result c.next.ensures
+    (λ none d can. none d (is_next _ _ _ _ _ kept d can))
+    (λ d next. can_begin _ _ _ _ _ kept d next)))
