@@ -9,6 +9,8 @@ mod changes;
 mod outcome;
 
 use crate::changes::{Counts, bit_changes, cuts, longer};
+use crate::outcome::sum_of;
+use sha2::Digest;
 use std::io::{self, Read};
 use std::{env, fs};
 
@@ -27,6 +29,15 @@ fn tell(rt: &HostRuntime, what: &str, counts: &Counts) -> io::Result<()> {
     )
 }
 
+// Prints the length and the SHA-256 of what is written at an archive's events.
+fn tell_sum(rt: &HostRuntime, bytes: &[u8]) -> io::Result<()> {
+    let Some(sum) = sum_of(rt.alloc(), bytes)? else {
+        return println!(rt; "  other bytes");
+    };
+    let digest = hex::encode(rt.alloc(), sum.hasher.finalize())?;
+    println!(rt; "  {} bytes of the SHA-256 {digest}", sum.length)
+}
+
 fn main(rt: HostRuntime) -> io::Result<()> {
     for path in env::args(&rt)?.skip(1) {
         let bytes = bytes_of(&rt, path.as_str())?;
@@ -43,6 +54,7 @@ fn main(rt: HostRuntime) -> io::Result<()> {
         )?;
         tell(&rt, "cut", &cuts(rt.alloc(), &bytes)?)?;
         tell(&rt, "longer", &longer(rt.alloc(), &bytes)?)?;
+        tell_sum(&rt, &bytes)?;
     }
     Ok(())
 }

@@ -1,5 +1,6 @@
 //! An archive that is read and written again.
-use nix_archive::{ArchiveFault, ArchiveReader, ArchiveWriter};
+use nix_archive::{ArchiveFault, ArchiveReader, ArchiveWriter, Both, DigestSink};
+use sha2::Sha256;
 use std::alloc::{AllocError, Global};
 
 /// What comes of an archive.
@@ -36,5 +37,23 @@ pub(crate) fn outcome_of(
         Ok(Outcome::Written(writer.sink))
     } else {
         Ok(Outcome::Unfinished)
+    }
+}
+
+/// The length and the digest of what is written at the events of an archive, if that is the archive.
+pub(crate) fn sum_of(
+    alloc: Global,
+    bytes: &[u8],
+) -> Result<Option<DigestSink<Sha256>>, AllocError> {
+    let mut hearer = Both {
+        first: ArchiveWriter::begin(Vec::new(alloc))?,
+        second: ArchiveWriter::begin(DigestSink::new())?,
+    };
+    let fed = ArchiveReader::new(alloc).feed(bytes, &mut hearer);
+    let Both { first, second } = hearer;
+    match fed {
+        Ok(()) if first.sink.as_slice() == bytes => Ok(Some(second.sink)),
+        Ok(()) | Err(ArchiveFault::BadNar(_)) => Ok(None),
+        Err(ArchiveFault::NoMemory) => Err(AllocError),
     }
 }

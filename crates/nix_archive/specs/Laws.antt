@@ -4,6 +4,7 @@ use Rattle.nix_archive.specs.declared.reader.ArchiveReader.{ArchiveReader}
 use Rattle.nix_archive.specs.Trees.{Bytes, Tree, IsArchivable}
 use Rattle.nix_archive.specs.Archive.{magic, nar}
 use Rattle.nix_archive.specs.Tokens.{Token, tokens_of}
+use Rattle.nix_archive.specs.Sums.{IsSum, IsSummed}
 use Rattle.nix_archive.specs.Texts.{text_of}
 use Rattle.nix_archive.specs.Rests.{reader_rest}
 use Rattle.nix_archive.specs.Reading.{IsArchive, IsBegun, IsFed, IsRefused, IsSame, IsStep}
@@ -60,3 +61,11 @@ FaultsComeFirst {S} heard = (r s t : ArchiveReader) (before between after : S) (
     → IsFed heard between after (reader_rest s) (reader_rest t) piece (Err (BadNar place))
     → IsBegun IsArchive (read ++ take place piece)
     × IsRefused IsArchive (read ++ take (place + 1) piece)
+
+-- What is summed at a tree's tokens, after the string with which each archive begins, is the
+-- tree's archive.
+abbrev pub SumsAreOfArchives : {D : Type 0} (holds : D → List ℕ → Type 0) → Type 0
+SumsAreOfArchives {D} holds = (tree : Tree) (first begun last : ℕ) (hasher middle hashes : D)
+    → IsSum holds [] first hasher → IsSummed holds magic first hasher begun middle
+    → IsSummed holds (text_of (tokens_of tree)) begun middle last hashes
+    → IsSum holds (nar tree) last hashes

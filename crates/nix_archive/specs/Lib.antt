@@ -4,6 +4,7 @@ pub mod Laws
 pub mod Parts
 pub mod Reading
 pub mod Rests
+pub mod Sums
 pub mod Texts
 pub mod Tokens
 pub mod Trees

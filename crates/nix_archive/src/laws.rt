@@ -1,7 +1,8 @@
 //! Laws of archives, proved from the definitions that contracts use.
-ghost use Rattle.nix_archive.specs.Laws.{ArchivesTellTrees, FaultsComeFirst, NoArchiveBeginsAnother, ReadingsBegin, ReadingsJoin, ReadingsTellTrees, TokensWriteArchives};
+ghost use Rattle.nix_archive.specs.Laws.{ArchivesTellTrees, FaultsComeFirst, NoArchiveBeginsAnother, ReadingsBegin, ReadingsJoin, ReadingsTellTrees, SumsAreOfArchives, TokensWriteArchives};
 
 use crate::event::Hear;
+use sha2::Digest;
 
 /// Trees with one archive are one tree, and no archive begins another.
 pub fn archives_tell_trees()
@@ -26,4 +27,10 @@ pub fn readings_are_written_again<H: Hear>()
 pub fn faults_come_first<H: Hear>()
     ensures begun { ReadingsBegin H.heard }
     ensures first { FaultsComeFirst H.heard }
+{}
+
+/// What a writer into a `DigestSink` keeps at the events of a tree is the length and the digest of
+/// the tree's archive.
+pub fn sums_are_of_archives<D: Digest>()
+    ensures { SumsAreOfArchives D.holds }
 {}

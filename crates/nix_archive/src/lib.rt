@@ -3,7 +3,9 @@
 //! | Module | What is in it |
 //! |---|---|
 //! | `event` | what is heard of a tree, event by event |
+//! | `both` | two hearers of one tree |
 //! | `sink` | where an archive is written |
+//! | `digest` | the length and the digest of what is written |
 //! | `writer` | the archive of what is heard |
 //! | `reader` | the reader of an archive that comes in pieces |
 //! | `feed` | how it takes a piece |
@@ -15,6 +17,8 @@
 //! | `laws` | laws over the definitions that contracts cite |
 #![tactic(auto)]
 
+mod both;
+mod digest;
 mod event;
 mod fault;
 mod feed;
@@ -27,6 +31,8 @@ mod sink;
 mod strings;
 mod writer;
 
+pub use both::Both;
+pub use digest::DigestSink;
 pub use event::{Event, Hear};
 pub use fault::ArchiveFault;
 pub use reader::ArchiveReader;
