@@ -28,8 +28,8 @@ impl ArchiveReader {
 
     /// Reads the next piece of an archive, and hears what is in it. `BadNar(place)` tells the first
     /// byte with which no archive goes on; the place counts from the piece's first byte. After a
-    /// fault nothing is known of the reader and of the hearer. The cost is linear in the bytes that
-    /// were read so far, and no memory is asked for before the bytes come that are kept there.
+    /// fault nothing is known of the reader and of the hearer. Reading takes time linear in the
+    /// bytes, whatever they are, and memory as they come: a length alone takes none.
     pub fn feed<H: Hear>(&mut self, piece: &[u8], hearer: &mut H) -> Result<(), ArchiveFault>
         ensures { IsFed H.heard hearer.old hearer.new (reader_rest self.old) (reader_rest self.new)
             piece.now result }
