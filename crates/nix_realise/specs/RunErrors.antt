@@ -15,6 +15,9 @@ use Rattle.nix_realise.specs.declared.cli.exit.Exit.{Exit}
 use Rattle.nix_realise.specs.declared.cli.exit.Exit.TheVariants as ending
 use Rattle.nix_realise.specs.declared.cli.exit.Status.{Status}
 use Rattle.nix_realise.specs.declared.cli.exit.Status.TheVariants.{Refused, CutShort}
+use Rattle.nix_realise.specs.declared.cli.run_error.FaultName.{FaultName}
+use Rattle.nix_realise.specs.declared.cli.run_error.FaultName.TheVariants.{OfJournal, OfName, OfNode}
+use Rattle.nix_realise.specs.declared.cli.run_error.FaultName.TheVariants.{OfRun, Word}
 use Rattle.nix_realise.specs.declared.cli.run_error.RunError.{RunError}
 use Rattle.nix_realise.specs.declared.cli.run_error.RunError.TheVariants.{BadStoreDir, Unreadable, TooLong}
 use Rattle.nix_realise.specs.declared.cli.run_error.RunError.TheVariants.{BadDraft, BadDrv}
@@ -30,115 +33,67 @@ abbrev pub stop_of : TableFault → RunError
 stop_of table.NoMemory = NoMemory
 stop_of fault = BadJournal fault
 
--- the fault's number in the table of faults
-abbrev pub number_of : RunError → ℕ
-number_of (BadName name) = 6
-number_of (BadStoreDir dir) = 7
-number_of NoMemory = 9
-number_of (TooLong file) = 12
-number_of (Unreadable file) = 20
-number_of JournalUnreadable = 20
-number_of (BadJournal fault) = table_number_of fault
-number_of (NoPath word fault) = name_number_of fault
-number_of (Run fault kept) = run_number_of fault
-number_of (BadDraft file fault) = node_number_of fault
-number_of (BadDrv path fault) = node_number_of fault
-number_of (NotWritten path) = 74
-number_of JournalTooLong = 35
-number_of JournalNotWritten = 74
-number_of Unwritable = 74
-number_of (NotLocked dir) = 74
-number_of (InUse dir) = 75
-number_of (NixStore dir) = 76
-number_of (NoLogs folder) = 74
-number_of (NoTrace file) = 74
-number_of (NoRunner program) = 77
+-- What is told of a fault that ends a run: its number in the table of faults; the status of the run;
+-- where the fault was found, as the line says, which is a word as it was given, a path, the journal
+-- or the run; and the fault's name with its value.
+pub record Row : Type 0 where
+  pub number : ℕ
+  pub status : Status
+  pub location : Bytes
+  pub words : Bytes
 
--- where the fault was found, as the line says: a word as it was given, a path, the journal or the
--- run
-abbrev pub location_of : RunError → Bytes
-location_of (BadStoreDir dir) = dir.now
-location_of (Unreadable file) = file.now
-location_of (TooLong file) = file.now
-location_of (BadDraft file fault) = file.now
-location_of (BadName name) = name.now
-location_of (InUse dir) = dir.now
-location_of (NixStore dir) = dir.now
-location_of (NotLocked dir) = dir.now
-location_of (NoRunner program) = program.now
-location_of (NoLogs folder) = folder.now
-location_of (NoTrace file) = file.now
-location_of (NoPath word fault) = word.now
-location_of (BadDrv path fault) = path
-location_of JournalUnreadable = codes "journal"
-location_of (BadJournal fault) = codes "journal"
-location_of (NotWritten path) = path
-location_of JournalTooLong = codes "journal"
-location_of JournalNotWritten = codes "journal"
-location_of (Run fault kept) = codes "run"
-location_of NoMemory = codes "run"
-location_of Unwritable = codes "run"
+-- a word, a file or the journal is refused
+abbrev pub refused : ℕ → (location words : Bytes) → Row
+refused n place name = record { number = n; status = Refused; location = place; words = name }
 
--- the fault's name and its value
-abbrev pub stop_fault_words : RunError → Bytes
-stop_fault_words (BadStoreDir dir) = codes "BadStoreDir"
-stop_fault_words (Unreadable file) = codes "Unreadable"
-stop_fault_words (TooLong file) = codes "TooLong"
-stop_fault_words (BadDraft file fault) = node_fault_words fault
-stop_fault_words (BadName name) = codes "BadName"
-stop_fault_words (NoPath word fault) = name_fault_words fault
-stop_fault_words (BadDrv path fault) = node_fault_words fault
-stop_fault_words JournalUnreadable = codes "Unreadable"
-stop_fault_words (BadJournal fault) = table_fault_words fault
-stop_fault_words (InUse dir) = codes "InUse"
-stop_fault_words (NixStore dir) = codes "NixStore"
-stop_fault_words (NotLocked dir) = codes "Unwritable"
-stop_fault_words (NoRunner program) = codes "NoRunner"
-stop_fault_words (NoLogs folder) = codes "Unwritable"
-stop_fault_words (NoTrace file) = codes "Unwritable"
-stop_fault_words (NotWritten path) = codes "Unwritable"
-stop_fault_words JournalTooLong = codes "TooLong"
-stop_fault_words JournalNotWritten = codes "Unwritable"
-stop_fault_words (Run fault kept) = run_fault_words fault
-stop_fault_words NoMemory = codes "NoMemory"
-stop_fault_words Unwritable = codes "Unwritable"
+-- the run is cut short: the store folder may not be used now, the journal can't be read or would be
+-- too long to be read again, the workers end too early, memory or a write is refused
+abbrev pub cut_short : ℕ → (location words : Bytes) → Row
+cut_short n place name = record { number = n; status = CutShort; location = place; words = name }
+
+-- what is told of each fault
+abbrev pub row_of : RunError → Row
+row_of (BadName name) = refused 6 name.now (codes "BadName")
+row_of (BadStoreDir dir) = refused 7 dir.now (codes "BadStoreDir")
+row_of NoMemory = cut_short 9 (codes "run") (codes "NoMemory")
+row_of (TooLong file) = refused 12 file.now (codes "TooLong")
+row_of (Unreadable file) = refused 20 file.now (codes "Unreadable")
+row_of JournalUnreadable = cut_short 20 (codes "journal") (codes "Unreadable")
+row_of JournalTooLong = cut_short 35 (codes "journal") (codes "TooLong")
+row_of (NotWritten path) = cut_short 74 path (codes "Unwritable")
+row_of JournalNotWritten = cut_short 74 (codes "journal") (codes "Unwritable")
+row_of Unwritable = cut_short 74 (codes "run") (codes "Unwritable")
+row_of (NotLocked dir) = cut_short 74 dir.now (codes "Unwritable")
+row_of (NoLogs folder) = cut_short 74 folder.now (codes "Unwritable")
+row_of (NoTrace file) = cut_short 74 file.now (codes "Unwritable")
+row_of (InUse dir) = cut_short 75 dir.now (codes "InUse")
+row_of (NixStore dir) = cut_short 76 dir.now (codes "NixStore")
+row_of (NoRunner program) = refused 77 program.now (codes "NoRunner")
+row_of (NoPath word fault) = refused (name_number_of fault) word.now (name_fault_words fault)
+row_of (BadDraft file fault) = refused (node_number_of fault) file.now (node_fault_words fault)
+row_of (BadDrv path fault) = refused (node_number_of fault) path (node_fault_words fault)
+row_of (BadJournal fault) =
+    refused (table_number_of fault) (codes "journal") (table_fault_words fault)
+row_of (Run fault kept) = cut_short (run_number_of fault) (codes "run") (run_fault_words fault)
+
+-- the words by which a line names a fault
+abbrev pub words_of : FaultName → Bytes
+words_of (Word text) = text.now
+words_of (OfName fault) = name_fault_words fault
+words_of (OfNode fault) = node_fault_words fault.now
+words_of (OfJournal fault) = table_fault_words fault.now
+words_of (OfRun fault) = run_fault_words fault
 
 -- the line of the fault on standard error
 abbrev pub stop_line : RunError → Bytes
 stop_line stop =
-    codes "nix_realise: " ++ location_of stop ++ codes ": " ++ stop_fault_words stop ++ 10 ∷ []
-
--- the status of the run: `Refused` for a word, a file or a journal that is refused; `CutShort` for
--- a store folder that may not be used now, a journal that can't be read, workers that end too
--- early, want of memory, a journal that would be too long to be read again and a refused write
-abbrev pub status_of : RunError → Status
-status_of (BadStoreDir dir) = Refused
-status_of (Unreadable file) = Refused
-status_of (TooLong file) = Refused
-status_of (BadDraft file fault) = Refused
-status_of (BadName name) = Refused
-status_of (NoPath word fault) = Refused
-status_of (BadDrv path fault) = Refused
-status_of (BadJournal fault) = Refused
-status_of JournalUnreadable = CutShort
-status_of (InUse dir) = CutShort
-status_of (NixStore dir) = CutShort
-status_of (NotLocked dir) = CutShort
-status_of (NoRunner program) = Refused
-status_of (NoLogs folder) = CutShort
-status_of (NoTrace file) = CutShort
-status_of (Run fault kept) = CutShort
-status_of (NotWritten path) = CutShort
-status_of JournalTooLong = CutShort
-status_of JournalNotWritten = CutShort
-status_of NoMemory = CutShort
-status_of Unwritable = CutShort
+    codes "nix_realise: " ++ (row_of stop).location ++ codes ": " ++ (row_of stop).words ++ 10 ∷ []
 
 -- A run ends with the line and the status of what ends it. Where there is no memory for the line,
 -- that of `NoMemory` is written; where standard error refuses a write, nothing is known of it.
 abbrev pub IsTold : (before after : Option Bytes) → RunError → Exit → Type 0
 IsTold before after stop (ending.Printed status) =
-    (status ≡ status_of stop) × Appends before after (stop_line stop)
+    (status ≡ (row_of stop).status) × Appends before after (stop_line stop)
 IsTold before after stop ending.NoMemory = Appends before after (stop_line NoMemory)
 IsTold before after stop ending.Unprinted = Unit {0}
 

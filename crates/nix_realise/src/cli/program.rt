@@ -156,7 +156,7 @@ pub fn print_stop<E: Write>(alloc: Global, stop: &RunError<'_>, err: &mut E) -> 
         Err(refused) => return print_no_line(refused, err),
     };
     match print_bytes(&line, err) {
-        Ok(()) => Exit::Printed(stop.status()),
+        Ok(()) => Exit::Printed(stop.row().status),
         Err(_) => Exit::Unprinted,
     }
 }

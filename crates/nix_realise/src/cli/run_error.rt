@@ -1,11 +1,12 @@
 //! Why a run ends without its report.
 ghost use Rattle.std.specs.Prelude.{◌≡◌};
-ghost use Rattle.nix_realise.specs.RunErrors.{location_of, number_of, status_of};
+ghost use Rattle.nix_realise.specs.RunErrors.{row_of, words_of};
 
 use crate::building::journal_outcome::JournalOutcome;
 use crate::cli::exit::Status;
 use crate::io::journal_write::UnwrittenJournal;
 use crate::io::whole_file::WriteError;
+use FaultName::{OfJournal, OfName, OfNode, OfRun, Word};
 use drv_graph::NodeFault;
 use nix_names::{NameFault, StorePath};
 use process_build::Failure;
@@ -61,85 +62,101 @@ pub enum RunError<'a> {
     Unwritable,
 }
 
-impl RunError<'_> {
+/// What is told of a fault that ends a run: its row in the table of these faults.
+#[derive(Clone, Copy)]
+pub struct FaultRow<'s> {
     /// The fault's number in the table of faults.
-    pub fn number(&self) -> u8
-        ensures { result ≡ number_of self.now }
-    {
-        match self {
-            RunError::BadName(_) => 6,
-            RunError::NoPath(_, fault) => fault.number(),
-            RunError::BadStoreDir(_) => 7,
-            RunError::NoMemory => 9,
-            RunError::TooLong(_) => 12,
-            RunError::Unreadable(_) | RunError::JournalUnreadable => 20,
-            RunError::BadJournal(fault) => fault.number(),
-            RunError::JournalTooLong => 35,
-            RunError::Run(fault, _) => fault.number(),
-            RunError::BadDraft(_, fault) | RunError::BadDrv(_, fault) => fault.number(),
-            RunError::NotWritten(_) | RunError::JournalNotWritten | RunError::Unwritable => 74,
-            RunError::NotLocked(_) | RunError::NoLogs(_) | RunError::NoTrace(_) => 74,
-            RunError::InUse(_) => 75,
-            RunError::NixStore(_) => 76,
-            RunError::NoRunner(_) => 77,
-        }
-    }
-
+    pub number: u8,
     /// The status of the run: `Refused` where a word, a file or the journal is refused, else
     /// `CutShort`.
-    pub fn status(&self) -> Status
-        ensures { result ≡ status_of self.now }
-    {
-        match self {
-            RunError::BadStoreDir(_)
-            | RunError::Unreadable(_)
-            | RunError::TooLong(_)
-            | RunError::BadDraft(..)
-            | RunError::BadName(_)
-            | RunError::NoPath(..)
-            | RunError::NoRunner(_)
-            | RunError::BadDrv(..)
-            | RunError::BadJournal(_) => Status::Refused,
-            RunError::JournalUnreadable
-            | RunError::InUse(_)
-            | RunError::NixStore(_)
-            | RunError::NotLocked(_)
-            | RunError::NoLogs(_)
-            | RunError::NoTrace(_)
-            | RunError::Run(..)
-            | RunError::NotWritten(_)
-            | RunError::JournalTooLong
-            | RunError::JournalNotWritten
-            | RunError::NoMemory
-            | RunError::Unwritable => Status::CutShort,
-        }
-    }
-
+    pub status: Status,
     /// Where the fault was found, as the line says: a word as it was given, a path, the journal or
     /// the run.
-    pub fn location(&self) -> &[u8]
-        ensures { result.now ≡ location_of self.now }
+    pub location: &'s [u8],
+    /// The fault's name, with its value.
+    pub name: FaultName<'s>,
+}
+
+/// The name of a fault that ends a run, with its value.
+#[derive(Clone, Copy)]
+pub enum FaultName<'s> {
+    /// This name, without a value.
+    Word(&'s [u8]),
+    /// That of a fault of a name.
+    OfName(NameFault),
+    /// That of a fault of a derivation in a plan.
+    OfNode(&'s NodeFault),
+    /// That of a fault of a journal.
+    OfJournal(&'s TableFault),
+    /// That of a fault of a run.
+    OfRun(RunFault),
+}
+
+impl RunError<'_> {
+    /// The row of the fault in the table of the faults that end a run.
+    pub fn row(&self) -> FaultRow<'_>
+        ensures number { result.number ≡ (row_of self.now).number }
+        ensures status { result.status ≡ (row_of self.now).status }
+        ensures location { result.location.now ≡ (row_of self.now).location }
+        ensures words { words_of result.name ≡ (row_of self.now).words }
     {
         match self {
-            RunError::BadStoreDir(word)
-            | RunError::Unreadable(word)
-            | RunError::TooLong(word)
-            | RunError::BadDraft(word, _)
-            | RunError::BadName(word)
-            | RunError::InUse(word)
-            | RunError::NixStore(word)
-            | RunError::NotLocked(word)
-            | RunError::NoRunner(word)
-            | RunError::NoLogs(word)
-            | RunError::NoTrace(word)
-            | RunError::NoPath(word, _) => word.as_bytes(),
-            RunError::BadDrv(path, _) | RunError::NotWritten(path) => path.text(),
-            RunError::JournalUnreadable
-            | RunError::BadJournal(_)
-            | RunError::JournalTooLong
-            | RunError::JournalNotWritten => b"journal",
-            RunError::Run(..) | RunError::NoMemory | RunError::Unwritable => b"run",
+            RunError::BadName(name) => refused(6, name.as_bytes(), Word(b"BadName")),
+            RunError::BadStoreDir(dir) => refused(7, dir.as_bytes(), Word(b"BadStoreDir")),
+            RunError::NoMemory => cut_short(9, b"run", Word(b"NoMemory")),
+            RunError::TooLong(file) => refused(12, file.as_bytes(), Word(b"TooLong")),
+            RunError::Unreadable(file) => refused(20, file.as_bytes(), Word(b"Unreadable")),
+            RunError::JournalUnreadable => cut_short(20, b"journal", Word(b"Unreadable")),
+            RunError::JournalTooLong => cut_short(35, b"journal", Word(b"TooLong")),
+            RunError::NotWritten(path) => cut_short(74, path.text(), Word(b"Unwritable")),
+            RunError::JournalNotWritten => cut_short(74, b"journal", Word(b"Unwritable")),
+            RunError::Unwritable => cut_short(74, b"run", Word(b"Unwritable")),
+            RunError::NotLocked(dir) => cut_short(74, dir.as_bytes(), Word(b"Unwritable")),
+            RunError::NoLogs(folder) => cut_short(74, folder.as_bytes(), Word(b"Unwritable")),
+            RunError::NoTrace(file) => cut_short(74, file.as_bytes(), Word(b"Unwritable")),
+            RunError::InUse(dir) => cut_short(75, dir.as_bytes(), Word(b"InUse")),
+            RunError::NixStore(dir) => cut_short(76, dir.as_bytes(), Word(b"NixStore")),
+            RunError::NoRunner(file) => refused(77, file.as_bytes(), Word(b"NoRunner")),
+            RunError::NoPath(word, fault) => {
+                refused(fault.number(), word.as_bytes(), OfName(*fault))
+            }
+            RunError::BadDraft(file, fault) => {
+                refused(fault.number(), file.as_bytes(), OfNode(fault))
+            }
+            RunError::BadDrv(path, fault) => refused(fault.number(), path.text(), OfNode(fault)),
+            RunError::BadJournal(fault) => refused(fault.number(), b"journal", OfJournal(fault)),
+            RunError::Run(fault, _) => cut_short(fault.number(), b"run", OfRun(*fault)),
         }
+    }
+}
+
+// The row of a fault for which a word, a file or the journal is refused.
+fn refused<'s>(number: u8, location: &'s [u8], name: FaultName<'s>) -> FaultRow<'s>
+    ensures number { result.number ≡ number }
+    ensures status { result.status ≡ Status.Refused }
+    ensures location { result.location ≡ location.entry }
+    ensures name { result.name ≡ name.entry }
+{
+    FaultRow {
+        number,
+        status: Status::Refused,
+        location,
+        name,
+    }
+}
+
+// The row of a fault that cuts a run short.
+fn cut_short<'s>(number: u8, location: &'s [u8], name: FaultName<'s>) -> FaultRow<'s>
+    ensures number { result.number ≡ number }
+    ensures status { result.status ≡ Status.CutShort }
+    ensures location { result.location ≡ location.entry }
+    ensures name { result.name ≡ name.entry }
+{
+    FaultRow {
+        number,
+        status: Status::CutShort,
+        location,
+        name,
     }
 }
 

@@ -4,9 +4,9 @@
 ghost use Rattle.std.specs.Prelude.{◌≡◌, ◌++◌, ◌∷◌, [], IfOk, OnOk, codes};
 ghost use Rattle.nix_realise.specs.FaultWords.{drv_fault_words, name_fault_words};
 ghost use Rattle.nix_realise.specs.FaultWords.{run_fault_words, table_fault_words};
-ghost use Rattle.nix_realise.specs.RunErrors.{stop_fault_words, stop_line};
+ghost use Rattle.nix_realise.specs.RunErrors.{stop_line, words_of};
 
-use crate::cli::run_error::RunError;
+use crate::cli::run_error::{FaultName, RunError};
 use crate::words::graph_words::write_node_fault;
 use nix_drv::DrvFault;
 use nix_names::NameFault;
@@ -80,32 +80,16 @@ pub fn write_run_fault(fault: RunFault, out: &mut Vec<u8>) -> Result<(), AllocEr
     }
 }
 
-/// Adds the words of the fault by which a run ends.
-pub fn write_stop_fault(stop: &RunError<'_>, out: &mut Vec<u8>) -> Result<(), AllocError>
-    ensures { OnOk result (out.new.items ≡ out.old.items ++ stop_fault_words stop.now) }
+// Adds the words of the fault by which a run ends.
+fn write_fault(name: FaultName<'_>, out: &mut Vec<u8>) -> Result<(), AllocError>
+    ensures { OnOk result (out.new.items ≡ out.old.items ++ words_of name.entry) }
 {
-    match stop {
-        RunError::BadStoreDir(_) => write_name(b"BadStoreDir", out),
-        RunError::Unreadable(_) => write_name(b"Unreadable", out),
-        RunError::TooLong(_) => write_name(b"TooLong", out),
-        RunError::BadDraft(_, fault) => write_node_fault(fault, out),
-        RunError::BadName(_) => write_name(b"BadName", out),
-        RunError::NoPath(_, fault) => write_name_fault(*fault, out),
-        RunError::BadDrv(_, fault) => write_node_fault(fault, out),
-        RunError::JournalUnreadable => write_name(b"Unreadable", out),
-        RunError::BadJournal(fault) => write_table_fault(fault, out),
-        RunError::InUse(_) => write_name(b"InUse", out),
-        RunError::NixStore(_) => write_name(b"NixStore", out),
-        RunError::NotLocked(_) => write_name(b"Unwritable", out),
-        RunError::NoRunner(_) => write_name(b"NoRunner", out),
-        RunError::NoLogs(_) => write_name(b"Unwritable", out),
-        RunError::NoTrace(_) => write_name(b"Unwritable", out),
-        RunError::NotWritten(_) => write_name(b"Unwritable", out),
-        RunError::JournalTooLong => write_name(b"TooLong", out),
-        RunError::JournalNotWritten => write_name(b"Unwritable", out),
-        RunError::Run(fault, _) => write_run_fault(*fault, out),
-        RunError::NoMemory => write_name(b"NoMemory", out),
-        RunError::Unwritable => write_name(b"Unwritable", out),
+    match name {
+        FaultName::Word(name) => write_name(name, out),
+        FaultName::OfName(fault) => write_name_fault(fault, out),
+        FaultName::OfNode(fault) => write_node_fault(fault, out),
+        FaultName::OfJournal(fault) => write_table_fault(fault, out),
+        FaultName::OfRun(fault) => write_run_fault(fault, out),
     }
 }
 
@@ -113,18 +97,11 @@ pub fn write_stop_fault(stop: &RunError<'_>, out: &mut Vec<u8>) -> Result<(), Al
 pub fn stop_line(alloc: Global, stop: &RunError<'_>) -> Result<Vec<u8>, AllocError>
     ensures { IfOk result (λ line. line.items ≡ stop_line stop.now) }
 {
+    let row = stop.row();
     let mut line = Vec::from_slice(alloc, b"nix_realise: ")?;
-    line.extend_from_slice(stop.location())?;
-    write_why(stop, &mut line)?;
+    line.extend_from_slice(row.location)?;
+    line.extend_from_slice(b": ")?;
+    write_fault(row.name, &mut line)?;
+    line.extend_from_slice(b"\n")?;
     Ok(line)
-}
-
-// Adds the end of the line of a run that ends without its report: the fault, and a newline.
-fn write_why(stop: &RunError<'_>, out: &mut Vec<u8>) -> Result<(), AllocError>
-    ensures { OnOk result
-        (out.new.items ≡ out.old.items ++ codes ": " ++ stop_fault_words stop.now ++ 10 ∷ []) }
-{
-    out.extend_from_slice(b": ")?;
-    write_stop_fault(stop, out)?;
-    out.extend_from_slice(b"\n")
 }
