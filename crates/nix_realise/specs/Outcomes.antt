@@ -3,7 +3,7 @@ use Rattle.std.specs.Prelude.{◌≡◌, ℕ, [], Option, Some, None, Result, Ok
 use Rattle.std.specs.Global.{Vec}
 use Rattle.nix_names.specs.Bytes.{Bytes}
 use Rattle.nix_realise.specs.declared.io.all_written.AllWritten.{AllWritten}
-use Rattle.nix_realise.specs.declared.cli.outcome.Outcome.{Outcome}
+use Rattle.nix_realise.specs.declared.cli.exit.Outcome.{Outcome}
 use Rattle.nix_realise.specs.declared.cli.exit.Status.{Status}
 use Rattle.nix_realise.specs.declared.cli.run_error.RunError.{RunError}
 

@@ -20,7 +20,7 @@ use Rattle.nix_realise.specs.Folders.{may_give}
 use Rattle.nix_realise.specs.Planning.{PlanEnds}
 use Rattle.nix_realise.specs.Realising.{May, RealiseEnds}
 use Rattle.nix_realise.specs.RunErrors.{IsStopOf, IsTold}
-use Rattle.nix_realise.specs.declared.cli.outcome.Outcome.{Outcome}
+use Rattle.nix_realise.specs.declared.cli.exit.Outcome.{Outcome}
 use Rattle.nix_realise.specs.declared.cli.exit.Exit.{Exit}
 use Rattle.nix_realise.specs.declared.cli.exit.Exit.TheVariants.{Printed, Unprinted}
 use Rattle.nix_realise.specs.declared.cli.exit.Status.{Status}

@@ -24,7 +24,7 @@ use Rattle.nix_realise.specs.Locking.{IsKeptOut}
 use Rattle.nix_realise.specs.Tasks.{HasPlan, IsNotPlanned}
 use Rattle.nix_realise.specs.Tracing.{IsTracedEnd}
 use Rattle.nix_realise.specs.RootsStatus.{roots_status}
-use Rattle.nix_realise.specs.declared.cli.outcome.Outcome.{Outcome}
+use Rattle.nix_realise.specs.declared.cli.exit.Outcome.{Outcome}
 use Rattle.nix_realise.specs.declared.cli.run_error.RunError.{RunError}
 use Rattle.nix_realise.specs.declared.cli.run_error.RunError.TheVariants.{JournalNotWritten, JournalTooLong}
 use Rattle.nix_realise.specs.declared.cli.run_error.RunError.TheVariants.{NoMemory, Run, Unwritable}

@@ -2,7 +2,7 @@
 use Rattle.std.specs.Prelude.{◌≡◌, ◌⊎◌, Option, Some, Result, Ok, Err}
 use Rattle.std.specs.Borrow.{Bor}
 use Rattle.nix_names.specs.Bytes.{Bytes}
-use Rattle.nix_realise.specs.declared.cli.outcome.Outcome.{Outcome}
+use Rattle.nix_realise.specs.declared.cli.exit.Outcome.{Outcome}
 use Rattle.nix_realise.specs.declared.cli.run_error.RunError.{RunError}
 use Rattle.nix_realise.specs.declared.cli.run_error.RunError.TheVariants.{NoMemory, NoTrace}
 use Rattle.nix_realise.specs.declared.io.trace_file.TraceWritten.{TraceWritten}

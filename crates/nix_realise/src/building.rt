@@ -2,13 +2,11 @@
 //!
 //! | Module | What is in it |
 //! |---|---|
-//! | `journal_outcome` | what became of the journal of workers that gave no settled book |
-//! | `settled` | the status, the journal and the report of a run, by its book |
+//! | `summary` | what a run leaves at its end: its status, its journal and its report |
 //! | `builders` | the builders of a run |
 //! | `realise` | the subcommand `realise` |
 #![tactic(auto)]
 
 pub mod builders;
-pub mod journal_outcome;
 pub mod realise;
-pub mod settled;
+pub mod summary;

@@ -4,14 +4,12 @@
 //! |---|---|
 //! | `store_dir` | the store folder of a command line |
 //! | `run_error` | why a run ends without its report |
-//! | `exit` | the status of a run |
-//! | `outcome` | how a subcommand ends that isn't stopped |
+//! | `exit` | how a subcommand and a run end, and with which status |
 //! | `printing`, `program` | printing; one run of the program |
 //! | `process` | that run in a process: its arguments and its standard output |
 #![tactic(auto)]
 
 pub mod exit;
-pub mod outcome;
 pub mod printing;
 pub mod process;
 pub mod program;

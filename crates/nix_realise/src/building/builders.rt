@@ -1,11 +1,8 @@
 //! The builders of a run.
 ghost use Rattle.std.specs.Prelude.{◌≡◌, All, IfOk, is_some, length};
-ghost use Rattle.nix_realise.specs.Building.{AreOptionsFor};
 
-use crate::io::logs_folder::LogsFolder;
-use crate::io::runner::Runner;
-use command_line::{OutputKind, RealiseRequest};
-use process_build::{BuildOptions, Builders, DrvPaths, KeptFolders};
+use command_line::RealiseRequest;
+use process_build::{BuildOptions, Builders, KeptFolders};
 use std::alloc::{AllocError, Global};
 
 /// The list of the build folders that a run keeps, if the request asks to keep those of builders
@@ -21,29 +18,6 @@ pub fn kept_folders(
         Ok(Some(KeptFolders::new(alloc, count)?))
     } else {
         Ok(None)
-    }
-}
-
-/// How the builders of a request build.
-pub fn options_of<'m, 'a: 'm>(
-    request: &RealiseRequest<'a>,
-    runner: Runner<'a>,
-    logs: LogsFolder<'a>,
-    kept: Option<&'m KeptFolders>,
-    drvs: &'m DrvPaths,
-) -> BuildOptions<'m>
-    requires runner { runner.path ≡ request.now.runner }
-    requires logs { logs.path ≡ request.now.logs }
-    requires kept { is_some kept ≡ request.now.keep_failed }
-    ensures { AreOptionsFor request.now drvs.now result }
-{
-    BuildOptions {
-        store_dir: request.run.store_dir,
-        runner: runner.path(),
-        logs: logs.path(),
-        kept,
-        links: matches!(request.outputs, OutputKind::Nix),
-        drvs,
     }
 }
 

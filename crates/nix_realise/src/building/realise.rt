@@ -1,4 +1,5 @@
 //! The subcommand `realise`.
+ghost use Rattle.std.specs.Coded.{Coded-set};
 ghost use Rattle.std.specs.Prelude.{◌≡◌, All, IfErr, IfOk, is_some, length, string_bytes, true};
 ghost use Rattle.nix_names.specs.Bytes.{Bytes};
 ghost use Rattle.drv_graph.specs.Nodes.{paths_of};
@@ -7,33 +8,31 @@ ghost use Rattle.nix_realise.specs.Locking.{IsKeptOut};
 ghost use Rattle.nix_realise.specs.Building.{AreOptionsFor};
 ghost use Rattle.nix_realise.specs.JournalFiles.{IsRunsFile};
 ghost use Rattle.nix_realise.specs.LastLines.{AreKeptFor};
-ghost use Rattle.nix_realise.specs.Realising.{BookEnds, HeldEnds, IsCutShort, RealiseEnds, RunEnds};
-ghost use Rattle.nix_realise.specs.Realising.{TaskEnds};
+ghost use Rattle.nix_realise.specs.Realising.{BookEnds, IsCutShort, IsNotBegun, RealiseEnds};
+ghost use Rattle.nix_realise.specs.Realising.{RunEnds, TaskEnds};
 ghost use Rattle.process_build.specs.declared.process.options.BuildOptions.{BuildOptions};
 
 use crate::asking::task::{Task, load_plan};
-use crate::building::builders::{kept_folders, make_all, options_of};
-use crate::building::journal_outcome::JournalOutcome;
-use crate::building::settled::{journal_bytes, report_of, roots_status};
-use crate::cli::outcome::Outcome;
+use crate::building::builders::{kept_folders, make_all};
+use crate::building::summary::{JournalOutcome, journal_bytes, report_of, roots_status};
+use crate::cli::exit::Outcome;
 use crate::cli::printing::print_bytes;
 use crate::cli::run_error::RunError;
 use crate::io::folder::FolderSource;
 use crate::io::journal_file::OwnJournal;
-use crate::io::journal_keeper::{JournalSinks, RunJournal};
-use crate::io::locks::{HeldFolder, LockProof, Locks, hold};
-use crate::io::logs_folder::logs_folder;
+use crate::io::journal_keeper::JournalSinks;
+use crate::io::locks::{HeldFolder, Locks, hold};
+use crate::io::logs_folder::{LogsFolder, logs_folder};
 use crate::io::nix_store::allow;
 use crate::io::runner::{Runner, runner_of};
 use crate::io::trace_file::{TraceFile, end_traced, untraced};
+use crate::io::whole_file::WriteProbe;
 use crate::words::last_lines::last_lines;
-use command_line::RealiseRequest;
-use drv_graph::Plan;
-use nix_names::StoreDir;
+use command_line::{OutputKind, RealiseRequest};
 use process_build::{
     BuildOptions, Builders, DrvPaths, KeptFolder, KeptFolders, WithTrace, remove_left,
 };
-use sched_core::{Book, Build, LeaseObserver};
+use sched_core::Book;
 use std::io::Write;
 use std::marker::Brand;
 use std::rt::Files;
@@ -72,17 +71,10 @@ where
     let (dir, plan) = load_plan(rt.alloc(), &mut FolderSource::new(rt), &request.run)?;
     let held = enter(rt, host, request)?;
     remove_left(rt, held.holding().dir());
-    run_held(
-        rt,
-        make,
-        host,
-        request,
-        runner,
-        held.holding(),
-        &dir,
-        plan,
-        out,
-    )
+    let file = OwnJournal::new(rt.alloc(), held.holding(), request.run.journal)?;
+    let task = Task::new(rt.alloc(), &request.run, &dir, plan, file.read(rt))?;
+    let run = Realisation::new(rt, request, runner, &file, task)?;
+    run.start(make, host, out)
 }
 
 // Takes the lock of the request's store folder, unless Nix manages that.
@@ -98,262 +90,226 @@ fn enter<'a, R: Files + AllocGlobal, L: Locks>(
     hold(locks, allowed.dir(), request.wait)
 }
 
-// Runs a plan in the store folder that is held.
-fn run_held<'a, R, M, P, O>(
-    rt: &R,
-    make: &M,
-    places: &P,
-    request: &RealiseRequest<'a>,
+// A run of a request that holds its store folder, over a plan and a journal. It was tried whether
+// its journal file can be written. It has a list of the build folders that are kept, if the request
+// asks to keep those of builders that failed.
+#[derive(Drop)]
+struct Realisation<'a, 'r, 'h, R> {
+    rt: &'r R,
+    request: &'r RealiseRequest<'a>,
     runner: Runner<'a>,
-    holding: LockProof<'_>,
-    dir: &StoreDir,
-    plan: Plan,
-    out: &mut O,
-) -> Result<Outcome, RunError<'a>>
-where
-    R: Files + AllocGlobal + Threads + Wait + Clock + Sync,
-    M: Builders,
-    P: JournalSinks,
-    O: Write,
-    requires runner { runner.path ≡ request.now.runner }
-    requires held { holding.dir.now ≡ request.now.run.store_dir.now }
-    requires dir { dir.now ≡ request.now.run.store_dir.now }
-    ensures { HeldEnds M.Builder.may request.now plan (O.contents out.old) (O.contents out.new)
-        result }
-{
-    let file = OwnJournal::new(rt.alloc(), holding, request.run.journal)?;
-    let task = Task::new(rt.alloc(), &request.run, dir, plan, file.read(rt))?;
-    let tried = file.try_out(rt)?;
-    let place = file.place(rt.alloc(), places)?;
-    let journal = RunJournal {
-        file: &file,
-        tried,
-        place,
-    };
-    run_task::<R, M, P, O>(rt, make, request, runner, journal, &task, out)
+    file: &'r OwnJournal<'h>,
+    tried: WriteProbe<'r>,
+    task: Task,
+    kept: Option<KeptFolders>,
+    ghost asked: { runner ≡ record { path = request.now.runner } } by { Coded-set runner-code _ _ },
+    ghost file_is: { IsRunsFile request.now.run file.now },
+    ghost tried_is: { tried.path.now ≡ string_bytes file.now.path },
+    ghost kept_is: { is_some kept ≡ request.now.keep_failed },
 }
 
-// Makes the folder of logs for a task, and runs it. It was tried whether the journal can be
-// written.
-fn run_task<'a, R, M, P, O>(
-    rt: &R,
-    make: &M,
-    request: &RealiseRequest<'a>,
-    runner: Runner<'a>,
-    journal: RunJournal<'_, '_, P::Place>,
-    task: &Task,
-    out: &mut O,
-) -> Result<Outcome, RunError<'a>>
-where
-    R: Files + AllocGlobal + Threads + Wait + Clock + Sync,
-    M: Builders,
-    P: JournalSinks,
-    O: Write,
-    requires runner { runner.path ≡ request.now.runner }
-    requires file { IsRunsFile request.now.run journal.file.now }
-    requires tried { journal.tried.path.now ≡ string_bytes journal.file.now.path }
-    requires place { P.keeps_at journal.place (string_bytes journal.file.now.path) }
-    requires each { (text : Bytes) → P.Place.may_keep text }
-    ensures { TaskEnds M.Builder.may request.now task.now (O.contents out.old) (O.contents out.new)
-        result }
-{
-    let logs = logs_folder(rt, request.logs)?;
-    let kept = kept_folders(rt.alloc(), request, task.plan().len())?;
-    let drvs = DrvPaths::of(rt.alloc(), task.plan())?;
-    let options = options_of(request, runner, logs, kept.as_ref(), &drvs);
-    run_traced::<R, M, P, O>(rt, make, request, &options, journal, task, out)
-}
-
-// Makes the builders for a task, which note its leases if the request asks for a trace, and runs
-// it; then the trace is written.
-fn run_traced<'a, R, M, P, O>(
-    rt: &R,
-    make: &M,
-    request: &RealiseRequest<'a>,
-    options: &BuildOptions<'_>,
-    journal: RunJournal<'_, '_, P::Place>,
-    task: &Task,
-    out: &mut O,
-) -> Result<Outcome, RunError<'a>>
-where
-    R: Files + AllocGlobal + Threads + Wait + Clock + Sync,
-    M: Builders,
-    P: JournalSinks,
-    O: Write,
-    requires options { AreOptionsFor request.now (paths_of task.now.plan.nodes) options.now }
-    requires file { IsRunsFile request.now.run journal.file.now }
-    requires tried { journal.tried.path.now ≡ string_bytes journal.file.now.path }
-    requires place { P.keeps_at journal.place (string_bytes journal.file.now.path) }
-    requires each { (text : Bytes) → P.Place.may_keep text }
-    ensures { TaskEnds M.Builder.may request.now task.now (O.contents out.old) (O.contents out.new)
-        result }
-{
-    let trace = TraceFile::of(rt, request);
-    let make = WithTrace::new(rt, make, TraceFile::trace_in(&trace));
-    let builders = make_all(rt.alloc(), &make, request, options)?;
-    let kept = options.kept;
-    let ended = run_built::<R, WithTrace<'_, R, M>, P, O>(
-        rt, request, journal, task, builders, kept, out,
-    );
-    untraced(end_traced(rt, &trace, ended))
-}
-
-// Builds the wanted derivations of a task, by one worker for each builder, writes the journal and
-// prints the report. It was tried whether the journal can be written.
-fn run_built<'a, R, M, P, O>(
-    rt: &R,
-    request: &RealiseRequest<'a>,
-    journal: RunJournal<'_, '_, P::Place>,
-    task: &Task,
-    builders: Vec<M::Builder>,
-    kept: Option<&KeptFolders>,
-    out: &mut O,
-) -> Result<Outcome, RunError<'a>>
-where
-    R: Files + AllocGlobal + Threads + Wait + Clock + Sync,
-    M: Builders,
-    P: JournalSinks,
-    O: Write,
-    requires file { IsRunsFile request.now.run journal.file.now }
-    requires tried { journal.tried.path.now ≡ string_bytes journal.file.now.path }
-    requires place { P.keeps_at journal.place (string_bytes journal.file.now.path) }
-    requires each { (text : Bytes) → P.Place.may_keep text }
-    requires count { length builders.items ≡ request.now.jobs }
-    requires kept { is_some kept ≡ request.now.keep_failed }
-    requires options { (options : BuildOptions)
-        × AreOptionsFor request.now (paths_of task.now.plan.nodes) options
-        × All (λ b. M.builds_in b options) builders.items }
-    ensures { RunEnds M.Builder.may request.now task.now (O.contents out.old) (O.contents out.new)
-        result }
-{
-    run_named::<Brand, _, _, _, _>(rt, Name::new(), request, journal, task, builders, kept, out)
-}
-
-// Does what `run_built` does, over a view of this name.
-fn run_named<'a, J, R, B, K, O>(
-    rt: &R,
-    name: Name,
-    request: &RealiseRequest<'a>,
-    journal: RunJournal<'_, '_, K>,
-    task: &Task,
-    builders: Vec<B>,
-    kept: Option<&KeptFolders>,
-    out: &mut O,
-) -> Result<Outcome, RunError<'a>>
-where
-    J: ListId + Send + Sync,
-    R: Files + AllocGlobal + Threads + Wait + Clock + Sync,
-    B: Build + LeaseObserver + Send + Drop,
-    K: CheckpointSink + Send + Drop,
-    O: Write,
-    requires named { name ≡ J.book }
-    requires file { IsRunsFile request.now.run journal.file.now }
-    requires jobs { length builders.items ≡ request.now.jobs }
-    requires kept { is_some kept ≡ request.now.keep_failed }
-    requires each { (text : Bytes) → K.may_keep text }
-    ensures { RunEnds B.may request.now task.now (O.contents out.old) (O.contents out.new) result }
-{
-    let RunJournal { file, place, .. } = journal;
-    let system = request.run.system.as_bytes();
-    let (plan, opening) = (task.plan(), task.journal());
-    match realise_kept::<J, R, B, K>(rt, rt.alloc(), name, plan, opening, system, builders, place) {
-        Ok(book) => end(rt, request, file, book, kept, out),
-        Err((fault, book)) => Err(end_with_fault(rt, request, file, fault, book)),
+impl<'a, 'r, 'h, R: Files + AllocGlobal> Realisation<'a, 'r, 'h, R> {
+    // A run that holds its store folder, if its journal file can be written.
+    fn new(
+        rt: &'r R,
+        request: &'r RealiseRequest<'a>,
+        runner: Runner<'a>,
+        file: &'r OwnJournal<'h>,
+        task: Task,
+    ) -> Result<Realisation<'a, 'r, 'h, R>, RunError<'a>>
+        requires runner { runner.path ≡ request.now.runner }
+        requires file { IsRunsFile request.now.run file.now }
+        ensures request { IfOk result (λ run. run.request.now ≡ request.entry.now) }
+        ensures task { IfOk result (λ run. run.task ≡ task) }
+        ensures err { IfErr result (IsNotBegun request.entry.now) }
+    {
+        let tried = file.try_out(rt)?;
+        let kept = kept_folders(rt.alloc(), request, task.plan().len())?;
+        Ok(Realisation {
+            rt,
+            request,
+            runner,
+            file,
+            tried,
+            task,
+            kept,
+        })
     }
 }
 
-// Ends a run with its settled book.
-fn end<'a, R: Files + AllocGlobal + Wait, V: Outlet, O: Write>(
-    rt: &R,
-    request: &RealiseRequest<'a>,
-    file: &OwnJournal<'_>,
-    book: Book<V>,
-    kept: Option<&KeptFolders>,
-    out: &mut O,
-) -> Result<Outcome, RunError<'a>>
-    requires settled { IsRunSettled book.run book.history }
-    requires kept { is_some kept ≡ request.now.keep_failed }
-    requires file { IsRunsFile request.now.run file.now }
-    ensures { BookEnds request.now book (O.contents out.old) (O.contents out.new) result }
+impl<'a, R> Realisation<'a, '_, '_, R>
+where
+    R: Files + AllocGlobal + Threads + Wait + Clock + Sync,
 {
-    let ended = write_and_report(rt, request, file, &book, kept, out);
-    book.close();
-    ended
-}
+    // Makes the folder of logs, and runs with builders that build as the request asks.
+    fn start<M, P, O>(&self, make: &M, places: &P, out: &mut O) -> Result<Outcome, RunError<'a>>
+    where
+        M: Builders,
+        P: JournalSinks,
+        O: Write,
+        ensures { TaskEnds M.Builder.may self.now.request.now self.now.task
+            (O.contents out.old) (O.contents out.new) result }
+    {
+        let (rt, request) = (self.rt, self.request);
+        let logs = logs_folder(rt, request.logs)?;
+        let drvs = DrvPaths::of(rt.alloc(), self.task.plan())?;
+        let place = self.file.place(rt.alloc(), places)?;
+        let options = self.options(logs, &drvs);
+        self.build_traced::<M, P::Place, O>(make, &options, place, out)
+    }
 
-// Ends a run for a fault of its workers. Where they left a book, its journal is written.
-fn end_with_fault<'a, R: Files + AllocGlobal, V: Outlet>(
-    rt: &R,
-    request: &RealiseRequest<'a>,
-    file: &OwnJournal<'_>,
-    fault: RunFault,
-    book: Option<Book<V>>,
-) -> RunError<'a>
-    requires { IsRunsFile request.now.run file.now }
-    ensures { IsCutShort fault (is_some book) result }
-{
-    match book {
-        Some(book) => {
-            let kept = keep(rt, request, file, &book);
-            book.close();
-            RunError::Run(fault, kept)
+    // Makes the builders, which note their leases if the request asks for a trace, and lets them
+    // build; then the trace is written.
+    fn build_traced<M, K, O>(
+        &self,
+        make: &M,
+        options: &BuildOptions<'_>,
+        place: K,
+        out: &mut O,
+    ) -> Result<Outcome, RunError<'a>>
+    where
+        M: Builders,
+        K: CheckpointSink + Send + Drop,
+        O: Write,
+        requires options { AreOptionsFor self.now.request.now (paths_of self.now.task.plan.nodes)
+            options.now }
+        requires each { (text : Bytes) → K.may_keep text }
+        ensures { TaskEnds M.Builder.may self.now.request.now self.now.task
+            (O.contents out.old) (O.contents out.new) result }
+    {
+        let (rt, request) = (self.rt, self.request);
+        let trace = TraceFile::of(rt, request);
+        let make = WithTrace::new(rt, make, TraceFile::trace_in(&trace));
+        let builders = make_all(rt.alloc(), &make, request, options)?;
+        let ended = self.build::<Brand, WithTrace<'_, R, M>, K, O>(
+            Name::new(),
+            builders,
+            place,
+            out,
+        );
+        untraced(end_traced(rt, &trace, ended))
+    }
+
+    // Builds the wanted derivations over a view of this name, by one worker for each builder, keeps
+    // the journal in its place meanwhile, and ends the run.
+    fn build<J, M, K, O>(
+        &self,
+        name: Name,
+        builders: Vec<M::Builder>,
+        place: K,
+        out: &mut O,
+    ) -> Result<Outcome, RunError<'a>>
+    where
+        J: ListId + Send + Sync,
+        M: Builders,
+        K: CheckpointSink + Send + Drop,
+        O: Write,
+        requires named { name ≡ J.book }
+        requires jobs { length builders.items ≡ self.now.request.now.jobs }
+        requires options { (options : BuildOptions)
+            × AreOptionsFor self.now.request.now (paths_of self.now.task.plan.nodes) options
+            × All (λ b. M.builds_in b options) builders.items }
+        requires each { (text : Bytes) → K.may_keep text }
+        ensures { RunEnds M.Builder.may self.now.request.now self.now.task
+            (O.contents out.old) (O.contents out.new) result }
+    {
+        let (rt, request) = (self.rt, self.request);
+        let (plan, opening) = (self.task.plan(), self.task.journal());
+        let system = request.run.system.as_bytes();
+        match realise_kept::<J, R, M::Builder, K>(
+            rt,
+            rt.alloc(),
+            name,
+            plan,
+            opening,
+            system,
+            builders,
+            place,
+        ) {
+            Ok(book) => {
+                let ended = self.write_and_report(&book, out);
+                book.close();
+                ended
+            }
+            Err((fault, book)) => Err(self.cut_short(fault, book)),
         }
-        None => RunError::Run(fault, JournalOutcome::no_book()),
     }
 }
 
-// Puts the journal of a book that isn't settled in place of the journal file.
-fn keep<R: Files + AllocGlobal, V: Outlet>(
-    rt: &R,
-    request: &RealiseRequest<'_>,
-    file: &OwnJournal<'_>,
-    book: &Book<V>,
-) -> JournalOutcome
-    requires { IsRunsFile request.now.run file.now }
-    ensures { result.has_book ≡ true }
-{
-    match journal_bytes(rt.alloc(), book) {
-        Ok(bytes) => JournalOutcome::of_write(request, book, file.write(rt, &bytes)),
-        Err(refused) => JournalOutcome::no_memory(refused),
+impl<'a, R: Files + AllocGlobal> Realisation<'a, '_, '_, R> {
+    // How the builders build.
+    fn options<'m>(&'m self, logs: LogsFolder<'a>, drvs: &'m DrvPaths) -> BuildOptions<'m>
+        requires { logs.path ≡ self.now.request.now.logs }
+        ensures { AreOptionsFor self.now.request.now drvs.now result }
+    {
+        let request = self.request;
+        BuildOptions {
+            store_dir: request.run.store_dir,
+            runner: self.runner.path(),
+            logs: logs.path(),
+            kept: self.kept.as_ref(),
+            links: matches!(request.outputs, OutputKind::Nix),
+            drvs,
+        }
+    }
+
+    // Ends the run for a fault of its workers. Where they left a book, its journal is written.
+    fn cut_short<V: Outlet>(&self, fault: RunFault, book: Option<Book<V>>) -> RunError<'a>
+        ensures { IsCutShort fault (is_some book) result }
+    {
+        match book {
+            Some(book) => {
+                let kept = self.keep(&book);
+                book.close();
+                RunError::Run(fault, kept)
+            }
+            None => RunError::Run(fault, JournalOutcome::no_book()),
+        }
+    }
+
+    // Puts the journal of a book that isn't settled in place of the journal file.
+    fn keep<V: Outlet>(&self, book: &Book<V>) -> JournalOutcome
+        ensures { result.has_book ≡ true }
+    {
+        match journal_bytes(self.rt.alloc(), book) {
+            Ok(bytes) => {
+                let tried = self.file.write(self.rt, &bytes);
+                JournalOutcome::of_write(self.request, book, tried)
+            }
+            Err(refused) => JournalOutcome::no_memory(refused),
+        }
     }
 }
 
-// Writes the journal of a settled book, and prints its report.
-#[tactic(auto, using(crate::proofs::WriteErrors::short_text, crate::proofs::WriteErrors::book_unwritten))]
-fn write_and_report<'a, R: Files + AllocGlobal + Wait, V: Outlet, O: Write>(
-    rt: &R,
-    request: &RealiseRequest<'a>,
-    file: &OwnJournal<'_>,
-    book: &Book<V>,
-    kept: Option<&KeptFolders>,
-    out: &mut O,
-) -> Result<Outcome, RunError<'a>>
-    requires settled { IsRunSettled book.now.run book.now.history }
-    requires kept { is_some kept ≡ request.now.keep_failed }
-    requires file { IsRunsFile request.now.run file.now }
-    ensures { BookEnds request.now book.now (O.contents out.old) (O.contents out.new) result }
-{
-    let bytes = journal_bytes(rt.alloc(), book)?;
-    let written = file.write(rt, &bytes)?;
-    let report = report_of(request, book, written)?;
-    let lines = last_lines(rt.alloc(), request, book, take_kept(rt, request, kept))?;
-    match print_bytes(&report, out) {
-        Ok(()) => Ok(Outcome::with(roots_status(book), lines)),
-        Err(_) => Err(RunError::Unwritable),
+impl<'a, R: Files + AllocGlobal + Wait> Realisation<'a, '_, '_, R> {
+    // Writes the journal of a settled book, and prints its report.
+    #[tactic(auto, using(crate::proofs::WriteErrors::short_text, crate::proofs::WriteErrors::book_unwritten))]
+    fn write_and_report<V: Outlet, O: Write>(
+        &self,
+        book: &Book<V>,
+        out: &mut O,
+    ) -> Result<Outcome, RunError<'a>>
+        requires { IsRunSettled book.now.run book.now.history }
+        ensures { BookEnds self.now.request.now book.now (O.contents out.old) (O.contents out.new)
+            result }
+    {
+        let bytes = journal_bytes(self.rt.alloc(), book)?;
+        let written = self.file.write(self.rt, &bytes)?;
+        let report = report_of(self.request, book, written)?;
+        let lines = last_lines(self.rt.alloc(), self.request, book, self.take_kept())?;
+        match print_bytes(&report, out) {
+            Ok(()) => Ok(Outcome::with(roots_status(book), lines)),
+            Err(_) => Err(RunError::Unwritable),
+        }
     }
-}
 
-// The build folders that were kept: none where the request doesn't ask for them.
-fn take_kept<R: AllocGlobal + Wait>(
-    rt: &R,
-    _request: &RealiseRequest<'_>,
-    kept: Option<&KeptFolders>,
-) -> Vec<KeptFolder>
-    requires { is_some kept ≡ _request.now.keep_failed }
-    ensures { AreKeptFor _request.now result.items }
-{
-    match kept {
-        Some(kept) => kept.take(rt),
-        None => Vec::new(rt.alloc()),
+    // The build folders that were kept: none where the request doesn't ask for them.
+    fn take_kept(&self) -> Vec<KeptFolder>
+        ensures { AreKeptFor self.now.request.now result.items }
+    {
+        match &self.kept {
+            Some(kept) => kept.take(self.rt),
+            None => Vec::new(self.rt.alloc()),
+        }
     }
 }

@@ -14,8 +14,7 @@ use crate::adding::add_text::add_text;
 use crate::asking::check::check_lines;
 use crate::asking::plan::plan;
 use crate::building::realise::realise;
-use crate::cli::exit::{Exit, Status};
-use crate::cli::outcome::{Outcome, quietly, quietly_written};
+use crate::cli::exit::{Exit, Outcome, Status, quietly, quietly_written};
 use crate::cli::printing::{print_bytes, print_text};
 use crate::cli::run_error::RunError;
 use crate::cli::store_dir::store_dir;
@@ -25,7 +24,6 @@ use crate::io::locks::Locks;
 use crate::words::fault_words::stop_line;
 use clap::error::ErrorKind;
 use command_line::{CheckRequest, Request, not_text, request};
-use nix_drv::DrvFault;
 use process_build::Builders;
 use std::alloc::{AllocError, Global};
 use std::io::Write;
@@ -237,7 +235,7 @@ fn report<'a, R: Files + AllocGlobal>(
     let mut source = FolderSource::new(rt);
     match check_lines(rt.alloc(), &mut source, &dir, &request.drvs) {
         Ok(report) => Ok(report),
-        Err(DrvFault::NoMemory) => Err(RunError::NoMemory),
-        Err(_) => unreachable!(),
+        // `NoMemory` is the only fault.
+        Err(_) => Err(RunError::NoMemory),
     }
 }

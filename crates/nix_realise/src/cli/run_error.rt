@@ -2,7 +2,7 @@
 ghost use Rattle.std.specs.Prelude.{◌≡◌};
 ghost use Rattle.nix_realise.specs.RunErrors.{row_of, words_of};
 
-use crate::building::journal_outcome::JournalOutcome;
+use crate::building::summary::JournalOutcome;
 use crate::cli::exit::Status;
 use crate::io::journal_write::UnwrittenJournal;
 use crate::io::whole_file::WriteError;

@@ -2,10 +2,9 @@
 ghost use Rattle.std.specs.Prelude.{◌≡◌, ◌≤◌, ◌<◌, IfErr, IfOk, false, length, string_bytes, true};
 ghost use Rattle.nix_realise.specs.JournalFiles.{IsUnwrittenJournal, max_journal_len};
 
-use crate::io::journal_file::OwnJournal;
 use crate::io::journal_write::{UnwrittenJournal, write_journal};
 use crate::io::locks::LockProof;
-use crate::io::whole_file::{WriteProbe, WriteReceipt};
+use crate::io::whole_file::WriteReceipt;
 use std::alloc::AllocError;
 use std::rt::Files;
 use store_run::CheckpointSink;
@@ -87,16 +86,4 @@ fn is_written(_path: &str, _text: &[u8], tried: Result<WriteReceipt<'_>, Unwritt
         }
         Err(_) => false,
     }
-}
-
-/// The journal file of a run: it was tried whether it can be written, and a place keeps it while
-/// the run goes on.
-#[derive(Drop)]
-pub struct RunJournal<'a, 'h, K> {
-    /// The file.
-    pub file: &'a OwnJournal<'h>,
-    /// That it could be written.
-    pub tried: WriteProbe<'a>,
-    /// What keeps it.
-    pub place: K,
 }

@@ -2,7 +2,7 @@
 ghost use Rattle.std.specs.Prelude.{◌≡◌, IfErr, IfOk, option_map};
 ghost use Rattle.nix_realise.specs.Tracing.{IsToldOf, IsTraceStop, IsTracedEnd, finish_in};
 
-use crate::cli::outcome::Outcome;
+use crate::cli::exit::Outcome;
 use crate::cli::run_error::RunError;
 use crate::io::whole_file::{WriteError, WriteReceipt, write_whole};
 use command_line::RealiseRequest;

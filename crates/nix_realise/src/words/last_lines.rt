@@ -7,7 +7,7 @@ ghost use Rattle.nix_realise.specs.LastLines.{AreFailedLines, IsFailedText, AreK
 ghost use Rattle.nix_realise.specs.LastLines.{failed_line, failed_marks, is_failed, kept_line};
 ghost use Rattle.run_report.specs.declared.listing.Listed.{Listed};
 
-use crate::building::settled::roots_status;
+use crate::building::summary::roots_status;
 use crate::cli::exit::Status;
 use command_line::RealiseRequest;
 use drv_graph::Plan;

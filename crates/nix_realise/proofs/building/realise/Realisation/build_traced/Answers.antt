@@ -2,7 +2,7 @@ use Rattle.std.proofs.Common.{◌∙◌, ap, inl, inr, refl, subst, Err}
 use Rattle.std.proofs.lemmas.Result.{err_from_is_err_and}
 use Rattle.nix_realise.specs.Tracing.{IsTracedEnd, finish_in}
 use Rattle.nix_realise.specs.declared.cli.run_error.RunError.TheVariants.{NoMemory}
-use Rattle.nix_realise.proofs.building.realise.run_traced.Goals as goal
+use Rattle.nix_realise.proofs.building.realise.Realisation.build_traced.Goals as goal
 
 pub returns-in_err-builders : goal.returns-in_err-builders
 returns-in_err-builders g c =
@@ -13,7 +13,7 @@ returns-in_err-builders g c =
 pub returns : goal.returns
 returns g c =
     let told = c.end_traced.ensures in
-    let ended = c.run_built-ended.result in
+    let ended = c.build-ended.result in
     let traced =
     subst (λ file. IsTracedEnd file ended (finish_in c.end_traced.result)) c.of-trace.ensures told in
-    inl (ended, c.run_built-ended.ensures, rw c.untraced.ensures traced)
+    inl (ended, c.build-ended.ensures, rw c.untraced.ensures traced)

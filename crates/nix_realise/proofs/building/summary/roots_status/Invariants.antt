@@ -2,7 +2,7 @@ use Rattle.std.proofs.Common.{◌≡◌, drop}
 use Rattle.std.specs.List.{list_all}
 use Rattle.run_states.specs.Runs.{state_in}
 use Rattle.run_states.specs.States.{is_good}
-use Rattle.nix_realise.proofs.building.settled.roots_status.Given as goal
+use Rattle.nix_realise.proofs.building.summary.roots_status.Given as goal
 
 -- whether all roots were realised, by those that are left
 abbrev pub invariant-roots : goal.invariant-roots
