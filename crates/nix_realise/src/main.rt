@@ -20,7 +20,7 @@ mod words;
 pub use asking::check::check_lines;
 pub use cli::exit::{Exit, Status};
 pub use cli::process::run_process;
-pub use cli::program::{print_no_memory, refuse_words, run};
+pub use cli::program::{Machine, print_no_memory, refuse_words, run};
 pub use io::announced_locks::AnnouncedLocks;
 pub use io::folder::FolderSource;
 pub use io::journal_keeper::{InJournal, JournalSinks};

@@ -5,7 +5,7 @@ ghost use Rattle.clap.specs.declared.error.kind.ErrorKind.TheVariants.{OutOfMemo
 ghost use Rattle.nix_realise.specs.ProgramEndings.{ProgramEnds, UsageEnds};
 
 use crate::cli::exit::Exit;
-use crate::cli::program::{print_no_memory, refuse_words, run};
+use crate::cli::program::{Machine, print_no_memory, refuse_words, run};
 use crate::io::journal_keeper::JournalSinks;
 use crate::io::locks::Locks;
 use process_build::Builders;
@@ -29,7 +29,8 @@ where
 {
     match BufWriter::new(rt.alloc(), io::writer(rt)) {
         Ok(mut out) => {
-            let ending = run_arguments(rt, make, host, &mut out, err);
+            let machine = Machine { rt, make, host };
+            let ending = run_arguments(&machine, &mut out, err);
             discard_buffer(out);
             ending
         }
@@ -47,7 +48,7 @@ fn discard_buffer<W: Write + Drop>(buffer: BufWriter<W>) -> W
 }
 
 // Runs the program on the arguments of the process.
-fn run_arguments<R, M, L, O, E>(rt: &R, make: &M, host: &L, out: &mut O, err: &mut E) -> Exit
+fn run_arguments<R, M, L, O, E>(machine: &Machine<'_, R, M, L>, out: &mut O, err: &mut E) -> Exit
 where
     R: Env + Files + Threads + Wait + Clock + Sync + AllocGlobal,
     M: Builders,
@@ -55,18 +56,18 @@ where
     O: Write,
     E: Write,
 {
-    match arguments(rt) {
-        Ok(arguments) => run_texts(rt, make, host, &arguments, out, err),
-        Err(error) if error.kind() == ErrorKind::InvalidData => refuse_words(rt.alloc(), out, err),
+    match arguments(machine.rt) {
+        Ok(arguments) => run_texts(machine, &arguments, out, err),
+        Err(error) if error.kind() == ErrorKind::InvalidData => {
+            refuse_words(machine.rt.alloc(), out, err)
+        }
         Err(_) => print_no_memory(err),
     }
 }
 
 // Runs the program on these arguments.
 fn run_texts<R, M, L, O, E>(
-    rt: &R,
-    make: &M,
-    host: &L,
+    machine: &Machine<'_, R, M, L>,
     arguments: &[String],
     out: &mut O,
     err: &mut E,
@@ -82,8 +83,8 @@ where
         ⊎ UsageEnds OutOfMemory
         (O.contents out.old, O.contents out.new) (E.contents err.old, E.contents err.new) result }
 {
-    match texts(rt.alloc(), arguments) {
-        Ok(words) => run(rt, make, host, &words, out, err),
+    match texts(machine.rt.alloc(), arguments) {
+        Ok(words) => run(machine, &words, out, err),
         Err(_) => print_no_memory(err),
     }
 }

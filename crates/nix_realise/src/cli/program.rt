@@ -5,7 +5,7 @@ ghost use Rattle.nix_names.specs.Names.{IsStoreDir};
 ghost use Rattle.nix_realise.specs.CheckLines.{IsCheckReport};
 ghost use Rattle.nix_realise.specs.Folders.{may_give};
 ghost use Rattle.nix_realise.specs.ProgramEndings.{CheckEnds, IsToldEnd, IsToldWith, ProgramEnds};
-ghost use Rattle.nix_realise.specs.ProgramEndings.{RequestEnds, SubcommandEnds, UsageEnds};
+ghost use Rattle.nix_realise.specs.ProgramEndings.{SubcommandEnds, UsageEnds};
 ghost use Rattle.nix_realise.specs.RunErrors.{IsStopOf, IsTold};
 ghost use Rattle.nix_realise.specs.declared.cli.run_error.RunError.{RunError};
 
@@ -35,13 +35,21 @@ use std::time::Clock;
 // The line of a run that ends for want of memory.
 const NO_MEMORY_LINE: &[u8; 27] = b"nix_realise: run: NoMemory\n";
 
-/// Runs the program on a command line, whose first word is the program's own name, with the
-/// builders that `make` makes, and the locks and the places of journals of `host`. Says how the run
+/// What a run of the program works on.
+#[derive(Drop)]
+pub struct Machine<'m, R, M, L> {
+    /// The system.
+    pub rt: &'m R,
+    /// What makes its builders.
+    pub make: &'m M,
+    /// What takes its locks, and makes the places of its journals.
+    pub host: &'m L,
+}
+
+/// Runs the program on a command line, whose first word is the program's own name. Says how the run
 /// ended, and whether that was told.
 pub fn run<'a, R, M, L, O, E>(
-    rt: &R,
-    make: &M,
-    host: &L,
+    machine: &Machine<'_, R, M, L>,
     words: &'a [&'a str],
     out: &mut O,
     err: &mut E,
@@ -55,39 +63,16 @@ where
     ensures { ProgramEnds M.Builder.may (map (λ w. w.now) words.entry.now)
         (O.contents out.old, O.contents out.new) (E.contents err.old, E.contents err.new) result }
 {
-    match request(rt.alloc(), words) {
-        Ok(request) => run_request(rt, make, host, &request, out, err),
-        Err(fault) => print_usage(rt.alloc(), &fault, out, err),
+    let alloc = machine.rt.alloc();
+    match request(alloc, words) {
+        Ok(request) => end(alloc, run_subcommand(machine, &request, out), err),
+        Err(fault) => print_usage(alloc, &fault, out, err),
     }
-}
-
-// Runs a subcommand, and ends with its status or with the line of what stopped it.
-fn run_request<R, M, L, O, E>(
-    rt: &R,
-    make: &M,
-    host: &L,
-    request: &Request<'_>,
-    out: &mut O,
-    err: &mut E,
-) -> Exit
-where
-    R: Files + Threads + Wait + Clock + Sync + AllocGlobal,
-    M: Builders,
-    L: Locks + JournalSinks,
-    O: Write,
-    E: Write,
-    ensures { RequestEnds M.Builder.may request.now
-        (O.contents out.old, O.contents out.new) (E.contents err.old, E.contents err.new) result }
-{
-    let outcome = run_subcommand(rt, make, host, request, out);
-    end(rt.alloc(), outcome, err)
 }
 
 // Runs a subcommand.
 fn run_subcommand<'a, R, M, L, O>(
-    rt: &R,
-    make: &M,
-    host: &L,
+    machine: &Machine<'_, R, M, L>,
     request: &Request<'a>,
     out: &mut O,
 ) -> Result<Outcome, RunError<'a>>
@@ -99,6 +84,7 @@ where
     ensures { SubcommandEnds M.Builder.may request.now (O.contents out.old, O.contents out.new)
         result }
 {
+    let (rt, make, host) = (machine.rt, machine.make, machine.host);
     match request {
         Request::Check(request) => quietly(check(rt, request, out)),
         Request::AddText(request) => quietly_written(add_text(rt, host, request, out)),
