@@ -1,5 +1,5 @@
 -- Beginnings of one list.
-use Rattle.std.proofs.Common.{◌≡◌, ◌≤◌, List, [], ◌∷◌, length, refl, arith, append_assoc, rules}
+use Rattle.std.proofs.Common.{◌≡◌, ◌≤◌, ◌⊎◌, ⊎_elim, List, [], ◌∷◌, length, refl, arith, append_assoc, subst, rules}
 use Rattle.std.proofs.lemmas.List.{append-nil}
 use mathlib.Core.List.{IsPrefix}
 
@@ -27,3 +27,12 @@ prefix_whole [] (y ∷ ys) p le = absurd (omega arith)
 prefix_whole (x ∷ xs) [] p le = absurd (cc (p.1))
 prefix_whole (x ∷ xs) (y ∷ ys) p le =
     let rest = prefix_whole xs ys (p.0, cc (p.1)) (omega arith) in cc (p.1, rest)
+
+-- where one of two lists begins with the other, the longer one begins with the shorter
+pub longer_begins : {A : Type 0} (xs ys : List A) → IsPrefix xs ys ⊎ IsPrefix ys xs
+    → length ys ≤ length xs → IsPrefix ys xs
+longer_begins xs ys either le =
+    ⊎_elim
+    (λ p. subst (λ zs. IsPrefix zs xs) (prefix_whole xs ys p le) (prefix_self xs))
+    (λ q. q)
+    either

@@ -60,8 +60,7 @@ impl<J: ListId> Feed<J> {
         ensures shown { result.shown ≡ end.shown }
         ensures pending { pending_of result ≡ [] }
     {
-        // Its contract says that the list may be shown.
-        let _ = prefix.len();
+        prefix.may_be_shown();
         Feed {
             end,
             prefix,

@@ -13,7 +13,7 @@ use crate::refusal::{FeedFault, OpenFault};
 use crate::shown_table::ShownTable;
 use crate::writer::ViewWriter;
 use crate::writer_end::WriterEnd;
-use std::alloc::Global;
+use std::alloc::{AllocError, Global};
 use std::collections::VecDeque;
 use std::sync::Wait;
 use valid_table::{Entry, Journal, Table, TableFault};
@@ -42,8 +42,7 @@ pub fn open<J: ListId, R: Wait + Drop>(
     match open_feed(alloc, &rt, name, journal, readers) {
         Ok((feed, readers)) => {
             let writer = ViewWriter::over(feed, rt);
-            // Its contract says that the list was shown.
-            let _ = writer.tell();
+            writer.tell().was_shown();
             Ok((writer, readers))
         }
         Err(refusal) => Err(refusal.open_fault()),
@@ -106,7 +105,7 @@ fn shown_table<J: ListId>(
     alloc: Global,
     journal: &Journal,
     prefix: &NamedPrefix<J>,
-) -> Result<ShownTable, FeedFault>
+) -> Result<ShownTable, AllocError>
     requires { prefix.now ≡ journal.now.entries }
     ensures table { IfOk result
         (λ shown. shown.registrations ≡ registered journal.now.entries) }
@@ -115,7 +114,7 @@ fn shown_table<J: ListId>(
 {
     let table = match Table::replay(alloc, journal) {
         Ok(table) => table,
-        Err(TableFault::NoMemory) => return Err(FeedFault::NoMemory),
+        Err(TableFault::NoMemory) => return Err(AllocError),
         Err(_) => unreachable!(),
     };
     Ok(ShownTable {

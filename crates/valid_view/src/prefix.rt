@@ -70,6 +70,14 @@ impl<J: ListId> Prefix<J> {
         self.all.len()
     }
 
+    /// Its entries were shown, and may be. Does nothing: a proof learns it by the call.
+    pub fn was_shown(&self)
+        ensures shown { J.Showing.shown J.book self.now }
+        ensures showable { IsShowable self.now }
+    {
+        self.all.may_be_shown();
+    }
+
     /// The same again.
     pub fn again(&self) -> Prefix<J>
         ensures { result ≡ self.now }
@@ -79,8 +87,7 @@ impl<J: ListId> Prefix<J> {
         }
     }
 
-    /// The longer of two lists, which begins with the other. A proof learns from it that one of two
-    /// lists that were shown under one name begins with the other.
+    /// The longer of two lists, which begins with the other.
     pub fn longer(&self, other: &Prefix<J>) -> Prefix<J>
         ensures this { IsPrefix self.now result }
         ensures that { IsPrefix other.now result }
@@ -89,6 +96,14 @@ impl<J: ListId> Prefix<J> {
         Prefix {
             all: self.all.longer(&other.all),
         }
+    }
+
+    /// One of two lists that were shown under one name begins with the other. Changes nothing: a
+    /// proof learns it by the call.
+    pub fn one_begins_the_other(&self, other: &Prefix<J>)
+        ensures { IsPrefix self.now other.now ⊎ IsPrefix other.now self.now }
+    {
+        let _ = self.longer(other);
     }
 }
 
@@ -145,6 +160,13 @@ impl<J: ListId> NamedPrefix<J> {
         ensures showable { IsShowable self.now }
     {
         self.all.len()
+    }
+
+    // Its entries may be shown. Does nothing: a proof learns it by the call.
+    pub(crate) fn may_be_shown(&self)
+        ensures { IsShowable self.now }
+    {
+        let _ = self.all.len();
     }
 
     // The same again.

@@ -43,14 +43,14 @@ impl<J: ListId> ViewReader<J> {
     }
 
     /// The list that was shown when the reader last asked. That answer holds by this list. A proof
-    /// compares it by `Prefix::longer` with a list that the writer told of or another reader saw.
+    /// compares it by `Prefix::one_begins_the_other` with a list that the writer told of or another
+    /// reader saw.
     pub fn seen(&self) -> &Prefix<J>
         ensures is { result.now ≡ self.now.seen }
         ensures shown { J.Showing.shown J.book self.now.seen }
     {
         let seen = self.idle.seen();
-        // Its contract says that the list was shown.
-        let _ = seen.len();
+        seen.was_shown();
         seen
     }
 
@@ -64,8 +64,7 @@ impl<J: ListId> ViewReader<J> {
         ensures shown { J.Showing.shown J.book self.new.told }
     {
         self.told = self.told.longer(&told);
-        // Its contract says that the list was shown.
-        let _ = self.told.len();
+        self.told.was_shown();
     }
 
     /// Whether a path is valid by the list that is shown now, and its digest. Answers `NoView`
@@ -81,8 +80,7 @@ impl<J: ListId> ViewReader<J> {
         ensures answer { IsLook (registered self.new.seen) path.now result }
     {
         let answer = replace_with(&mut self.idle, (&self.told, path), look);
-        // Its contract says that the list was shown.
-        let _ = self.seen();
+        self.seen().was_shown();
         answer
     }
 
@@ -104,8 +102,7 @@ impl<J: ListId> ViewReader<J> {
         ensures answer { IsViewClosing (registered self.new.seen) roots.now result }
     {
         let answer = replace_with(&mut self.idle, (&self.told, alloc, roots), closure);
-        // Its contract says that the list was shown.
-        let _ = self.seen();
+        self.seen().was_shown();
         answer
     }
 }

@@ -98,8 +98,7 @@ impl<J: ListId> IdleReader<J> {
         if busy.shown.len() < told.len() {
             return Err((busy.leave(), WriterGone(())));
         }
-        // Its contract says that the shorter begins the longer.
-        let _longer = busy.shown.longer(told);
+        busy.shown.one_begins_the_other(told);
         Ok(busy)
     }
 }

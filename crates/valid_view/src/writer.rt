@@ -59,8 +59,7 @@ impl<J: ListId, R> ViewWriter<J, R> {
         ensures shown { J.Showing.shown J.book self.now.shown }
     {
         let prefix = self.feed.prefix();
-        // Its contract says that the list was shown.
-        let _ = prefix.len();
+        prefix.was_shown();
         prefix
     }
 }
@@ -74,8 +73,7 @@ impl<J: ListId, R: Wait + Drop> ViewWriter<J, R> {
     {
         let ViewWriter { feed, rt } = self;
         let shown = feed.close(&rt);
-        // Its contract says that the list was shown.
-        let _ = shown.len();
+        shown.was_shown();
         shown
     }
 }
@@ -106,8 +104,7 @@ impl<J: ListId + Send, R: Wait + Drop> Outlet for ViewWriter<J, R> {
         ensures shown { J.Showing.shown J.book self.new.shown }
     {
         let answer = self.feed.publish(&self.rt);
-        // Its contract says that the list was shown.
-        let _ = self.feed.prefix().len();
+        self.feed.prefix().was_shown();
         match answer {
             Ok(()) => Ok(()),
             Err(refusal) => Err(refusal.fault()),
