@@ -122,7 +122,7 @@ def forms(enums, foreign):
         (TYPES, without(ERRORS)),
         (own, lambda found: found[0].replace(" Self ", f" {found[1]} ")),
         (r'const NO_MEMORY_LINE : & \[ u8 ; 27 \] = "!"', ""),
-        (rf'({alone}\w+ \( )"!"', r"\1"),
+        (rf'({alone}(?:(?:\w+|""|,|\() )*)"!"', r"\1"),
         (rf"{alone}(?:{value})(?= (?:,|\d+\}}))", "Seen => Seen"),
         (PATTERN, without(VARIANTS)),
         (rf"vec ! \[ in \w+ ; ([^;\]]*?)(?: ; {SIZE})? \]", r"\1"),

@@ -40,6 +40,10 @@ nix_realise/src/cli/program.rt print_no_line
     # what the call means
 nix_realise/src/cli/program.rt print_no_memory | print_bytes ( NO_MEMORY_LINE , err )
     # what the call means
+nix_realise/src/building/summary.rt journal_bytes | map_err ( | _ | AllocError )
+    # the only fault of the call is want of memory
+nix_realise/src/building/summary.rt report_of | map_err ( | _ | AllocError ) # the same
+nix_realise/src/cli/program.rt report | Err ( _ ) => Err ( RunError :: NoMemory ) # the same
 nix_realise/src/building/realise.rt keep
     | Err ( refused ) => JournalOutcome :: no_memory ( refused )
     # the only fault of the call is want of memory
