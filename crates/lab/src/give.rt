@@ -7,7 +7,7 @@ use crate::words::faults::Fault;
 use crate::world::World;
 use drv_graph::Plan;
 use nix_drv::Derivation;
-use nix_names::{Digest, StorePath};
+use nix_names::{Digest, StoreDir, StorePath};
 use ref_scan::Tree;
 use std::alloc::AllocError;
 use std::fmt::Debug;
@@ -40,6 +40,13 @@ impl Give for bool {
     }
 }
 
+impl Give for u64 {
+    fn give(self, teller: &mut Teller<'_>, _world: &mut World, _line: &Line<'_>) -> Taken {
+        teller.say(self);
+        Ok(())
+    }
+}
+
 impl Give for [u8; 20] {
     fn give(self, teller: &mut Teller<'_>, _world: &mut World, _line: &Line<'_>) -> Taken {
         teller.hex(&self);
@@ -61,6 +68,31 @@ impl Give for Vec<u8> {
             teller.text(&self);
         }
         world.texts.keep(line.name, self)
+    }
+}
+
+/// A text of whole lines. Where it is kept, its length is told.
+#[derive(Drop)]
+pub(crate) struct Lines(pub(crate) Vec<u8>);
+
+impl Give for Lines {
+    fn give(self, teller: &mut Teller<'_>, world: &mut World, line: &Line<'_>) -> Taken {
+        if line.name.is_empty() {
+            teller.lines(&self.0);
+        } else {
+            teller.say(format_args!("{} bytes", self.0.len()));
+        }
+        world.texts.keep(line.name, self.0)
+    }
+}
+
+// It becomes the store folder of the lines that follow.
+impl Give for StoreDir {
+    fn give(self, teller: &mut Teller<'_>, world: &mut World, _line: &Line<'_>) -> Taken {
+        let text = call!(teller, "StoreDir::text" => self.text());
+        teller.text(text);
+        world.dir = self;
+        Ok(())
     }
 }
 

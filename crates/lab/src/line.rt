@@ -14,10 +14,7 @@ pub(crate) struct Line<'a> {
 impl<'a> Line<'a> {
     /// The line that a text is.
     pub(crate) fn of(alloc: Global, text: &'a [u8]) -> Result<Line<'a>, AllocError> {
-        let mut words = Vec::new(alloc);
-        for word in text.split(|byte| *byte == b' ') {
-            words.push(word)?;
-        }
+        let mut words = pieces(alloc, text, b' ')?;
         let is_kept = words.get(1) == Some(&b"=".as_slice());
         let head = if is_kept { 3 } else { 1 };
         let name = if is_kept { word_at(&words, 0) } else { b"" };
@@ -53,6 +50,15 @@ impl<'a> Line<'a> {
 /// The number that a word is, if it is one.
 pub(crate) fn number_of(word: &[u8]) -> Option<usize> {
     str::from_utf8(word).ok()?.parse().ok()
+}
+
+/// The pieces of a word between its marks.
+pub(crate) fn pieces(alloc: Global, word: &[u8], mark: u8) -> Result<Vec<&[u8]>, AllocError> {
+    let mut pieces = Vec::new(alloc);
+    for piece in word.split(|byte| *byte == mark) {
+        pieces.push(piece)?;
+    }
+    Ok(pieces)
 }
 
 /// A word up to its first mark, and what stands after that; all of it where it has no mark.

@@ -1,7 +1,7 @@
 //! Why a line is over before its end, and the calls that it makes.
 
-use nix_names::NameFault;
-use std::alloc::{AllocError, AllocFailed};
+use crate::words::faults::Fault;
+use std::alloc::AllocFailed;
 
 /// Why a line is over before its end.
 #[derive(Clone, Copy)]
@@ -14,21 +14,15 @@ pub(crate) enum Stop {
     Lost(&'static str),
 }
 
-impl From<AllocError> for Stop {
-    fn from(_: AllocError) -> Stop {
-        Stop::Lost("no memory")
+impl<F: Fault + Drop> From<F> for Stop {
+    fn from(_: F) -> Stop {
+        Stop::Lost("no memory, no path, or no such value")
     }
 }
 
 impl<T: Drop> From<AllocFailed<T>> for Stop {
     fn from(_: AllocFailed<T>) -> Stop {
         Stop::Lost("no memory")
-    }
-}
-
-impl From<NameFault> for Stop {
-    fn from(_: NameFault) -> Stop {
-        Stop::Lost("no path")
     }
 }
 
@@ -51,9 +45,7 @@ macro_rules! call {
 // Makes a call so. Where it answers a fault, that is told, and the line is over.
 macro_rules! tried {
     ($teller:expr, $name:expr => $call:expr) => {{
-        $teller.begins($name);
-        let answer = $call;
-        $teller.ends($name);
+        let answer = call!($teller, $name => $call);
         $teller.answered(answer)
     }};
 }

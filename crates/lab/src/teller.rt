@@ -1,4 +1,5 @@
 //! What reads the lines, and prints the calls and their answers.
+ghost use Rattle.std.specs.Prelude.{◌≡◌, IfOk, Ok};
 
 use crate::line::{Line, halves};
 use crate::stop::{Found, Stop};
@@ -141,7 +142,9 @@ impl<'a> Teller<'a> {
     }
 
     /// What a call answered. The line is over where that is a fault, which is told.
-    pub(crate) fn answered<T, F: Fault + Drop>(&mut self, answer: Result<T, F>) -> Result<T, Stop> {
+    pub(crate) fn answered<T, F: Fault + Drop>(&mut self, answer: Result<T, F>) -> Result<T, Stop>
+        ensures { IfOk result (λ value. answer ≡ Ok value) }
+    {
         match answer {
             Ok(value) => Ok(value),
             Err(fault) => {
@@ -187,11 +190,6 @@ impl<'a> Teller<'a> {
                 self.say("(without an end of line)");
             }
         }
-    }
-
-    /// Prints how many paths there are.
-    pub(crate) fn count(&mut self, paths: &[StorePath]) {
-        self.say(format_args!("{} paths", paths.len()));
     }
 
     /// Prints each path.

@@ -22,6 +22,13 @@ macro_rules! argument {
         Digest::of_text($line.argument($n)).ok_or(Stop::Lost("no digest"))?
     };
     ($t:ident $w:ident $line:ident table $n:literal) => { table($t, $w, $line)? };
+    ($t:ident $w:ident $line:ident entries $n:literal) => { entries($w, $line)? };
+    ($t:ident $w:ident $line:ident node $n:literal) => { node_of($w, $line, $n)? };
+    ($t:ident $w:ident $line:ident cause $n:literal) => { cause_of($line.argument($n)) };
+    ($t:ident $w:ident $line:ident job $n:literal) => { made_job($w, b"", $line.argument($n))? };
+    ($t:ident $w:ident $line:ident reached $n:literal) => { reached($w, $line)? };
+    ($t:ident $w:ident $line:ident before $mark:literal) => { rising($w, $line.divided($mark).0)? };
+    ($t:ident $w:ident $line:ident behind $mark:literal) => { rising($w, $line.divided($mark).1)? };
     ($t:ident $w:ident $line:ident $shelf:ident $n:literal) => {
         $w.$shelf.get($line.argument($n))?
     };
@@ -66,10 +73,7 @@ macro_rules! words {
                     $(if !$allowed {
                         return Err(Stop::NotAllowed);
                     })?
-                    $teller.begins(name!($word $($name)?));
-                    let answer = $call;
-                    $teller.ends(name!($word $($name)?));
-                    answer
+                    call!($teller, name!($word $($name)?) => $call)
                 };
                 given!($teller $world $line answer $($tell)?)
             })*
@@ -87,6 +91,7 @@ macro_rules! words {
     }};
 }
 
+mod archives;
 mod books;
 mod derivations;
 pub(crate) mod faults;
@@ -98,7 +103,7 @@ mod tables;
 mod views;
 
 use crate::line::Line;
-use crate::stop::Found;
+use crate::stop::{Found, call};
 use crate::teller::Teller;
 use crate::world::World;
 use std::sync::Wait;
@@ -114,6 +119,7 @@ pub(crate) fn take<W: Wait>(
     Ok(
         names::take(teller, world, line)?
             || derivations::take(teller, world, line)?
+            || archives::take(teller, world, line)?
             || scans::take(teller, world, line)?
             || journals::take(teller, world, line)?
             || tables::take(teller, world, line)?

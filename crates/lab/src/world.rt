@@ -90,6 +90,8 @@ fn push_copies(list: &mut Vec<StorePath>, paths: &[StorePath]) -> Result<(), All
     Ok(())
 }
 
+const NOTHING: Stop = Stop::Lost("nothing is kept so");
+
 /// Values of one kind, each under a name of its own.
 #[derive(Drop)]
 pub(crate) struct Shelf<T> {
@@ -114,19 +116,14 @@ impl<T: Drop> Shelf<T> {
 
     /// The value that `$NAME` stands for.
     pub(crate) fn get(&self, word: &[u8]) -> Result<&T, Stop> {
-        match self.kept.get(self.place(word)) {
-            Some(kept) => Ok(&kept.1),
-            None => Err(Stop::Lost("nothing is kept so")),
-        }
+        let kept = self.kept.get(self.place(word));
+        Ok(&kept.ok_or(NOTHING)?.1)
     }
 
     /// The value that `$NAME` stands for, to be changed.
     pub(crate) fn get_mut(&mut self, word: &[u8]) -> Result<&mut T, Stop> {
         let place = self.place(word);
-        match self.kept.get_mut(place) {
-            Some(kept) => Ok(&mut kept.1),
-            None => Err(Stop::Lost("nothing is kept so")),
-        }
+        Ok(&mut self.kept.get_mut(place).ok_or(NOTHING)?.1)
     }
 
     /// Takes out the value that `$NAME` stands for.
@@ -135,7 +132,7 @@ impl<T: Drop> Shelf<T> {
         if place < self.kept.len() {
             return Ok(self.kept.swap_remove(place).1);
         }
-        Err(Stop::Lost("nothing is kept so"))
+        Err(NOTHING)
     }
 
     /// Keeps a value under a name, in place of what was kept there; under no name not at all.

@@ -6,15 +6,19 @@ ghost use Rattle.store_run.specs.GivenOutcomes.{IsDecided};
 ghost use Rattle.store_run.specs.ScheduleExample.{both, in_turn, may_leave, side_by_side};
 ghost use Rattle.store_run.specs.Scheduling.{AreAlike};
 
-use crate::plans::{Made, store_dir};
-use crate::runs::realised;
+use crate::plans::{Host, Made, SYSTEM, store_dir};
 use drv_graph::Plan;
 use nix_names::parse_path;
 use ref_scan::Tree;
-use sched_core::{Answer, Build, Job, LeaseObserver, Reason};
+use sched_core::{Answer, Book, Build, Job, LeaseObserver, Reason};
 use std::alloc::{AllocError, Global};
+use std::marker::Brand;
+use std::sync::Wait;
 use std::test::*;
 use store_run::laws::{any_schedule, builds_may_overlap, outcomes_decide};
+use store_run::{RunFault, RunResult, realise};
+use valid_table::{Journal, Outlet};
+use valid_view::{ListId, Name};
 
 // The paths were computed with Python's hashlib.
 const LEFT: &[u8] = b"/nix/store/jbgzpvl5d32l046pn5l2g0zdhnnw9lvb-left.drv";
@@ -94,6 +98,51 @@ fn programs(alloc: Global, count: usize) -> Result<Vec<Program>, AllocError> {
     Ok(programs)
 }
 
+// The report of a book that is settled.
+fn report_of<O: Outlet>(book: &Book<O>) -> Result<Vec<u8>, RunFault> {
+    if !book.settled() {
+        return Err(RunFault::ThreadFault);
+    }
+    book.report().map_err(|_| RunFault::NoMemory)
+}
+
+// The report of a run that went to its end, or why it didn't. Its book is closed.
+fn report_at_end<J: ListId + Send, R: Wait>(ended: RunResult<J, R>) -> Result<Vec<u8>, RunFault> {
+    match ended {
+        Ok(book) => {
+            let report = report_of(&book);
+            book.close();
+            report
+        }
+        Err((fault, Some(book))) => {
+            book.close();
+            Err(fault)
+        }
+        Err((fault, None)) => Err(fault),
+    }
+}
+
+// The report of a run over an empty journal and a view of this name.
+fn run_named<J: ListId + Send + Sync, R: Host>(
+    rt: &R,
+    alloc: Global,
+    name: Name,
+    plan: &Plan,
+    builders: Vec<Program>,
+) -> Result<Vec<u8>, RunFault>
+    requires { name ≡ J.book }
+{
+    let journal = Journal::new(alloc);
+    let ended: RunResult<J, R> = realise(rt, alloc, name, plan, &journal, SYSTEM, builders);
+    report_at_end(ended)
+}
+
+// The report of a run by so many workers.
+fn realised<R: Host>(rt: &R, alloc: Global, plan: &Plan, count: usize) -> Result<Vec<u8>, Fail> {
+    let builders = programs(alloc, count)?;
+    Ok(run_named::<Brand, _>(rt, alloc, Name::new(), plan, builders)?)
+}
+
 // One worker and two workers give the example's report.
 #[test]
 fn report_of_the_example(rt: HostRuntime) -> Result<(), Fail> {
@@ -101,7 +150,7 @@ fn report_of_the_example(rt: HostRuntime) -> Result<(), Fail> {
     decided();
     let plan = plan(rt.alloc())?;
     for workers in [1, 2] {
-        let report = realised(&rt, rt.alloc(), &plan, programs(rt.alloc(), workers)?)?.0;
+        let report = realised(&rt, rt.alloc(), &plan, workers)?;
         assert_eq!(rt; report.as_slice(), REPORT);
     }
     Ok(())

@@ -5,10 +5,7 @@
 //! |---|---|
 //! | `locking` | what workers do at the lock of a run |
 //! | `leases` | what builders hear of their leases, and runs that are stopped |
-//! | `runs` | whole runs by `realise` |
 //! | `example` | the run of the example in the definitions, by its laws and by workers |
-//! | `keeping` | the texts that a keeper is given |
-//! | `outlets` | the calls that a book makes of its outlet |
 //! | `views` | readers of a view beside its writer, and under the lock of a book |
 //! | `plans` | plans, journals and answers for the tests |
 //! | `hearing`, `heard` | workers that note what they do, and their runs over views of each kind |
@@ -21,16 +18,10 @@ mod heard;
 #[cfg(test)]
 mod hearing;
 #[cfg(test)]
-mod keeping;
-#[cfg(test)]
 mod leases;
 #[cfg(test)]
 mod locking;
 #[cfg(test)]
-mod outlets;
-#[cfg(test)]
 mod plans;
-#[cfg(test)]
-mod runs;
 #[cfg(test)]
 mod views;

@@ -60,15 +60,6 @@ fn file(alloc: Global, path: &[u8], bytes: &[u8]) -> Result<ListedFile, AllocErr
     Ok(ListedFile { path, bytes })
 }
 
-// The same files again, as a source.
-fn source(alloc: Global, files: &[ListedFile]) -> Result<ListSource, Fail> {
-    let mut copies = Vec::new(alloc);
-    for known in files {
-        copies.push(file(alloc, &known.path, &known.bytes)?)?;
-    }
-    Ok(ListSource::new(alloc, copies, Vec::new(alloc))?)
-}
-
 // The path of a fixed output under a name, which is an empty file.
 fn out_path(alloc: Global, name: &str) -> Result<StorePath, Fail> {
     let inner = Sha256::digest(FIXED);
@@ -140,9 +131,10 @@ impl Made {
     }
 
     /// The plan with each of them as a root. They keep their numbers.
-    pub(crate) fn plan(&self, alloc: Global) -> Result<Plan, Fail> {
-        let mut source = source(alloc, &self.files)?;
-        Ok(Plan::load(alloc, &mut source, &store_dir(alloc)?, &self.paths)?)
+    pub(crate) fn plan(self, alloc: Global) -> Result<Plan, Fail> {
+        let Made { files, paths } = self;
+        let mut source = ListSource::new(alloc, files, Vec::new(alloc))?;
+        Ok(Plan::load(alloc, &mut source, &store_dir(alloc)?, &paths)?)
     }
 }
 

@@ -14,7 +14,7 @@ use std::sync::{Mutex, Wait};
 use std::test::*;
 use std::thread::Threads;
 use std::{slice, thread};
-use valid_table::{Entry, Journal, Outlet, OutletFault, Record, Registration};
+use valid_table::{Entry, Journal, Outlet, Record, Registration};
 use valid_view::{ListId, Name, Prefix, Seen, Tells, ViewFault, ViewReader, ViewWriter, open};
 
 // Path n: its hash part is the number in 32 digits, and its name `x`.
@@ -85,11 +85,6 @@ impl<J: ListId + Send, R: Wait + Drop> Store<J, R> {
         let journal = journal(alloc, BEFORE)?;
         let (writer, readers) = open::<J, R>(alloc, rt, name, &journal, readers)?;
         Ok((Store { journal, writer }, readers))
-    }
-
-    // Shows the appended entries.
-    fn publish(&mut self) -> Result<(), OutletFault> {
-        self.writer.publish()
     }
 }
 
@@ -222,8 +217,8 @@ fn write<J: ListId + Send, R: Wait, W: Wait + Drop>(
 ) -> Result<(), Fail> {
     for n in 1..=LAST {
         store.append(square.alloc, n)?;
-        store.publish()?;
-        store.publish()?;
+        store.writer.publish()?;
+        store.writer.publish()?;
         *square.told.lock(rt) = store.writer.tell();
     }
     Ok(())

@@ -4,14 +4,14 @@
 //! What a builder leaves is a status, or `killed`, and a tree for each output: `-` where nothing
 //! lies, `file:TEXT`, `zeros:N` for a file of N bytes, `parts:A:B` for a file in these pieces, or
 //! `folder:N` for a folder of N empty files. The last tree stands for those that are left out.
-ghost use Rattle.std.specs.Prelude.{◌≡◌, ◌++◌, IfOk};
+ghost use Rattle.std.specs.Prelude.{IfOk};
 ghost use Rattle.nix_names.specs.Rising.{IsRising};
 ghost use Rattle.build_outcome.specs.Verdicts.{IsExamining};
 ghost use Rattle.sched_core.specs.Books.{IsBooksLease, MayAllRefer};
 
 mod session;
 
-use crate::line::{Line, halves, number_of};
+use crate::line::{Line, halves, number_of, pieces};
 use crate::stop::{Found, Stop, Taken, call, tried};
 use crate::teller::Teller;
 use crate::words::journals::push_known;
@@ -26,46 +26,40 @@ use sched_core::{
 };
 use session::take_session;
 use std::alloc::{AllocError, Global};
+use std::sync::atomic::{AtomicU64, Ordering};
 use valid_table::{Entry, Journal, ListOutlet, Outlet, OutletFault, Record};
 
 /// Takes a line, if its call is one of these.
-pub(crate) fn take(teller: &mut Teller<'_>, world: &World, line: &Line<'_>) -> Found {
+pub(crate) fn take(teller: &mut Teller<'_>, world: &mut World, line: &Line<'_>) -> Found {
     words! { teller, world, line;
-        do "Book::open" => take_session(teller, world, line);
+        "permitted_beside" (reached = reached 0, job = job 2)
+            => permitted_beside(world.alloc, reached, &job) => paths;
         do "examine" => examine(teller, world, line);
-        do "permitted_beside" => beside(teller, world, line);
+        do "Book::open" => take_session(teller, world, line);
     }
 }
 
 /// Copies of the plan and of the journal that a line names first, and the system.
 pub(crate) fn opening(world: &World, line: &Line<'_>) -> Result<(Plan, Journal, Vec<u8>), Stop> {
-    let system = line.argument(2).to_vec(world.alloc)?;
-    let plan = world.plans.get(line.argument(0))?;
-    let journal = world.journals.get(line.argument(1))?;
-    match (plan.copy(world.alloc), journal.copy(world.alloc)) {
-        (Ok(plan), Ok(journal)) => Ok((plan, journal, system)),
-        _ => Err(Stop::Lost("no memory")),
-    }
-}
-
-// An outlet that shows a journal's entries.
-fn outlet_of(alloc: Global, journal: &Journal) -> Result<Counting, Stop>
-    ensures { IfOk result (λ o. o.outlet.shown ++ o.outlet.pending ≡ journal.now.entries) }
-{
-    match ListOutlet::open(alloc, journal) {
-        Ok(outlet) => Ok(Counting {
-            outlet,
-            appends: 0,
-            publishes: 0,
-        }),
-        Err(_) => Err(Stop::Lost("no memory")),
-    }
+    let plan = world.plans.get(line.argument(0))?.copy(world.alloc)?;
+    let journal = world.journals.get(line.argument(1))?.copy(world.alloc)?;
+    Ok((plan, journal, line.argument(2).to_vec(world.alloc)?))
 }
 
 /// The book that a line opens.
-fn opened(teller: &mut Teller<'_>, world: &World, line: &Line<'_>) -> Result<Book<Counting>, Stop> {
+fn opened<'a>(
+    teller: &mut Teller<'_>,
+    world: &World,
+    line: &Line<'_>,
+    unshown: &'a AtomicU64,
+) -> Result<Book<Counting<'a>>, Stop> {
     let (plan, journal, system) = opening(world, line)?;
-    let outlet = outlet_of(world.alloc, &journal)?;
+    let outlet = Counting {
+        outlet: ListOutlet::open(world.alloc, &journal)?,
+        appends: 0,
+        publishes: 0,
+        unshown,
+    };
     tried!(teller, "Book::open" => Book::open(world.alloc, plan, journal, system, outlet))
 }
 
@@ -73,9 +67,7 @@ fn opened(teller: &mut Teller<'_>, world: &World, line: &Line<'_>) -> Result<Boo
 fn examine(teller: &mut Teller<'_>, world: &World, line: &Line<'_>) -> Taken {
     let job = made_job(world, line.argument(0), line.argument(1))?;
     let answer = answer(world, line.arguments(2), job.outputs.len())?;
-    let Ok(permitted) = permitted_beside(world.alloc, Vec::new(world.alloc), &job) else {
-        return Err(Stop::Lost("no memory"));
-    };
+    let permitted = permitted_beside(world.alloc, Vec::new(world.alloc), &job)?;
     let verdict = examined(teller, &job, &permitted, answer);
     let checked = teller.answered(verdict)?;
     let records = call!(teller, "Checked::records" => checked.records());
@@ -83,26 +75,13 @@ fn examine(teller: &mut Teller<'_>, world: &World, line: &Line<'_>) -> Taken {
     Ok(())
 }
 
-// The closure of the paths of a line in its journal.
+// `permitted_beside JOURNAL ROOTS OUTPUTS`: the closure of the roots.
 fn reached(world: &World, line: &Line<'_>) -> Result<Vec<StorePath>, Stop>
     ensures { IfOk result (λ paths. IsRising paths.items) }
 {
     let journal = world.journals.get(line.argument(0))?;
     let roots = listed_paths(world, line.argument(1))?;
-    match journal.table().closure(world.alloc, &roots) {
-        Ok(all) => Ok(all),
-        Err(_) => Err(Stop::Lost("no closure")),
-    }
-}
-
-// `permitted_beside JOURNAL ROOTS OUTPUTS`: beside the closure of the roots.
-fn beside(teller: &mut Teller<'_>, world: &World, line: &Line<'_>) -> Taken {
-    let job = made_job(world, b"", line.argument(2))?;
-    let reached = reached(world, line)?;
-    let paths = tried!(teller, "permitted_beside" =>
-        permitted_beside(world.alloc, reached, &job))?;
-    teller.paths(&paths);
-    Ok(())
+    Ok(journal.table().closure(world.alloc, &roots)?)
 }
 
 /// What the outlet tells: how many entries it shows, how many were added to it, and how often it
@@ -110,13 +89,15 @@ fn beside(teller: &mut Teller<'_>, world: &World, line: &Line<'_>) -> Taken {
 pub(crate) type Told = (usize, usize, usize);
 
 /// The outlet.
-pub(crate) struct Counting {
-    pub(crate) outlet: ListOutlet,
-    pub(crate) appends: usize,
-    pub(crate) publishes: usize,
+pub(crate) struct Counting<'a> {
+    outlet: ListOutlet,
+    appends: usize,
+    publishes: usize,
+    // How many entries waited when it was closed.
+    unshown: &'a AtomicU64,
 }
 
-impl Outlet for Counting {
+impl Outlet for Counting<'_> {
     ghost use Rattle.valid_table.specs.Outlets.{CountsEntries};
 
     type Told = Told;
@@ -146,18 +127,11 @@ impl Outlet for Counting {
             outlet,
             appends: _,
             publishes: _,
+            unshown,
         } = self;
+        unshown.store(outlet.pending().len() as u64, Ordering::SeqCst);
         outlet.close();
     }
-}
-
-// A file in the pieces between the colons of a word.
-fn parts(alloc: Global, word: &[u8]) -> Result<Tree, AllocError> {
-    let mut pieces = Vec::new(alloc);
-    for piece in word.split(|byte| *byte == b':') {
-        pieces.push(piece.to_vec(alloc)?)?;
-    }
-    Ok(Tree::Pieces(pieces))
 }
 
 // What lies at an output, by a word.
@@ -167,7 +141,7 @@ fn tree(world: &World, word: &[u8]) -> Result<Option<Tree>, AllocError> {
     Ok(Some(match kind {
         b"file" => Tree::File(world.text(rest).to_vec(world.alloc)?),
         b"zeros" => Tree::File(vec![in world.alloc; 0; count]?),
-        b"parts" => parts(world.alloc, rest)?,
+        b"parts" => Tree::Pieces(world.copies(&pieces(world.alloc, rest, b':')?)?),
         b"folder" => wide(world.alloc, count, b"f")?,
         _ => return Ok(None),
     }))
@@ -193,12 +167,8 @@ pub(crate) fn answer(world: &World, words: &[&[u8]], count: usize) -> Result<Ans
 
 /// The paths in a list of words with commas between them; none where it is `-`.
 pub(crate) fn listed_paths(world: &World, word: &[u8]) -> Result<Vec<StorePath>, Stop> {
-    let mut words = Vec::new(world.alloc);
-    for path in word.split(|byte| *byte == b',') {
-        if path != b"-".as_slice() {
-            words.push(path)?;
-        }
-    }
+    let mut words = pieces(world.alloc, word, b',')?;
+    words.retain(|path| *path != b"-".as_slice());
     Ok(world.paths(&words)?)
 }
 
@@ -239,7 +209,7 @@ pub(crate) fn examined(
 /// isn't the book's.
 pub(crate) fn found(
     teller: &mut Teller<'_>,
-    book: &Book<Counting>,
+    book: &Book<Counting<'_>>,
     lease: &Lease<Told>,
     job: &Job,
     answer: Answer,
@@ -267,7 +237,7 @@ pub(crate) fn text_of(alloc: Global, records: &[Record]) -> Result<Vec<u8>, Allo
 }
 
 /// Tells what a book answers about itself.
-pub(crate) fn look(teller: &mut Teller<'_>, book: &Book<Counting>) -> Taken {
+pub(crate) fn look(teller: &mut Teller<'_>, book: &Book<Counting<'_>>) -> Taken {
     const CALLS: &str = "Book::steps Book::unsettled Book::settled Book::can_begin Book::opening \
         Book::tell Book::plan Book::system Book::journal Book::events";
     teller.begins(CALLS);
@@ -284,8 +254,8 @@ pub(crate) fn look(teller: &mut Teller<'_>, book: &Book<Counting>) -> Taken {
 }
 
 /// Tells the state of each derivation: one line for neighbours of the same state.
-pub(crate) fn tell_states(teller: &mut Teller<'_>, alloc: Global, book: &Book<Counting>) -> Taken {
-    let mut states = Vec::new(alloc);
+pub(crate) fn tell_states(teller: &mut Teller<'_>, book: &Book<Counting<'_>>) -> Taken {
+    let mut states = Vec::new(teller.rt.alloc());
     for d in 0..book.plan().len() {
         states.push(call!(teller, "Book::state" => book.state(d)))?;
     }
@@ -303,13 +273,6 @@ pub(crate) fn tell_lease(teller: &mut Teller<'_>, lease: &Lease<Told>) -> Taken 
     let (job, number) = call!(teller, CALLS => (lease.job(), lease.number()));
     teller.say(format_args!("lease {number} of {}, {:?}", job.derivation, job.kind));
     tell_job(teller, job);
-    Ok(())
-}
-
-/// Tells what the outlet told of a lease, asked twice.
-fn tell_told(teller: &mut Teller<'_>, lease: &mut Lease<Told>) -> Taken {
-    let told = call!(teller, "Lease::told" => [lease.told(), lease.told()]);
-    teller.say(format_args!("{told:?}"));
     Ok(())
 }
 

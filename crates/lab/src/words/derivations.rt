@@ -1,4 +1,5 @@
 //! Derivations, their texts and their sources, plans, drafts and modulo texts.
+ghost use Rattle.std.specs.Prelude.{◌<◌, IfOk, length};
 
 use crate::give::{Appended, Give};
 use crate::line::{Line, halves, number_of};
@@ -9,8 +10,8 @@ use crate::words::names::{digest_of, file_bytes};
 use crate::world::World;
 use drv_graph::{Kind, Plan, fill_outputs, modulo_text};
 use nix_drv::{
-    Derivation, DrvSource, EnvEntry, ListSource, ListedFile, Parts, SourceFault, check_text,
-    named_text_path, read, references, text_path, write, write_string,
+    Derivation, DrvSource, EnvEntry, Input, ListSource, ListedFile, Output, Parts, SourceFault,
+    check_text, named_text_path, read, references, text_path, write, write_string,
 };
 use nix_names::is_name;
 use std::alloc::{AllocError, Global};
@@ -78,16 +79,16 @@ fn tell_texts(teller: &mut Teller<'_>, word: &str, texts: &[Vec<u8>]) {
     }
 }
 
-fn tell_outputs(teller: &mut Teller<'_>, drv: &Derivation) {
-    for output in call!(teller, "Derivation::outputs" => drv.outputs()) {
+fn tell_outputs(teller: &mut Teller<'_>, outputs: &[Output]) {
+    for output in outputs {
         let (name, path) = (output.name.escape_ascii(), output.path.escape_ascii());
         let (algo, hash) = (output.algo.escape_ascii(), output.hash.escape_ascii());
         teller.say(format_args!("output {name} {path} ({algo}, {hash})"));
     }
 }
 
-fn tell_inputs(teller: &mut Teller<'_>, drv: &Derivation) {
-    for input in call!(teller, "Derivation::inputs" => drv.inputs()) {
+fn tell_inputs(teller: &mut Teller<'_>, inputs: &[Input]) {
+    for input in inputs {
         teller.say(format_args!("input {}", input.path.escape_ascii()));
         tell_texts(teller, "  name", &input.names);
     }
@@ -95,13 +96,16 @@ fn tell_inputs(teller: &mut Teller<'_>, drv: &Derivation) {
 
 // All that a derivation says.
 fn drv(teller: &mut Teller<'_>, world: &World, line: &Line<'_>) -> Taken {
-    const LISTS: &str = "Derivation::sources Derivation::args Derivation::env";
-    const TEXTS: &str = "Derivation::system Derivation::builder";
+    const CALLS: &str = "Derivation::outputs Derivation::inputs Derivation::sources \
+        Derivation::system Derivation::builder Derivation::args Derivation::env";
     let drv = world.drvs.get(line.argument(0))?;
-    tell_outputs(teller, drv);
-    tell_inputs(teller, drv);
-    let (sources, args, env) = call!(teller, LISTS => (drv.sources(), drv.args(), drv.env()));
-    let (system, builder) = call!(teller, TEXTS => (drv.system(), drv.builder()));
+    teller.begins(CALLS);
+    let (outputs, inputs, sources) = (drv.outputs(), drv.inputs(), drv.sources());
+    let (system, builder) = (drv.system(), drv.builder());
+    let (args, env) = (drv.args(), drv.env());
+    teller.ends(CALLS);
+    tell_outputs(teller, outputs);
+    tell_inputs(teller, inputs);
     tell_texts(teller, "source", sources);
     let (system, builder) = (system.escape_ascii(), builder.escape_ascii());
     teller.say(format_args!("system \"{system}\", builder \"{builder}\""));
@@ -161,7 +165,7 @@ fn change(world: &World, line: &Line<'_>, drv: &Derivation, parts: &mut Parts) -
 // The derivation of the parts of another one, of which some are changed.
 fn new(teller: &mut Teller<'_>, world: &mut World, line: &Line<'_>) -> Taken {
     let drv = world.drvs.get(line.argument(0))?;
-    let copy = drv.copy(world.alloc).ok().ok_or(Stop::Lost("no memory"))?;
+    let copy = drv.copy(world.alloc)?;
     let mut parts = call!(teller, "Derivation::into_parts" => copy.into_parts());
     change(world, line, drv, &mut parts)?;
     let answer = call!(teller, "Derivation::new" => Derivation::new(parts));
@@ -187,8 +191,7 @@ fn files(alloc: Global, list: &[u8]) -> Result<(Vec<ListedFile>, Vec<u64>), Allo
 // The source of the list that the first argument stands for.
 fn source_of(world: &World, line: &Line<'_>) -> Result<ListSource, Stop> {
     let (files, failing) = files(world.alloc, world.text(line.argument(0)))?;
-    let source = ListSource::new(world.alloc, files, failing);
-    source.ok().ok_or(Stop::Lost("no memory"))
+    Ok(ListSource::new(world.alloc, files, failing)?)
 }
 
 // Prints how many fetches of a source failed, if some did.
@@ -225,7 +228,7 @@ fn list(teller: &mut Teller<'_>, world: &mut World, line: &Line<'_>) -> Taken {
 }
 
 // The fetch of a source with a number, after as many others.
-fn fetch(teller: &mut Teller<'_>, world: &World, line: &Line<'_>) -> Taken {
+fn fetch(teller: &mut Teller<'_>, world: &mut World, line: &Line<'_>) -> Taken {
     let (mut source, path) = (source_of(world, line)?, world.path(line.argument(1))?);
     for _ in 0..line.number(2).unwrap_or(0) {
         drop(source.fetch(world.alloc, &path));
@@ -234,9 +237,7 @@ fn fetch(teller: &mut Teller<'_>, world: &World, line: &Line<'_>) -> Taken {
     if !matches!(&answer, Err(SourceFault::NoMemory)) {
         tell_failures(teller, &source);
     }
-    let text = teller.answered(answer)?;
-    teller.text(&text);
-    Ok(())
+    answer.give(teller, world, line)
 }
 
 fn load(teller: &mut Teller<'_>, world: &mut World, line: &Line<'_>) -> Taken {
@@ -261,20 +262,33 @@ fn plan(teller: &mut Teller<'_>, world: &World, line: &Line<'_>) -> Taken {
     Ok(())
 }
 
-// The kind, the outputs and the sources of one derivation of a plan, which is kept.
-fn node(teller: &mut Teller<'_>, world: &mut World, line: &Line<'_>) -> Taken {
-    const CALLS: &str = "Plan::drv Plan::kind Plan::output_paths Plan::sources";
-    let number = line.number(1).unwrap_or(0);
-    let plan = world.plans.get(line.argument(0))?;
+/// A plan and the number of one of its derivations, which are the arguments of a line from a first
+/// one on.
+pub(crate) fn node_of<'a>(
+    world: &'a World,
+    line: &Line<'_>,
+    first: usize,
+) -> Result<(&'a Plan, usize), Stop>
+    ensures { IfOk result (λ found. found.1 < length found.0.now.nodes) }
+{
+    let plan = world.plans.get(line.argument(first))?;
+    let number = line.number(first.saturating_add(1)).unwrap_or(0);
     if number >= plan.len() {
         return Err(Stop::NotAllowed);
     }
+    Ok((plan, number))
+}
+
+// The kind, the outputs and the sources of one derivation of a plan, which is kept.
+fn node(teller: &mut Teller<'_>, world: &mut World, line: &Line<'_>) -> Taken {
+    const CALLS: &str = "Plan::drv Plan::kind Plan::output_paths Plan::sources";
+    let (plan, number) = node_of(world, line, 0)?;
     let (drv, kind, outputs, sources) = call!(teller, CALLS =>
         (plan.drv(number), plan.kind(number), plan.output_paths(number), plan.sources(number)));
     tell_kind(teller, world.alloc, kind)?;
     teller.paths(outputs);
     teller.paths(sources);
-    let copy = drv.copy(world.alloc).ok().ok_or(Stop::Lost("no memory"))?;
+    let copy = drv.copy(world.alloc)?;
     world.drvs.keep(line.name, copy)
 }
 

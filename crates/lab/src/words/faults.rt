@@ -172,6 +172,16 @@ macro_rules! tell_all {
     }};
 }
 
+// Tells these faults of a type that has no words.
+macro_rules! tell_numbers {
+    ($teller:ident, $call:literal; $($fault:tt)*) => {
+        for fault in faults!($($fault)*) {
+            let number = call!($teller, $call => fault.number());
+            $teller.say(format_args!("{} {fault:?} {number}", $call));
+        }
+    };
+}
+
 fn of_derivations(teller: &mut Teller<'_>, alloc: Global, x: &StorePath) -> Result<(), AllocError> {
     tell_all!(teller, "NameFault::number"; NameFault: BadLength, BadChar(4), Overflow, NotInStore,
         BadHashPart, BadName, BadStoreDir, NoMemory)?;
@@ -218,23 +228,11 @@ fn of_views(teller: &mut Teller<'_>, x: StorePath) -> Result<(), AllocError> {
 }
 
 fn of_runs(teller: &mut Teller<'_>) -> Result<(), AllocError> {
-    const REASONS: [Reason; 10] = faults!(Reason: ExitStatus(7), NoStart, MissingOutput(0),
+    tell_numbers!(teller, "Reason::number"; Reason: ExitStatus(7), NoStart, MissingOutput(0),
         NotFlatFile, HashMismatch, OutputCycle, TooLarge, ReadFault, OutOfMemory, Killed);
-    for reason in REASONS {
-        let number = call!(teller, "Reason::number" => reason.number());
-        teller.say(format_args!("Reason::number {reason:?} {number}"));
-    }
-    of_refusals(teller);
+    tell_numbers!(teller, "Refusal::number"; Refusal: WrongSystem, Unsupported, MissingSource(0),
+        InputNotRealised(0), PartlyValid(0));
     tell_all!(teller, "BookFault::number"; BookFault: NoMemory, NoView, ForeignLease, NotLawful)?;
     tell_all!(teller, "RunFault::number"; RunFault: NoView, NoWorkers, ThreadFault, NoMemory,
         ForeignPlan)
-}
-
-fn of_refusals(teller: &mut Teller<'_>) {
-    const REFUSALS: [Refusal; 5] = faults!(Refusal: WrongSystem, Unsupported, MissingSource(0),
-        InputNotRealised(0), PartlyValid(0));
-    for refusal in REFUSALS {
-        let number = call!(teller, "Refusal::number" => refusal.number());
-        teller.say(format_args!("Refusal::number {refusal:?} {number}"));
-    }
 }

@@ -1,29 +1,40 @@
 //! What is known of a plan's derivations before a run, forecasts, and the words of reports.
-ghost use Rattle.std.specs.Prelude.{◌<◌, length};
-
 use super::books::opening;
+use super::derivations::node_of;
 use crate::give::{Appended, Give};
 use crate::line::{Line, halves, number_of};
 use crate::stop::{Found, Stop, Taken, call, tried};
 use crate::teller::Teller;
 use crate::world::World;
-use drv_graph::Plan;
 use run_report::{
     Forecast, marked_by_path, write_name, write_outputs, write_path_line, write_refusal,
     write_refused, write_with_number, write_with_string, write_with_value,
 };
 use run_states::{Refusal, mark, standings_of, wanted_of};
-use std::alloc::AllocError;
 
-/// Takes a line, if its call is one of these.
+/// Takes a line, if its call is one of these. `write_refused TEXT PLAN NUMBER WORD CAUSE` and the
+/// like add words to a kept text.
 pub(crate) fn take(teller: &mut Teller<'_>, world: &mut World, line: &Line<'_>) -> Found {
     words! { teller, world, line;
+        "write_path_line" (mut out = copy 0, (plan, d) = node 1, word = text 3)
+            => Appended(write_path_line(word, plan.path(d), &mut out), out);
+        "write_outputs" (mut out = copy 0, (plan, d) = node 1)
+            => Appended(write_outputs(plan.output_paths(d), &mut out), out);
+        "write_refused" (mut out = copy 0, (plan, d) = node 1, word = text 3, cause = cause 4)
+            => Appended(write_refused(word, plan, plan.path(d), plan.drv(d), cause, &mut out), out);
+        "write_refusal" (mut out = copy 0, (plan, d) = node 1, cause = cause 3)
+            => Appended(write_refusal(plan, plan.drv(d), cause, &mut out), out);
+        "write_name" (mut out = copy 0, word = text 1)
+            => Appended(write_name(word, &mut out), out);
+        "write_with_number" (mut out = copy 0, word = text 1, number = number 2)
+            => Appended(write_with_number(word, number, &mut out), out);
+        "write_with_value" (mut out = copy 0, word = text 1, value = text 2)
+            => Appended(write_with_value(word, value, &mut out), out);
+        "write_with_string" (mut out = copy 0, word = text 1, value = text 2)
+            => Appended(write_with_string(word, value, &mut out), out);
         do "standings" => standings(teller, world, line);
         do "marked" => marked(teller, world, line);
         do "forecast" => forecast(teller, world, line);
-        do "write_path_line" | "write_outputs" | "write_refused" | "write_refusal" | "write_name"
-            | "write_with_number" | "write_with_value" | "write_with_string"
-            => write(teller, world, line);
     }
 }
 
@@ -69,47 +80,6 @@ fn cause_of(word: &[u8]) -> Refusal {
         b"PartlyValid" => Refusal::PartlyValid(number),
         _ => Refusal::Unsupported,
     }
-}
-
-// Adds what a line says of a derivation, by its call, and by a word and a value.
-fn push(
-    plan: &Plan,
-    d: usize,
-    said: (&str, &[u8], &[u8]),
-    out: &mut Vec<u8>,
-) -> Result<(), AllocError>
-    requires { d < length plan.now.nodes }
-{
-    let (call, word, value) = said;
-    let (path, drv, cause) = (plan.path(d), plan.drv(d), cause_of(value));
-    match call {
-        "write_path_line" => write_path_line(word, path, out),
-        "write_outputs" => write_outputs(plan.output_paths(d), out),
-        "write_refused" => write_refused(word, plan, path, drv, cause, out),
-        "write_refusal" => write_refusal(plan, drv, cause, out),
-        "write_name" => write_name(word, out),
-        "write_with_number" => write_with_number(word, number_of(value).unwrap_or(0), out),
-        "write_with_value" => write_with_value(word, value, out),
-        _ => write_with_string(word, value, out),
-    }
-}
-
-// `write_refused TEXT PLAN NUMBER WORD CAUSE`, and the like: words are added to a kept text. The
-// last argument may be another value, or be missing where nothing needs it.
-fn write(teller: &mut Teller<'_>, world: &mut World, line: &Line<'_>) -> Taken {
-    let mut out = world.text(line.argument(0)).to_vec(world.alloc)?;
-    let plan = world.plans.get(line.argument(1))?;
-    let d = line.number(2).unwrap_or(plan.len());
-    if d >= plan.len() {
-        return Err(Stop::Lost("no such derivation"));
-    }
-    let said = (
-        line.call,
-        world.text(line.argument(3)),
-        world.text(line.argument(4)),
-    );
-    let answer = call!(teller, line.call => push(plan, d, said, &mut out));
-    Appended(answer, out).give(teller, world, line)
 }
 
 // `forecast PLAN JOURNAL SYSTEM`.

@@ -9,7 +9,7 @@ ghost use Rattle.std.specs.Prelude.{◌≡◌, ◌≤◌, ◌++◌, IsTrue, leng
 ghost use Rattle.valid_table.specs.Entries.{registered_by};
 ghost use Rattle.valid_table.specs.Valid.{HasDrvPath};
 
-use crate::give::Give;
+use crate::give::{Give, Lines};
 use crate::line::Line;
 use crate::rising::rising;
 use crate::stop::{Found, Stop, Taken, call, tried};
@@ -29,8 +29,9 @@ pub(crate) fn take(teller: &mut Teller<'_>, world: &mut World, line: &Line<'_>) 
         "Journal::read" (text = text 0) => Journal::read(world.alloc, &world.dir, text);
         "Journal::copy" (journal = journals 0) => journal.copy(world.alloc);
         "Journal::registers" (journal = journals 0, path = path 1) => journal.registers(&path);
+        "Journal::write" (journal = journals 0) => journal.write(world.alloc).map(Lines);
+        "write_lines" (entries = entries 0) => write_lines(world.alloc, entries).map(Lines);
         do "Journal::append_each" => append_each(teller, world, line);
-        do "Journal::write" | "write_lines" => write(teller, world, line);
         do "Journal::add" | "Journal::append" => add(teller, world, line);
         do "Journal::push_reserved" => push_reserved(teller, world, line);
         do "Record::new" => record(teller, world, line);
@@ -72,23 +73,11 @@ fn added(journal: &mut Journal, entry: Entry) -> Option<Result<(), TableFault>> 
     }
 }
 
-// The text of a journal, or by `write_lines J FIRST END` the lines of the entries with these
-// numbers. It is printed, or kept, and then its length is told.
-fn write(teller: &mut Teller<'_>, world: &mut World, line: &Line<'_>) -> Taken {
-    let journal = world.journals.get(line.argument(0))?;
+// The entries that a line names by their journal, the first number and the number after the last.
+fn entries<'a>(world: &'a World, line: &Line<'_>) -> Result<&'a [Entry], Stop> {
     let (first, end) = (line.number(1).unwrap_or(0), line.number(2).unwrap_or(0));
-    let answer = match (line.call, journal.entries().get(first..end)) {
-        ("Journal::write", _) => call!(teller, "Journal::write" => journal.write(world.alloc)),
-        (_, Some(entries)) => call!(teller, "write_lines" => write_lines(world.alloc, entries)),
-        (_, None) => return Err(Stop::NotAllowed),
-    };
-    let text = teller.answered(answer)?;
-    if line.name.is_empty() {
-        teller.lines(&text);
-    } else {
-        teller.say(format_args!("{} bytes", text.len()));
-    }
-    world.texts.keep(line.name, text)
+    let journal = world.journals.get(line.argument(0))?;
+    journal.entries().get(first..end).ok_or(Stop::NotAllowed)
 }
 
 fn add(teller: &mut Teller<'_>, world: &mut World, line: &Line<'_>) -> Taken {
@@ -111,10 +100,8 @@ fn push_reserved(teller: &mut Teller<'_>, world: &mut World, line: &Line<'_>) ->
     let copy = entry.copy(world.alloc)?;
     let journal = world.journals.get_mut(line.argument(0))?;
     let paths = entry.registrations().len();
-    match call!(teller, "Journal::reserve" => journal.reserve(paths)) {
-        Ok(()) => push(teller, journal, entry, copy),
-        Err(fault) => teller.answered(Err(fault)),
-    }
+    tried!(teller, "Journal::reserve" => journal.reserve(paths))?;
+    push(teller, journal, entry, copy)
 }
 
 fn push(teller: &mut Teller<'_>, journal: &mut Journal, entry: Entry, copy: Entry) -> Taken
@@ -146,10 +133,8 @@ fn is_derived(entry: &Entry) -> bool
 fn outlet(teller: &mut Teller<'_>, world: &World, line: &Line<'_>) -> Taken {
     let entry = entry_of(world, line.arguments(1))?;
     let journal = world.journals.get(line.argument(0))?;
-    match call!(teller, "ListOutlet::open" => ListOutlet::open(world.alloc, journal)) {
-        Ok(outlet) => append(teller, journal, outlet, entry),
-        Err(fault) => teller.answered(Err(fault)),
-    }
+    let outlet = tried!(teller, "ListOutlet::open" => ListOutlet::open(world.alloc, journal))?;
+    append(teller, journal, outlet, entry)
 }
 
 // Appends an entry to the outlet that opens with a journal.

@@ -1,5 +1,8 @@
-//! Names, paths and digests, and what `bench/` measures by: plans of files on disk, a pass over a
-//! text, and the memory that is held.
+//! Names, paths and digests. `dir` names the store folder of the lines that follow.
+//!
+//! What `bench/` measures by: `load_files ROOT..` is the plan of some roots, from the files of the
+//! store folder, `memmem` one pass over a text, which `scan` is compared with, and `memory` tells
+//! how many bytes of memory the program holds.
 
 use crate::give::{Appended, Give};
 use crate::line::{Line, number_of};
@@ -33,11 +36,11 @@ fn of_paths(teller: &mut Teller<'_>, world: &mut World, line: &Line<'_>) -> Foun
         "is_name" as "is_name is_drv_name" (name = text 0) => (is_name(name), is_drv_name(name));
         "compare" as "StorePath::cmp StorePath::eq" (path = path 0, other = path 1)
             => (path.cmp(&other), path == other);
-        do "load_files" => load(teller, world, line);
-        do "memmem" => find(teller, world, line);
-        do "memory" => memory(teller);
+        "dir" as "StoreDir::new" (text = text 0) => StoreDir::new(world.alloc, text);
+        "load_files" as "Plan::load" (roots = paths 0)
+            => Plan::load(world.alloc, &mut Folder { files: teller.rt }, &world.dir, &roots);
         do "path" => path(teller, world, line);
-        do "dir" => dir(teller, world, line);
+        do "memory" => memory(teller);
     }
 }
 
@@ -52,44 +55,27 @@ fn of_texts(teller: &mut Teller<'_>, world: &mut World, line: &Line<'_>) -> Foun
             => Appended(digest.push_text(&mut out), out);
         "Digest::push_digits" (mut out = copy 0, digest = written 1)
             => Appended(digest.push_digits(&mut out), out);
-        keep "bytes" => decoded(world.alloc, line.argument(0))?;
+        "Digest::of_digits" as "Algorithm::of_name Digest::of_digits" (name = text 0, digits = text 1)
+            => Algorithm::of_name(name).and_then(|named| Digest::of_digits(named, digits));
+        "memmem" (text = text 0, wanted = text 1) => memmem::find(text, wanted).is_some();
+        keep "bytes" => hex::decode(world.alloc, line.argument(0)).map_err(|_| NO_BYTES)?;
         keep "file" => file_bytes(teller, line.argument(0))?;
-        do "Digest::of_digits" => of_digits(teller, world, line);
     }
 }
 
 /// The bytes of the file at a path.
 pub(crate) fn file_bytes(teller: &Teller<'_>, path: &[u8]) -> Result<Vec<u8>, Stop> {
-    let bytes = match str::from_utf8(path) {
-        Ok(path) => fs::read(teller.rt, path).ok(),
-        Err(_) => None,
-    };
-    bytes.ok_or(Stop::Lost("no file"))
+    let path = str::from_utf8(path).unwrap_or("");
+    fs::read(teller.rt, path).map_err(|_| Stop::Lost("no file"))
 }
 
-// The bytes that are written in hex digits.
-fn decoded(alloc: Global, digits: &[u8]) -> Result<Vec<u8>, Stop> {
-    let bytes = hex::decode(alloc, digits).ok();
-    bytes.ok_or(Stop::Lost("no such bytes"))
-}
+const NO_BYTES: Stop = Stop::Lost("no such bytes");
 
 /// The 32 bytes that are written in hex digits.
 pub(crate) fn digest_of(digits: &[u8]) -> Result<[u8; 32], Stop> {
     let mut digest = [0; 32];
-    match hex::decode_to_slice(digits, &mut digest) {
-        Ok(()) => Ok(digest),
-        Err(_) => Err(Stop::Lost("no such bytes")),
-    }
-}
-
-// Makes a folder the store folder of the lines that follow.
-fn dir(teller: &mut Teller<'_>, world: &mut World, line: &Line<'_>) -> Taken {
-    let text = world.text(line.argument(0));
-    let dir = tried!(teller, "StoreDir::new" => StoreDir::new(world.alloc, text))?;
-    let text = call!(teller, "StoreDir::text" => dir.text());
-    teller.text(text);
-    world.dir = dir;
-    Ok(())
+    hex::decode_to_slice(digits, &mut digest).map_err(|_| NO_BYTES)?;
+    Ok(digest)
 }
 
 // All that is told of a path, by a copy of it that outlives it.
@@ -106,15 +92,6 @@ fn path(teller: &mut Teller<'_>, world: &World, line: &Line<'_>) -> Taken {
     teller.text(name);
     teller.say(format_args!("{key:x}, in {} bytes", size_of::<StorePath>()));
     Ok(())
-}
-
-fn of_digits(teller: &mut Teller<'_>, world: &mut World, line: &Line<'_>) -> Taken {
-    let (name, digits) = (line.argument(0), world.text(line.argument(1)));
-    let found = match call!(teller, "Algorithm::of_name" => Algorithm::of_name(name)) {
-        Some(named) => call!(teller, "Digest::of_digits" => Digest::of_digits(named, digits)),
-        None => None,
-    };
-    found.give(teller, world, line)
 }
 
 // Derivations' files on disk, each under the text of its path.
@@ -135,24 +112,6 @@ impl DrvSource for Folder<'_> {
     }
 }
 
-// `load_files ROOT..`: the plan of some roots, from the files of the store folder.
-fn load(teller: &mut Teller<'_>, world: &mut World, line: &Line<'_>) -> Taken {
-    let roots = world.paths(line.arguments(0))?;
-    let mut source = Folder { files: teller.rt };
-    let plan = call!(teller, "Plan::load" =>
-        Plan::load(world.alloc, &mut source, &world.dir, &roots));
-    plan.give(teller, world, line)
-}
-
-// One pass over a text, which `scan` is compared with.
-fn find(teller: &mut Teller<'_>, world: &World, line: &Line<'_>) -> Taken {
-    let (text, wanted) = (world.text(line.argument(0)), world.text(line.argument(1)));
-    let place = call!(teller, "memmem" => memmem::find(text, wanted));
-    teller.say(format_args!("{place:?}"));
-    Ok(())
-}
-
-// Says how many bytes of memory the program holds.
 fn memory(teller: &mut Teller<'_>) -> Taken {
     let pages = file_bytes(teller, b"/proc/self/statm")?;
     let held = pages.split(|byte| *byte == b' ').nth(1).and_then(number_of);

@@ -16,28 +16,19 @@ use std::slice;
 
 /// Takes a line, if its call is one of these.
 pub(crate) fn take(teller: &mut Teller<'_>, world: &mut World, line: &Line<'_>) -> Found {
-    Ok(of_scans(teller, world, line)? || of_trees(teller, world, line)?)
-}
-
-fn of_scans(teller: &mut Teller<'_>, world: &mut World, line: &Line<'_>) -> Found {
     words! { teller, world, line;
         "Tree::fits" (tree = trees 0) => tree.fits();
         "scan" (permitted = rising 1, tree = trees 0) => scan(world.alloc, tree, &permitted);
         keep "zeros" (count = number 0) => vec![in world.alloc; 0; count]?;
         keep "numbered" => numbered(world, line)?;
-        do "Scanner" => scanner(teller, world, line);
-        do "take_apart" => take_apart(world, line);
-    }
-}
-
-fn of_trees(teller: &mut Teller<'_>, world: &mut World, line: &Line<'_>) -> Found {
-    words! { teller, world, line;
         keep "file_tree" (text = copy 0) => Tree::File(text);
         keep "link" (text = copy 0) => Tree::Link(text);
         keep "pieces" (texts = copies 0) => Tree::Pieces(texts);
         keep "wide" (count = number 0, name = text 1) => wide(world.alloc, count, name)?;
         keep "nested" => nested(world, line)?;
         keep "folder" => folder(world, line.arguments(0))?;
+        do "Scanner" => scanner(teller, world, line);
+        do "take_apart" => take_apart(world, line);
     }
 }
 

@@ -1,13 +1,12 @@
 //! Tables, closures, and lists of paths.
 //!
 //! A line that only asks a table may name a journal, and asks its table. `list TEXT` keeps paths,
-//! each a line of a text. `same A B` compares two lists, two journals or two texts, and `equal A B`
-//! two plans, two derivations or two texts.
+//! each a line of a text.
 ghost use Rattle.std.specs.Prelude.{◌≤◌, length};
 ghost use Rattle.valid_table.specs.Entries.{registered_by};
 
 use crate::give::Give;
-use crate::line::Line;
+use crate::line::{Line, pieces};
 use crate::rising::rising;
 use crate::stop::{Found, Stop, Taken, call, tried};
 use crate::teller::Teller;
@@ -21,6 +20,12 @@ use valid_table::{Entry, Journal, Obstacle, Table, TableFault, union};
 pub(crate) fn take(teller: &mut Teller<'_>, world: &mut World, line: &Line<'_>) -> Found {
     words! { teller, world, line;
         "Table::closure" (table = table 0, roots = paths 1) => table.closure(world.alloc, &roots);
+        "union" (left = before b"/", right = behind b"/") => union(world.alloc, &left, &right);
+        "Plan::eq" (one = plans 0, two = plans 1) => one == two;
+        "Derivation::eq" (one = drvs 0, two = drvs 1) => one == two;
+        "same_entries" (one = journals 0, two = journals 1) => one.entries() == two.entries();
+        "same_paths" (one = lists 0, two = lists 1) => one.as_slice() == two.as_slice();
+        "same" (one = text 0, two = text 1) => one == two;
         keep "list" (text = text 0) => listed(world, text)?;
         do "Table::new" => new(teller, world, line);
         do "Table::replay" => replay(teller, world, line);
@@ -29,8 +34,6 @@ pub(crate) fn take(teller: &mut Teller<'_>, world: &mut World, line: &Line<'_>) 
         do "Table::reserve" | "Journal::reserve" => reserve(teller, world, line);
         do "Table::register" => register(teller, world, line);
         do "Table::register_reserved" => register_reserved(teller, world, line);
-        do "union" => united(teller, world, line);
-        do "same" | "equal" => same(teller, world, line);
     }
 }
 
@@ -49,11 +52,7 @@ pub(crate) fn given(teller: &Teller<'_>, world: &World, line: &Line<'_>) -> Resu
     if let Ok(journal) = world.journals.get(line.argument(0)) {
         push_entries(&mut paths, journal)?;
         push_told(&mut text, journal.table(), &paths)?;
-        let written = journal
-            .write(world.alloc)
-            .ok()
-            .ok_or(Stop::Lost("no memory"))?;
-        text.extend_from_slice(&written)?;
+        text.extend_from_slice(&journal.write(world.alloc)?)?;
     }
     Ok(text)
 }
@@ -104,40 +103,9 @@ fn push_paths(paths: &mut Vec<StorePath>, entry: &Entry) -> Result<(), AllocErro
 
 // The path of each line of a text.
 fn listed(world: &World, text: &[u8]) -> Result<Vec<StorePath>, Stop> {
-    let mut paths = Vec::new(world.alloc);
-    for line in text.split(|byte| *byte == b'\n') {
-        if !line.is_empty() {
-            paths.push(world.path(line)?)?;
-        }
-    }
-    Ok(paths)
-}
-
-fn same(teller: &mut Teller<'_>, world: &World, line: &Line<'_>) -> Taken {
-    let (one, two) = (line.argument(0), line.argument(1));
-    let is_same = if let (Ok(one), Ok(two)) = (world.plans.get(one), world.plans.get(two)) {
-        call!(teller, "Plan::eq" => one == two)
-    } else if let (Ok(one), Ok(two)) = (world.drvs.get(one), world.drvs.get(two)) {
-        call!(teller, "Derivation::eq" => one == two)
-    } else if let (Ok(one), Ok(two)) = (world.lists.get(one), world.lists.get(two)) {
-        one.as_slice() == two.as_slice()
-    } else if let (Ok(one), Ok(two)) = (world.journals.get(one), world.journals.get(two)) {
-        one.entries() == two.entries()
-    } else {
-        world.text(one) == world.text(two)
-    };
-    match line.call {
-        "equal" => teller.say(is_same),
-        _ => teller.say(if is_same { "same" } else { "different" }),
-    }
-    Ok(())
-}
-
-fn united(teller: &mut Teller<'_>, world: &mut World, line: &Line<'_>) -> Taken {
-    let (left, right) = line.divided(b"/");
-    let (left, right) = (rising(world, left)?, rising(world, right)?);
-    let all = call!(teller, "union" => union(world.alloc, &left, &right));
-    all.give(teller, world, line)
+    let mut lines = pieces(world.alloc, text, b'\n')?;
+    lines.retain(|line| !line.is_empty());
+    Ok(world.paths(&lines)?)
 }
 
 // The table of a line, or that of its journal.
@@ -243,10 +211,8 @@ fn register_reserved(teller: &mut Teller<'_>, world: &mut World, line: &Line<'_>
     let entry = entry_of(world, line.arguments(1))?;
     let kept = world.tables.get_mut(line.argument(0))?;
     let count = entry.registrations().len();
-    match call!(teller, "Table::reserve" => kept.table.reserve(count)) {
-        Ok(()) => register_in_room(teller, kept, entry),
-        Err(fault) => teller.answered(Err(fault)),
-    }
+    tried!(teller, "Table::reserve" => kept.table.reserve(count))?;
+    register_in_room(teller, kept, entry)
 }
 
 fn register_in_room(teller: &mut Teller<'_>, kept: &mut KeptTable, entry: Entry) -> Taken

@@ -29,10 +29,8 @@ pub(crate) fn take<W: Wait>(
     if line.call != "view" {
         return Ok(false);
     }
+    let journal = world.journals.get(line.argument(0))?.copy(world.alloc)?;
     let readers = line.number(1).unwrap_or(0);
-    let Ok(journal) = world.journals.get(line.argument(0))?.copy(world.alloc) else {
-        return Err(Stop::Lost("no memory"));
-    };
     if readers == 0 || readers > 64 {
         return Err(Stop::NotAllowed);
     }
@@ -88,7 +86,8 @@ impl<J: ListId + Send, W: Wait> View<'_, J, W> {
         let shown = call!(teller, "ViewWriter::close" => writer.close());
         teller.say(format_args!("closed with {} entries", shown.len()));
         taken?;
-        take_last_lines(teller, world, &mut readers)
+        take_lines!(teller, "end", line => ask(teller, world, &line, &mut readers),
+            _before = (), true)
     }
 
     // Takes each line up to `close`.
@@ -116,15 +115,17 @@ impl<J: ListId + Send, W: Wait> View<'_, J, W> {
     }
 
     fn take_once(&mut self, teller: &mut Teller<'_>, world: &mut World, line: &Line<'_>) -> Found {
-        let taken = match line.call {
-            "append" => self.append(teller, world, line),
-            "publish" => self.publish(teller),
-            "tell" => self.tell(teller),
-            "learn" => self.learn(teller, line),
-            "longer" => self.longer(teller, line),
-            _ => return ask(teller, world, line, &mut self.readers),
-        };
-        taken.map(|()| true)
+        Ok(self.of_writer(teller, world, line)? || ask(teller, world, line, &mut self.readers)?)
+    }
+
+    fn of_writer(&mut self, teller: &mut Teller<'_>, world: &mut World, line: &Line<'_>) -> Found {
+        words! { teller, world, line;
+            "tell" as "ViewWriter::tell Prefix::len" => self.writer.tell().len();
+            do "append" => self.append(teller, world, line);
+            do "publish" => self.publish(teller);
+            do "learn" => self.learn(teller, line);
+            do "longer" => self.longer(teller, line);
+        }
     }
 
     // Appends the entries of a kept journal up to a number, from the number of entries on that the
@@ -170,13 +171,6 @@ impl<J: ListId + Send, W: Wait> View<'_, J, W> {
         Ok(())
     }
 
-    fn tell(&self, teller: &mut Teller<'_>) -> Taken {
-        let told = call!(teller, "ViewWriter::tell" => self.writer.tell());
-        let length = call!(teller, "Prefix::len" => told.len());
-        teller.say(format_args!("{length} entries are shown"));
-        Ok(())
-    }
-
     // Has a reader learn of the list that is shown.
     fn learn(&mut self, teller: &mut Teller<'_>, line: &Line<'_>) -> Taken {
         let told = self.writer.tell();
@@ -196,15 +190,6 @@ impl<J: ListId + Send, W: Wait> View<'_, J, W> {
         teller.say(format_args!("{} and {} entries", again.len(), longer.len()));
         Ok(())
     }
-}
-
-// Takes each line up to `end`.
-fn take_last_lines<J: ListId>(
-    teller: &mut Teller<'_>,
-    world: &mut World,
-    readers: &mut [ViewReader<J>],
-) -> Taken {
-    take_lines!(teller, "end", line => ask(teller, world, &line, readers), _before = (), true)
 }
 
 // The entry with this number of a kept journal.
@@ -242,18 +227,10 @@ fn ask<J: ListId>(
     words! { teller, world, line;
         "look" as "ViewReader::look" (path = path 1) => reader.look(&path);
         "closure" as "ViewReader::closure" (roots = paths 1)
-            => reader.closure(world.alloc, &roots) => paths;
-        "closure_len" as "ViewReader::closure" (roots = paths 1)
-            => reader.closure(world.alloc, &roots) => count;
-        do "seen" => seen(teller, reader);
+            => reader.closure(world.alloc, &roots);
+        "seen" as "ViewReader::seen Prefix::len" => reader.seen().len();
         do "fault" => fault(teller, world, line, reader);
     }
-}
-
-fn seen<J: ListId>(teller: &mut Teller<'_>, reader: &ViewReader<J>) -> Taken {
-    let seen = call!(teller, "ViewReader::seen" => reader.seen());
-    teller.say(format_args!("{} entries were seen", seen.len()));
-    Ok(())
 }
 
 // Tells the fault of a reader whose writer is gone.

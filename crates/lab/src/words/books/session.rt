@@ -4,26 +4,33 @@ ghost use Rattle.sched_core.specs.Books.{IsBooksLease, MayAllRefer};
 
 use super::{
     Counting, Told, answer, found, look, made_job, opened, status_of, tell_lease, tell_states,
-    tell_told, text_of,
+    text_of,
 };
+use crate::give::Give;
 use crate::line::Line;
 use crate::stop::{Found, Stop, Taken, call, take_lines, tried};
 use crate::teller::Teller;
 use crate::world::World;
 use sched_core::{Book, BookFault, Checked, Lease, Reason};
-use std::alloc::{AllocError, Global};
+use std::alloc::Global;
 use std::mem;
+use std::sync::atomic::{AtomicU64, Ordering};
 
-// A book, and the leases under each name.
-struct Desk {
-    book: Book<Counting>,
+// A book, the leases under each name, and how many entries its outlet didn't show.
+struct Desk<'a> {
+    book: Book<Counting<'a>>,
     leases: [Option<Lease<Told>>; 4],
+    unshown: &'a AtomicU64,
 }
 
 /// Opens a book, and takes its lines.
-pub(crate) fn take_session(teller: &mut Teller<'_>, world: &World, line: &Line<'_>) -> Taken {
-    let (book, leases) = (opened(teller, world, line)?, [None, None, None, None]);
-    let mut desk = Desk { book, leases };
+pub(crate) fn take_session(teller: &mut Teller<'_>, world: &mut World, line: &Line<'_>) -> Taken {
+    let unshown = &AtomicU64::new(0);
+    let mut desk = Desk {
+        book: opened(teller, world, line, unshown)?,
+        leases: [None, None, None, None],
+        unshown,
+    };
     let taken = desk.take_all(teller, world);
     desk.close(teller);
     taken
@@ -41,7 +48,7 @@ fn place_of(name: &[u8]) -> usize {
     usize::from(name.first().unwrap_or(&b'z').wrapping_sub(b'a'))
 }
 
-impl Desk {
+impl Desk<'_> {
     fn take_out(&mut self, name: &[u8]) -> Result<Lease<Told>, Stop> {
         let lease = match self.leases.get_mut(place_of(name)) {
             Some(slot) => slot.take(),
@@ -59,50 +66,49 @@ impl Desk {
     }
 
     // The text of the book and of the leases.
-    fn text(&self, alloc: Global) -> Result<Vec<u8>, AllocError> {
+    fn text(&self, alloc: Global) -> Result<Vec<u8>, Stop> {
         let words = format!(in alloc; "{:?} {:?}", self.book.events(), self.leases)?;
-        match self.book.journal().write(alloc) {
-            Ok(text) => [words.as_bytes(), &text].concat(alloc),
-            Err(_) => Err(AllocError),
-        }
+        Ok([words.as_bytes(), &self.book.journal().write(alloc)?].concat(alloc)?)
     }
 
     fn close(self, teller: &mut Teller<'_>) {
         let Desk {
             book,
             leases: [a, b, c, d],
+            unshown,
         } = self;
         give_up(a);
         give_up(b);
         give_up(c);
         give_up(d);
         call!(teller, "Book::close" => book.close());
+        teller.say(format_args!("{} unshown", unshown.load(Ordering::SeqCst)));
     }
 
-    fn take_all(&mut self, teller: &mut Teller<'_>, world: &World) -> Taken {
+    fn take_all(&mut self, teller: &mut Teller<'_>, world: &mut World) -> Taken {
         take_lines!(teller, "close", line => self.take_once(teller, world, &line),
             before = self.text(world.alloc)?, self.text(world.alloc)? == before)
     }
 
-    fn take_once(&mut self, teller: &mut Teller<'_>, world: &World, line: &Line<'_>) -> Found {
+    fn take_once(&mut self, teller: &mut Teller<'_>, world: &mut World, line: &Line<'_>) -> Found {
         Ok(self.of_book(teller, world, line)? || self.of_lease(teller, world, line)?)
     }
 
-    fn of_book(&mut self, teller: &mut Teller<'_>, world: &World, line: &Line<'_>) -> Found {
+    fn of_book(&mut self, teller: &mut Teller<'_>, world: &mut World, line: &Line<'_>) -> Found {
         words! { teller, world, line;
             "report" as "Book::report" if self.book.settled() => self.book.report() => lines;
+            "journal" as "Journal::write" => self.book.journal().write(world.alloc) => lines;
             do "next" => self.next(teller, line.name);
             do "finish" => self.finish(teller, world, line);
             do "drive" => self.drive(teller, world, line);
             do "reopen" => self.reopen(teller, world, line);
             do "look" => look(teller, &self.book);
-            do "states" => tell_states(teller, world.alloc, &self.book);
-            do "journal" => self.journal(teller, world.alloc);
+            do "states" => tell_states(teller, &self.book);
         }
     }
 
     // Takes a line over a lease, which is put back under its name if it comes back.
-    fn of_lease(&mut self, teller: &mut Teller<'_>, world: &World, line: &Line<'_>) -> Found {
+    fn of_lease(&mut self, teller: &mut Teller<'_>, world: &mut World, line: &Line<'_>) -> Found {
         let name = line.argument(0);
         let mut lease = self.take_out(name)?;
         match line.call {
@@ -120,19 +126,19 @@ impl Desk {
     fn ask(
         &self,
         teller: &mut Teller<'_>,
-        world: &World,
+        world: &mut World,
         line: &Line<'_>,
         lease: &mut Lease<Told>,
     ) -> Found {
         words! { teller, world, line;
             "permitted" as "Book::permitted" => self.book.permitted(lease) => paths;
+            "told" as "Lease::told" => (lease.told(), lease.told());
             do "lease" => tell_lease(teller, lease);
-            do "told" => tell_told(teller, lease);
         }
     }
 
     fn reopen(&mut self, teller: &mut Teller<'_>, world: &World, line: &Line<'_>) -> Taken {
-        let book = opened(teller, world, line)?;
+        let book = opened(teller, world, line, self.unshown)?;
         mem::replace(&mut self.book, book).close();
         Ok(())
     }
@@ -254,12 +260,6 @@ impl Desk {
         let (events, steps) = (self.book.events().len(), self.book.steps());
         let settled = self.book.settled();
         teller.say(format_args!("events {events}, steps {steps}, settled {settled}"));
-        Ok(())
-    }
-
-    fn journal(&self, teller: &mut Teller<'_>, alloc: Global) -> Taken {
-        let text = self.book.journal().write(alloc);
-        teller.lines(&text.ok().ok_or(Stop::Lost("no memory"))?);
         Ok(())
     }
 }

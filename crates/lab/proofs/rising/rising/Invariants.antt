@@ -1,5 +1,5 @@
 use Rattle.nix_names.specs.Rising.{IsRising}
-use Rattle.lab.proofs.rising.first_rising.Given as goal
+use Rattle.lab.proofs.rising.rising.Given as goal
 
 abbrev pub invariant-loop-path : goal.invariant-loop-path
-invariant-loop-path l = IsRising l.rising.items
+invariant-loop-path l = IsRising l.first.items

@@ -1,0 +1,205 @@
+//! Archives. An event is a word: `folder`, `entry:NAME`, `left` and `end`; `file:N` or `program:N`
+//! for a file of N bytes, `piece:TEXT` and `close:N`; `link:TARGET`.
+//!
+//! `archive EVENT ..` is the archive of the events, and `events BYTES N` tells those of an archive
+//! that comes in pieces of N bytes. `altered BYTES` counts what comes of an archive in pieces of
+//! several lengths, and of those that differ a little from it, each read and written again.
+ghost use Rattle.std.specs.Prelude.{⊤};
+
+use crate::give::Give;
+use crate::line::{Line, halves, number_of};
+use crate::stop::{Found, Stop, Taken, call, tried};
+use crate::teller::Teller;
+use crate::world::World;
+use nix_archive::{ArchiveFault, ArchiveReader, ArchiveWriter, Event, Hear};
+use std::alloc::{AllocError, Global};
+
+/// Takes a line, if its call is one of these.
+pub(crate) fn take(teller: &mut Teller<'_>, world: &mut World, line: &Line<'_>) -> Found {
+    words! { teller, world, line;
+        do "archive" => archive(teller, world, line);
+        do "events" => events(teller, world, line);
+        do "altered" => altered(teller, world, line);
+    }
+}
+
+// The event that a word is.
+fn event_of<'a>(world: &'a World, word: &'a [u8]) -> Event<'a> {
+    let (kind, rest) = halves(word, b':');
+    let count = number_of(rest).unwrap_or(0) as u64;
+    match kind {
+        b"folder" => Event::BeginFolder,
+        b"entry" => Event::BeginEntry(world.text(rest)),
+        b"left" => Event::EndEntry,
+        b"end" => Event::EndFolder,
+        b"file" => Event::BeginFile(false, count),
+        b"program" => Event::BeginFile(true, count),
+        b"close" => Event::EndFile(count),
+        b"link" => Event::Link(world.text(rest)),
+        _ => Event::Piece(world.text(rest)),
+    }
+}
+
+fn archive(teller: &mut Teller<'_>, world: &mut World, line: &Line<'_>) -> Taken {
+    let begun = tried!(teller, "ArchiveWriter::begin" =>
+        ArchiveWriter::begin(Vec::new(world.alloc)));
+    let mut writer = begun?;
+    for word in line.arguments(0) {
+        let event = event_of(world, word);
+        tried!(teller, "ArchiveWriter::hear" => writer.hear(event))?;
+    }
+    writer.sink.give(teller, world, line)
+}
+
+// The words of the events that were heard.
+#[derive(Drop)]
+struct Heard {
+    text: String,
+}
+
+impl Hear for Heard {
+    ghost heard = { λ _ _ _. ⊤ };
+
+    ghost silence = { λ _. tt };
+
+    ghost joins = { λ _ _ _ _ _ _ _. tt };
+
+    fn hear(&mut self, event: Event<'_>) -> Result<(), AllocError> {
+        let alloc = *self.text.allocator();
+        let word = match event {
+            Event::BeginFolder => format!(in alloc; "folder "),
+            Event::BeginEntry(name) => format!(in alloc; "entry:{} ", name.escape_ascii()),
+            Event::EndEntry => format!(in alloc; "left "),
+            Event::EndFolder => format!(in alloc; "end "),
+            Event::BeginFile(false, count) => format!(in alloc; "file:{count} "),
+            Event::BeginFile(true, count) => format!(in alloc; "program:{count} "),
+            Event::Piece(bytes) => format!(in alloc; "piece:{} ", bytes.escape_ascii()),
+            Event::EndFile(count) => format!(in alloc; "close:{count} "),
+            Event::Link(target) => format!(in alloc; "link:{} ", target.escape_ascii()),
+        };
+        self.text.push_str(&word?)
+    }
+}
+
+// Has a reader read an archive in pieces of a length. Gives the place of the byte with which no
+// archive goes on, if there is one.
+fn feed<H: Hear>(
+    reader: &mut ArchiveReader,
+    bytes: &[u8],
+    length: usize,
+    hearer: &mut H,
+) -> Result<Option<usize>, AllocError> {
+    let mut done: usize = 0;
+    for piece in bytes.chunks(length.max(1)) {
+        match reader.feed(piece, hearer) {
+            Ok(()) => done = done.saturating_add(piece.len()),
+            Err(ArchiveFault::BadNar(place)) => return Ok(Some(done.saturating_add(place))),
+            Err(_) => return Err(AllocError),
+        }
+    }
+    Ok(None)
+}
+
+fn events(teller: &mut Teller<'_>, world: &World, line: &Line<'_>) -> Taken {
+    let (bytes, length) = (
+        world.text(line.argument(0)),
+        line.number(1).unwrap_or(usize::MAX),
+    );
+    let text = String::new(world.alloc);
+    let mut heard = Heard { text };
+    let mut reader = call!(teller, "ArchiveReader::new" => ArchiveReader::new(world.alloc));
+    let place = tried!(teller, "ArchiveReader::feed" =>
+        feed(&mut reader, bytes, length, &mut heard))?;
+    let is_done = call!(teller, "ArchiveReader::is_done" => reader.is_done());
+    let words = heard.text.as_bytes().strip_suffix(b" ");
+    teller.text(words.unwrap_or(b"none"));
+    match place {
+        Some(place) => teller.say(format_args!("BadNar({place})")),
+        None => teller.say(if is_done { "whole" } else { "unfinished" }),
+    }
+    Ok(())
+}
+
+// What comes of archives: how many are written again with the same bytes, how many may go on, and
+// how many are refused, with the sum of the places.
+#[derive(Default, Drop)]
+struct Counts {
+    written: usize,
+    unfinished: usize,
+    refused: usize,
+    places: usize,
+}
+
+impl Counts {
+    // Counts an archive that comes in pieces of a length.
+    fn add(&mut self, alloc: Global, bytes: &[u8], length: usize) -> Taken {
+        let mut reader = ArchiveReader::new(alloc);
+        let mut writer = ArchiveWriter::begin(Vec::new(alloc))?;
+        let place = feed(&mut reader, bytes, length, &mut writer)?;
+        match place {
+            Some(place) => {
+                count(&mut self.refused, 1);
+                count(&mut self.places, place);
+            }
+            None if !reader.is_done() => count(&mut self.unfinished, 1),
+            None if writer.sink.as_slice() == bytes => count(&mut self.written, 1),
+            None => return Err(Stop::Lost("it is written again with other bytes")),
+        }
+        Ok(())
+    }
+
+    fn tell(&self, teller: &mut Teller<'_>, what: &str) {
+        teller.say(format_args!(
+            "{what}: {} written, {} unfinished, {} refused at {}",
+            self.written, self.unfinished, self.refused, self.places,
+        ));
+    }
+}
+
+fn count(number: &mut usize, more: usize) {
+    *number = number.saturating_add(more);
+}
+
+// The archive in pieces of several lengths.
+fn of_pieces(alloc: Global, bytes: &[u8]) -> Result<Counts, Stop> {
+    let mut counts = Counts::default();
+    for length in [1, 7, 64, usize::MAX] {
+        counts.add(alloc, bytes, length)?;
+    }
+    Ok(counts)
+}
+
+// The texts that end before the archive's last byte.
+fn of_cuts(alloc: Global, bytes: &[u8]) -> Result<Counts, Stop> {
+    let mut counts = Counts::default();
+    for end in 0..bytes.len() {
+        counts.add(alloc, &bytes[..end], 5)?;
+    }
+    Ok(counts)
+}
+
+// The archives in which one bit differs.
+fn of_bits(alloc: Global, bytes: &[u8]) -> Result<Counts, Stop> {
+    const BITS: [u8; 8] = [1, 2, 4, 8, 16, 32, 64, 128];
+    let mut counts = Counts::default();
+    for bit in 0..bytes.len().saturating_mul(8) {
+        let mut changed = bytes.to_vec(alloc)?;
+        if let (Some(byte), Some(mask)) = (changed.get_mut(bit / 8), BITS.get(bit % 8)) {
+            *byte ^= mask;
+        }
+        counts.add(alloc, &changed, 5)?;
+    }
+    Ok(counts)
+}
+
+// No call is told, since each takes memory often.
+fn altered(teller: &mut Teller<'_>, world: &World, line: &Line<'_>) -> Taken {
+    let (alloc, bytes) = (world.alloc, world.text(line.argument(0)));
+    let mut longer = Counts::default();
+    longer.add(alloc, &[bytes, b"\0".as_slice()].concat(alloc)?, 5)?;
+    of_pieces(alloc, bytes)?.tell(teller, "in pieces");
+    of_bits(alloc, bytes)?.tell(teller, "with one bit changed");
+    of_cuts(alloc, bytes)?.tell(teller, "cut");
+    longer.tell(teller, "with a zero more");
+    Ok(())
+}
