@@ -30,7 +30,8 @@ use valid_view::{ListId, Name, Tells, ViewReader};
 /// moment, of a legal history of the run, in which what became of each derivation is a verdict on
 /// what a builder may give. These entries go on from a list that was shown under this name, in
 /// which all is valid that was being built from at that moment. What the returned book shows was
-/// shown under it too; of two such lists one begins with the other, as `Prefix::longer` says. The
+/// shown under it too; of two such lists one begins with the other
+/// (`Prefix::one_begins_the_other`). The
 /// next run reads such a text as these entries, by `laws::journals_of_runs_are_read`. No text is
 /// handed over where nothing was registered since the last one that was kept, nor in the first half
 /// second. The thread has ended whenever the call returns; what was registered last may not have
@@ -136,7 +137,7 @@ fn first_text<J: ListId, O: Tells<J>>(
     if book.settled() {
         return None;
     }
-    KeptText::open(alloc, opening, &O::prefix(book.tell())).ok()
+    KeptText::open(alloc, opening, &O::prefix(book.tell()))
 }
 
 // Lets the workers work, and a keeper keep what they register in a thread of its own, until all

@@ -1,5 +1,5 @@
 //! The text of what a run has registered, as it goes on.
-ghost use Rattle.std.specs.Prelude.{◌≡◌, ◌++◌, IfErr, IfOk, IfSome, List, OnOk};
+ghost use Rattle.std.specs.Prelude.{◌≡◌, ◌++◌, IfSome, List, OnOk};
 ghost use Rattle.valid_table.specs.Written.{written_text};
 ghost use Rattle.valid_table.specs.declared.entry.Entry.{Entry};
 ghost use Rattle.sched_core.specs.Books.{BuildsOver};
@@ -8,7 +8,7 @@ ghost use Rattle.store_run.specs.private.Looking.{IsNews};
 use sched_core::Book;
 use std::alloc::{AllocError, Global};
 use std::marker::Model;
-use valid_table::{Entry, Journal, TableFault, write_lines};
+use valid_table::{Entry, Journal, write_lines};
 use valid_view::{ListId, Prefix, Tells};
 
 // The text of the entries of a run, as far as a keeper has looked. It begins with the text of the
@@ -59,19 +59,15 @@ impl<J: ListId> Model for NewLines<J> {
 }
 
 impl<J: ListId> KeptText<J> {
-    // The text of a journal, whose entries are shown, and which is kept.
-    pub(crate) fn open(
-        alloc: Global,
-        journal: &Journal,
-        shown: &Prefix<J>,
-    ) -> Result<KeptText<J>, TableFault>
+    // The text of a journal, whose entries are shown, and which is kept; none where memory is
+    // refused.
+    pub(crate) fn open(alloc: Global, journal: &Journal, shown: &Prefix<J>) -> Option<KeptText<J>>
         requires { shown.now ≡ journal.now.entries }
-        ensures shown { IfOk result (λ text. text.shown ≡ journal.now.entries) }
-        ensures text { IfOk result (λ text. text.text ≡ written_text journal.now.entries) }
-        ensures err { IfErr result (λ e. e ≡ TableFault.NoMemory) }
+        ensures shown { IfSome result (λ text. text.shown ≡ journal.now.entries) }
+        ensures text { IfSome result (λ text. text.text ≡ written_text journal.now.entries) }
     {
-        let bytes = journal.write(alloc)?;
-        Ok(KeptText {
+        let bytes = journal.write(alloc).ok()?;
+        Some(KeptText {
             shown_len: bytes.len(),
             bytes,
             shown: shown.again(),
@@ -155,8 +151,7 @@ fn what_is_new<J: ListId>(
     ensures shown { IfSome result (λ looked. J.Showing.shown J.book looked.shown) }
 {
     let (before, now) = (known.len() as usize, shown.len() as usize);
-    // Its contract says that the shorter of the two begins the longer.
-    let _ = known.longer(&shown);
+    shown.one_begins_the_other(known);
     if now < before {
         return None;
     }

@@ -150,9 +150,7 @@ impl<O: Outlet, B: Build, S: Basis> Shared<O, B, S> {
         O: Tells<J>,
         ensures { J.Showing.shown J.book self.now.book.shown }
     {
-        let shown = O::prefix(self.book.tell());
-        // Its contract says that the list was shown.
-        let _ = shown.len();
+        O::prefix(self.book.tell()).was_shown();
     }
 
     // The same, over any basis.

@@ -111,13 +111,19 @@ impl<J: ListId + Send, R: Wait + Drop> Outlet for ViewWriter<J, R> {
         }
     }
 
-    fn tell(&self) -> Prefix<J> {
-        self.feed.prefix()
+    /// The list that is shown. Never waits, and takes no memory.
+    fn tell(&self) -> Prefix<J>
+        ensures is { result ≡ self.now.shown }
+        ensures shown { J.Showing.shown J.book self.now.shown }
+    {
+        ViewWriter::tell(self)
     }
 
     /// Ends the view: readers are answered `NoView` from now on, and entries that wait are not
     /// shown. Waits for readers that still read.
-    fn close(self) {
+    fn close(self)
+        ensures shown { J.Showing.shown J.book self.shown }
+    {
         let _shown = ViewWriter::close(self);
     }
 }
