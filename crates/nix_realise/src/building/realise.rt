@@ -39,7 +39,7 @@ use std::rt::Files;
 use std::sync::Wait;
 use std::thread::Threads;
 use std::time::Clock;
-use store_run::{CheckpointSink, RunFault, realise_kept};
+use store_run::{RunFault, realise_kept};
 use valid_table::Outlet;
 use valid_view::{ListId, Name};
 
@@ -155,25 +155,26 @@ where
         let drvs = DrvPaths::of(rt.alloc(), self.task.plan())?;
         let place = self.file.place(rt.alloc(), places)?;
         let options = self.options(logs, &drvs);
-        self.build_traced::<M, P::Place, O>(make, &options, place, out)
+        self.build_traced::<M, P, O>(make, &options, place, out)
     }
 
     // Makes the builders, which note their leases if the request asks for a trace, and lets them
     // build; then the trace is written.
-    fn build_traced<M, K, O>(
+    fn build_traced<M, P, O>(
         &self,
         make: &M,
         options: &BuildOptions<'_>,
-        place: K,
+        place: P::Place,
         out: &mut O,
     ) -> Result<Outcome, RunError<'a>>
     where
         M: Builders,
-        K: CheckpointSink + Send + Drop,
+        P: JournalSinks,
         O: Write,
         requires options { AreOptionsFor self.now.request.now (paths_of self.now.task.plan.nodes)
             options.now }
-        requires each { (text : Bytes) → K.may_keep text }
+        requires place { P.keeps_at place (string_bytes self.now.file.now.path) }
+        requires each { (text : Bytes) → P.Place.may_keep text }
         ensures { TaskEnds M.Builder.may self.now.request.now self.now.task
             (O.contents out.old) (O.contents out.new) result }
     {
@@ -181,7 +182,7 @@ where
         let trace = TraceFile::of(rt, request);
         let make = WithTrace::new(rt, make, TraceFile::trace_in(&trace));
         let builders = make_all(rt.alloc(), &make, request, options)?;
-        let ended = self.build::<Brand, WithTrace<'_, R, M>, K, O>(
+        let ended = self.build::<Brand, WithTrace<'_, R, M>, P, O>(
             Name::new(),
             builders,
             place,
@@ -192,31 +193,32 @@ where
 
     // Builds the wanted derivations over a view of this name, by one worker for each builder, keeps
     // the journal in its place meanwhile, and ends the run.
-    fn build<J, M, K, O>(
+    fn build<J, M, P, O>(
         &self,
         name: Name,
         builders: Vec<M::Builder>,
-        place: K,
+        place: P::Place,
         out: &mut O,
     ) -> Result<Outcome, RunError<'a>>
     where
         J: ListId + Send + Sync,
         M: Builders,
-        K: CheckpointSink + Send + Drop,
+        P: JournalSinks,
         O: Write,
         requires named { name ≡ J.book }
         requires jobs { length builders.items ≡ self.now.request.now.jobs }
         requires options { (options : BuildOptions)
             × AreOptionsFor self.now.request.now (paths_of self.now.task.plan.nodes) options
             × All (λ b. M.builds_in b options) builders.items }
-        requires each { (text : Bytes) → K.may_keep text }
+        requires place { P.keeps_at place (string_bytes self.now.file.now.path) }
+        requires each { (text : Bytes) → P.Place.may_keep text }
         ensures { RunEnds M.Builder.may self.now.request.now self.now.task
             (O.contents out.old) (O.contents out.new) result }
     {
         let (rt, request) = (self.rt, self.request);
         let (plan, opening) = (self.task.plan(), self.task.journal());
         let system = request.run.system.as_bytes();
-        match realise_kept::<J, R, M::Builder, K>(
+        match realise_kept::<J, R, M::Builder, P::Place>(
             rt,
             rt.alloc(),
             name,
