@@ -4,8 +4,8 @@ use Rattle.std.specs.Io.KnownBytes.{Appends}
 use Rattle.nix_names.specs.Bytes.{Bytes}
 use Rattle.valid_table.specs.declared.entry.Entry.{Entry}
 use Rattle.run_states.specs.Runs.{Run as RunOver}
+use Rattle.run_report.specs.Forecasts.{IsForecast, is_whole}
 use Rattle.run_report.specs.Pictures.{IsPicture}
-use Rattle.run_report.specs.Texts.{IsForecast, is_whole}
 use Rattle.command_line.specs.declared.options.PlanRequest.{PlanRequest}
 use Rattle.command_line.specs.declared.options.RunRequest.{RunRequest}
 use Rattle.nix_realise.specs.Files.{FileBytes}

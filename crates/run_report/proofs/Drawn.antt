@@ -1,5 +1,5 @@
--- The picture of a forecast, by what the code writes and by what it holds.
-use Rattle.std.proofs.Common.{◌≡◌, ◌∙◌, ◌<◌, ⊎_elim, inr, ℕ, zero, suc, Bool, true, false, List, [], ◌∷◌, ◌++◌, Some, codes, length, map, replicate, sym, ap, rules}
+-- The picture of a forecast, by what the code writes.
+use Rattle.std.proofs.Common.{◌≡◌, ◌∙◌, ⊎_elim, inr, ℕ, zero, suc, Bool, true, false, List, [], ◌∷◌, ◌++◌, Some, codes, length, map, replicate, sym, ap, rules}
 use Rattle.std.specs.Prelude.{Vec, flat_map, slice_get}
 use Rattle.std.specs.declared.alloc.Global.{Global}
 use Rattle.std.specs.List.{slice_index_or}
@@ -12,22 +12,20 @@ use Rattle.nix_drv.specs.declared.derivation.Input.{Input as InputStruct}
 use Rattle.drv_graph.specs.Nodes.{Node, paths_of}
 use Rattle.drv_graph.specs.PlanNodes.{drvs_of}
 use Rattle.drv_graph.specs.Plans.{Graph}
-use Rattle.valid_table.specs.declared.entry.Entry.{Entry}
 use Rattle.run_report.specs.Listing.{IsMarked, numbers_of}
 use Rattle.run_report.specs.Reports.{lines_if_some}
 use Rattle.run_states.specs.Runs.{IsWanted, Run, is_one_of}
+use Rattle.run_states.specs.StateTables.{AreWanted}
+use Rattle.valid_table.specs.declared.entry.Entry.{Entry}
+use Rattle.run_report.specs.Forecasts.{foretold}
 use Rattle.run_report.specs.declared.listing.Listed.{Listed}
 use Rattle.run_states.specs.declared.state.State.{State}
 use Rattle.run_states.proofs.OwnStandings.{drv_is}
 use Rattle.run_report.proofs.RunReports.{by_path_moved, marks_told, same_texts}
 use Rattle.run_states.proofs.Tests.{is_among, is_found, same_test}
 use Rattle.run_states.proofs.Wanting.{Marks, none_marked}
-use Rattle.run_report.specs.Forecasts.{foretold}
-use Rattle.run_report.specs.Holding.{IsHeld, state_at}
 use Rattle.run_report.specs.private.Marks.{AreRoots, is_marked}
-use Rattle.run_report.specs.Pictures.{IsDrawing, IsPicture, awaits_inputs, drawing, edge_line, edge_lines, edges_at, listed_names, node_at, node_line}
-use Rattle.run_report.specs.declared.prospect.Prospect.{Prospect}
-use Rattle.run_report.proofs.Held.{held_state, same_at}
+use Rattle.run_report.specs.Pictures.{IsDrawing, IsPicture, awaits_inputs, drawing, edge_line, edges_at, listed_names, node_at, node_line}
 
 -- ---- what is written
 
@@ -119,30 +117,14 @@ drawn graph state marks listed start text roots empty is =
     edges_of : Listed → List ℕ
     edges_of l = edges l.number
 
--- what is drawn follows from the states of a plan's derivations
-same_drawing : (nodes : List Node) (f g : ℕ → State) (is_root : ℕ → Bool) (numbers : List ℕ)
-    → ((d : ℕ) → d < length nodes → f d ≡ g d)
-    → drawing nodes f is_root numbers ≡ drawing nodes g is_root numbers
-same_drawing nodes f g is_root numbers same =
-    ap (λ (ns : List ℕ). codes "digraph plan {\n" ++ ns ++ flat_map (edges_at nodes f) numbers
-    ++ codes "}\n")
-    (same_texts (node_at nodes f is_root) (node_at nodes g is_root) numbers
-    (λ d. same_at nodes (λ s node. node_line node.path s (is_root d)) (f d) (g d) d (same d)))
-    ∙ ap (λ (es : List ℕ). codes "digraph plan {\n" ++ flat_map (node_at nodes g is_root) numbers
-    ++ es ++ codes "}\n")
-    (same_texts (edges_at nodes f) (edges_at nodes g) numbers
-    (λ d. same_at nodes (λ s node. edge_lines node s) (f d) (g d) d (same d)))
-
--- the picture by what is held is that of the forecast
-pub held_picture : (run : Run) (opening : List Entry) (wanted : List Bool)
-    (prospects : List Prospect) (text : List ℕ) → IsHeld run opening wanted prospects
-    → IsDrawing run.graph (IsMarked wanted (length run.graph.nodes)) (state_at prospects) text
+-- the picture by the marks of what is wanted is that of the forecast
+pub picture_moved : (run : Run) (opening : List Entry) (wanted : List Bool) (text : List ℕ)
+    → AreWanted run opening wanted
+    → IsDrawing run.graph (IsMarked wanted (length run.graph.nodes)) (foretold run opening) text
     → IsPicture run opening text
-held_picture run opening wanted prospects text held is = record {
+picture_moved run opening wanted text are is = record {
   wanted = is.wanted;
   by_path = by_path_moved run.graph.nodes (IsMarked wanted (length run.graph.nodes))
-      (IsWanted run opening) is.wanted (marks_told run opening wanted held.are_wanted) is.by_path;
-  is_text = is.is_text
-      ∙ same_drawing run.graph.nodes (state_at prospects) (foretold run opening)
-      (is_one_of run.graph.roots) is.wanted (held_state run opening wanted prospects held);
+      (IsWanted run opening) is.wanted (marks_told run opening wanted are) is.by_path;
+  is_text = is.is_text;
 }

@@ -1,10 +1,10 @@
--- What is known on the way through a plan, of the prospects and of the twins that are built.
+-- What is known on the way through a plan, of the states so far and of the twins that are built.
 use Rattle.std.proofs.Common.{◌≡◌, ◌∙◌, ◌⊎◌, inl, inr, ⊎_elim, ℕ, zero, suc, ◌<◌, ◌≤◌, Bool, true, false, List, [], ◌∷◌, ◌++◌, length, replicate, get_or, Some, refl, sym, ap, subst, arith, if◌then◌else◌, rules}
 use Rattle.std.specs.Prelude.{Contains, cond, find, slice_get}
-use Rattle.std.specs.List.{list_any, slice_index_or}
+use Rattle.std.specs.List.{list_all, list_any, slice_index_or}
 use Rattle.std.proofs.Math.ListN.{get_or-append, length-append, length-set, set}
 use Rattle.std.proofs.Math.Seq.{get_or-append_seam}
-use Rattle.std.proofs.lemmas.Bool.{and_from, cases_eq, cases_lt, eq-eqb, eqb-true, false≢true, true≢false}
+use Rattle.std.proofs.lemmas.Bool.{and_from, and_left, and_right, cases_eq, cases_lt, eq-eqb, eqb-true, false≢true, true≢false}
 use Rattle.std.proofs.lemmas.List.{get_or-map, get_or-set_other, get_or-set_same, get_or_past, length-map, length-replicate, map-append}
 use Rattle.drv_graph.specs.Nodes.{Node}
 use Rattle.drv_graph.specs.Plans.{Graph}
@@ -15,7 +15,7 @@ use Rattle.run_states.specs.StateTables.{AreStandings, AreWanted}
 use Rattle.run_states.specs.Runs.{Run, earlier_twins, inputs_at, is_wanted, rows_of, standing_at}
 use Rattle.run_states.specs.States.{by_hindrance, by_inputs, by_twins, by_validity, is_bad, is_done, is_good, is_open, states_by}
 use Rattle.run_states.specs.declared.state.State.{State}
-use Rattle.run_states.specs.declared.state.State.TheVariants.{Blocked, Done, Refused, Reused}
+use Rattle.run_states.specs.declared.state.State.TheVariants.{Blocked, Building, Done, Failed, Ready, Refused, Reused}
 use Rattle.run_states.specs.declared.state.Refusal.TheVariants.{InputNotRealised}
 use Rattle.run_states.specs.declared.precondition.Precondition.{Precondition}
 use Rattle.run_states.specs.declared.precondition.Precondition.TheVariants.{Free}
@@ -26,45 +26,37 @@ use Rattle.run_states.proofs.Tests.{any_passes, one_passes, same_test}
 use Rattle.run_states.proofs.TwinLaws.{is_earlier_twin, same_first}
 use Rattle.run_states.proofs.Wanting.{any_default, none_marked, wanted_told}
 use Rattle.run_report.specs.Forecasts.{built_if_ready, built_table}
-use Rattle.run_report.specs.Holding.{AreForetold, state_at, state_of, states_of}
-use Rattle.run_report.specs.declared.prospect.Prospect.{Prospect}
-use Rattle.run_report.specs.declared.prospect.Prospect.TheVariants.{Build, Refuse, Reuse}
+use Rattle.run_report.specs.private.Holding.{AreClosed, AreForetold, state_at}
 use Rattle.run_report.proofs.Foretelling.{built_is}
 use Rattle.drv_graph.proofs.FirstTwins.{first_within}
 
--- ---- prospects, and the states that they foretell
-
-pub read_state : (prospects : List Prospect) (i : ℕ) → i < length prospects
-    → state_of (slice_index_or prospects i Build) ≡ state_at prospects i
-read_state prospects i low = search (rules, get_or-map)
-
-pub state_past : (prospects : List Prospect) (i : ℕ) → length prospects ≤ i
-    → state_at prospects i ≡ Blocked
-state_past prospects i past = search (rules, get_or_past, length-map)
-
-pub bad_unless_good : (p : Prospect) → is_good (state_of p) ≡ false → is_bad (state_of p) ≡ true
-bad_unless_good Build is_not = absurd (true≢false is_not)
-bad_unless_good Reuse is_not = absurd (true≢false is_not)
-bad_unless_good (Refuse cause) is_not = refl
-
-not_open : (p : Prospect) → is_open (state_of p) ≡ false
-not_open Build = refl
-not_open Reuse = refl
-not_open (Refuse cause) = refl
-
--- a derivation that has a prospect has nothing before it
-closed_at : (prospects : List Prospect) (i : ℕ) → i < length prospects
-    → is_open (state_at prospects i) ≡ false
-closed_at [] i low = absurd (omega arith)
-closed_at (p ∷ ps) zero low = not_open p
-closed_at (p ∷ ps) (suc i) low = closed_at ps i (omega arith)
-
 -- ---- the first input that is refused
 
--- the inputs before a place are good
-abbrev pub AreGood : List Prospect → (inputs : List ℕ) → (place : ℕ) → Type 0
-AreGood prospects inputs place = (k : ℕ) → k < place
-    → is_good (state_at prospects (get_or inputs k 0)) ≡ true
+-- those before a place are built or reused
+abbrev pub AreGood : (state : ℕ → State) → (numbers : List ℕ) → (place : ℕ) → Type 0
+AreGood state numbers place = (k : ℕ) → k < place → is_good (state (get_or numbers k 0)) ≡ true
+
+-- so are all, in the end
+all_good : (f : ℕ → State) (numbers : List ℕ) (place : ℕ) → length numbers ≤ place
+    → AreGood f numbers place → (i : ℕ) → Contains numbers i → is_good (f i) ≡ true
+all_good f numbers place past good i has =
+    let low = has.1 in
+    subst (λ n. is_good (f n) ≡ true) (any_default numbers has.0 0 i low ∙ has.2)
+    (good has.0 (omega arith))
+
+pub are_whole : (f : ℕ → State) (numbers : List ℕ) (place : ℕ) → length numbers ≤ place
+    → AreGood f numbers place → true ≡ list_all (λ i. is_good (f i)) numbers
+are_whole f numbers place past good = sym (all_from f numbers (all_good f numbers place past good))
+
+-- or one isn't
+pub not_whole : (f : ℕ → State) (numbers : List ℕ) (place : ℕ) → place < length numbers
+    → is_good (f (get_or numbers place 0)) ≡ false → false ≡ list_all (λ i. is_good (f i)) numbers
+not_whole f [] place low not = absurd (omega arith)
+not_whole f (n ∷ ns) zero low not =
+    sym (and_left (is_good (f n)) (list_all (λ i. is_good (f i)) ns) not)
+not_whole f (n ∷ ns) (suc place) low not =
+    sym (and_right (is_good (f n)) (list_all (λ i. is_good (f i)) ns)
+    (sym (not_whole f ns place (omega arith) not)))
 
 first_bad : (f : ℕ → State) (inputs : List ℕ) (place : ℕ) → place < length inputs
     → ((k : ℕ) → k < place → is_bad (f (get_or inputs k 0)) ≡ false)
@@ -77,49 +69,54 @@ first_bad f (i ∷ is) (suc place) low before here =
     ∙ first_bad f is place (omega arith) (λ k less. before (suc k) (omega arith)) here
 
 -- it is refused for that one
-pub refused_behind : (prospects : List Prospect) (inputs : List ℕ) (place input : ℕ)
-    → place < length inputs → input ≡ get_or inputs place 0 → AreGood prospects inputs place
-    → is_bad (state_at prospects input) ≡ true
-    → ◌≡◌ {A = State} (Refused (InputNotRealised input))
-    (built_if_ready (by_inputs (state_at prospects) inputs))
-refused_behind prospects inputs place input low is good bad =
+pub refused_behind : (f : ℕ → State) (inputs : List ℕ) (place input : ℕ)
+    → place < length inputs → input ≡ get_or inputs place 0 → AreGood f inputs place
+    → is_bad (f input) ≡ true
+    → ◌≡◌ {A = State} (Refused (InputNotRealised input)) (built_if_ready (by_inputs f inputs))
+refused_behind f inputs place input low is good bad =
     search (rules, first_bad, inputs, good_not_bad)
 
 -- after good ones it is built
-pub built_behind : (prospects : List Prospect) (inputs : List ℕ) (place : ℕ)
-    → length inputs ≤ place → AreGood prospects inputs place
-    → ◌≡◌ {A = State} Done (built_if_ready (by_inputs (state_at prospects) inputs))
-built_behind prospects inputs place past good =
-    let f = state_at prospects in
-    let each : (i : ℕ) → Contains inputs i → is_good (f i) ≡ true = λ i has.
-    let low = has.1 in
-    subst (λ n. is_good (f n) ≡ true) (any_default inputs has.0 0 i low ∙ has.2)
-    (good has.0 (omega arith)) in
+pub built_behind : (f : ℕ → State) (inputs : List ℕ) (place : ℕ) → length inputs ≤ place
+    → AreGood f inputs place
+    → ◌≡◌ {A = State} Done (built_if_ready (by_inputs f inputs))
+built_behind f inputs place past good =
+    let each = all_good f inputs place past good in
     sym (rw (none_bad f inputs each, all_from f inputs each) refl)
+
+-- what is neither open nor good is bad
+pub bad_unless_good : (s : State) → is_open s ≡ false → is_good s ≡ false → is_bad s ≡ true
+bad_unless_good Done closed is_not = absurd (true≢false is_not)
+bad_unless_good Reused closed is_not = absurd (true≢false is_not)
+bad_unless_good (Failed reason) closed is_not = refl
+bad_unless_good (Refused cause) closed is_not = refl
+bad_unless_good (Building lease) closed is_not = absurd (true≢false closed)
+bad_unless_good Ready closed is_not = absurd (true≢false closed)
+bad_unless_good Blocked closed is_not = absurd (true≢false closed)
 
 -- ---- twins that are built
 
 -- One of the first derivations is wanted and built, and has this first twin.
-pub record IsBuiltTwin (nodes : List Node) (wanted : List Bool) (prospects : List Prospect)
+pub record IsBuiltTwin (nodes : List Node) (wanted : List Bool) (states : List State)
     (first t : ℕ) : Type 0 where
-  pub earlier : t < length prospects
+  pub earlier : t < length states
   pub wanted_is : slice_index_or wanted t false ≡ true
   pub first_is : first_twin_of nodes t ≡ first
-  pub built_is : is_done (state_at prospects t) ≡ true
+  pub built_is : is_done (state_at states t) ≡ true
 
 -- Of each first twin, whether a wanted one of its twins so far is built.
-pub record AreBuilt (nodes : List Node) (wanted : List Bool) (prospects : List Prospect)
+pub record AreBuilt (nodes : List Node) (wanted : List Bool) (states : List State)
     (built : List Bool) : Type 0 where
   pub size : length built ≡ length nodes
   pub yes : (first : ℕ) → slice_index_or built first false ≡ true
-      → (t : ℕ) × IsBuiltTwin nodes wanted prospects first t
-  pub no : (first t : ℕ) → IsBuiltTwin nodes wanted prospects first t
+      → (t : ℕ) × IsBuiltTwin nodes wanted states first t
+  pub no : (first t : ℕ) → IsBuiltTwin nodes wanted states first t
       → slice_index_or built first false ≡ true
 
-pub none_built : (nodes : List Node) (wanted built : List Bool) (prospects : List Prospect) (n : ℕ)
-    → n ≡ length nodes → built ≡ replicate n false → prospects ≡ []
-    → AreBuilt nodes wanted prospects built
-none_built nodes wanted built prospects n all none start = record {
+pub none_built : (nodes : List Node) (wanted built : List Bool) (states : List State) (n : ℕ)
+    → n ≡ length nodes → built ≡ replicate n false → states ≡ []
+    → AreBuilt nodes wanted states built
+none_built nodes wanted built states n all none start = record {
   size = ap length none ∙ length-replicate n false ∙ all;
   yes = λ first is. absurd (false≢true (sym (unmarked first) ∙ is));
   no = λ first t twin. let low = twin.earlier in absurd (omega (arith, ap length start));
@@ -128,27 +125,24 @@ none_built nodes wanted built prospects n all none start = record {
     unmarked : (first : ℕ) → slice_index_or built first false ≡ false
     unmarked first = search (rules, none_marked)
 
-module _ (nodes : List Node) (wanted : List Bool) (prospects : List Prospect) (p : Prospect) where
-  abbrev more : List Prospect
-  more = prospects ++ p ∷ []
+module _ (nodes : List Node) (wanted : List Bool) (states : List State) (s : State) where
+  abbrev more : List State
+  more = states ++ s ∷ []
 
   -- its number
   abbrev d : ℕ
-  d = length prospects
+  d = length states
 
-  states_more : states_of more ≡ states_of prospects ++ state_of p ∷ []
-  states_more = map-append state_of prospects (p ∷ [])
+  state_before : (t : ℕ) → t < d → state_at more t ≡ state_at states t
+  state_before t low = get_or-append states (s ∷ []) Blocked t low
 
-  state_before : (t : ℕ) → t < d → state_at more t ≡ state_at prospects t
-  state_before t low = search (rules, states_more, get_or-append, length-map)
+  state_here : state_at more d ≡ s
+  state_here = get_or-append_seam states s [] Blocked
 
-  state_here : state_at more d ≡ state_of p
-  state_here = search (rules, d, states_more, length-map, get_or-append_seam)
-
-  twin_stays : (first t : ℕ) → IsBuiltTwin nodes wanted prospects first t
+  twin_stays : (first t : ℕ) → IsBuiltTwin nodes wanted states first t
       → IsBuiltTwin nodes wanted more first t
   twin_stays first t twin = record {
-    earlier = let low = twin.earlier in omega (arith, length-append prospects (p ∷ []));
+    earlier = let low = twin.earlier in omega (arith, length-append states (s ∷ []));
     wanted_is = twin.wanted_is;
     first_is = twin.first_is;
     built_is = ap is_done (state_before t twin.earlier) ∙ twin.built_is;
@@ -156,7 +150,7 @@ module _ (nodes : List Node) (wanted : List Bool) (prospects : List Prospect) (p
 
   -- it was one before, or is the one more
   twin_was : (first t : ℕ) → IsBuiltTwin nodes wanted more first t
-      → IsBuiltTwin nodes wanted prospects first t ⊎ (t ≡ d)
+      → IsBuiltTwin nodes wanted states first t ⊎ (t ≡ d)
   twin_was first t twin = ⊎_elim
       (λ low. inl (record {
         earlier = low;
@@ -164,13 +158,13 @@ module _ (nodes : List Node) (wanted : List Bool) (prospects : List Prospect) (p
         first_is = twin.first_is;
         built_is = sym (ap is_done (state_before t low)) ∙ twin.built_is;
       }))
-      (λ past. inr (let low = twin.earlier in omega (arith, length-append prospects (p ∷ []))))
+      (λ past. inr (let low = twin.earlier in omega (arith, length-append states (s ∷ []))))
       (cases_lt t d)
 
   -- a derivation more that is wanted and built marks its first twin
   pub built_marked : (built : List Bool) → d < length nodes
-      → slice_index_or wanted d false ≡ true → is_done (state_of p) ≡ true
-      → AreBuilt nodes wanted prospects built
+      → slice_index_or wanted d false ≡ true → is_done s ≡ true
+      → AreBuilt nodes wanted states built
       → AreBuilt nodes wanted more (set built (first_twin_of nodes d) true)
   built_marked built low is done are = record {
     size = length-set built (first_twin_of nodes d) true ∙ are.size;
@@ -178,7 +172,7 @@ module _ (nodes : List Node) (wanted : List Bool) (prospects : List Prospect) (p
         (λ same. (
           d,
           record {
-            earlier = omega (arith, length-append prospects (p ∷ []));
+            earlier = omega (arith, length-append states (s ∷ []));
             wanted_is = is;
             first_is = sym same;
             built_is = ap is_done state_here ∙ done;
@@ -204,8 +198,8 @@ module _ (nodes : List Node) (wanted : List Bool) (prospects : List Prospect) (p
 
   -- another leaves the marks as they were
   pub built_kept : (built : List Bool)
-      → (slice_index_or wanted d false ≡ true → is_done (state_of p) ≡ true → ⊥)
-      → AreBuilt nodes wanted prospects built → AreBuilt nodes wanted more built
+      → (slice_index_or wanted d false ≡ true → is_done s ≡ true → ⊥)
+      → AreBuilt nodes wanted states built → AreBuilt nodes wanted more built
   built_kept built neither are = record {
     size = are.size;
     yes = λ first marked. let was = are.yes first marked in (was.0, twin_stays first was.0 was.1);
@@ -219,20 +213,20 @@ module _ (nodes : List Node) (wanted : List Bool) (prospects : List Prospect) (p
 
 -- ---- the states of the first derivations
 
--- The prospects so far foretell the states of the first derivations.
+-- The states so far are those that are foretold of the first derivations.
 pub record AreFirst (graph : Graph) (standings : List Precondition) (wanted : List Bool)
-    (prospects : List Prospect) : Type 0 where
+    (states : List State) : Type 0 where
   pub each : (run : Run) (opening : List Entry) → run.graph ≡ graph
       → AreStandings run.system opening graph.nodes standings → AreWanted run opening wanted
-      → states_of prospects ≡ states_by (built_table (rows_of run opening [])) (length prospects)
+      → states ≡ states_by (built_table (rows_of run opening [])) (length states)
 
 pub none_first : (graph : Graph) (standings : List Precondition) (wanted : List Bool)
-    (prospects : List Prospect) → prospects ≡ [] → AreFirst graph standings wanted prospects
+    (states : List State) → states ≡ [] → AreFirst graph standings wanted states
 unfolding states_by
-none_first graph standings wanted prospects none = record {
+none_first graph standings wanted states none = record {
   each = λ run opening same stand want.
-      subst (λ (ps : List Prospect). states_of ps
-      ≡ states_by (built_table (rows_of run opening [])) (length ps)) (sym none) refl;
+      subst (λ (ss : List State). ss ≡ states_by (built_table (rows_of run opening [])) (length ss))
+      (sym none) refl;
 }
 
 -- a rule's states, one more
@@ -243,23 +237,23 @@ unfolding states_by
 states_next rule n = refl
 
 module _ (run : Run) (opening : List Entry) (sound : IsSound run.graph) (wanted : List Bool)
-    (are_wanted : AreWanted run opening wanted) (prospects : List Prospect) (built : List Bool)
-    (are_built : AreBuilt run.graph.nodes wanted prospects built)
-    (low : length prospects < length run.graph.nodes) where
+    (are_wanted : AreWanted run opening wanted) (states : List State) (built : List Bool)
+    (are_built : AreBuilt run.graph.nodes wanted states built) (closed : AreClosed states)
+    (low : length states < length run.graph.nodes) where
   abbrev here : ℕ
-  here = length prospects
+  here = length states
 
   abbrev nodes : List Node
   nodes = run.graph.nodes
 
   -- an earlier twin is built exactly if its first twin is marked
-  twin_told : list_any (λ t. is_done (state_at prospects t)) (earlier_twins run opening here)
+  twin_told : list_any (λ t. is_done (state_at states t)) (earlier_twins run opening here)
       ≡ slice_index_or built (first_twin_of nodes here) false
   twin_told =
-      same_test (list_any (λ t. is_done (state_at prospects t)) (earlier_twins run opening here))
+      same_test (list_any (λ t. is_done (state_at states t)) (earlier_twins run opening here))
       (slice_index_or built (first_twin_of nodes here) false)
       (λ any.
-      let found = one_passes (λ t. is_done (state_at prospects t))
+      let found = one_passes (λ t. is_done (state_at states t))
       (earlier_twins run opening here) any in
       let twin = is_earlier_twin run opening here found.0 found.1 in
       are_built.no (first_twin_of nodes here) found.0 (record {
@@ -273,7 +267,7 @@ module _ (run : Run) (opening : List Entry) (sound : IsSound run.graph) (wanted 
       (λ marked.
       let found = are_built.yes (first_twin_of nodes here) marked in
       let twin = found.1 in
-      any_passes (λ t. is_done (state_at prospects t)) (earlier_twins run opening here) found.0
+      any_passes (λ t. is_done (state_at states t)) (earlier_twins run opening here) found.0
       (twins_from run opening here found.0 twin.earlier
       (and_from (is_wanted run opening found.0)
       (are_twins_at (slice_get nodes found.0) (slice_get nodes here))
@@ -282,46 +276,46 @@ module _ (run : Run) (opening : List Entry) (sound : IsSound run.graph) (wanted 
       ∙ eq-eqb (first_twin_of nodes found.0) (first_twin_of nodes here) twin.first_is)))
       twin.built_is)
 
-  none_open : list_any (λ t. is_open (state_at prospects t)) (earlier_twins run opening here)
+  none_open : list_any (λ t. is_open (state_at states t)) (earlier_twins run opening here)
       ≡ false
-  none_open = none_from (λ t. is_open (state_at prospects t)) (earlier_twins run opening here)
-      (λ t has. closed_at prospects t (is_earlier_twin run opening here t has).earlier)
+  none_open = none_from (λ t. is_open (state_at states t)) (earlier_twins run opening here)
+      (λ t has. closed t Blocked (is_earlier_twin run opening here t has).earlier)
 
   -- what the table of foretold states says of the next derivation
   pub table_here : (standing : Precondition)
       → standing ≡ standing_at run.system opening (slice_get nodes here)
-      → built_table (rows_of run opening []) (state_at prospects) here
+      → built_table (rows_of run opening []) (state_at states) here
       ≡ built_if_ready (by_validity standing
       (if slice_index_or built (first_twin_of nodes here) false then Reused
       else by_hindrance standing
-      (by_inputs (state_at prospects) (inputs_at nodes (slice_get nodes here)))))
+      (by_inputs (state_at states) (inputs_at nodes (slice_get nodes here)))))
   table_here standing stands =
-      built_is (rows_of run opening []) (state_at prospects) here
-      ∙ ap (λ s. built_if_ready (by_validity s (by_twins (state_at prospects)
+      built_is (rows_of run opening []) (state_at states) here
+      ∙ ap (λ s. built_if_ready (by_validity s (by_twins (state_at states)
       (earlier_twins run opening here) (by_hindrance s inputs)))) (sym stands)
       ∙ ap (λ b. built_if_ready (by_validity standing (if b then Reused
-      else if list_any (λ t. is_open (state_at prospects t)) (earlier_twins run opening here)
+      else if list_any (λ t. is_open (state_at states t)) (earlier_twins run opening here)
       then Blocked else by_hindrance standing inputs))) twin_told
       ∙ ap (λ b. built_if_ready (by_validity standing
       (if slice_index_or built (first_twin_of nodes here) false then Reused
       else if b then Blocked else by_hindrance standing inputs))) none_open
     where
       inputs : State
-      inputs = by_inputs (state_at prospects) (inputs_at nodes (slice_get nodes here))
+      inputs = by_inputs (state_at states) (inputs_at nodes (slice_get nodes here))
 
--- the next derivation's prospect foretells its state
+-- the next derivation has the state that is foretold of it
 pub first_more : (graph : Graph) (standings : List Precondition) (wanted : List Bool)
-    (prospects : List Prospect) (built : List Bool) (p : Prospect) (standing : Precondition)
-    (marked : Bool) (inputs : List ℕ) → IsSound graph → length prospects < length graph.nodes
-    → standing ≡ slice_index_or standings (length prospects) Free
-    → marked ≡ slice_index_or built (first_twin_of graph.nodes (length prospects)) false
-    → inputs ≡ inputs_at graph.nodes (slice_get graph.nodes (length prospects))
-    → state_of p ≡ built_if_ready (by_validity standing (if marked then Reused
-    else by_hindrance standing (by_inputs (state_at prospects) inputs)))
-    → AreBuilt graph.nodes wanted prospects built → AreFirst graph standings wanted prospects
-    → AreFirst graph standings wanted (prospects ++ p ∷ [])
-first_more graph standings wanted prospects built p standing marked inputs sound low stands marks
-    used is are_built are = record {
+    (states : List State) (built : List Bool) (s : State) (standing : Precondition)
+    (marked : Bool) (inputs : List ℕ) → IsSound graph → length states < length graph.nodes
+    → standing ≡ slice_index_or standings (length states) Free
+    → marked ≡ slice_index_or built (first_twin_of graph.nodes (length states)) false
+    → inputs ≡ inputs_at graph.nodes (slice_get graph.nodes (length states))
+    → s ≡ built_if_ready (by_validity standing (if marked then Reused
+    else by_hindrance standing (by_inputs (state_at states) inputs)))
+    → AreBuilt graph.nodes wanted states built → AreClosed states
+    → AreFirst graph standings wanted states → AreFirst graph standings wanted (states ++ s ∷ [])
+first_more graph standings wanted states built s standing marked inputs sound low stands marks
+    used is are_built closed are = record {
       each = λ run opening same stand want.
           by run opening same (subst IsSound (sym same) sound)
           (subst (λ (g : Graph). AreStandings run.system opening g.nodes standings) (sym same)
@@ -330,81 +324,79 @@ first_more graph standings wanted prospects built p standing marked inputs sound
   where
     by : (run : Run) (opening : List Entry) → run.graph ≡ graph → IsSound run.graph
         → AreStandings run.system opening run.graph.nodes standings → AreWanted run opening wanted
-        → states_of prospects
-        ≡ states_by (built_table (rows_of run opening [])) (length prospects)
-        → states_of (prospects ++ p ∷ [])
-        ≡ states_by (built_table (rows_of run opening [])) (length (prospects ++ p ∷ []))
+        → states ≡ states_by (built_table (rows_of run opening [])) (length states)
+        → states ++ s ∷ []
+        ≡ states_by (built_table (rows_of run opening [])) (length (states ++ s ∷ []))
     by run opening same sound_here stand want before =
         let rule = built_table (rows_of run opening []) in
-        let d = length prospects in
+        let d = length states in
         let low_here : d < length run.graph.nodes =
         subst (λ (g : Graph). d < length g.nodes) (sym same) low in
-        let here : state_of p ≡ rule (state_at prospects) d =
+        let here : s ≡ rule (state_at states) d =
         is
         ∙ ap (λ b. built_if_ready (by_validity standing (if b then Reused
-        else by_hindrance standing (by_inputs (state_at prospects) inputs))))
+        else by_hindrance standing (by_inputs (state_at states) inputs))))
         (marks ∙ ap (λ (g : Graph). slice_index_or built (first_twin_of g.nodes d) false)
         (sym same))
         ∙ ap (λ l. built_if_ready (by_validity standing
         (if slice_index_or built (first_twin_of run.graph.nodes d) false then Reused
-        else by_hindrance standing (by_inputs (state_at prospects) l))))
+        else by_hindrance standing (by_inputs (state_at states) l))))
         (used ∙ ap (λ (g : Graph). inputs_at g.nodes (slice_get g.nodes d)) (sym same))
-        ∙ sym (table_here run opening sound_here wanted want prospects built
-        (subst (λ (g : Graph). AreBuilt g.nodes wanted prospects built) (sym same) are_built)
+        ∙ sym (table_here run opening sound_here wanted want states built
+        (subst (λ (g : Graph). AreBuilt g.nodes wanted states built) (sym same) are_built) closed
         low_here standing (stands ∙ stand.each d low_here)) in
-        let count : length (prospects ++ p ∷ []) ≡ suc d =
-        omega (arith, length-append prospects (p ∷ [])) in
-        map-append state_of prospects (p ∷ [])
-        ∙ ap (λ s. states_of prospects ++ s ∷ []) here
+        let count : length (states ++ s ∷ []) ≡ suc d =
+        omega (arith, length-append states (s ∷ [])) in
+        ap (λ t. states ++ t ∷ []) here
         ∙ ap (λ (ss : List State). ss ++ rule (λ i. slice_index_or ss i Blocked) d ∷ []) before
         ∙ sym (states_next rule d) ∙ ap (states_by rule) (sym count)
 
 -- ---- one derivation more, by its number
 
 pub first_next : (graph : Graph) (standings : List Precondition) (wanted : List Bool)
-    (prospects more : List Prospect) (built : List Bool) (d : ℕ) (p : Prospect)
+    (states longer : List State) (built : List Bool) (d : ℕ) (s : State)
     (standing : Precondition) (marked : Bool) (inputs : List ℕ) → IsSound graph
-    → length prospects ≡ d → d < length graph.nodes → standing ≡ slice_index_or standings d Free
+    → length states ≡ d → d < length graph.nodes → standing ≡ slice_index_or standings d Free
     → marked ≡ slice_index_or built (first_twin_of graph.nodes d) false
     → inputs ≡ inputs_at graph.nodes (slice_get graph.nodes d)
-    → state_of p ≡ built_if_ready (by_validity standing (if marked then Reused
-    else by_hindrance standing (by_inputs (state_at prospects) inputs)))
-    → more ≡ prospects ++ p ∷ []
-    → AreBuilt graph.nodes wanted prospects built → AreFirst graph standings wanted prospects
-    → AreFirst graph standings wanted more
-first_next graph standings wanted prospects more built d p standing marked inputs sound count low
-    stands marks used is added are_built are = search (rules, first_more, inputs)
+    → s ≡ built_if_ready (by_validity standing (if marked then Reused
+    else by_hindrance standing (by_inputs (state_at states) inputs)))
+    → longer ≡ states ++ s ∷ []
+    → AreBuilt graph.nodes wanted states built → AreClosed states
+    → AreFirst graph standings wanted states → AreFirst graph standings wanted longer
+first_next graph standings wanted states longer built d s standing marked inputs sound count low
+    stands marks used is added are_built closed are = search (rules, first_more, inputs)
 
-pub marked_next : (nodes : List Node) (wanted : List Bool) (prospects more : List Prospect)
-    (built after : List Bool) (d first : ℕ) (p : Prospect) → length prospects ≡ d
+pub marked_next : (nodes : List Node) (wanted : List Bool) (states longer : List State)
+    (built after : List Bool) (d first : ℕ) (s : State) → length states ≡ d
     → d < length nodes → first ≡ first_twin_of nodes d → slice_index_or wanted d false ≡ true
-    → is_done (state_of p) ≡ true → more ≡ prospects ++ p ∷ [] → after ≡ set built first true
-    → AreBuilt nodes wanted prospects built → AreBuilt nodes wanted more after
-marked_next nodes wanted prospects more built after d first p count low first_is is done added
+    → is_done s ≡ true → longer ≡ states ++ s ∷ [] → after ≡ set built first true
+    → AreBuilt nodes wanted states built → AreBuilt nodes wanted longer after
+marked_next nodes wanted states longer built after d first s count low first_is is done added
     marked are =
-    subst (λ ps. AreBuilt nodes wanted ps after) (sym added)
-    (subst (AreBuilt nodes wanted (prospects ++ p ∷ []))
+    subst (λ ss. AreBuilt nodes wanted ss after) (sym added)
+    (subst (AreBuilt nodes wanted (states ++ s ∷ []))
     (sym (marked ∙ ap (λ n. set built n true)
     (first_is ∙ ap (first_twin_of nodes) (sym count))))
-    (built_marked nodes wanted prospects p built (subst (λ n. n < length nodes) (sym count) low)
+    (built_marked nodes wanted states s built (subst (λ n. n < length nodes) (sym count) low)
     (ap (λ n. slice_index_or wanted n false) count ∙ is) done are))
 
-pub kept_next : (nodes : List Node) (wanted : List Bool) (prospects more : List Prospect)
-    (built after : List Bool) (d : ℕ) (p : Prospect) → length prospects ≡ d
-    → (slice_index_or wanted d false ≡ true → is_done (state_of p) ≡ true → ⊥)
-    → more ≡ prospects ++ p ∷ [] → after ≡ built
-    → AreBuilt nodes wanted prospects built → AreBuilt nodes wanted more after
-kept_next nodes wanted prospects more built after d p count neither added same are =
-    subst (λ ps. AreBuilt nodes wanted ps after) (sym added)
-    (subst (AreBuilt nodes wanted (prospects ++ p ∷ [])) (sym same)
-    (built_kept nodes wanted prospects p built
+pub kept_next : (nodes : List Node) (wanted : List Bool) (states longer : List State)
+    (built after : List Bool) (d : ℕ) (s : State) → length states ≡ d
+    → (slice_index_or wanted d false ≡ true → is_done s ≡ true → ⊥)
+    → longer ≡ states ++ s ∷ [] → after ≡ built
+    → AreBuilt nodes wanted states built → AreBuilt nodes wanted longer after
+kept_next nodes wanted states longer built after d s count neither added same are =
+    subst (λ ss. AreBuilt nodes wanted ss after) (sym added)
+    (subst (AreBuilt nodes wanted (states ++ s ∷ [])) (sym same)
+    (built_kept nodes wanted states s built
     (λ is done. neither (ap (λ n. slice_index_or wanted n false) (sym count) ∙ is) done) are))
 
 -- in the end they foretell all states
 pub all_first : (graph : Graph) (standings : List Precondition) (wanted : List Bool)
-    (prospects : List Prospect) → length prospects ≡ length graph.nodes
-    → AreFirst graph standings wanted prospects
+    (states : List State) → length states ≡ length graph.nodes
+    → AreFirst graph standings wanted states
     → (run : Run) (opening : List Entry) → run.graph ≡ graph
     → AreStandings run.system opening graph.nodes standings → AreWanted run opening wanted
-    → AreForetold run opening prospects
-all_first graph standings wanted prospects count are run opening same stand want = search rules
+    → AreForetold run opening states
+all_first graph standings wanted states count are run opening same stand want = search rules

@@ -6,7 +6,8 @@ use Rattle.drv_graph.specs.Plans.{Graph}
 use Rattle.valid_table.specs.declared.entry.Entry.{Entry}
 use Rattle.run_states.specs.StateTables.{AreWanted, StateTable, course_state}
 use Rattle.run_report.specs.Listing.{IsMarked}
-use Rattle.run_report.specs.Reports.{AreByPath, IsReport, IsReportIn, IsReportOf}
+use Rattle.run_report.specs.Reports.{AreByPath, IsReportIn, IsReportOf, IsTold}
+use Rattle.run_report.specs.declared.tense.Tense.{Tense}
 use Rattle.run_states.specs.Runs.{History, IsWanted, Run, state_in}
 use Rattle.run_states.specs.declared.state.State.{State}
 use Rattle.run_states.proofs.Wanting.{marked_within}
@@ -30,12 +31,12 @@ pub by_path_moved : (nodes : List Node) (is_wanted is_wanted' : ℕ → Type 0) 
     → AreByPath nodes is_wanted' numbers
 by_path_moved nodes is_wanted is_wanted' numbers same by_path = search rules
 
--- a report of other words for the same
-pub report_moved : (graph : Graph) (is_wanted is_wanted' : ℕ → Type 0) (state state' : ℕ → State)
-    (text : List ℕ)
-    → ((d : ℕ) → is_wanted d ↔ is_wanted' d) → ((d : ℕ) → state d ≡ state' d)
-    → IsReport graph is_wanted state text → IsReport graph is_wanted' state' text
-report_moved graph is_wanted is_wanted' state state' text wanted_same states_same report =
+-- what is told of a plan, in other words for the same
+pub told_moved : (tense : Tense) (graph : Graph) (is_wanted is_wanted' : ℕ → Type 0)
+    (state state' : ℕ → State) (text : List ℕ) → ((d : ℕ) → is_wanted d ↔ is_wanted' d)
+    → ((d : ℕ) → state d ≡ state' d) → IsTold tense graph is_wanted state text
+    → IsTold tense graph is_wanted' state' text
+told_moved tense graph is_wanted is_wanted' state state' text wanted_same states_same told =
     search (rules, by_path_moved, same_texts)
 
 -- where a course says of each derivation of a run whether it is wanted, and has its state
@@ -44,4 +45,4 @@ pub report_in : (run : Run) (history : History) (course : StateTable) (text : Li
     → ((d : ℕ) → course_state course d ≡ state_in run history d) → IsReportOf course text
     → IsReportIn run history text
 report_in run history course text graph_is are_wanted states report =
-    search (rules, report_moved, marks_told)
+    search (rules, told_moved, marks_told)

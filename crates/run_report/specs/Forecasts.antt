@@ -1,14 +1,17 @@
 -- *Forecast*: the state in which each derivation of a plan ends, if each builder that is started
--- makes its outputs (this product's own).
-use Rattle.std.specs.Prelude.{◌≡◌, ◌<◌, ◌⊎◌, ℕ, List, []}
-use Rattle.std.specs.List.{slice_index_or}
+-- makes its outputs, and the text that tells it (this product's own).
+use Rattle.std.specs.Prelude.{◌≡◌, ◌<◌, ◌⊎◌, Bool, ℕ, List, []}
+use Rattle.std.specs.List.{list_all, slice_index_or}
+use Rattle.nix_names.specs.Bytes.{Bytes}
 use Rattle.drv_graph.specs.SoundGraphs.{IsSound}
 use Rattle.valid_table.specs.declared.entry.Entry.{Entry}
-use Rattle.run_states.specs.Runs.{Run, rows_of}
-use Rattle.run_states.specs.States.{IsInOrder, Rows, states_by, table}
+use Rattle.run_states.specs.Runs.{IsWanted, Run, rows_of}
+use Rattle.run_states.specs.States.{IsInOrder, Rows, is_good, states_by, table}
 use Rattle.run_states.specs.declared.state.Refusal.{Refusal}
 use Rattle.run_states.specs.declared.state.State.{State}
 use Rattle.run_states.specs.declared.state.State.TheVariants.{Done, Failed, Building, Reused, Refused, Ready, Blocked}
+use Rattle.run_report.specs.Reports.{IsTold}
+use Rattle.run_report.specs.declared.tense.Tense.TheVariants.{Future}
 
 -- What a forecast is of: a run, and the entries that its journal opens with.
 pub record Opening : Type 0 where
@@ -39,6 +42,15 @@ forecast rows d = built_table rows (λ i. slice_index_or (states_by (built_table
 -- happened yet
 abbrev pub foretold : Run → (opening : List Entry) → ℕ → State
 foretold run opening d = forecast (rows_of run opening []) d
+
+-- the text is the forecast of a run that opens with these entries
+abbrev pub IsForecast : Run → (opening : List Entry) → (text : Bytes) → Type 0
+IsForecast run opening text = IsTold Future run.graph (IsWanted run opening)
+    (foretold run opening) text
+
+-- whether each root is foretold to be built or reused
+abbrev pub is_whole : Run → (opening : List Entry) → Bool
+is_whole run opening = list_all (λ root. is_good (foretold run opening root)) run.graph.roots
 
 -- each derivation has the foretold state that the table gives from the foretold states of all
 abbrev pub ForecastsAgree : Type 0

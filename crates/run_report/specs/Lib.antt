@@ -1,10 +1,8 @@
 -- What public contracts cite, and what that rests on.
 pub mod Forecasts
-pub mod Holding
 pub mod Listing
 pub mod Pictures
 pub mod Reports
-pub mod Texts
 pub mod Truths
 pub mod Words
 pub mod private

@@ -1,5 +1,5 @@
--- *Texts out*, the report of a run: what became of each wanted derivation, and the outputs of the
--- roots (this product's own).
+-- *Texts out*, what is told of a plan: in a report what became of each wanted derivation, in a
+-- forecast what will become of it, and in both the outputs of the roots (this product's own).
 use Rattle.std.specs.Prelude.{◌≡◌, ◌<◌, ◌↔◌, true, false, ℕ, Option, Some, None, List, [], ◌++◌, length, map, flat_map, codes, slice_get, Contains, if◌then◌else◌}
 use Rattle.std.specs.List.{slice_index_or}
 use Rattle.nix_names.specs.Bytes.{Bytes, Path}
@@ -11,6 +11,8 @@ use Rattle.run_states.specs.StateTables.{StateTable, course_state}
 use Rattle.run_states.specs.Runs.{History, IsWanted, Run, state_in}
 use Rattle.run_states.specs.States.{is_good}
 use Rattle.run_report.specs.Words.{reason_words, refusal_words}
+use Rattle.run_report.specs.declared.tense.Tense.{Tense}
+use Rattle.run_report.specs.declared.tense.Tense.TheVariants.{Past, Future}
 use Rattle.run_states.specs.declared.state.State.{State}
 use Rattle.run_states.specs.declared.state.State.TheVariants.{Done, Failed, Reused, Refused}
 
@@ -22,18 +24,36 @@ path_line word path = word ++ path ++ codes "\n"
 abbrev pub why_line : (word : Bytes) → (path : Path) → (why : Bytes) → Bytes
 why_line word path why = word ++ path ++ codes ": " ++ why ++ codes "\n"
 
+-- the words for what becomes of a derivation, each with the space after it: in a report, and in a
+-- forecast
+abbrev pub built_word : Tense → Bytes
+built_word Past = codes "built "
+built_word Future = codes "build "
+
+abbrev pub reused_word : Tense → Bytes
+reused_word Past = codes "reused "
+reused_word Future = codes "reuse "
+
+abbrev pub failed_word : Tense → Bytes
+failed_word Past = codes "failed "
+failed_word Future = codes "fail "
+
+abbrev pub refused_word : Tense → Bytes
+refused_word Past = codes "refused "
+refused_word Future = codes "refuse "
+
 -- the line of a derivation of a plan, which has these nodes; none while it is Blocked, Ready or
 -- Building
-abbrev pub line_of : List Node → Node → State → Bytes
-line_of nodes node Done = path_line (codes "built ") node.path
-line_of nodes node Reused = path_line (codes "reused ") node.path
-line_of nodes node (Failed reason) = why_line (codes "failed ") node.path
+abbrev pub line_of : Tense → List Node → Node → State → Bytes
+line_of tense nodes node Done = path_line (built_word tense) node.path
+line_of tense nodes node Reused = path_line (reused_word tense) node.path
+line_of tense nodes node (Failed reason) = why_line (failed_word tense) node.path
     (reason_words node.drv reason)
-line_of nodes node (Refused cause) = why_line (codes "refused ") node.path
+line_of tense nodes node (Refused cause) = why_line (refused_word tense) node.path
     (refusal_words nodes node.drv cause)
-line_of nodes node state = []
+line_of tense nodes node state = []
 
--- a line for each output of a derivation that was built or reused, in its text's order
+-- a line for each output of a derivation that is built or reused, in its text's order
 abbrev pub output_lines : Node → State → Bytes
 output_lines node state = if is_good state then flat_map (path_line (codes "output "))
     (output_paths_of node.drv) else []
@@ -44,8 +64,13 @@ lines_if_some lines (Some node) = lines node
 lines_if_some lines None = []
 
 -- the line of the derivation with this number
+abbrev pub told_at : Tense → List Node → (state : ℕ → State) → ℕ → Bytes
+told_at tense nodes state d =
+    lines_if_some (λ node. line_of tense nodes node (state d)) (slice_get nodes d)
+
+-- its line in a report
 abbrev pub line_at : List Node → (state : ℕ → State) → ℕ → Bytes
-line_at nodes state d = lines_if_some (λ node. line_of nodes node (state d)) (slice_get nodes d)
+line_at nodes state = told_at Past nodes state
 
 -- the lines of the outputs of the derivation with this number
 abbrev pub outputs_at : List Node → (state : ℕ → State) → ℕ → Bytes
@@ -60,15 +85,19 @@ pub record AreByPath (nodes : List Node) (is_wanted : ℕ → Type 0) (numbers :
   pub just : (d : ℕ) → Contains numbers d ↔ is_wanted d
   pub rising : IsRising (map (path_at nodes) numbers)
 
--- The text is the report of a plan, of which these derivations are wanted, in these states: the
--- lines of the wanted ones, by path, then the lines of each root's outputs, in the order of the
--- roots.
-pub record IsReport (graph : Graph) (is_wanted : ℕ → Type 0) (state : ℕ → State) (text : Bytes)
-    : Type 0 where
+-- The text tells of a plan, of which these derivations are wanted, in these states: the lines of
+-- the wanted ones, by path, then the lines of each root's outputs, in the order of the roots.
+pub record IsTold (tense : Tense) (graph : Graph) (is_wanted : ℕ → Type 0) (state : ℕ → State)
+    (text : Bytes) : Type 0 where
   pub wanted : List ℕ
   pub by_path : AreByPath graph.nodes is_wanted wanted
-  pub is_text : text ≡ flat_map (line_at graph.nodes state) wanted
+  pub is_text : text ≡ flat_map (told_at tense graph.nodes state) wanted
       ++ flat_map (outputs_at graph.nodes state) graph.roots
+
+-- the text is the report of such a plan
+abbrev pub IsReport : Graph → (is_wanted : ℕ → Type 0) → (state : ℕ → State) → (text : Bytes)
+    → Type 0
+IsReport graph is_wanted state text = IsTold Past graph is_wanted state text
 
 -- a derivation of a course is wanted
 abbrev pub IsWantedIn : StateTable → ℕ → Type 0

@@ -6,13 +6,14 @@ use Rattle.nix_names.specs.Bytes.{Bytes, Path}
 use Rattle.drv_graph.specs.SoundGraphs.{IsSound}
 use Rattle.run_states.specs.StateTables.{IsRunSettled}
 use Rattle.run_states.specs.Legal.{IsLegal}
-use Rattle.run_report.specs.Reports.{IsReportIn, path_line, why_line}
+use Rattle.run_report.specs.Reports.{IsReportIn, built_word, path_line, refused_word, reused_word, why_line}
 use Rattle.run_states.specs.Runs.{History, IsWanted, Run, earlier_twins, inputs_at, state_in}
 use Rattle.run_states.specs.States.{is_good}
 use Rattle.run_states.specs.declared.state.Event.TheVariants.{Fail}
 use Rattle.build_outcome.specs.declared.reason.Reason.{Reason}
-use Rattle.run_report.specs.Forecasts.{foretold}
-use Rattle.run_report.specs.Texts.{IsForecast, is_whole}
+use Rattle.run_report.specs.Forecasts.{IsForecast, foretold, is_whole}
+use Rattle.run_report.specs.declared.tense.Tense.{Tense}
+use Rattle.run_report.specs.declared.tense.Tense.TheVariants.{Past, Future}
 
 -- A run over a loaded plan went to its end: its history is legal, and no wanted derivation is
 -- Blocked, Ready or Building.
@@ -58,25 +59,18 @@ pub data ForecastLine : Type 0 where
   Refuse : (path : Path) (why : Bytes) → ForecastLine
   Output : (path : Path) → ForecastLine
 
--- how a forecast writes a line
-abbrev pub foretelling : ForecastLine → Bytes
-foretelling (Build path) = path_line (codes "build ") path
-foretelling (Reuse path) = path_line (codes "reuse ") path
-foretelling (Refuse path why) = why_line (codes "refuse ") path why
-foretelling (Output path) = path_line (codes "output ") path
-
--- how a report writes a line
-abbrev pub reporting : ForecastLine → Bytes
-reporting (Build path) = path_line (codes "built ") path
-reporting (Reuse path) = path_line (codes "reused ") path
-reporting (Refuse path why) = why_line (codes "refused ") path why
-reporting (Output path) = path_line (codes "output ") path
+-- how a report and a forecast write a line
+abbrev pub telling : Tense → ForecastLine → Bytes
+telling tense (Build path) = path_line (built_word tense) path
+telling tense (Reuse path) = path_line (reused_word tense) path
+telling tense (Refuse path why) = why_line (refused_word tense) path why
+telling tense (Output path) = path_line (codes "output ") path
 
 -- A forecast and a report tell the same, line by line.
 pub record TellTheSame (text report : Bytes) : Type 0 where
   pub lines : List ForecastLine
-  pub is_forecast : text ≡ flat_map foretelling lines
-  pub is_report : report ≡ flat_map reporting lines
+  pub is_forecast : text ≡ flat_map (telling Future) lines
+  pub is_report : report ≡ flat_map (telling Past) lines
 
 -- where no builder failed, the report tells what the forecast told
 abbrev pub ReportsComeTrue : Type 0

@@ -4,31 +4,29 @@ ghost use Rattle.std.specs.declared.alloc.Global.{Global};
 ghost use Rattle.nix_drv.specs.Parts.{bytes_of, input_of};
 ghost use Rattle.run_report.specs.Listing.{AreWithin};
 ghost use Rattle.run_report.specs.declared.listing.Listed.{Listed};
-ghost use Rattle.run_report.specs.Holding.{state_at, state_of};
+ghost use Rattle.run_report.specs.Forecasts.{foretold};
 ghost use Rattle.run_report.specs.Pictures.{are_out_alone, awaits_inputs, edge_line, edges_at, label_of, listed_names, quoted};
 
+use crate::forecast::Forecast;
 use crate::listing::Listed;
-use crate::prospect::{Prospect, prospect_at};
 use drv_graph::Plan;
 use nix_drv::Input;
-use run_states::Refusal;
+use run_states::{Refusal, State};
 use std::alloc::AllocError;
 
 // Adds the edges of some derivations.
 pub(crate) fn write_all_edges(
-    plan: &Plan,
+    forecast: &Forecast,
     listed: &[Listed<'_>],
-    prospects: &[Prospect],
     out: &mut Vec<u8>,
 ) -> Result<(), AllocError>
-    requires prospects { length prospects.now ≡ length plan.now.nodes }
-    requires within { AreWithin (length plan.now.nodes) listed.now }
+    requires { AreWithin (length forecast.now.run.graph.nodes) listed.now }
     ensures { OnOk result (out.new.items ≡ out.old.items
-        ++ flat_map (λ (l : Listed). edges_at plan.now.nodes (state_at prospects.now) l.number)
-        listed.now) }
+        ++ flat_map (λ (l : Listed). edges_at forecast.now.run.graph.nodes
+        (foretold forecast.now.run forecast.now.entries) l.number) listed.now) }
 {
     'listed: for one in listed {
-        write_edges_of(plan, one.number, prospect_at(prospects, one.number), out)?;
+        write_edges_of(forecast.plan(), one.number, forecast.state(one.number), out)?;
     }
     Ok(())
 }
@@ -37,29 +35,29 @@ pub(crate) fn write_all_edges(
 fn write_edges_of(
     plan: &Plan,
     number: usize,
-    prospect: Prospect,
+    state: State,
     out: &mut Vec<u8>,
 ) -> Result<(), AllocError>
     requires { number < length plan.now.nodes }
     ensures { OnOk result (out.new.items ≡ out.old.items
-        ++ edges_at plan.now.nodes (λ _. state_of prospect) number) }
+        ++ edges_at plan.now.nodes (λ _. state) number) }
 {
     let user = plan.path(number);
     let drv = plan.drv(number);
-    if awaits_inputs(prospect) {
+    if awaits_inputs(state) {
         write_edges(user.text(), drv.inputs(), out)
     } else {
         Ok(())
     }
 }
 
-// Whether a derivation with this prospect waits for its inputs.
-fn awaits_inputs(prospect: Prospect) -> bool
-    ensures { result ≡ awaits_inputs (state_of prospect) }
+// Whether a derivation with this foretold state waits for its inputs.
+fn awaits_inputs(state: State) -> bool
+    ensures { result ≡ awaits_inputs state }
 {
     matches!(
-        prospect,
-        Prospect::Build | Prospect::Refuse(Refusal::InputNotRealised(_))
+        state,
+        State::Done | State::Refused(Refusal::InputNotRealised(_))
     )
 }
 

@@ -1,38 +1,35 @@
 //! The picture of a forecast, in Graphviz's language.
-ghost use Rattle.std.specs.Prelude.{◌≡◌, ◌<◌, ◌++◌, IfErr, IfOk, OnOk, codes, flat_map, length};
+ghost use Rattle.std.specs.Prelude.{◌≡◌, ◌<◌, ◌++◌, IfOk, OnOk, codes, flat_map, length};
 ghost use Rattle.drv_graph.specs.SoundGraphs.{IsSound};
 ghost use Rattle.run_report.specs.Listing.{AreWithin, IsMarked};
-ghost use Rattle.run_states.specs.declared.fault.BookFault.TheVariants.{NoMemory};
 ghost use Rattle.run_report.specs.declared.listing.Listed.{Listed};
-ghost use Rattle.run_report.specs.Holding.{state_at, state_of};
+ghost use Rattle.run_report.specs.Forecasts.{foretold};
 ghost use Rattle.run_report.specs.private.Marks.{AreRoots, is_marked};
 ghost use Rattle.run_report.specs.Pictures.{IsDrawing, border_of, edges_at, fill_of, node_at, node_line};
 
 use crate::edges::{write_all_edges, write_quoted};
+use crate::forecast::Forecast;
 use crate::listing::{Listed, marked_by_path};
-use crate::prospect::{Prospect, prospect_at};
 use drv_graph::Plan;
 use nix_names::StorePath;
-use run_states::{BookFault, mark};
+use run_states::{State, mark};
 use std::alloc::{AllocError, Global};
 
-// The picture of a plan of which these derivations are wanted, with these prospects.
+// The picture of a forecast of which these derivations are wanted.
 pub(crate) fn picture_of(
     alloc: Global,
-    plan: &Plan,
+    forecast: &Forecast,
     wanted: &[bool],
-    prospects: &[Prospect],
-) -> Result<Vec<u8>, BookFault>
-    requires wanted { length wanted.now ≡ length plan.now.nodes }
-    requires prospects { length prospects.now ≡ length plan.now.nodes }
-    ensures ok { IfOk result (λ text. IsDrawing plan.now
-        (IsMarked wanted.now (length plan.now.nodes)) (state_at prospects.now) text.items) }
-    ensures err { IfErr result (λ fault. fault ≡ NoMemory) }
+) -> Result<Vec<u8>, AllocError>
+    requires { length wanted.now ≡ length forecast.now.run.graph.nodes }
+    ensures { IfOk result (λ text. IsDrawing forecast.now.run.graph
+        (IsMarked wanted.now (length forecast.now.run.graph.nodes))
+        (foretold forecast.now.run forecast.now.entries) text.items) }
 {
-    let listed = marked_by_path(alloc, plan, wanted)?;
-    let roots = root_marks(alloc, plan)?;
+    let listed = marked_by_path(alloc, forecast.plan(), wanted)?;
+    let roots = root_marks(alloc, forecast.plan())?;
     let mut text = Vec::new(alloc);
-    write_picture(plan, &listed, &roots, prospects, &mut text)?;
+    write_picture(forecast, &listed, &roots, &mut text)?;
     Ok(text)
 }
 
@@ -47,46 +44,43 @@ fn root_marks(alloc: Global, plan: &Plan) -> Result<Vec<bool>, AllocError>
 
 // Adds the picture of some derivations, of which the roots are marked.
 fn write_picture(
-    plan: &Plan,
+    forecast: &Forecast,
     listed: &[Listed<'_>],
     roots: &[bool],
-    prospects: &[Prospect],
     out: &mut Vec<u8>,
 ) -> Result<(), AllocError>
-    requires roots { length roots.now ≡ length plan.now.nodes }
-    requires prospects { length prospects.now ≡ length plan.now.nodes }
-    requires within { AreWithin (length plan.now.nodes) listed.now }
+    requires roots { length roots.now ≡ length forecast.now.run.graph.nodes }
+    requires within { AreWithin (length forecast.now.run.graph.nodes) listed.now }
     ensures { OnOk result (out.new.items ≡ out.old.items ++ codes "digraph plan {\n"
-        ++ flat_map (λ (l : Listed). node_at plan.now.nodes (state_at prospects.now)
-        (is_marked roots.now) l.number) listed.now
-        ++ flat_map (λ (l : Listed). edges_at plan.now.nodes (state_at prospects.now) l.number)
-        listed.now ++ codes "}\n") }
+        ++ flat_map (λ (l : Listed). node_at forecast.now.run.graph.nodes
+        (foretold forecast.now.run forecast.now.entries) (is_marked roots.now) l.number) listed.now
+        ++ flat_map (λ (l : Listed). edges_at forecast.now.run.graph.nodes
+        (foretold forecast.now.run forecast.now.entries) l.number) listed.now ++ codes "}\n") }
 {
     out.extend_from_slice(b"digraph plan {\n")?;
-    write_nodes(plan, listed, roots, prospects, out)?;
-    write_all_edges(plan, listed, prospects, out)?;
+    write_nodes(forecast, listed, roots, out)?;
+    write_all_edges(forecast, listed, out)?;
     out.extend_from_slice(b"}\n")
 }
 
 // Adds the nodes of some derivations, of which the roots are marked.
 fn write_nodes(
-    plan: &Plan,
+    forecast: &Forecast,
     listed: &[Listed<'_>],
     roots: &[bool],
-    prospects: &[Prospect],
     out: &mut Vec<u8>,
 ) -> Result<(), AllocError>
-    requires roots { length roots.now ≡ length plan.now.nodes }
-    requires prospects { length prospects.now ≡ length plan.now.nodes }
-    requires within { AreWithin (length plan.now.nodes) listed.now }
+    requires roots { length roots.now ≡ length forecast.now.run.graph.nodes }
+    requires within { AreWithin (length forecast.now.run.graph.nodes) listed.now }
     ensures { OnOk result (out.new.items ≡ out.old.items
-        ++ flat_map (λ (l : Listed). node_at plan.now.nodes (state_at prospects.now)
-        (is_marked roots.now) l.number) listed.now) }
+        ++ flat_map (λ (l : Listed). node_at forecast.now.run.graph.nodes
+        (foretold forecast.now.run forecast.now.entries) (is_marked roots.now) l.number)
+        listed.now) }
 {
     'listed: for one in listed {
-        let prospect = prospect_at(prospects, one.number);
+        let state = forecast.state(one.number);
         let is_root = is_marked(roots, one.number);
-        write_node(plan, one.number, prospect, is_root, out)?;
+        write_node(forecast.plan(), one.number, state, is_root, out)?;
     }
     Ok(())
 }
@@ -103,54 +97,54 @@ fn is_marked(marks: &[bool], number: usize) -> bool
 fn write_node(
     plan: &Plan,
     number: usize,
-    prospect: Prospect,
+    state: State,
     is_root: bool,
     out: &mut Vec<u8>,
 ) -> Result<(), AllocError>
     requires { number < length plan.now.nodes }
     ensures { OnOk result (out.new.items ≡ out.old.items
-        ++ node_at plan.now.nodes (λ _. state_of prospect) (λ _. is_root) number) }
+        ++ node_at plan.now.nodes (λ _. state) (λ _. is_root) number) }
 {
     let path = plan.path(number);
-    write_node_line(path, prospect, is_root, out)
+    write_node_line(path, state, is_root, out)
 }
 
 // Adds the node of a derivation, by its path.
 fn write_node_line(
     path: &StorePath,
-    prospect: Prospect,
+    state: State,
     is_root: bool,
     out: &mut Vec<u8>,
 ) -> Result<(), AllocError>
     ensures { OnOk result (out.new.items
-        ≡ out.old.items ++ node_line path.now (state_of prospect) is_root) }
+        ≡ out.old.items ++ node_line path.now state is_root) }
 {
     out.extend_from_slice(b"  ")?;
     write_quoted(path.text(), out)?;
     out.extend_from_slice(b" [label=")?;
     write_quoted(path.name(), out)?;
-    write_style(prospect, is_root, out)
+    write_style(state, is_root, out)
 }
 
 // Adds how a node is drawn.
-fn write_style(prospect: Prospect, is_root: bool, out: &mut Vec<u8>) -> Result<(), AllocError>
+fn write_style(state: State, is_root: bool, out: &mut Vec<u8>) -> Result<(), AllocError>
     ensures { OnOk result (out.new.items ≡ out.old.items ++ codes ", style=filled, fillcolor="
-        ++ fill_of (state_of prospect) ++ border_of is_root ++ codes "];\n") }
+        ++ fill_of state ++ border_of is_root ++ codes "];\n") }
 {
     out.extend_from_slice(b", style=filled, fillcolor=")?;
-    out.extend_from_slice(fill(prospect))?;
+    out.extend_from_slice(fill(state))?;
     out.extend_from_slice(border(is_root))?;
     out.extend_from_slice(b"];\n")
 }
 
 // The colour of a node.
-fn fill(prospect: Prospect) -> &'static [u8]
-    ensures { result.now ≡ fill_of (state_of prospect) }
+fn fill(state: State) -> &'static [u8]
+    ensures { result.now ≡ fill_of state }
 {
-    match prospect {
-        Prospect::Build => b"palegreen",
-        Prospect::Reuse => b"lightgrey",
-        Prospect::Refuse(_) => b"lightcoral",
+    match state {
+        State::Done => b"palegreen",
+        State::Reused => b"lightgrey",
+        _ => b"lightcoral",
     }
 }
 

@@ -1,74 +1,124 @@
-//! The report of a run: what became of each wanted derivation, and the outputs of the roots.
-ghost use Rattle.std.specs.Prelude.{◌≡◌, ◌<◌, ◌++◌, IfErr, IfOk, OnOk, codes, flat_map, length};
+//! What is told of a plan, in either tense: a line for each wanted derivation, and the outputs of
+//! the roots. And the report of a run.
+ghost use Rattle.std.specs.Prelude.{◌≡◌, ◌<◌, ◌++◌, ℕ, IfOk, OnOk, flat_map, length};
+ghost use Rattle.drv_graph.specs.Plans.{Graph};
 ghost use Rattle.drv_graph.specs.SoundGraphs.{IsSound};
 ghost use Rattle.run_states.specs.StateTables.{course_state};
-ghost use Rattle.run_report.specs.Listing.{AreWithin};
-ghost use Rattle.run_report.specs.Reports.{IsReportOf, line_at, outputs_at, why_line};
+ghost use Rattle.run_report.specs.Listing.{AreWithin, IsMarked};
+ghost use Rattle.run_report.specs.Reports.{IsReportOf, IsTold, outputs_at, told_at, why_line};
 ghost use Rattle.run_report.specs.Words.{reason_words};
-ghost use Rattle.run_states.specs.declared.fault.BookFault.TheVariants.{NoMemory};
 ghost use Rattle.run_report.specs.declared.listing.Listed.{Listed};
+ghost use Rattle.run_states.specs.declared.state.State.{State};
 
 use crate::lines::{write_line_start, write_outputs, write_path_line, write_refused};
 use crate::listing::{Listed, marked_by_path};
+use crate::tense::Tense;
 use crate::words::write_reason;
 use build_outcome::Reason;
 use drv_graph::Plan;
 use nix_drv::Derivation;
 use nix_names::StorePath;
-use run_states::{BookFault, State, StateTable};
+use run_states::{State, StateTable};
 use std::alloc::{AllocError, Global};
+
+// A plan whose derivations have states.
+pub(crate) trait States {
+    // The plan.
+    ghost graph: { Self → Graph };
+
+    // The state of each derivation, by its number.
+    ghost states: { Self → ℕ → State };
+
+    // The plan.
+    fn plan(&self) -> &Plan
+        ensures { result.now ≡ graph self.now };
+
+    // The state of the derivation with this number.
+    fn state(&self, d: usize) -> State
+        requires { d < length (graph self.now).nodes }
+        ensures { result ≡ states self.now d };
+}
+
+impl States for StateTable {
+    ghost graph = { λ course. course.graph };
+
+    ghost states = { course_state };
+
+    fn plan(&self) -> &Plan {
+        StateTable::plan(self)
+    }
+
+    fn state(&self, d: usize) -> State {
+        StateTable::state(self, d)
+    }
+}
 
 /// The report of a course. For each wanted derivation, by path, a line `built P`, `reused P`,
 /// `failed P: WHY` or `refused P: WHY`, or none while it is Blocked, Ready or Building. Then for
 /// each root that was built or reused, in the order of the roots, a line `output O` for each of its
-/// outputs. Answers `NoMemory` where memory is refused, and no other fault. Costs one sort of the
-/// wanted derivations by path, and else time in proportion to the plan's derivations and the text.
-pub fn report_of(alloc: Global, course: &StateTable) -> Result<Vec<u8>, BookFault>
-    ensures ok { IfOk result (λ text. IsReportOf course.now text.items) }
-    ensures err { IfErr result (λ fault. fault ≡ NoMemory) }
+/// outputs. An error where memory is refused, and no other. Costs one sort of the wanted
+/// derivations by path, and else time in proportion to the plan's derivations and the text.
+pub fn report_of(alloc: Global, course: &StateTable) -> Result<Vec<u8>, AllocError>
+    ensures { IfOk result (λ text. IsReportOf course.now text.items) }
 {
     let wanted = course.wanted_marks(alloc)?;
-    let listed = marked_by_path(alloc, course.plan(), &wanted)?;
+    told(alloc, course, &wanted, Tense::Past)
+}
+
+// What is told of a plan in these states, of which these derivations are wanted.
+pub(crate) fn told<S: States>(
+    alloc: Global,
+    states: &S,
+    wanted: &[bool],
+    tense: Tense,
+) -> Result<Vec<u8>, AllocError>
+    requires { length wanted.now ≡ length (S.graph states.now).nodes }
+    ensures { IfOk result (λ text. IsTold tense (S.graph states.now)
+        (IsMarked wanted.now (length (S.graph states.now).nodes)) (S.states states.now) text.items) }
+{
+    let listed = marked_by_path(alloc, states.plan(), wanted)?;
     let mut text = Vec::new(alloc);
-    write_lines(course, &listed, &mut text)?;
-    write_roots(course, &mut text)?;
+    write_lines(states, tense, &listed, &mut text)?;
+    write_roots(states, &mut text)?;
     Ok(text)
 }
 
 // Adds the lines of some derivations.
-fn write_lines(
-    course: &StateTable,
+fn write_lines<S: States>(
+    states: &S,
+    tense: Tense,
     listed: &[Listed<'_>],
     out: &mut Vec<u8>,
 ) -> Result<(), AllocError>
-    requires { AreWithin (length course.now.graph.nodes) listed.now }
+    requires { AreWithin (length (S.graph states.now).nodes) listed.now }
     ensures { OnOk result (out.new.items ≡ out.old.items
         ++ flat_map
-        (λ (l : Listed). line_at course.now.graph.nodes (course_state course.now) l.number)
+        (λ (l : Listed). told_at tense (S.graph states.now).nodes (S.states states.now) l.number)
         listed.now) }
 {
     'listed: for one in listed {
-        write_line(course.plan(), one.number, course.state(one.number), out)?;
+        let state = states.state(one.number);
+        write_line(tense, states.plan(), one.number, state, out)?;
     }
     Ok(())
 }
 
 // Adds the lines of the roots' outputs.
-fn write_roots(course: &StateTable, out: &mut Vec<u8>) -> Result<(), AllocError>
+fn write_roots<S: States>(states: &S, out: &mut Vec<u8>) -> Result<(), AllocError>
     ensures { OnOk result (out.new.items ≡ out.old.items
-        ++ flat_map (outputs_at course.now.graph.nodes (course_state course.now))
-        course.now.graph.roots) }
+        ++ flat_map (outputs_at (S.graph states.now).nodes (S.states states.now))
+        (S.graph states.now).roots) }
 {
-    let plan = course.plan();
+    let plan = states.plan();
     let count = plan.len();
     'roots: for root in plan.roots() {
         prove!(*root < count);
-        write_root(plan, *root, course.state(*root), out)?;
+        write_root(plan, *root, states.state(*root), out)?;
     }
     Ok(())
 }
 
-// Adds the lines of a derivation's outputs, if it was built or reused.
+// Adds the lines of a derivation's outputs, if it is built or reused.
 fn write_root(plan: &Plan, number: usize, state: State, out: &mut Vec<u8>) -> Result<(), AllocError>
     requires { number < length plan.now.nodes }
     ensures { OnOk result (out.new.items ≡ out.old.items
@@ -81,33 +131,40 @@ fn write_root(plan: &Plan, number: usize, state: State, out: &mut Vec<u8>) -> Re
 }
 
 // Adds the line of a derivation, if it has one.
-fn write_line(plan: &Plan, number: usize, state: State, out: &mut Vec<u8>) -> Result<(), AllocError>
+fn write_line(
+    tense: Tense,
+    plan: &Plan,
+    number: usize,
+    state: State,
+    out: &mut Vec<u8>,
+) -> Result<(), AllocError>
     requires { number < length plan.now.nodes }
     ensures { OnOk result (out.new.items ≡ out.old.items
-        ++ line_at plan.now.nodes (λ _. state) number) }
+        ++ told_at tense plan.now.nodes (λ _. state) number) }
 {
     let path = plan.path(number);
     let drv = plan.drv(number);
     match state {
-        State::Done => write_path_line(b"built ", path, out),
-        State::Reused => write_path_line(b"reused ", path, out),
-        State::Failed(reason) => write_failed(path, drv, reason, out),
-        State::Refused(cause) => write_refused(b"refused ", plan, path, drv, cause, out),
+        State::Done => write_path_line(tense.built(), path, out),
+        State::Reused => write_path_line(tense.reused(), path, out),
+        State::Failed(reason) => write_failed(tense.failed(), path, drv, reason, out),
+        State::Refused(cause) => write_refused(tense.refused(), plan, path, drv, cause, out),
         State::Building(_) | State::Ready | State::Blocked => Ok(()),
     }
 }
 
-// Adds the line of a derivation that failed.
+// Adds the line of a derivation that fails.
 fn write_failed(
+    word: &[u8],
     path: &StorePath,
     drv: &Derivation,
     reason: Reason,
     out: &mut Vec<u8>,
 ) -> Result<(), AllocError>
     ensures { OnOk result (out.new.items ≡ out.old.items
-        ++ why_line (codes "failed ") path.now (reason_words drv.now reason)) }
+        ++ why_line word.now path.now (reason_words drv.now reason)) }
 {
-    write_line_start(b"failed ", path, out)?;
+    write_line_start(word, path, out)?;
     write_reason(drv, reason, out)?;
     out.extend_from_slice(b"\n")
 }

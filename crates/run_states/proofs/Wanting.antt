@@ -265,11 +265,3 @@ wanted_are graph standings wanted marked run opening same standing =
       yes = λ d is. marked.sound run opening same standing d is;
       no = λ d is. all_wanted _ _ _ _ standing_here marked_here d is;
     }
-
--- of each derivation it is said whether it is wanted
-pub wanted_count : (run : Run) (entries : List Entry) (standings : List Precondition)
-    (wanted : List Bool) → AreStandings run.system entries run.graph.nodes standings
-    → ((other : Run) (first : List Entry) → other.graph ≡ run.graph
-    → AreStandings other.system first run.graph.nodes standings → AreWanted other first wanted)
-    → length wanted ≡ length run.graph.nodes
-wanted_count run entries standings wanted stand want = (want run entries refl stand).count

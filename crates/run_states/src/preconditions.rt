@@ -1,33 +1,30 @@
 //! The standings of a plan's derivations, before anything is begun.
-ghost use Rattle.std.specs.Prelude.{◌≡◌, ◌<◌, IfErr, IfOk, IfSome, codes, length, not, slice_get, vec_capacity};
+ghost use Rattle.std.specs.Prelude.{◌≡◌, ◌<◌, IfOk, IfSome, codes, length, not, slice_get, vec_capacity};
 ghost use Rattle.std.specs.List.{list_all, list_any, position};
 ghost use Rattle.nix_names.specs.Names.{same_bytes};
 ghost use Rattle.run_states.specs.StateTables.{AreStandings};
 ghost use Rattle.run_states.specs.Runs.{is_unsupported, is_valid, left_out, own_cause, standing_at};
 
-use crate::fault::BookFault;
 use crate::precondition::Precondition;
 use crate::state::Refusal;
 use drv_graph::Plan;
 use nix_drv::{Derivation, EnvEntry, Output};
 use nix_names::StorePath;
-use std::alloc::Global;
+use std::alloc::{AllocError, Global};
 use valid_table::Journal;
 
-/// The standing of each derivation after the journal's entries, in a run for the system.
-/// `NoMemory`, the only fault, where memory is refused. Costs a look-up by hash for each output, up
-/// to two where not all are valid, and for each source, and a few comparisons for each entry of an
-/// environment.
+/// The standing of each derivation after the journal's entries, in a run for the system. An error
+/// where memory is refused, and no other. Costs a look-up by hash for each output, up to two where
+/// not all are valid, and for each source, and a few comparisons for each entry of an environment.
 pub fn standings_of(
     alloc: Global,
     plan: &Plan,
     journal: &Journal,
     system: &[u8],
-) -> Result<Vec<Precondition>, BookFault>
+) -> Result<Vec<Precondition>, AllocError>
     ensures ok { IfOk result
         (λ standings. AreStandings system.now journal.now.entries plan.now.nodes standings.items) }
     ensures room { IfOk result (λ standings. vec_capacity standings ≡ length plan.now.nodes) }
-    ensures err { IfErr result (λ fault. fault ≡ BookFault.NoMemory) }
 {
     let mut standings = Vec::with_capacity(alloc, plan.len())?;
     for d in 0..plan.len() {

@@ -1,27 +1,26 @@
 //! Which derivations of a plan are wanted.
-ghost use Rattle.std.specs.Prelude.{◌≡◌, ◌<◌, ◌↔◌, ◌⊎◌, All, Contains, IfErr, IfOk, IsTrue, List, false, length, true};
+ghost use Rattle.std.specs.Prelude.{◌≡◌, ◌<◌, ◌↔◌, ◌⊎◌, All, Contains, IfOk, IsTrue, List, false, length, true};
 ghost use Rattle.std.specs.List.{slice_index_or};
 ghost use Rattle.valid_table.specs.declared.entry.Entry.{Entry};
 ghost use Rattle.run_states.specs.StateTables.{AreStandings, AreWanted};
 ghost use Rattle.run_states.specs.Runs.{Run};
 
-use crate::fault::BookFault;
 use crate::precondition::Precondition;
 use drv_graph::Plan;
 use std::alloc::{AllocError, Global};
 
-/// Whether each derivation is wanted, by the standings of all. `NoMemory`, the only fault, where
-/// memory is refused. Linear in the pairs of a user and an input.
+/// Whether each derivation is wanted, by the standings of all. An error where memory is refused, and
+/// no other. Linear in the pairs of a user and an input.
 pub fn wanted_of(
     alloc: Global,
     plan: &Plan,
     standings: &[Precondition],
-) -> Result<Vec<bool>, BookFault>
+) -> Result<Vec<bool>, AllocError>
     requires { length standings.now ≡ length plan.now.nodes }
     ensures ok { IfOk result (λ wanted. (run : Run) (opening : List Entry) → run.graph ≡ plan.now
         → AreStandings run.system opening plan.now.nodes standings.now
         → AreWanted run opening wanted.items) }
-    ensures err { IfErr result (λ fault. fault ≡ BookFault.NoMemory) }
+    ensures count { IfOk result (λ wanted. length wanted.items ≡ length plan.now.nodes) }
 {
     let mut wanted = vec![in alloc; false; plan.len()]?;
     mark(&mut wanted, plan.roots());

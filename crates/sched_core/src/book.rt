@@ -296,7 +296,8 @@ impl<O: Outlet> Book<O> {
         ensures ok { IfOk result (λ text. IsReportIn self.now.run self.now.history text.items) }
         ensures err { IfErr result (λ fault. fault ≡ NoMemory) }
     {
-        report_of(*self.events.allocator(), &self.states)
+        let text = report_of(*self.events.allocator(), &self.states)?;
+        Ok(text)
     }
 
     /// The plan.

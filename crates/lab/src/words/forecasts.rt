@@ -103,14 +103,10 @@ fn tell_texts(teller: &mut Teller<'_>, forecast: &Forecast) -> Taken {
 // Tells what is foretold of each derivation, and of the roots.
 fn tell(teller: &mut Teller<'_>, forecast: &Forecast) {
     const WHOLE: &str = "Forecast::plan Forecast::is_whole";
-    const CALLS: &str = "Forecast::prospect Prospect::is_build Prospect::is_good";
     let (count, is_whole) = call!(teller, WHOLE => (forecast.plan().len(), forecast.is_whole()));
     for d in 0..count {
-        teller.begins(CALLS);
-        let prospect = forecast.prospect(d);
-        let (is_build, is_good) = (prospect.is_build(), prospect.is_good());
-        teller.ends(CALLS);
-        teller.say(format_args!("{prospect:?}, build {is_build}, good {is_good}"));
+        let state = call!(teller, "Forecast::state" => forecast.state(d));
+        teller.say(format_args!("{state:?}"));
     }
     teller.say(format_args!("whole {is_whole}"));
 }

@@ -1,8 +1,7 @@
 //! The subcommand `plan`.
-ghost use Rattle.std.specs.Prelude.{◌≡◌, IfErr, IfOk};
+ghost use Rattle.std.specs.Prelude.{◌≡◌, IfOk};
 ghost use Rattle.nix_realise.specs.Planning.{ForecastEnds, IsForecastPrinted, PlanEnds, over};
 ghost use Rattle.nix_realise.specs.Planning.{whole_status};
-ghost use Rattle.nix_realise.specs.declared.cli.run_error.RunError.TheVariants.{NoMemory};
 
 use crate::asking::read_task::read_task;
 use crate::asking::task::Task;
@@ -11,8 +10,7 @@ use crate::cli::printing::print_bytes;
 use crate::cli::run_error::RunError;
 use command_line::{PlanRequest, RunRequest};
 use run_report::Forecast;
-use sched_core::BookFault;
-use std::alloc::Global;
+use std::alloc::{AllocError, Global};
 use std::io::Write;
 use std::rt::Files;
 
@@ -51,42 +49,19 @@ fn print_forecast<'a, O: Write>(
 }
 
 // The forecast of a run over a task.
-fn forecast_of<'a>(
-    alloc: Global,
-    request: &RunRequest<'a>,
-    task: Task,
-) -> Result<Forecast, RunError<'a>>
+fn forecast_of(alloc: Global, request: &RunRequest<'_>, task: Task) -> Result<Forecast, AllocError>
     ensures run { IfOk result (λ forecast. forecast.run ≡ over request.now task) }
     ensures entries { IfOk result (λ forecast. forecast.entries ≡ task.journal.entries) }
-    ensures err { IfErr result (λ stop. stop ≡ NoMemory) }
 {
     let (plan, journal) = task.into_parts();
     let system = Vec::from_slice(alloc, request.system.as_bytes())?;
-    match Forecast::open(alloc, plan, journal, system) {
-        Ok(forecast) => Ok(forecast),
-        Err(BookFault::NoMemory) => Err(RunError::NoMemory),
-        Err(_) => unreachable!(),
-    }
+    Forecast::open(alloc, plan, journal, system)
 }
 
-// The text that is printed for a forecast.
-fn text_of<'a>(forecast: &Forecast, dot: bool) -> Result<Vec<u8>, RunError<'a>>
-    ensures ok { IfOk result
+// The text that is printed for a forecast: its own, or its picture.
+fn text_of(forecast: &Forecast, dot: bool) -> Result<Vec<u8>, AllocError>
+    ensures { IfOk result
         (λ text. IsForecastPrinted dot forecast.now.run forecast.now.entries text.items) }
-    ensures err { IfErr result (λ stop. stop ≡ NoMemory) }
-{
-    match text_or_picture(forecast, dot) {
-        Ok(text) => Ok(text),
-        Err(BookFault::NoMemory) => Err(RunError::NoMemory),
-        Err(_) => unreachable!(),
-    }
-}
-
-// The text of a forecast, or its picture.
-fn text_or_picture(forecast: &Forecast, dot: bool) -> Result<Vec<u8>, BookFault>
-    ensures ok { IfOk result
-        (λ text. IsForecastPrinted dot forecast.now.run forecast.now.entries text.items) }
-    ensures err { IfErr result (λ fault. fault ≡ BookFault.NoMemory) }
 {
     if dot {
         forecast.picture()

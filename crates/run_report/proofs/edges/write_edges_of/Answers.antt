@@ -1,11 +1,10 @@
 use Rattle.std.proofs.Common.{◌∙◌, Some, ap, sym}
-use Rattle.run_report.specs.Holding.{state_of}
 use Rattle.run_report.proofs.Drawn.{edges_told}
 use Rattle.run_report.proofs.edges.write_edges_of.Goals as goal
 
 pub returns-then-awaits_inputs : goal.returns-then-awaits_inputs
 returns-then-awaits_inputs c =
     rw (edges_told c.args.plan.now.nodes c.args.number c.text.result.now _ _
-    (state_of c.args.prospect) (c.path-user.ensures.value ∙ ap Some (sym c.text.ensures.value))
+    c.args.state (c.path-user.ensures.value ∙ ap Some (sym c.text.ensures.value))
     c.drv-drv.ensures c.inputs.ensures (sym c.awaits_inputs.ensures ∙ c.if-awaits_inputs.true))
     at c.write_edges.ensures

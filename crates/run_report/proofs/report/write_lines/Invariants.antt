@@ -1,14 +1,8 @@
-use Rattle.std.proofs.Common.{◌≡◌, ◌++◌, List, ℕ, drop}
-use Rattle.std.specs.List.{flat_map}
-use Rattle.run_states.specs.StateTables.{course_state}
-use Rattle.run_report.specs.Reports.{line_at}
-use Rattle.run_report.specs.declared.listing.Listed.{Listed}
+use Rattle.run_report.specs.Reports.{told_at}
+use Rattle.run_report.proofs.Writing.{AreWritten}
 use Rattle.run_report.proofs.report.write_lines.Given as goal
 
--- what is written, and the lines of the derivations that are left
 abbrev pub invariant-listed : goal.invariant-listed
-invariant-listed l =
-    let line : Listed → List ℕ = λ one. line_at l.course.graph.nodes (course_state l.course)
-    one.number in
-    l.out.items ++ flat_map line (drop l.one-index l.listed) ≡ l.initial.out.items
-    ++ flat_map line l.listed
+invariant-listed g l = AreWritten l.listed l.one-index
+    (λ one. told_at l.tense (g.S.States.graph l.states).nodes (g.S.States.states l.states)
+    one.number) l.initial.out.items l.out.items

@@ -1,21 +1,10 @@
-use Rattle.std.proofs.Common.{◌∙◌, ap, length}
-use Rattle.run_states.specs.Runs.{Run}
-use Rattle.run_states.proofs.Wanting.{wanted_count}
 use Rattle.run_report.proofs.Held.{are_held}
 use Rattle.run_report.proofs.forecast.Forecast.open.Goals as goal
-
-pub prospects_of-requires-clause-wanted : goal.prospects_of-requires-clause-wanted
-prospects_of-requires-clause-wanted c =
-    let run : Run = record { graph = c.args.plan; system = c.args.system.items } in
-    ap length c.deref-4.ensures.value
-    ∙ wanted_count run c.args.journal.entries _ _
-    (rw c.deref.ensures.value at c.in_ok-standings.ensures.ok)
-    (rw c.deref-2.ensures.value at c.in_ok-wanted.ensures.ok)
 
 pub invariant_of-result : goal.invariant_of-result
 invariant_of-result c =
     are_held c.args.plan c.args.system.items c.args.journal.entries _ _ _
     (rw c.deref.ensures.value at c.in_ok-standings.ensures.ok)
     (rw c.deref-2.ensures.value at c.in_ok-wanted.ensures.ok)
-    (λ run first is stand want. c.in_ok-prospects.ensures.ok run first is
+    (λ run first is stand want. c.in_ok-states.ensures.ok run first is
     (rw c.deref-3.ensures.value stand) (rw c.deref-4.ensures.value want))

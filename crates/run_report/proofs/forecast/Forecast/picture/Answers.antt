@@ -1,17 +1,17 @@
 use Rattle.std.proofs.Common.{◌∙◌, ap, length}
 use Rattle.std.proofs.lemmas.Result.{IfOk-weaker}
-use Rattle.run_report.proofs.Drawn.{held_picture}
-use Rattle.run_report.proofs.Held.{held_count}
+use Rattle.run_report.proofs.Drawn.{picture_moved}
 use Rattle.run_report.proofs.forecast.Forecast.picture.Goals as goal
 
-pub picture_of-requires-clause-prospects : goal.picture_of-requires-clause-prospects
-picture_of-requires-clause-prospects c =
-    ap length c.deref-2.ensures.value ∙ held_count _ _ _ _ c.self.invariant
+pub picture_of-requires : goal.picture_of-requires
+picture_of-requires c =
+    rw (← c.self.view_is)
+    (ap length c.deref.ensures.value ∙ c.self.invariant.are_wanted.count)
 
-pub returns-clause-ok : goal.returns-clause-ok
-returns-clause-ok c =
+pub returns : goal.returns
+returns c =
     IfOk-weaker c.picture_of.result _ _
     (λ text is. rw (← c.self.view_is)
-    (held_picture _ _ _ _ text.items c.self.invariant
-    (rw (c.deref.ensures.value, c.deref-2.ensures.value) at is)))
-    c.picture_of.ensures.ok
+    (picture_moved _ _ _ text.items c.self.invariant.are_wanted
+    (rw (← c.self.view_is, c.deref.ensures.value) at is)))
+    c.picture_of.ensures

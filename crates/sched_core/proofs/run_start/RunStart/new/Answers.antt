@@ -1,22 +1,6 @@
-use Rattle.std.proofs.Common.{◌∙◌, ap, length, refl, arith}
+use Rattle.std.proofs.Common.{refl, arith}
 use Rattle.sched_core.proofs.Keeping.{opening_kept}
-use Rattle.run_states.proofs.Wanting.{wanted_count}
 use Rattle.sched_core.proofs.run_start.RunStart.new.Goals as goal
-
-pub nearest_twins-requires : goal.nearest_twins-requires
-nearest_twins-requires c =
-    ap length c.deref-2.ensures.value
-    ∙ wanted_count (record { graph = c.args.plan; system = c.args.system.now })
-    c.args.journal.now.entries c.in_ok-standings.standings.items c.in_ok-wanted.wanted.items
-    c.in_ok-standings.ensures.ok (λ other first is stand.
-    c.in_ok-wanted.ensures.ok other first is (rw c.deref.ensures.value stand))
-
-pub open-requires-clause-wanted : goal.open-requires-clause-wanted
-open-requires-clause-wanted c =
-    wanted_count (record { graph = c.args.plan; system = c.args.system.now })
-    c.args.journal.now.entries c.in_ok-standings.standings.items c.in_ok-wanted.wanted.items
-    c.in_ok-standings.ensures.ok (λ other first is stand.
-    c.in_ok-wanted.ensures.ok other first is (rw c.deref.ensures.value stand))
 
 pub returns-clause-kept : goal.returns-clause-kept
 returns-clause-kept c =

@@ -1,5 +1,5 @@
 use Rattle.run_states.proofs.PlanInputs.{numbers_at}
-use Rattle.run_report.proofs.prospects.inputs_of.Goals as goal
+use Rattle.run_report.proofs.foretold.inputs_of.Goals as goal
 
 pub returns-clause-numbers : goal.returns-clause-numbers
 returns-clause-numbers c = numbers_at c.args.plan.now c.args.d c.inputs.result.now c.requires

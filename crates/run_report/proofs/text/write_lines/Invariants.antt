@@ -1,8 +1,0 @@
-use Rattle.run_report.specs.Holding.{state_at}
-use Rattle.run_report.specs.Texts.{line_at}
-use Rattle.run_report.proofs.Writing.{AreWritten}
-use Rattle.run_report.proofs.text.write_lines.Given as goal
-
-abbrev pub invariant-listed : goal.invariant-listed
-invariant-listed l = AreWritten l.listed l.one-index
-    (λ one. line_at l.plan.nodes (state_at l.prospects) one.number) l.initial.out.items l.out.items
