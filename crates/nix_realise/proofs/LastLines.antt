@@ -6,8 +6,8 @@ use Rattle.run_report.specs.Listing.{numbers_of}
 use Rattle.run_report.specs.declared.listing.Listed.{Listed}
 
 -- one line more
-pub line_more : {X : Type 0} (line : X → List ℕ) (xs : List X) (i : ℕ) (d : X)
-    (out more all : List ℕ)
+pub line_more : {X Y : Type 0} (line : X → List Y) (xs : List X) (i : ℕ) (d : X)
+    (out more all : List Y)
     → i < length xs → more ≡ out ++ line (get_or xs i d) → out ++ flat_map line (drop i xs) ≡ all
     → more ++ flat_map line (drop (i + 1) xs) ≡ all
 line_more line xs i d out more all below is was =

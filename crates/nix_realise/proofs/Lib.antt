@@ -1,7 +1,9 @@
 pub mod AddedTexts
 pub mod Appending
 pub mod Endings
+pub mod EventPlaces
 pub mod Journals
+pub mod KeptLeases
 pub mod LastLines
 pub mod Registrations
 pub mod Reports

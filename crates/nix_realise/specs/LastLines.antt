@@ -1,23 +1,27 @@
 -- The lines that standard error gets at the end of a run of `realise` (this product's own,
 -- `FORMATS.md`).
-use Rattle.std.specs.Prelude.{◌≡◌, ℕ, Bool, true, false, ◌++◌, List, [], Option, Some, codes}
-use Rattle.std.specs.Prelude.{flat_map, length, map, option_map, string_bytes}
+use Rattle.std.specs.Prelude.{◌≡◌, ℕ, Bool, true, false, ◌++◌, List, [], ◌∷◌, Option, Some, codes}
+use Rattle.std.specs.Prelude.{flat_map, if◌then◌else◌, length, map, option_map}
 use Rattle.std.specs.Cmp.Lexicographic.{slice_cmp}
 use Rattle.std.specs.List.{range_with_len}
 use Rattle.std.specs.List.Sorted.{IsPermutation, IsSorted}
 use Rattle.std.specs.Ordering.{nat_cmp}
 use Rattle.nix_names.specs.Bytes.{Bytes, Dir, Path}
+use Rattle.drv_graph.specs.Nodes.{Node}
+use Rattle.process_build.specs.Folders.{build_folder_of}
 use Rattle.process_build.specs.Options.{log_path_of}
-use Rattle.process_build.specs.declared.disk.kept_folders.KeptFolder.{KeptFolder}
 use Rattle.run_report.specs.Listing.{IsMarked}
 use Rattle.run_report.specs.Reports.{AreByPath, path_at}
-use Rattle.run_states.specs.Runs.{History, Run as RunOver, state_in}
+use Rattle.run_states.specs.Runs.{History, Run as RunOver, is_one_of, state_in}
+use Rattle.run_states.specs.declared.state.Event.{Event}
+use Rattle.run_states.specs.declared.state.Event.TheVariants.{Fail}
 use Rattle.run_states.specs.declared.state.State.{State}
 use Rattle.run_states.specs.declared.state.State.TheVariants.{Failed}
 use Rattle.command_line.specs.declared.options.RealiseRequest.{RealiseRequest}
 use Rattle.nix_realise.specs.RootsStatus.{roots_status}
 use Rattle.nix_realise.specs.declared.cli.exit.Status.{Status}
 use Rattle.nix_realise.specs.declared.cli.exit.Status.TheVariants.{Unrealised}
+use Rattle.nix_realise.specs.declared.words.kept_lines.KeptLease.{KeptLease}
 
 -- whether a derivation in this state failed
 abbrev pub is_failed : State → Bool
@@ -57,28 +61,38 @@ IsFailedText request run history text =
     FailedTextBy (option_map (λ l. l.now) request.logs) (roots_status run history)
     request.run.store_dir.now run history text
 
--- the line of a build folder that was kept
-abbrev pub kept_line : KeptFolder → Bytes
-kept_line kept =
-    codes "nix_realise: " ++ kept.drv ++ codes ": kept " ++ string_bytes kept.folder ++ codes "\n"
+-- the line of a lease under which a derivation failed, and whose build folder was kept
+abbrev pub kept_line : Dir → KeptLease → Bytes
+kept_line store_dir lease =
+    codes "nix_realise: " ++ lease.drv ++ codes ": kept " ++ build_folder_of store_dir lease.number
+    ++ codes "\n"
 
--- The text has a line for each of these folders, by the paths of their derivations.
-pub record AreKeptFolderLines (kept : List KeptFolder) (text : Bytes) : Type 0 where
-  pub sorted : List KeptFolder
-  pub same : IsPermutation kept sorted
-  pub by_path : IsSorted (slice_cmp nat_cmp) (map (λ (k : KeptFolder). k.drv) sorted)
-  pub is_text : text ≡ flat_map kept_line sorted
+-- the lease of an event, if that is a Fail, and if the lease's number is among those of the build
+-- folders that were kept
+abbrev pub kept_lease : List Node → (kept : List ℕ) → Event → List KeptLease
+kept_lease nodes kept (Fail d number reason) =
+    if is_one_of kept number then record { drv = path_at nodes d; number = number } ∷ [] else []
+kept_lease nodes kept event = []
+
+-- The text has a line for each Fail of the history whose lease's folder was kept, by the paths of
+-- the derivations. Only which folders were kept is not told by the history.
+pub record AreKeptFolderLines (store_dir : Dir) (run : RunOver) (history : History)
+    (kept : List ℕ) (text : Bytes) : Type 0 where
+  pub sorted : List KeptLease
+  pub same : IsPermutation (flat_map (kept_lease run.graph.nodes kept) history.events) sorted
+  pub by_path : IsSorted (slice_cmp nat_cmp) (map (λ (k : KeptLease). k.drv) sorted)
+  pub is_text : text ≡ flat_map (kept_line store_dir) sorted
 
 -- no folder is kept where the request doesn't ask for that
-abbrev pub AreKeptFor : RealiseRequest → List KeptFolder → Type 0
+abbrev pub AreKeptFor : RealiseRequest → (kept : List ℕ) → Type 0
 AreKeptFor request kept = request.keep_failed ≡ false → kept ≡ []
 
 -- What standard error gets at the end of a run: the lines of the derivations that failed, then
--- those of the folders that were kept.
+-- those of the build folders that were kept.
 pub record IsLastText (request : RealiseRequest) (run : RunOver) (history : History)
-    (kept : List KeptFolder) (text : Bytes) : Type 0 where
+    (kept : List ℕ) (text : Bytes) : Type 0 where
   pub failed : Bytes
   pub folders : Bytes
   pub of_failed : IsFailedText request run history failed
-  pub of_folders : AreKeptFolderLines kept folders
+  pub of_folders : AreKeptFolderLines request.run.store_dir.now run history kept folders
   pub is_text : text ≡ failed ++ folders

@@ -1,5 +1,5 @@
 -- How a run of `realise` ends: its status, and what was printed.
-use Rattle.std.specs.Prelude.{◌≡◌, ◌⊎◌, ◌≤◌, ◌<◌, Bool, List, Option, Result, Ok, Err, is_some, length}
+use Rattle.std.specs.Prelude.{◌≡◌, ◌⊎◌, ◌≤◌, ◌<◌, ℕ, Bool, List, Option, Result, Ok, Err, is_some, length}
 use Rattle.std.specs.Io.KnownBytes.{Appends}
 use Rattle.nix_names.specs.Bytes.{Bytes}
 use Rattle.drv_graph.specs.Plans.{Graph}
@@ -12,7 +12,6 @@ use Rattle.store_run.specs.Realising.{IsRealised, IsRunFault}
 use Rattle.store_run.specs.declared.fault.RunFault.{RunFault}
 use Rattle.valid_table.specs.Written.{written_text}
 use Rattle.command_line.specs.declared.options.RealiseRequest.{RealiseRequest}
-use Rattle.process_build.specs.declared.disk.kept_folders.KeptFolder.{KeptFolder}
 use Rattle.nix_realise.specs.AddedText.{IsJournalOf}
 use Rattle.nix_realise.specs.Building.{IsNoFolder, IsNoRunner}
 use Rattle.nix_realise.specs.Files.{FileBytes}
@@ -57,14 +56,14 @@ HasShortText book = length (written_text book.history.entries) ≤ max_journal_l
 
 -- How a run ends with a settled book: its report is printed, or nothing where the journal is not
 -- written, exactly where its text is too long or else since it can't be, or memory is refused. The
--- last lines tell of some folders that were kept, and of none where the request doesn't ask for
+-- last lines tell which build folders were kept, and of none where the request doesn't ask for
 -- that.
 abbrev pub BookEnds : RealiseRequest → Ledger → (before after : Option Bytes)
     → Result Outcome RunError → Type 0
 BookEnds request book before after (Ok finish) =
     ((text : Bytes) × IsReportIn book.run book.history text × Appends before after text)
     × (finish.status ≡ roots_status book.run book.history)
-    × ((kept : List KeptFolder) × AreKeptFor request kept
+    × ((kept : List ℕ) × AreKeptFor request kept
     × IsLastText request book.run book.history kept (last_text finish))
     × HasShortText book
 BookEnds request book before after (Err JournalTooLong) =

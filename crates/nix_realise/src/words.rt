@@ -3,9 +3,12 @@
 //! | Module | What is in it |
 //! |---|---|
 //! | `fault_words`, `graph_words` | the words of faults |
-//! | `last_lines` | a run's last lines |
+//! | `last_lines`, `kept_lines` | a run's last lines |
+//! | `drv_line` | the front of a line on a derivation |
 #![tactic(auto)]
 
+pub mod drv_line;
 pub mod fault_words;
 pub mod graph_words;
+pub mod kept_lines;
 pub mod last_lines;

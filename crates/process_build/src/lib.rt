@@ -16,7 +16,8 @@ mod observe;
 mod process;
 mod reasons;
 
-pub use disk::kept_folders::{KeptFolder, KeptFolders};
+pub use disk::folders::BuildFolder;
+pub use disk::kept_folders::KeptFolders;
 pub use disk::left_paths::remove_left;
 pub use disk::logs::Logs;
 pub use failures::Failure;

@@ -29,9 +29,7 @@ use crate::io::trace_file::{TraceFile, end_traced, untraced};
 use crate::io::whole_file::WriteProbe;
 use crate::words::last_lines::last_lines;
 use command_line::{OutputKind, RealiseRequest};
-use process_build::{
-    BuildOptions, Builders, DrvPaths, KeptFolder, KeptFolders, WithTrace, remove_left,
-};
+use process_build::{BuildOptions, Builders, DrvPaths, KeptFolders, WithTrace, remove_left};
 use sched_core::Book;
 use std::io::Write;
 use std::marker::Brand;
@@ -305,8 +303,8 @@ impl<'a, R: Files + AllocGlobal + Wait> Realisation<'a, '_, '_, R> {
         }
     }
 
-    // The build folders that were kept: none where the request doesn't ask for them.
-    fn take_kept(&self) -> Vec<KeptFolder>
+    // The leases whose build folders were kept: none where the request doesn't ask for them.
+    fn take_kept(&self) -> Vec<u64>
         ensures { AreKeptFor self.now.request.now result.items }
     {
         match &self.kept {

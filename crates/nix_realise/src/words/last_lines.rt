@@ -3,46 +3,37 @@ ghost use Rattle.std.specs.Prelude.{◌≡◌, ◌++◌, IfOk, OnOk, codes, drop
 ghost use Rattle.process_build.specs.Options.{log_path_of};
 ghost use Rattle.run_report.specs.Listing.{AreWithin};
 ghost use Rattle.run_report.specs.Reports.{path_at};
-ghost use Rattle.nix_realise.specs.LastLines.{AreFailedLines, IsFailedText, AreKeptFolderLines, IsLastText};
-ghost use Rattle.nix_realise.specs.LastLines.{failed_line, failed_marks, is_failed, kept_line};
+ghost use Rattle.nix_realise.specs.LastLines.{AreFailedLines, IsFailedText, IsLastText};
+ghost use Rattle.nix_realise.specs.LastLines.{failed_line, failed_marks, is_failed};
 ghost use Rattle.run_report.specs.declared.listing.Listed.{Listed};
 
 use crate::building::summary::roots_status;
 use crate::cli::exit::Status;
+use crate::words::drv_line::write_front;
+use crate::words::kept_lines::kept_lines;
 use command_line::RealiseRequest;
 use drv_graph::Plan;
 use nix_names::StorePath;
-use process_build::KeptFolder;
 use run_report::{Listed, marked_by_path};
 use sched_core::{Book, State};
 use std::alloc::{AllocError, Global};
 use valid_table::Outlet;
 
-/// The lines that standard error gets at the end of a run with this book, in which these folders
-/// were kept. The first are the lines of the derivations that failed, by path, where logs were
-/// asked for and a root was not realised; then comes a line for each folder, by its derivation's
-/// path.
+/// The lines that standard error gets at the end of a run with this book, in which the build
+/// folders of the leases with these numbers were kept. The first are the lines of the derivations
+/// that failed, by path, where logs were asked for and a root was not realised; then come those of
+/// the folders of leases under which a derivation failed, by its path.
 pub fn last_lines<V: Outlet>(
     alloc: Global,
     request: &RealiseRequest<'_>,
     book: &Book<V>,
-    kept: Vec<KeptFolder>,
+    kept: Vec<u64>,
 ) -> Result<Vec<u8>, AllocError>
     ensures { IfOk result (λ text. IsLastText request.now book.now.run book.now.history kept.items
         text.items) }
 {
     let mut lines = failed_lines(alloc, request, book)?;
-    lines.extend_from_slice(&kept_lines(alloc, kept)?)?;
-    Ok(lines)
-}
-
-// A line for each of these folders, by its derivation's path.
-fn kept_lines(alloc: Global, mut kept: Vec<KeptFolder>) -> Result<Vec<u8>, AllocError>
-    ensures { IfOk result (λ text. AreKeptFolderLines kept.items text.items) }
-{
-    kept.sort_unstable_by(|a, b| a.drv.cmp(&b.drv));
-    let mut lines = Vec::new(alloc);
-    write_kept(&kept, &mut lines)?;
+    lines.extend_from_slice(&kept_lines(alloc, request.run.store_dir, book, kept)?)?;
     Ok(lines)
 }
 
@@ -132,16 +123,6 @@ fn write_failed_line(
     out.extend_from_slice(b"\n")
 }
 
-// Adds the front of a line on a derivation: the program's name, the derivation's path, and words.
-fn write_front(drv: &StorePath, words: &[u8], out: &mut Vec<u8>) -> Result<(), AllocError>
-    ensures { OnOk result (out.new.items
-        ≡ out.old.items ++ codes "nix_realise: " ++ drv.now ++ words.now) }
-{
-    out.extend_from_slice(b"nix_realise: ")?;
-    out.extend_from_slice(drv.text())?;
-    out.extend_from_slice(words)
-}
-
 // Adds the path of a derivation's log.
 fn write_log_path(
     logs: &str,
@@ -162,23 +143,4 @@ fn after(text: &[u8], count: usize) -> &[u8]
     ensures { result.now ≡ drop count text.now }
 {
     text.get(count..).unwrap_or(&[])
-}
-
-// Adds the lines of these folders, which were kept.
-fn write_kept(kept: &[KeptFolder], out: &mut Vec<u8>) -> Result<(), AllocError>
-    ensures { OnOk result (out.new.items ≡ out.old.items ++ flat_map kept_line kept.now) }
-{
-    'kept: for one in kept {
-        write_kept_line(one, out)?;
-    }
-    Ok(())
-}
-
-// Adds the line of a folder that was kept.
-fn write_kept_line(kept: &KeptFolder, out: &mut Vec<u8>) -> Result<(), AllocError>
-    ensures { OnOk result (out.new.items ≡ out.old.items ++ kept_line kept.now) }
-{
-    write_front(&kept.drv, b": kept ", out)?;
-    out.extend_from_slice(kept.folder.as_bytes())?;
-    out.extend_from_slice(b"\n")
 }

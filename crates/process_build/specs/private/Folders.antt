@@ -11,10 +11,6 @@ use Rattle.process_build.specs.declared.failures.Failure.{Failure}
 use Rattle.process_build.specs.declared.failures.Failure.TheVariants.{NoMemory, NotFound}
 use Rattle.build_outcome.specs.declared.job.Job.{Job}
 
--- the build folder of the lease with this number
-abbrev pub build_folder_of : (store_dir : Dir) → (number : ℕ) → Bytes
-build_folder_of store_dir number = store_dir ++ codes "/.build-" ++ decimal number
-
 -- the path to which something is moved that is not removed at once
 abbrev pub aside_of : (store_dir : Dir) → (number : ℕ) → Bytes
 aside_of store_dir number = store_dir ++ codes "/.nix_realise-left-" ++ decimal number

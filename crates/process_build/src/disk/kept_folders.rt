@@ -1,22 +1,14 @@
 //! The build folders of builders that failed, which are kept.
-use nix_names::StorePath;
+use crate::disk::folders::BuildFolder;
 use std::alloc::{AllocError, Global};
 use std::mem;
 use std::sync::{Arc, Mutex, Wait};
 
-/// A build folder that is kept.
-#[derive(Debug, Drop)]
-pub struct KeptFolder {
-    /// The path of the derivation whose builder failed in it.
-    pub drv: StorePath,
-    /// The folder's path.
-    pub folder: String,
-}
-
-/// The build folders that a run keeps. All handles share one list, in any threads.
+/// The build folders that a run keeps, by the numbers of their leases. All handles share one list,
+/// in any threads.
 #[derive(Drop)]
 pub struct KeptFolders {
-    shared: Arc<Mutex<Vec<KeptFolder>>>,
+    shared: Arc<Mutex<Vec<u64>>>,
 }
 
 impl KeptFolders {
@@ -37,13 +29,14 @@ impl KeptFolders {
     }
 
     /// Adds a folder to the list. Costs no allocation while there is room.
-    pub fn note<R: Wait>(&self, rt: &R, kept: KeptFolder) -> Result<(), AllocError> {
-        self.shared.lock(rt).push(kept)?;
+    pub fn note<R: Wait>(&self, rt: &R, kept: &BuildFolder) -> Result<(), AllocError> {
+        self.shared.lock(rt).push(kept.number())?;
         Ok(())
     }
 
-    /// Takes the folders out of the list, in the order in which they were added.
-    pub fn take<R: Wait + AllocGlobal>(&self, rt: &R) -> Vec<KeptFolder> {
+    /// Takes the numbers of the folders' leases out of the list, in the order in which they were
+    /// added.
+    pub fn take<R: Wait + AllocGlobal>(&self, rt: &R) -> Vec<u64> {
         mem::replace(&mut *self.shared.lock(rt), Vec::new(rt.alloc()))
     }
 }

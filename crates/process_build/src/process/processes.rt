@@ -3,11 +3,10 @@ ghost use Rattle.std.specs.Prelude.{◌≡◌, ◌⊎◌, IfErr, IfOk, string_by
 ghost use Rattle.process_build.specs.private.Answers.{answer_of, may_have_run, IsAnswerOf, IsReadingFault};
 ghost use Rattle.process_build.specs.private.Answers.{IsRoomFault, IsRunFault};
 ghost use Rattle.process_build.specs.Options.{AreOptionsOf};
-ghost use Rattle.process_build.specs.private.Preparations.{IsLogOf, IsNoteOf, IsPlaceOf, IsPreparationOf};
+ghost use Rattle.process_build.specs.private.Preparations.{IsLogOf, IsPlaceOf, IsPreparationOf};
 
 use crate::disk::cleanup::Cleanup;
 use crate::disk::folders::BuildFolder;
-use crate::disk::kept_folders::KeptFolder;
 use crate::disk::logs::{LogPath, Logs, OutputStreams};
 use crate::disk::outputs::read_outputs;
 use crate::process::builders::Builders;
@@ -38,7 +37,7 @@ pub struct ProcessBuild<'a, R, P> {
     processes: &'a P,
     options: OwnOptions,
     // The build folder of a builder that ran, whose lease hasn't ended.
-    left: Cell<Option<KeptFolder>>,
+    left: Cell<Option<BuildFolder>>,
 }
 
 // What is made for a lease before anything is changed.
@@ -47,8 +46,6 @@ struct Preparation<'a> {
     call: Call<'a>,
     log: Option<LogPath>,
     folder: BuildFolder,
-    // What is noted if the folder is kept.
-    note: Option<KeptFolder>,
 }
 
 impl<'a, R, P> ProcessBuild<'a, R, P> {
@@ -117,7 +114,7 @@ impl<R: Files + Logs + AllocGlobal, P: Processes> Build for ProcessBuild<'_, R, 
         let preparation = self.prepare(number, job)?;
         let mut clearing = Cleanup::new(self.rt, self.options.store_dir());
         let left = self.build(&preparation, job, &mut clearing);
-        self.leave(preparation, may_have_run(&left), &mut clearing);
+        self.leave(preparation.folder, may_have_run(&left), &mut clearing);
         clearing.finish();
         Ok(left?.answer())
     }
@@ -131,7 +128,7 @@ impl<R: Files + AllocGlobal + Wait, P> LeaseObserver for ProcessBuild<'_, R, P> 
     fn ended(&self, is_good: bool, _unsettled: usize) {
         match self.left.take() {
             Some(left) if is_good => self.clear(&left),
-            Some(left) => self.keep(left),
+            Some(left) => self.keep(&left),
             None => {}
         }
     }
@@ -147,19 +144,19 @@ fn may_have_run(left: &Result<EndedBuild, Reason>) -> bool
 impl<R: Files + AllocGlobal + Wait, P> ProcessBuild<'_, R, P> {
     // Adds a build folder to the list of those that are kept, unless nothing lies there. The list
     // has room for every derivation of the run.
-    fn keep(&self, left: KeptFolder) {
+    fn keep(&self, left: &BuildFolder) {
         let Some(kept) = self.options.kept() else {
             return;
         };
-        if fs::symlink_metadata(self.rt, left.folder.as_str()).is_ok() {
+        if fs::symlink_metadata(self.rt, left.path()).is_ok() {
             let _ = kept.note(self.rt, left);
         }
     }
 
     // Clears a build folder whose builder didn't fail.
-    fn clear(&self, left: &KeptFolder) {
+    fn clear(&self, left: &BuildFolder) {
         let mut clearing = Cleanup::new(self.rt, self.options.store_dir());
-        let _ = clearing.clear(left.folder.as_str());
+        let _ = clearing.clear(left.path());
         clearing.finish();
     }
 }
@@ -180,19 +177,6 @@ impl<R: Files + Logs + AllocGlobal, P: Processes> ProcessBuild<'_, R, P> {
         Ok(Some(log))
     }
 
-    // What is noted if the build folder of a job is kept: nothing where none are.
-    fn note_of(&self, job: &Job, folder: &BuildFolder) -> Result<Option<KeptFolder>, AllocError>
-        ensures { IfOk result (IsNoteOf self.now.options job.now.derivation folder.now) }
-    {
-        match (self.options.kept(), self.options.drvs().get(job.derivation)) {
-            (Some(_), Some(drv)) => Ok(Some(KeptFolder {
-                drv: drv.copy(self.rt.alloc())?,
-                folder: String::from_str(self.rt.alloc(), folder.path())?,
-            })),
-            _ => Ok(None),
-        }
-    }
-
     // What is made for the lease with this number before anything is changed.
     fn prepare<'j>(&self, number: u64, job: &'j Job) -> Result<Preparation<'j>, Reason>
         ensures ok { IfOk result (IsPreparationOf self.now.options number job.now) }
@@ -202,27 +186,15 @@ impl<R: Files + Logs + AllocGlobal, P: Processes> ProcessBuild<'_, R, P> {
         let call = Call::of(alloc, job)?;
         let log = self.log_of(job)?;
         let folder = BuildFolder::new(alloc, self.options.store_dir(), number)?;
-        let note = self.note_of(job, &folder)?;
-        Ok(Preparation {
-            call,
-            log,
-            folder,
-            note,
-        })
+        Ok(Preparation { call, log, folder })
     }
 
     // Leaves the build folder of a builder that may have run until the end of the lease, if the
     // folders of builders that failed are kept, and else clears it. The answer stands, whether the
     // folder can be removed or not.
-    fn leave(
-        &self,
-        preparation: Preparation<'_>,
-        may_have_run: bool,
-        clearing: &mut Cleanup<'_, R>,
-    ) {
-        let Preparation { folder, note, .. } = preparation;
-        if may_have_run && note.is_some() {
-            self.left.set(note);
+    fn leave(&self, folder: BuildFolder, may_have_run: bool, clearing: &mut Cleanup<'_, R>) {
+        if may_have_run && self.options.kept().is_some() {
+            self.left.set(Some(folder));
         } else {
             let _ = clearing.clear(folder.path());
         }
