@@ -11,6 +11,7 @@ use Rattle.process_build.specs.Errors.{IsInterruption, IsNoMemory}
 use Rattle.command_line.specs.declared.options.RealiseRequest.{RealiseRequest}
 use Rattle.nix_realise.specs.declared.io.locks.Unlocked.{Unlocked}
 use Rattle.nix_realise.specs.declared.io.locks.Unlocked.TheVariants.{NotOpened, Refused}
+use Rattle.nix_realise.specs.declared.io.lock_file.LockRefusal.{LockRefusal}
 use Rattle.nix_realise.specs.declared.io.lock_call.LockFault.{LockFault}
 use Rattle.nix_realise.specs.declared.io.lock_call.LockFault.TheVariants.{Held, NoLock, Interrupted}
 use Rattle.nix_realise.specs.declared.io.lock_call.LockFault.TheVariants as lock
@@ -45,8 +46,19 @@ IsOpenFault error fault =
 
 -- why there is no lock
 abbrev pub IsFaultOf : Unlocked → LockFault → Type 0
-IsFaultOf (Refused error) fault = IsLockFault error fault
+IsFaultOf (Refused refusal) fault = IsLockFault refusal.error fault
 IsFaultOf (NotOpened error) fault = IsOpenFault error fault
+
+-- A call for the lock gave this fault, for a reason that calls for this lock may have; or a signal
+-- interrupted each call.
+abbrev pub IsCallFault : (refuses : Unlocked → Type 0) → LockFault → Type 0
+IsCallFault refuses Interrupted = Unit {0}
+IsCallFault refuses fault = (why : Unlocked) × refuses why × IsFaultOf why fault
+
+-- the file system knows no such lock: so said the error of a call for the lock
+abbrev pub IsNoLock : (refuses : Unlocked → Type 0) → LockFault → Type 0
+IsNoLock refuses fault = (refusal : LockRefusal) × refuses (Refused refusal)
+    × IsUnknownLock refusal.error × (fault ≡ NoLock)
 
 -- the path of the file that is locked for a store folder
 abbrev pub lock_path : Dir → Bytes

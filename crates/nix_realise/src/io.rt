@@ -8,6 +8,7 @@
 //! | `journal_file` | the journal file: its path, read and written |
 //! | `journal_write` | the journal file, written only where a later run can read it |
 //! | `journal_keeper` | the journal file, as it is written while a run goes on |
+//! | `lock_file` | the file of a store folder that is locked |
 //! | `lock_call`, `locks` | the calls for the lock of a store folder; that lock |
 //! | `announced_locks` | the line that tells that a run waits for it |
 //! | `nix_store` | whether Nix manages a store folder |
@@ -24,6 +25,7 @@ pub mod journal_file;
 pub mod journal_keeper;
 pub mod journal_write;
 pub mod lock_call;
+pub mod lock_file;
 pub mod locks;
 pub mod logs_folder;
 pub mod nix_store;

@@ -38,6 +38,8 @@ impl<L: Locks, W: Write + Copy> Locks for AnnouncedLocks<'_, L, W> {
 
     ghost locks_in = { L.locks_in };
 
+    ghost refuses = { L.refuses };
+
     /// Takes the lock of a folder as the others do. A refused write to the terminal changes
     /// nothing.
     fn lock(&self, dir: &str, waits: bool) -> Result<L::Lock, Unlocked> {

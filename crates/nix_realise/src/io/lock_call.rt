@@ -1,9 +1,10 @@
 //! The calls for the lock of a store folder.
-ghost use Rattle.std.specs.Prelude.{◌≡◌, IfOk};
-ghost use Rattle.nix_realise.specs.Locking.{fault_in, is_held};
+ghost use Rattle.std.specs.Prelude.{◌≡◌, IfErr, IfOk};
+ghost use Rattle.nix_realise.specs.Locking.{IsCallFault, IsLockFault, fault_in, is_held};
 
 use crate::io::locks::{Locks, Unlocked};
 use process_build::Failure;
+use std::io;
 use std::io::ErrorKind;
 
 /// Why a call for the lock of a folder gave none.
@@ -28,21 +29,30 @@ impl From<Unlocked> for LockFault {
 
     fn from(unlocked: Unlocked) -> Self {
         match unlocked {
-            Unlocked::Refused(error) => match error.kind() {
-                ErrorKind::WouldBlock => LockFault::Held,
-                ErrorKind::Unsupported => LockFault::NoLock,
-                ErrorKind::Interrupted => LockFault::Interrupted,
-                _ => match Failure::from(error) {
-                    Failure::NoMemory => LockFault::NoMemory,
-                    _ => LockFault::Other,
-                },
-            },
+            Unlocked::Refused(refusal) => LockFault::of_call(refusal.into_error()),
             Unlocked::NotOpened(error) => match error.kind() {
                 ErrorKind::Interrupted => LockFault::Interrupted,
                 _ => match Failure::from(error) {
                     Failure::NoMemory => LockFault::NoMemory,
                     _ => LockFault::Other,
                 },
+            },
+        }
+    }
+}
+
+impl LockFault {
+    // What an error of the call for the lock of an open file means.
+    fn of_call(error: io::Error) -> LockFault
+        ensures { IsLockFault error result }
+    {
+        match error.kind() {
+            ErrorKind::WouldBlock => LockFault::Held,
+            ErrorKind::Unsupported => LockFault::NoLock,
+            ErrorKind::Interrupted => LockFault::Interrupted,
+            _ => match Failure::from(error) {
+                Failure::NoMemory => LockFault::NoMemory,
+                _ => LockFault::Other,
             },
         }
     }
@@ -86,6 +96,7 @@ impl<'a, K> Asked<'a, K> {
 pub fn ask<'a, L: Locks>(locks: &L, dir: &'a str, waits: bool) -> Asked<'a, L::Lock>
     ensures dir { result.dir ≡ dir.entry }
     ensures lock { IfOk result.answer (λ lock. L.locks_in lock dir.entry.now) }
+    ensures none { IfErr result.answer (IsCallFault (L.refuses dir.entry.now)) }
 {
     Asked {
         dir,
@@ -95,7 +106,8 @@ pub fn ask<'a, L: Locks>(locks: &L, dir: &'a str, waits: bool) -> Asked<'a, L::L
 
 // What comes of a call for the lock, which is made again while a signal interrupts it.
 fn answer_of<L: Locks>(locks: &L, dir: &str, waits: bool) -> Result<L::Lock, LockFault>
-    ensures { IfOk result (λ lock. L.locks_in lock dir.now) }
+    ensures lock { IfOk result (λ lock. L.locks_in lock dir.now) }
+    ensures none { IfErr result (IsCallFault (L.refuses dir.now)) }
 {
     for _ in 0..u64::MAX {
         match locks.lock(dir, waits) {
