@@ -27,6 +27,7 @@ process_build/src/failures.rt from
 process_build/src/process/processes.rt may_have_run
     | ! matches ! ( left , Err ( Reason :: NoStart | Reason :: OutOfMemory ) )
     # a test of a reason, which makes none
+command_line/src/faults.rt - | name : "!" # the name of a fault, in the table of all of them
 nix_realise/src/cli/program.rt print_usage
     | if fault . kind ( ) == ErrorKind :: OutOfMemory { return print_no_memory ( err ) ; }
     # clap was refused memory

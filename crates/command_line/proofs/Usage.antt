@@ -6,7 +6,7 @@ use Rattle.clap.specs.Words.{App, kind_of}
 use Rattle.clap.specs.declared.error.Error.{Error}
 use Rattle.clap.proofs.OnLiterals.{clap_on_literals}
 use Rattle.command_line.specs.CommandLine.{command_line}
-use Rattle.command_line.specs.Usage.{IsUsageFault, faults_in}
+use Rattle.command_line.specs.Usage.{IsReadFault, faults_in}
 
 -- `clap` says which faults it finds on this command line
 pub is_free : is_simple_and_free command_line ≡ true
@@ -21,7 +21,7 @@ none_found words app same none = ap (λ (a : App). fault_of a words) (sym same) 
 
 -- what it finds is a fault of the words, or want of memory
 pub fault_found : (words : List (List ℕ)) (app : App) (error : Error) → app ≡ command_line
-    → HasKind (fault_of app words) error → IsUsageFault words (kind_of error)
+    → HasKind (fault_of app words) error → IsReadFault words (kind_of error)
 unfolding faults_in
 fault_found words app error same has =
     ⊎_elim inl (λ among. inr (inl among))

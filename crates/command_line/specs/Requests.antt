@@ -17,7 +17,7 @@ use Rattle.command_line.specs.declared.options.RealiseRequest.{RealiseRequest}
 use Rattle.command_line.specs.declared.options.RunRequest.{RunRequest}
 use Rattle.command_line.specs.declared.options.Request.{Request}
 use Rattle.command_line.specs.declared.options.Request.TheVariants.{Check, AddText, AddDrv, Plan}
-use Rattle.command_line.specs.declared.options.Request.TheVariants.{Realise}
+use Rattle.command_line.specs.declared.options.Request.TheVariants.{Realise, Faults}
 
 -- the store folder among the words and options that were found
 abbrev pub store_dir_in : List Row → Dir
@@ -126,6 +126,7 @@ IsAskedBy name rows (AddText request) = (name ≡ codes "add-text") × IsAddText
 IsAskedBy name rows (AddDrv request) = (name ≡ codes "add-drv") × IsAddDrv rows request
 IsAskedBy name rows (Plan request) = (name ≡ codes "plan") × IsPlanned rows request
 IsAskedBy name rows (Realise request) = (name ≡ codes "realise") × IsRealise rows request
+IsAskedBy name rows Faults = ⊥
 
 -- what is asked by the subcommand that was found, if there is one
 abbrev pub IsAskedIn : Option (Name × List Row) → Request → Type 0

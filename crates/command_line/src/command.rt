@@ -88,6 +88,7 @@ fn top<'a>(alloc: Global) -> Command<'a>
     Command::new(alloc, "nix_realise")
         .version(VERSION)
         .about("Checks and realises store derivations, and adds texts and derivations to a store")
+        .after_help("nix_realise help faults tells what each fault means, and what to do")
         .subcommand_required(true)
 }
 

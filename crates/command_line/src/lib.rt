@@ -6,12 +6,15 @@
 //! | `options` | what a command line asks for |
 //! | `command` | the command line that `clap` reads |
 //! | `words` | the words of a command line, read by `clap` |
+//! | `faults` | what each fault means, and what to do |
 #![tactic(auto)]
 
 mod command;
+mod faults;
 mod options;
 mod words;
 
+pub use faults::FaultTable;
 pub use options::{
     AddDrvRequest, AddTextRequest, CheckRequest, OutputKind, PlanRequest, RealiseRequest, Request,
     RunRequest,

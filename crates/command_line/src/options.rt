@@ -12,6 +12,8 @@ pub enum Request<'a> {
     Plan(PlanRequest<'a>),
     /// `realise`: make the outputs of derivations valid.
     Realise(RealiseRequest<'a>),
+    /// `help faults`: what each fault means, and what to do.
+    Faults,
 }
 
 /// The words of `check`.

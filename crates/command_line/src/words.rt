@@ -1,11 +1,11 @@
 //! The words of a command line, read by `clap`.
-ghost use Rattle.std.specs.Prelude.{◌≡◌, ◌⊎◌, IfErr, IfOk, MatchOption, map, option_map};
+ghost use Rattle.std.specs.Prelude.{◌≡◌, ◌⊎◌, ◌↔◌, [], IfErr, IfOk, IsTrue, MatchOption, map, option_map};
 ghost use Rattle.clap.specs.Words.{first_of, found_of, kind_of, rows_of, subcommand_rows_of};
 ghost use Rattle.command_line.specs.private.Found.{HasJobs, IsFound, IsSubcommand};
-ghost use Rattle.command_line.specs.Usage.{IsAsked, IsUsageFault};
+ghost use Rattle.command_line.specs.Usage.{AskForFaults, IsAsked, IsReadFault, IsUsageFault, faults_in};
 ghost use Rattle.command_line.specs.Kinds.{IsKindFault, IsKindFaultBy, IsKindFaultIn};
 ghost use Rattle.command_line.specs.Requests.{AreJobs, IsAddDrv, IsAddText, IsAskedBy};
-ghost use Rattle.command_line.specs.Requests.{IsAskedIn, IsCheckRequest};
+ghost use Rattle.command_line.specs.Requests.{IsAskedIn, IsCheckRequest, IsRequest};
 ghost use Rattle.command_line.specs.Requests.{IsPlanned, IsRealise, IsRunRequest, drvs_in};
 ghost use Rattle.command_line.specs.Requests.{NamesKind, NamesNoKind, is_flagged, jobs_in};
 ghost use Rattle.command_line.specs.Requests.{outputs_in, store_dir_in, system_in, word_in};
@@ -24,11 +24,31 @@ use clap::{ArgMatches, Error};
 use std::alloc::{AllocError, Global};
 
 /// Reads a command line, whose first word is the program's own name. An error is a mistake in the
-/// words, a request for help or the version, or want of memory; its text is `clap`'s.
+/// words, a request for other help or the version, or want of memory; its text is `clap`'s.
 pub fn request<'a>(alloc: Global, words: &'a [&'a str]) -> Result<Request<'a>, Error>
     ensures ok { IfOk result (IsAsked (map (λ w. w.now) words.entry.now)) }
     ensures err { IfErr result
         (λ e. IsUsageFault (map (λ w. w.now) words.entry.now) (kind_of e)) }
+{
+    if asks_for_faults(words) {
+        return Ok(Request::Faults);
+    }
+    read_request(alloc, words)
+}
+
+// Whether the words ask for the table of faults: they are `help faults`.
+fn asks_for_faults(words: &[&str]) -> bool
+    ensures { IsTrue result ↔ AskForFaults (map (λ w. w.now) words.now) }
+{
+    matches!(words, [_, "help", "faults"])
+}
+
+// Reads a command line as `clap` does.
+fn read_request<'a>(alloc: Global, words: &'a [&'a str]) -> Result<Request<'a>, Error>
+    ensures ok { IfOk result (λ request. IsRequest (map (λ w. w.now) words.entry.now) request
+        × (faults_in (map (λ w. w.now) words.entry.now) ≡ [])) }
+    ensures err { IfErr result
+        (λ e. IsReadFault (map (λ w. w.now) words.entry.now) (kind_of e)) }
 {
     let matches = command(alloc)?.try_get_matches_from(words)?;
     found_request(alloc, &matches)

@@ -1,6 +1,6 @@
 -- How a run of the program ends, by the words of its command line: what was printed, and the
 -- status.
-use Rattle.std.specs.Prelude.{◌≡◌, ◌⊎◌, ℕ, List, Option, Some, None, Result, Ok, Err, map}
+use Rattle.std.specs.Prelude.{◌≡◌, ◌⊎◌, ℕ, List, Option, Some, None, Result, Ok, Err, map, string_bytes}
 use Rattle.std.specs.Global.{Vec}
 use Rattle.std.specs.Io.KnownBytes.{Appends}
 use Rattle.clap.specs.declared.error.kind.ErrorKind.{ErrorKind}
@@ -8,10 +8,11 @@ use Rattle.clap.specs.declared.error.kind.ErrorKind.TheVariants.{DisplayHelp, Di
 use Rattle.clap.specs.declared.error.kind.ErrorKind.TheVariants.{OutOfMemory}
 use Rattle.nix_names.specs.Bytes.{Bytes}
 use Rattle.command_line.specs.Usage.{IsAsked, IsUsageFault}
+use Rattle.command_line.specs.declared.faults.FaultTable.{FaultTable}
 use Rattle.command_line.specs.declared.options.CheckRequest.{CheckRequest}
 use Rattle.command_line.specs.declared.options.Request.{Request}
 use Rattle.command_line.specs.declared.options.Request.TheVariants.{Check, AddText, AddDrv, Plan}
-use Rattle.command_line.specs.declared.options.Request.TheVariants.{Realise}
+use Rattle.command_line.specs.declared.options.Request.TheVariants.{Realise, Faults}
 use Rattle.nix_realise.specs.CheckLines.{IsCheckReport}
 use Rattle.nix_realise.specs.DrvEndings.{DrvEnds}
 use Rattle.nix_realise.specs.Endings.{Ends}
@@ -47,6 +48,15 @@ CheckEnds request out (Ok status) =
 CheckEnds request out (Err stop) =
     IsStopOf request.store_dir.now stop × (IsUntouched out ⊎ (stop ≡ Unwritable))
 
+-- How `help faults` ends: the table is printed; or memory is refused, and nothing is printed; or
+-- standard output refuses the text.
+abbrev pub FaultsEnd : Stream → Result Status RunError → Type 0
+FaultsEnd out (Ok status) =
+    (status ≡ Done) × ((table : FaultTable) × Appends out.0 out.1 (string_bytes table.text))
+FaultsEnd out (Err NoMemory) = IsUntouched out
+FaultsEnd out (Err Unwritable) = Unit {0}
+FaultsEnd out (Err stop) = ⊥
+
 -- How the subcommand of a request ends.
 abbrev pub SubcommandEnds : May → Request → Stream → Result Outcome RunError → Type 0
 SubcommandEnds may (Check request) out outcome = EndsQuietly (CheckEnds request out) outcome
@@ -56,6 +66,7 @@ SubcommandEnds may (AddDrv request) out outcome =
     EndsWritten (DrvEnds request out.0 out.1) outcome
 SubcommandEnds may (Plan request) out outcome = EndsQuietly (PlanEnds request out.0 out.1) outcome
 SubcommandEnds may (Realise request) out outcome = RealiseEnds may request out.0 out.1 outcome
+SubcommandEnds may Faults out outcome = EndsQuietly (FaultsEnd out) outcome
 
 -- A subcommand that wasn't stopped ends with its status. Standard error gets its last lines, or
 -- refuses them.

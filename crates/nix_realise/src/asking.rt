@@ -1,4 +1,4 @@
-//! The subcommands `check` and `plan`, which change nothing.
+//! The subcommands `check` and `plan`, and `help faults`, which change nothing.
 //!
 //! | Module | What is in it |
 //! |---|---|
@@ -6,9 +6,11 @@
 //! | `task` | what `plan` and `realise` take: a plan and a journal |
 //! | `read_task` | the same for a run that changes nothing |
 //! | `plan` | the subcommand `plan` |
+//! | `faults` | the table of faults |
 #![tactic(auto)]
 
 pub mod check;
+pub mod faults;
 pub mod plan;
 pub mod read_task;
 pub mod task;

@@ -12,6 +12,7 @@ ghost use Rattle.nix_realise.specs.declared.cli.run_error.RunError.{RunError};
 use crate::adding::add_drv::add_drv;
 use crate::adding::add_text::add_text;
 use crate::asking::check::check_lines;
+use crate::asking::faults::print_faults;
 use crate::asking::plan::plan;
 use crate::building::realise::realise;
 use crate::cli::exit::{Exit, Outcome, Status, quietly, quietly_written};
@@ -91,6 +92,7 @@ where
         Request::AddDrv(request) => quietly_written(add_drv(rt, request, out)),
         Request::Plan(request) => quietly(plan(rt, request, out)),
         Request::Realise(request) => realise(rt, make, host, request, out),
+        Request::Faults => quietly(print_faults(rt.alloc(), out)),
     }
 }
 

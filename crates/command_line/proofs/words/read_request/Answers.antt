@@ -9,7 +9,7 @@ use Rattle.command_line.specs.CommandLine.{command_line}
 use Rattle.command_line.specs.private.Found.{IsFound}
 use Rattle.command_line.specs.Kinds.{IsKindFaultIn}
 use Rattle.command_line.specs.Requests.{IsAskedIn}
-use Rattle.command_line.proofs.words.request.Goals as goal
+use Rattle.command_line.proofs.words.read_request.Goals as goal
 
 is_read : is_simple command_line ≡ true
 unfolding clap_on_literals
