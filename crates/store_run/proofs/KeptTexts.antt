@@ -52,23 +52,25 @@ added (Err e) before more after is holds = tt
 
 -- the text of the entries that a look found may be handed over
 pub may_be_kept : (may : Job → Result Answer Reason → Type 0) (was_shown : List Entry → Type 0)
-    (is_this_run : Run → List Entry → Type 0) (may_keep : Bytes → Type 0) (known : List Entry)
-    (looked : Looked) (text bytes : Bytes) → TakesEachInterimJournal may was_shown is_this_run may_keep
+    (is_this_run : Run → List Entry → Type 0) (may_keep : List Entry → Bytes → Type 0)
+    (known shown : List Entry) (looked : Looked) (text bytes : Bytes)
+    → TakesEachInterimJournal may was_shown is_this_run may_keep
     → IsLook may was_shown is_this_run known looked
     → ((entries : List Entry) → IsNews known entries looked → text ≡ written_text entries)
-    → bytes ≡ text → may_keep bytes
-may_be_kept may was_shown is_this_run may_keep known looked text bytes each look is same =
-    each look.run look.history.opening bytes look.over (record {
+    → bytes ≡ text → shown ≡ looked.shown → may_keep shown bytes
+may_be_kept may was_shown is_this_run may_keep known shown looked text bytes each look is same
+    is_looked =
+    subst (λ (s : List Entry). may_keep s bytes) (sym is_looked)
+    (each look.run look.history.opening looked.shown bytes look.over (record {
       history = look.history;
       opening_is = refl;
       legal = look.legal;
       answered = look.answered;
-      shown = looked.shown;
       is_shown = look.is_shown;
       goes_on = (look.news.waiting, sym look.news.all);
       seeds = look.seeds;
       text_is = same ∙ is look.history.entries look.news;
-    })
+    }))
 
 -- what follows where there is something
 pub of_some : {A : Type 0} {Fact Other : A → Type 0} (found : Option A) → IfSome found Fact
@@ -90,14 +92,15 @@ run_of graph system = record { graph = graph; system = system }
 -- what is kept of the run of a book over what was lent, is kept of the run over that
 pub kept_of_lent : (may : Job → Result Answer Reason → Type 0) (was_shown : List Entry → Type 0)
     (plan : Graph) (system : Bytes) (entries : List Entry) (book : Ledger) (run : Run)
-    (opening : List Entry) (text : Bytes)
+    (opening shown : List Entry) (text : Bytes)
     → IsOverLent plan system entries book
     → (run ≡ book.run) × (opening ≡ book.history.opening)
-    → IsInterimJournal may was_shown run opening text
-    → IsInterimJournal may was_shown (record { graph = plan; system = system }) entries text
-kept_of_lent may was_shown plan system entries book run opening text over is kept =
+    → IsInterimJournal may was_shown run opening shown text
+    → IsInterimJournal may was_shown (record { graph = plan; system = system }) entries shown text
+kept_of_lent may was_shown plan system entries book run opening shown text over is kept =
     let lent : Run = record { graph = plan; system = system } in
     let same : book.run ≡ lent =
     ap₂ (λ (g : Graph) (s : Bytes). run_of g s) over.plan_is over.system_is in
-    subst (λ (r : Run). IsInterimJournal may was_shown r entries text) (is.0 ∙ same)
-    (subst (λ (o : List Entry). IsInterimJournal may was_shown run o text) (is.1 ∙ over.opening_is) kept)
+    subst (λ (r : Run). IsInterimJournal may was_shown r entries shown text) (is.0 ∙ same)
+    (subst (λ (o : List Entry). IsInterimJournal may was_shown run o shown text)
+    (is.1 ∙ over.opening_is) kept)

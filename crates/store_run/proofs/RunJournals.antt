@@ -230,7 +230,7 @@ module _ {S : Type 0} (may : Job → Result Answer Reason → Type 0)
 
   pub kept_texts_are_read : (was_shown : List Entry → Type 0)
       → KeptTextsAreRead may was_shown gives
-  kept_texts_are_read was_shown source dir roots run opening bytes over kept =
+  kept_texts_are_read was_shown source dir roots run opening shown bytes over kept =
       subst (λ (t : List ℕ). AreReadAs dir t kept.history.entries) (sym kept.text_is)
       (journals_of_runs_are_read source dir roots run kept.history
       (subst (IsOverStore dir (gives source) roots run.graph) (sym kept.opening_is) over)

@@ -12,17 +12,17 @@ use Rattle.run_states.specs.Runs.{History, Run}
 use Rattle.sched_core.specs.Books.{BuildsOver}
 use Rattle.store_run.specs.Builders.{IsAnswered}
 
--- A text is what is kept of a run that opened with these entries: the text of all entries of a
--- legal history of the run, in which what became of each derivation is a verdict on what a builder
--- may give. The entries go on from a list that was shown, in which all is valid that is built from.
+-- A text is what is kept of a run that opened with these entries, where this list was shown: the
+-- text of all entries of a legal history of the run, in which what became of each derivation is a
+-- verdict on what a builder may give. The entries go on from the list, in which all is valid that
+-- is built from.
 pub record IsInterimJournal (may : Job → Result Answer Reason → Type 0)
-    (was_shown : List Entry → Type 0) (run : Run) (opening : List Entry) (text : Bytes)
+    (was_shown : List Entry → Type 0) (run : Run) (opening shown : List Entry) (text : Bytes)
     : Type 0 where
   pub history : History
   pub opening_is : history.opening ≡ opening
   pub legal : IsLegal run history
   pub answered : IsAnswered may run history
-  pub shown : List Entry
   pub is_shown : was_shown shown
   pub goes_on : IsPrefix shown history.entries
   pub seeds : BuildsOver run history shown
@@ -31,6 +31,7 @@ pub record IsInterimJournal (may : Job → Result Answer Reason → Type 0)
 -- each text that is kept of a run that is over something may be handed over
 abbrev pub TakesEachInterimJournal : (may : Job → Result Answer Reason → Type 0)
     → (was_shown : List Entry → Type 0) → (is_this_run : Run → List Entry → Type 0)
-    → (may_keep : Bytes → Type 0) → Type 0
-TakesEachInterimJournal may was_shown is_this_run may_keep = (run : Run) (opening : List Entry) (text : Bytes)
-    → is_this_run run opening → IsInterimJournal may was_shown run opening text → may_keep text
+    → (may_keep : List Entry → Bytes → Type 0) → Type 0
+TakesEachInterimJournal may was_shown is_this_run may_keep =
+    (run : Run) (opening shown : List Entry) (text : Bytes) → is_this_run run opening
+    → IsInterimJournal may was_shown run opening shown text → may_keep shown text

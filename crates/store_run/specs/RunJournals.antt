@@ -74,9 +74,11 @@ JournalsOfRunsAreRead {S} may gives =
 abbrev pub KeptTextsAreRead : {S : Type 0} → (may : Job → Result Answer Reason → Type 0)
     → (was_shown : List Entry → Type 0) → (gives : S → Path → SourceAnswer → Type 0) → Type 0
 KeptTextsAreRead {S} may was_shown gives =
-    (source : S) (dir : Dir) (roots : List Path) (run : Run) (opening : List Entry) (text : Bytes)
+    (source : S) (dir : Dir) (roots : List Path) (run : Run) (opening shown : List Entry)
+    (text : Bytes)
     → IsOverStore dir (gives source) roots run.graph opening
-    → (kept : IsInterimJournal may was_shown run opening text) → AreReadAs dir text kept.history.entries
+    → (kept : IsInterimJournal may was_shown run opening shown text)
+    → AreReadAs dir text kept.history.entries
 
 -- the text of the entries that such a run leaves behind is read as these entries
 abbrev pub LeftJournalsAreRead : {S : Type 0} → (may : Job → Result Answer Reason → Type 0)

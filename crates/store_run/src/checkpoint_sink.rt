@@ -11,20 +11,22 @@ use std::alloc::Global;
 use std::marker::{Model, PhantomData};
 use std::sync::Wait;
 use std::time::{Clock, Duration, Instant};
-use valid_view::{ListId, Tells};
+use valid_view::{ListId, Prefix, Tells};
 
 /// Where a run puts the text of its journal while it goes on.
 pub trait CheckpointSink {
+    ghost use Rattle.std.specs.Prelude.{List};
     ghost use Rattle.nix_names.specs.Bytes.{Bytes};
+    ghost use Rattle.valid_table.specs.declared.entry.Entry.{Entry};
 
-    // The texts that may be put there.
-    ghost may_keep: { Bytes → Type 0 };
+    // The texts that may be put there, each with a list from which its entries go on.
+    ghost may_keep: { List Entry → Bytes → Type 0 };
 
     /// Puts a text in place of the one before, and says whether that was done; where it was not,
-    /// another call comes, also where nothing more is registered. No lock is held, and no worker
-    /// waits for it.
-    fn keep(&mut self, text: &[u8]) -> bool
-        requires { may_keep text.now };
+    /// another call comes, also where nothing more is registered. The list was shown when the text
+    /// was that of the book. No lock is held, and no worker waits for it.
+    fn keep<J: ListId>(&mut self, text: &[u8], shown: &Prefix<J>) -> bool
+        requires { may_keep shown.now text.now };
 }
 
 // Where each text may be put that is kept of a run over the basis.
@@ -107,7 +109,7 @@ where
     let Ok(()) = text.go_on(news) else {
         return None;
     };
-    if place.keep.keep(text.bytes()) {
+    if place.keep.keep(text.bytes(), text.shown()) {
         text.note_kept(count);
     }
     start?.elapsed(rt).ok()

@@ -1,8 +1,9 @@
 //! A run beside whose workers a keeper keeps what they register.
-ghost use Rattle.std.specs.Prelude.{◌≡◌, IfErr, IfOk, IfSome, MatchResult, vec_len};
+ghost use Rattle.std.specs.Prelude.{◌≡◌, IfErr, IfOk, IfSome, List, MatchResult, vec_len};
 ghost use Rattle.nix_names.specs.Bytes.{Bytes};
 ghost use Rattle.run_states.specs.Runs.{Run};
 ghost use Rattle.valid_table.specs.Written.{written_text};
+ghost use Rattle.valid_table.specs.declared.entry.Entry.{Entry};
 ghost use Rattle.store_run.specs.Builders.{IsAnswered};
 ghost use Rattle.store_run.specs.Keeping.{IsInterimJournal, TakesEachInterimJournal};
 ghost use Rattle.store_run.specs.Realising.{IsRealised, IsRunFault};
@@ -28,15 +29,15 @@ use valid_view::{ListId, Name, Tells, ViewReader};
 /// Does what `realise` does, and keeps what is registered while the run goes on. A thread beside
 /// the workers hands texts to the place: each is the text of all entries that the book had at one
 /// moment, of a legal history of the run, in which what became of each derivation is a verdict on
-/// what a builder may give. These entries go on from a list that was shown under this name, in
-/// which all is valid that was being built from at that moment. What the returned book shows was
-/// shown under it too; of two such lists one begins with the other
-/// (`Prefix::one_begins_the_other`). The
-/// next run reads such a text as these entries, by `laws::journals_of_runs_are_read`. No text is
-/// handed over where nothing was registered since the last one that was kept, nor in the first half
-/// second. The thread has ended whenever the call returns; what was registered last may not have
-/// been handed over. Where no thread can be made, nothing is. The lock is held for the lines of new
-/// entries alone, and no worker waits for the place. Takes memory for the text, once.
+/// what a builder may give. With it comes the list that was shown at that moment: the entries go on
+/// from it, and all is valid in it that was being built from. What the returned book shows was
+/// shown under the same name; of two such lists one begins with the other
+/// (`Prefix::one_begins_the_other`). The next run reads such a text as these entries, by
+/// `laws::journals_of_runs_are_read`. No text is handed over where nothing was registered since the
+/// last one that was kept, nor in the first half second. The thread has ended whenever the call
+/// returns; what was registered last may not have been handed over. Where no thread can be made,
+/// nothing is. The lock is held for the lines of new entries alone, and no worker waits for the
+/// place. Takes memory for the text, once.
 pub fn realise_kept<
     'a,
     J: ListId + Send + Sync,
@@ -54,10 +55,10 @@ pub fn realise_kept<
     place: K,
 ) -> RunResult<'a, J, R>
     requires name { name ≡ J.book }
-    requires each { (text : Bytes)
+    requires each { (shown : List Entry) (text : Bytes)
         → IsInterimJournal B.may (J.Showing.shown J.book)
-        (record { graph = plan.now; system = system.now }) journal.now.entries text
-        → K.may_keep text }
+        (record { graph = plan.now; system = system.now }) journal.now.entries shown text
+        → K.may_keep shown text }
     ensures ok { IfOk result
         (IsRealised B.may plan.now system.now journal.now.entries (vec_len builders)) }
     ensures shown { MatchResult result (λ book. J.Showing.shown J.book book.shown)

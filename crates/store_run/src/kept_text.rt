@@ -91,11 +91,13 @@ impl<J: ListId> KeptText<J> {
         what_is_new(alloc, &self.shown, O::prefix(book.tell()), entries)
     }
 
-    // Goes on with what a look gave. Then the text is that of all entries that there were. Where
-    // memory is refused, it begins with the text of what is shown, as before.
+    // Goes on with what a look gave. Then the text is that of all entries that there were, and what
+    // was shown then is known. Where memory is refused, it begins with the text of what is shown,
+    // as before.
     pub(crate) fn go_on(&mut self, news: NewLines<J>) -> Result<(), AllocError>
         requires { (entries : List Entry) × IsNews self.old.shown entries news }
-        ensures { OnOk result ((entries : List Entry) → IsNews self.old.shown entries news
+        ensures shown { OnOk result (self.new.shown ≡ news.shown) }
+        ensures text { OnOk result ((entries : List Entry) → IsNews self.old.shown entries news
             → self.new.text ≡ written_text entries) }
     {
         let NewLines {
@@ -116,6 +118,13 @@ impl<J: ListId> KeptText<J> {
         ensures { result.now ≡ self.now.text }
     {
         &self.bytes
+    }
+
+    // The list that was shown when the book was looked at.
+    pub(crate) fn shown(&self) -> &Prefix<J>
+        ensures { result.now ≡ self.now.shown }
+    {
+        &self.shown
     }
 
     // Takes note that a text of so many entries was kept.

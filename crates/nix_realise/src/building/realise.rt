@@ -1,7 +1,8 @@
 //! The subcommand `realise`.
 ghost use Rattle.std.specs.Coded.{Coded-set};
-ghost use Rattle.std.specs.Prelude.{◌≡◌, All, IfErr, IfOk, is_some, length, string_bytes, true};
+ghost use Rattle.std.specs.Prelude.{◌≡◌, All, IfErr, IfOk, List, is_some, length, string_bytes, true};
 ghost use Rattle.nix_names.specs.Bytes.{Bytes};
+ghost use Rattle.valid_table.specs.declared.entry.Entry.{Entry};
 ghost use Rattle.drv_graph.specs.Nodes.{paths_of};
 ghost use Rattle.run_states.specs.StateTables.{IsRunSettled};
 ghost use Rattle.nix_realise.specs.Locking.{IsKeptOut};
@@ -172,7 +173,7 @@ where
         requires options { AreOptionsFor self.now.request.now (paths_of self.now.task.plan.nodes)
             options.now }
         requires place { P.keeps_at place (string_bytes self.now.file.now.path) }
-        requires each { (text : Bytes) → P.Place.may_keep text }
+        requires each { (shown : List Entry) (text : Bytes) → P.Place.may_keep shown text }
         ensures { TaskEnds M.Builder.may self.now.request.now self.now.task
             (O.contents out.old) (O.contents out.new) result }
     {
@@ -209,7 +210,7 @@ where
             × AreOptionsFor self.now.request.now (paths_of self.now.task.plan.nodes) options
             × All (λ b. M.builds_in b options) builders.items }
         requires place { P.keeps_at place (string_bytes self.now.file.now.path) }
-        requires each { (text : Bytes) → P.Place.may_keep text }
+        requires each { (shown : List Entry) (text : Bytes) → P.Place.may_keep shown text }
         ensures { RunEnds M.Builder.may self.now.request.now self.now.task
             (O.contents out.old) (O.contents out.new) result }
     {

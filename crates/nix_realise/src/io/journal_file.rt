@@ -1,6 +1,7 @@
 //! The journal file of a run: its path, read and written.
-ghost use Rattle.std.specs.Prelude.{◌≡◌, ◌≤◌, IfErr, IfOk, length, option_map, string_bytes};
+ghost use Rattle.std.specs.Prelude.{◌≡◌, ◌≤◌, IfErr, IfOk, List, length, option_map, string_bytes};
 ghost use Rattle.nix_names.specs.Bytes.{Bytes};
+ghost use Rattle.valid_table.specs.declared.entry.Entry.{Entry};
 ghost use Rattle.nix_realise.specs.Files.{IsReadFrom};
 ghost use Rattle.nix_realise.specs.JournalFiles.{IsUnwrittenJournal, journal_path_of};
 ghost use Rattle.nix_realise.specs.JournalFiles.{max_journal_len};
@@ -91,7 +92,8 @@ impl<'h> OwnJournal<'h> {
     /// The place that keeps the file while a run goes on.
     pub fn place<P: JournalSinks>(&self, alloc: Global, places: &P) -> Result<P::Place, AllocError>
         ensures at { IfOk result (λ place. P.keeps_at place (string_bytes self.now.path)) }
-        ensures each { IfOk result (λ _. (text : Bytes) → P.Place.may_keep text) }
+        ensures each { IfOk result
+            (λ _. (shown : List Entry) (text : Bytes) → P.Place.may_keep shown text) }
     {
         let path = String::from_str(alloc, self.path.as_str())?;
         places.place(self.holding, path)

@@ -8,11 +8,13 @@ use crate::io::whole_file::WriteReceipt;
 use std::alloc::AllocError;
 use std::rt::Files;
 use store_run::CheckpointSink;
+use valid_view::{ListId, Prefix};
 
 /// What makes the places in which runs keep their journals while they go on.
 pub trait JournalSinks {
-    ghost use Rattle.std.specs.Prelude.{IfOk, string_bytes};
+    ghost use Rattle.std.specs.Prelude.{IfOk, List, string_bytes};
     ghost use Rattle.nix_names.specs.Bytes.{Bytes};
+    ghost use Rattle.valid_table.specs.declared.entry.Entry.{Entry};
 
     /// The place of a journal. It has all that it needs, so that a thread may own it.
     type Place: CheckpointSink + Send + Drop;
@@ -24,7 +26,8 @@ pub trait JournalSinks {
     /// folder is held. Want of memory is the only error.
     fn place(&self, holding: LockProof<'_>, path: String) -> Result<Self::Place, AllocError>
         ensures at { IfOk result (λ place. keeps_at place (string_bytes path)) }
-        ensures each { IfOk result (λ _. (text : Bytes) → Self.Place.may_keep text) };
+        ensures each { IfOk result
+            (λ _. (shown : List Entry) (text : Bytes) → Self.Place.may_keep shown text) };
 }
 
 impl<R: Files + AllocGlobal + Clone + Send + Drop> JournalSinks for R {
@@ -58,11 +61,11 @@ impl<R> InJournal<R> {
 impl<R: Files + AllocGlobal> CheckpointSink for InJournal<R> {
     ghost use Rattle.std.specs.Prelude.{⊤};
 
-    ghost may_keep = { λ text. ⊤ };
+    ghost may_keep = { λ shown text. ⊤ };
 
     /// A fault of the write is not told. The file that was there stays then. So it does where the
     /// text has more bytes than a journal may have.
-    fn keep(&mut self, text: &[u8]) -> bool {
+    fn keep<J: ListId>(&mut self, text: &[u8], _shown: &Prefix<J>) -> bool {
         let path = self.path.as_str();
         is_written(path, text, write_journal(&self.rt, path, text))
     }

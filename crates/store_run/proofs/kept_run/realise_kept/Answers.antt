@@ -11,10 +11,10 @@ run_kept-shared-requires-clause-answered g c κs within =
     rw c.in-Ok.ensures.opened (answered_opening c.args.journal.now.entries)
 
 pub run_kept-shared-requires-clause-each : goal.run_kept-shared-requires-clause-each
-run_kept-shared-requires-clause-each g c κs within = λ run opening text is kept.
-    c.requires.each text
+run_kept-shared-requires-clause-each g c κs within = λ run opening shown text is kept.
+    c.requires.each shown text
     (kept_of_lent g.B.Build.may (g.J.Showing.shown g.J.ListId.book) _ _ _ c.in-Ok.opened.0 run
-    opening text c.in-Ok.ensures.over is kept)
+    opening shown text c.in-Ok.ensures.over is kept)
 
 -- there is a right number of workers
 workers : (g : Over) (c : goal.After-hand_out g) → AreWorkers (vec_len c.args.builders)

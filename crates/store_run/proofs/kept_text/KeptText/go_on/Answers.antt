@@ -44,8 +44,8 @@ invariant_of-self-2 g c =
     c.extend_from_slice-2.ensures.items
     ∙ text_of_shown g c
 
-pub returns : goal.returns
-returns g c =
+pub returns-clause-text : goal.returns-clause-text
+returns-clause-text g c =
     added c.extend_from_slice-2.result _ c.deref-2.result.now
     c.extend_from_slice-2.new.self.items c.extend_from_slice-2.ensures.items
     (λ more entries given. all_goes_on c.self.inside.shown entries (looked g c)
