@@ -1,7 +1,9 @@
--- How a run of `plan` ends: its status, and what was printed.
-use Rattle.std.specs.Prelude.{◌≡◌, ◌⊎◌, Bool, true, false, List, Option, Result, Ok, Err, if◌then◌else◌}
+-- How a run of `plan` ends: its status, what was printed, and its last line.
+use Rattle.std.specs.Prelude.{◌≡◌, ◌≢◌, ◌⊎◌, ◌<◌, ◌++◌, ℕ, Bool, true, false, List, [], Option, Result, Ok, Err, codes, if◌then◌else◌, length}
 use Rattle.std.specs.Io.KnownBytes.{Appends}
 use Rattle.nix_names.specs.Bytes.{Bytes}
+use Rattle.drv_graph.specs.Nodes.{Node}
+use Rattle.drv_graph.specs.Twins.{first_twin_of}
 use Rattle.valid_table.specs.declared.entry.Entry.{Entry}
 use Rattle.run_states.specs.Runs.{Run as RunOver}
 use Rattle.run_report.specs.Forecasts.{IsForecast, is_whole}
@@ -10,7 +12,9 @@ use Rattle.command_line.specs.declared.options.PlanRequest.{PlanRequest}
 use Rattle.command_line.specs.declared.options.RunRequest.{RunRequest}
 use Rattle.nix_realise.specs.Files.{FileBytes}
 use Rattle.nix_realise.specs.Folders.{may_give}
+use Rattle.nix_realise.specs.Outcomes.{last_text}
 use Rattle.nix_realise.specs.Tasks.{IsTaskTaken}
+use Rattle.nix_realise.specs.declared.cli.exit.Outcome.{Outcome}
 use Rattle.nix_realise.specs.declared.cli.exit.Status.{Status}
 use Rattle.nix_realise.specs.declared.cli.exit.Status.TheVariants.{Done, Unrealised}
 use Rattle.nix_realise.specs.declared.cli.run_error.RunError.{RunError}
@@ -32,21 +36,37 @@ abbrev pub IsForecastPrinted : (dot : Bool) → RunOver → (opening : List Entr
 IsForecastPrinted false run opening text = IsForecast run opening text
 IsForecastPrinted true run opening text = IsPicture run opening text
 
+-- Two derivations of a plan have the same outputs: the first that has those of the one is another.
+abbrev pub HasTwins : List Node → Type 0
+HasTwins nodes = (d : ℕ) × (d < length nodes) × (first_twin_of nodes d ≢ d)
+
+-- the line that says that *Any interruption* doesn't speak of such a plan
+abbrev pub twins_line : Bytes
+twins_line =
+    codes "nix_realise: run: derivations share outputs, so a run that is killed and started again "
+    ++ codes "may end otherwise than one run\n"
+
+-- the text is that line where two derivations of the plan have the same outputs, and else it is empty
+abbrev pub IsTwinsText : List Node → (text : Bytes) → Type 0
+IsTwinsText nodes text =
+    (HasTwins nodes × (text ≡ twins_line)) ⊎ (¬ HasTwins nodes × (text ≡ []))
+
 -- How a run ends over a plan and a journal: the forecast is printed, or nothing for want of memory.
 abbrev pub ForecastEnds : PlanRequest → Task → (before after : Option Bytes)
-    → Result Status RunError → Type 0
-ForecastEnds request task before after (Ok status) =
+    → Result Outcome RunError → Type 0
+ForecastEnds request task before after (Ok finish) =
     ((text : Bytes) × IsForecastPrinted request.dot (over request.run task) task.journal.entries
     text
     × Appends before after text)
-    × (status ≡ whole_status (over request.run task) task.journal.entries)
+    × (finish.status ≡ whole_status (over request.run task) task.journal.entries)
+    × IsTwinsText task.plan.nodes (last_text finish)
 ForecastEnds request task before after (Err NoMemory) = after ≡ before
 ForecastEnds request task before after (Err Unwritable) = Unit {0}
 ForecastEnds request task before after (Err stop) = ⊥
 
 -- How a run ends, by what the journal file gave. Nothing is printed where the request is refused.
 abbrev pub PlanEndsBy : PlanRequest → (gave : FileBytes) → (before after : Option Bytes)
-    → Result Status RunError → Type 0
+    → Result Outcome RunError → Type 0
 PlanEndsBy request gave before after result =
     ((stop : RunError) × (result ≡ Err stop) × (after ≡ before)
     × IsTaskTaken (λ _ answer. may_give answer) request.run gave (Err stop))
@@ -54,6 +74,6 @@ PlanEndsBy request gave before after result =
     × ForecastEnds request task before after result)
 
 -- how it ends: nothing is known of what the journal file gave
-abbrev pub PlanEnds : PlanRequest → (before after : Option Bytes) → Result Status RunError → Type 0
+abbrev pub PlanEnds : PlanRequest → (before after : Option Bytes) → Result Outcome RunError → Type 0
 PlanEnds request before after result =
     (gave : FileBytes) × PlanEndsBy request gave before after result

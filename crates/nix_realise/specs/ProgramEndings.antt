@@ -64,7 +64,7 @@ SubcommandEnds may (AddText request) out outcome =
     EndsWritten (Ends request out.0 out.1) outcome
 SubcommandEnds may (AddDrv request) out outcome =
     EndsWritten (DrvEnds request out.0 out.1) outcome
-SubcommandEnds may (Plan request) out outcome = EndsQuietly (PlanEnds request out.0 out.1) outcome
+SubcommandEnds may (Plan request) out outcome = PlanEnds request out.0 out.1 outcome
 SubcommandEnds may (Realise request) out outcome = RealiseEnds may request out.0 out.1 outcome
 SubcommandEnds may Faults out outcome = EndsQuietly (FaultsEnd out) outcome
 

@@ -4,6 +4,7 @@
 //! |---|---|
 //! | `fault_words`, `graph_words` | the words of faults |
 //! | `last_lines`, `kept_lines` | a run's last lines |
+//! | `twins_line` | the last line of `plan` |
 //! | `drv_line` | the front of a line on a derivation |
 #![tactic(auto)]
 
@@ -12,3 +13,4 @@ pub mod fault_words;
 pub mod graph_words;
 pub mod kept_lines;
 pub mod last_lines;
+pub mod twins_line;

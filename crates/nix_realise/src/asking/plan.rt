@@ -5,9 +5,10 @@ ghost use Rattle.nix_realise.specs.Planning.{whole_status};
 
 use crate::asking::read_task::read_task;
 use crate::asking::task::Task;
-use crate::cli::exit::Status;
+use crate::cli::exit::{Outcome, Status};
 use crate::cli::printing::print_bytes;
 use crate::cli::run_error::RunError;
+use crate::words::twins_line::twins_line;
 use command_line::{PlanRequest, RunRequest};
 use run_report::Forecast;
 use std::alloc::{AllocError, Global};
@@ -16,12 +17,13 @@ use std::rt::Files;
 
 /// Prints what `realise` would report for the request, if each builder that it starts made its
 /// outputs: as a report or as a graph. The plan is loaded, then the journal is read; the first
-/// fault ends the run. Nothing is written but to standard output, and no builder is started.
+/// fault ends the run. A line at the end tells where derivations of the plan have the same outputs.
+/// No file is written, and no builder is started.
 pub fn plan<'a, R, O>(
     rt: &R,
     request: &PlanRequest<'a>,
     out: &mut O,
-) -> Result<Status, RunError<'a>>
+) -> Result<Outcome, RunError<'a>>
 where
     R: Files + AllocGlobal,
     O: Write,
@@ -31,19 +33,20 @@ where
     print_forecast(rt.alloc(), request, task, out)
 }
 
-// Prints the forecast of a run over a task.
+// Prints the forecast of a run over a task, and gives the last line.
 fn print_forecast<'a, O: Write>(
     alloc: Global,
     request: &PlanRequest<'a>,
     task: Task,
     out: &mut O,
-) -> Result<Status, RunError<'a>>
+) -> Result<Outcome, RunError<'a>>
     ensures { ForecastEnds request.now task (O.contents out.old) (O.contents out.new) result }
 {
+    let lines = twins_line(alloc, task.plan())?;
     let forecast = forecast_of(alloc, &request.run, task)?;
     let text = text_of(&forecast, request.dot)?;
     match print_bytes(&text, out) {
-        Ok(()) => Ok(whole_status(&forecast)),
+        Ok(()) => Ok(Outcome::with(whole_status(&forecast), lines)),
         Err(_) => Err(RunError::Unwritable),
     }
 }

@@ -90,7 +90,7 @@ where
         Request::Check(request) => quietly(check(rt, request, out)),
         Request::AddText(request) => quietly_written(add_text(rt, host, request, out)),
         Request::AddDrv(request) => quietly_written(add_drv(rt, request, out)),
-        Request::Plan(request) => quietly(plan(rt, request, out)),
+        Request::Plan(request) => plan(rt, request, out),
         Request::Realise(request) => realise(rt, make, host, request, out),
         Request::Faults => quietly(print_faults(rt.alloc(), out)),
     }
