@@ -2,8 +2,10 @@
 //! for a file of N bytes, `piece:TEXT` and `close:N`; `link:TARGET`.
 //!
 //! `archive EVENT ..` is the archive of the events, and `events BYTES N` tells those of an archive
-//! that comes in pieces of N bytes. `altered BYTES` counts what comes of an archive in pieces of
-//! several lengths, and of those that differ a little from it, each read and written again.
+//! that comes in pieces of N bytes. `rewrite BYTES` is the archive that is written while one is
+//! read; its length and its SHA-256 are told. `altered BYTES` counts what comes of an archive in
+//! pieces of several lengths, and of those that differ a little from it, each read and written
+//! again.
 ghost use Rattle.std.specs.Prelude.{⊤};
 
 use crate::give::Give;
@@ -11,7 +13,8 @@ use crate::line::{Line, halves, number_of};
 use crate::stop::{Found, Stop, Taken, call, tried};
 use crate::teller::Teller;
 use crate::world::World;
-use nix_archive::{ArchiveFault, ArchiveReader, ArchiveWriter, Event, Hear};
+use nix_archive::{ArchiveFault, ArchiveReader, ArchiveWriter, Both, DigestSink, Event, Hear};
+use sha2::{Digest, Sha256};
 use std::alloc::{AllocError, Global};
 
 /// Takes a line, if its call is one of these.
@@ -19,6 +22,7 @@ pub(crate) fn take(teller: &mut Teller<'_>, world: &mut World, line: &Line<'_>) 
     words! { teller, world, line;
         do "archive" => archive(teller, world, line);
         do "events" => events(teller, world, line);
+        do "rewrite" => rewrite(teller, world, line);
         do "altered" => altered(teller, world, line);
     }
 }
@@ -120,6 +124,19 @@ fn events(teller: &mut Teller<'_>, world: &World, line: &Line<'_>) -> Taken {
     Ok(())
 }
 
+fn rewrite(teller: &mut Teller<'_>, world: &mut World, line: &Line<'_>) -> Taken {
+    let (alloc, bytes) = (world.alloc, world.text(line.argument(0)));
+    let sink = call!(teller, "DigestSink::new" => DigestSink::<Sha256>::new());
+    let second = tried!(teller, "DigestSink::put" => ArchiveWriter::begin(sink))?;
+    let first = ArchiveWriter::begin(Vec::new(alloc))?;
+    let (mut reader, mut both) = (ArchiveReader::new(alloc), Both { first, second });
+    tried!(teller, "Both::hear" => feed(&mut reader, bytes, 64, &mut both))?;
+    let Both { first, second } = both;
+    teller.say(format_args!("{} bytes", second.sink.length));
+    teller.hex(&second.sink.hasher.finalize());
+    first.sink.give(teller, world, line)
+}
+
 // What comes of archives: how many are written again with the same bytes, how many may go on, and
 // how many are refused, with the sum of the places.
 #[derive(Default, Drop)]
@@ -138,11 +155,13 @@ impl Counts {
         let place = feed(&mut reader, bytes, length, &mut writer)?;
         match place {
             Some(place) => {
-                count(&mut self.refused, 1);
-                count(&mut self.places, place);
+                self.refused = self.refused.saturating_add(1);
+                self.places = self.places.saturating_add(place);
             }
-            None if !reader.is_done() => count(&mut self.unfinished, 1),
-            None if writer.sink.as_slice() == bytes => count(&mut self.written, 1),
+            None if !reader.is_done() => self.unfinished = self.unfinished.saturating_add(1),
+            None if writer.sink.as_slice() == bytes => {
+                self.written = self.written.saturating_add(1);
+            }
             None => return Err(Stop::Lost("it is written again with other bytes")),
         }
         Ok(())
@@ -154,19 +173,6 @@ impl Counts {
             self.written, self.unfinished, self.refused, self.places,
         ));
     }
-}
-
-fn count(number: &mut usize, more: usize) {
-    *number = number.saturating_add(more);
-}
-
-// The archive in pieces of several lengths.
-fn of_pieces(alloc: Global, bytes: &[u8]) -> Result<Counts, Stop> {
-    let mut counts = Counts::default();
-    for length in [1, 7, 64, usize::MAX] {
-        counts.add(alloc, bytes, length)?;
-    }
-    Ok(counts)
 }
 
 // The texts that end before the archive's last byte.
@@ -195,9 +201,12 @@ fn of_bits(alloc: Global, bytes: &[u8]) -> Result<Counts, Stop> {
 // No call is told, since each takes memory often.
 fn altered(teller: &mut Teller<'_>, world: &World, line: &Line<'_>) -> Taken {
     let (alloc, bytes) = (world.alloc, world.text(line.argument(0)));
-    let mut longer = Counts::default();
+    let (mut whole, mut longer) = (Counts::default(), Counts::default());
+    for length in [1, 7, 64, usize::MAX] {
+        whole.add(alloc, bytes, length)?;
+    }
     longer.add(alloc, &[bytes, b"\0".as_slice()].concat(alloc)?, 5)?;
-    of_pieces(alloc, bytes)?.tell(teller, "in pieces");
+    whole.tell(teller, "in pieces");
     of_bits(alloc, bytes)?.tell(teller, "with one bit changed");
     of_cuts(alloc, bytes)?.tell(teller, "cut");
     longer.tell(teller, "with a zero more");

@@ -87,16 +87,11 @@ fn forecast(teller: &mut Teller<'_>, world: &World, line: &Line<'_>) -> Taken {
     let (plan, journal, system) = opening(world, line)?;
     let forecast = tried!(teller, "Forecast::open" =>
         Forecast::open(world.alloc, plan, journal, system))?;
-    tell_texts(teller, &forecast)?;
-    tell(teller, &forecast);
-    Ok(())
-}
-
-fn tell_texts(teller: &mut Teller<'_>, forecast: &Forecast) -> Taken {
     let text = tried!(teller, "Forecast::text" => forecast.text())?;
     let picture = tried!(teller, "Forecast::picture" => forecast.picture())?;
     teller.lines(&text);
     teller.lines(&picture);
+    tell(teller, &forecast);
     Ok(())
 }
 

@@ -288,15 +288,11 @@ fn copy(teller: &mut Teller<'_>, world: &World, line: &Line<'_>) -> Taken {
             Entry::Done(deriver, outputs)
         }
     };
-    tell_entry(teller, world.alloc, &copy)
-}
-
-fn tell_entry(teller: &mut Teller<'_>, alloc: Global, entry: &Entry) -> Taken {
-    let mut text = Vec::new(alloc);
-    if let Entry::Done(deriver, _) = entry {
+    let mut text = Vec::new(world.alloc);
+    if let Entry::Done(deriver, _) = &copy {
         text.extend_from_slice(deriver.text())?;
         text.extend_from_slice(b" : ")?;
     }
-    let registrations = call!(teller, "Entry::registrations" => entry.registrations());
+    let registrations = call!(teller, "Entry::registrations" => copy.registrations());
     tell(teller, text, registrations)
 }
