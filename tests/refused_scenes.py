@@ -367,4 +367,5 @@ ALL = [
     variant(Words, "words, no option", given=["check", "--frob"]),
     variant(Words, "words, no kind", given=["realise", "--outputs", "x", "x"]),
     variant(Words, "help", subcommand="help", given=["--version"], told=VERSION),
+    variant(Words, "help, faults", subcommand="help", given=["help", "faults"]),
 ]
