@@ -36,7 +36,7 @@ abbrev pub IsForecastPrinted : (dot : Bool) → RunOver → (opening : List Entr
 IsForecastPrinted false run opening text = IsForecast run opening text
 IsForecastPrinted true run opening text = IsPicture run opening text
 
--- Two derivations of a plan have the same outputs: the first that has those of the one is another.
+-- Two derivations of a plan have the same outputs: an earlier one has those of the one numbered d.
 abbrev pub HasTwins : List Node → Type 0
 HasTwins nodes = (d : ℕ) × (d < length nodes) × (first_twin_of nodes d ≢ d)
 
