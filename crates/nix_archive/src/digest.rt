@@ -11,7 +11,7 @@ use std::alloc::AllocError;
 /// memory.
 #[derive(Drop)]
 pub struct DigestSink<D> {
-    /// How many bytes it took, if that is a number of 64 bits.
+    /// How many bytes it took, or 2^64 - 1 if they were more.
     pub length: u64,
     /// What hashes them.
     pub hasher: D,

@@ -11,6 +11,7 @@ pub mod DigestTexts
 pub mod FirstElements
 pub mod Keys
 pub mod Lists
+pub mod MethodTexts
 pub mod PathBytes
 pub mod PathDigests
 pub mod PathFaults

@@ -6,6 +6,7 @@ pub mod Digests
 pub mod Faults
 pub mod Firsts
 pub mod Keys
+pub mod Methods
 pub mod Names
 pub mod Rising
 pub mod StorePaths

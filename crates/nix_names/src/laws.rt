@@ -4,6 +4,7 @@ ghost use Rattle.std.specs.Prelude.{◌≡◌, ◌↔◌, ◌<◌, ℕ, List, le
 ghost use Rattle.std.specs.List.{All};
 ghost use Rattle.nix_names.specs.Base32.{StandsFor, base32, base32_fault};
 ghost use Rattle.nix_names.specs.Digests.{DigitsAreOfOneDigest, TextIsOfOneDigest};
+ghost use Rattle.nix_names.specs.Methods.{TextIsOfOneMethodDigest};
 ghost use Rattle.nix_names.specs.Rising.{IsRising};
 
 /// A text stands for some bytes exactly where it is their base-32 text.
@@ -40,4 +41,9 @@ pub fn text_is_of_one_digest()
 /// Digits are those of one digest of an algorithm.
 pub fn digits_are_of_one_digest()
     ensures { DigitsAreOfOneDigest }
+{}
+
+/// A text with or without `r:` before it is that of one digest by one method.
+pub fn text_is_of_one_method_digest()
+    ensures { TextIsOfOneMethodDigest }
 {}

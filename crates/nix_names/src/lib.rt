@@ -8,6 +8,7 @@
 //! | `making` | the path of a type, an inner digest, a folder and a name |
 //! | `name` | the bytes of names and components |
 //! | `digest` | digests of a file's bytes, and their text |
+//! | `method` | digests of whole outputs, and what of them is hashed |
 //! | `fault` | why a text is no name, no path or no base-32 text |
 //! | `laws`, `path_laws` | laws over the definitions that contracts cite |
 #![tactic(auto)]
@@ -17,6 +18,7 @@ mod digest;
 mod fault;
 pub mod laws;
 mod making;
+mod method;
 mod name;
 pub mod path_laws;
 mod store_dir;
@@ -26,6 +28,7 @@ pub use base32::{from_base32, to_base32};
 pub use digest::{Algorithm, Digest};
 pub use fault::NameFault;
 pub use making::{fold20, make_named_path, make_path};
+pub use method::{Method, MethodDigest};
 pub use name::{is_drv_name, is_name};
 pub use store_dir::StoreDir;
 pub use store_path::{StorePath, known_path, parse_path};

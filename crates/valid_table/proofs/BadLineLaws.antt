@@ -93,10 +93,10 @@ ending : (version : Version) (dir : List ℕ) (place : Place) (rest : List ℕ) 
     → (come : List Line)
     × EndsIn version dir rest come place
 ending version dir Opened rest ahead =
-    let come : List Line = Output (sample dir) None ∷ [] in (
+    let come : List Line = Output (sample dir) None None ∷ [] in (
       come,
       (
-        ((sample_is_path _, tt, tt), tt),
+        ((sample_is_path _, (tt, tt), tt), tt),
         inr
             ((drop 2 (lines_text version come), refl), ahead),
       ),

@@ -5,7 +5,8 @@ use Rattle.std.proofs.lemmas.List.{append-nil, append_assoc, length-map, map-app
 use Rattle.std.proofs.lemmas.List.Concat.{flat_map-append, length-flat_map}
 use Rattle.std.proofs.lemmas.List.Elements.{All-append, All-cons, All-head, All-map, All-nil, All-tail, All-take}
 use Rattle.std.proofs.lemmas.Option.{MatchOption-at_some}
-use Rattle.nix_names.specs.declared.digest.Digest.{Digest}
+use Rattle.nix_names.specs.declared.method.MethodDigest.{MethodDigest}
+use Rattle.valid_table.specs.PathInfos.{NarInfo}
 use Rattle.valid_table.specs.private.Checking.{IsEntryCheck, IsLineCheck, IsRight, RegistersKnown, header}
 use Rattle.valid_table.specs.private.Entering.{AreUnknown, IsNewPrefix, IsNotKnown}
 use Rattle.valid_table.specs.Entries.{paths_registered, registered_by}
@@ -24,13 +25,13 @@ use Rattle.nix_names.proofs.Lists.{All-left, element_at, get_mapped, split_get}
 use Rattle.valid_table.proofs.PathLists.{All-right}
 
 -- which line begins a registration of an entry
-abbrev pub starts : Entry → List ℕ → Option Digest → Line
+abbrev pub starts : Entry → List ℕ → Option MethodDigest → Option NarInfo → Line
 starts (Add r) = Added
 starts (Done deriver outputs) = Output
 
 -- the lines of a registration of an entry
 abbrev own_lines : Entry → Registration → List Line
-own_lines entry r = starts entry r.path r.info.digest ∷ map Reference r.info.references
+own_lines entry r = starts entry r.path r.info.digest r.info.nar ∷ map Reference r.info.references
 
 -- and of several
 abbrev pub lines_of : Entry → List Registration → List Line
@@ -57,10 +58,11 @@ split_lines entry before r after parts =
     search (rules, entry_lines_are, flat_map-append, append_assoc)
 
 -- the line of a known path registers it
-start_known : (known : List (List ℕ)) (entry : Entry) (path : List ℕ) (digest : Option Digest)
-    → Contains known path → RegistersKnown known (starts entry path digest)
-start_known known (Add r) path digest there = there
-start_known known (Done deriver outputs) path digest there = there
+start_known : (known : List (List ℕ)) (entry : Entry) (path : List ℕ)
+    (digest : Option MethodDigest) (nar : Option NarInfo)
+    → Contains known path → RegistersKnown known (starts entry path digest nar)
+start_known known (Add r) path digest nar there = there
+start_known known (Done deriver outputs) path digest nar there = there
 
 -- of paths whose first ones are new, those before one of these are, and it is
 new_prefix : (known xs ys : List (List ℕ)) (x : List ℕ) (new : ℕ)
@@ -87,15 +89,16 @@ module _ (known all : List (List ℕ)) where
   header_right (Done deriver outputs) = search (rules, All-cons, All-nil)
 
   -- the line of a new path is right
-  start_right : (entry : Entry) (path : List ℕ) (digest : Option Digest) → IsNotKnown known path
-      → Right (starts entry path digest)
-  start_right (Add r) path digest new = new
-  start_right (Done deriver outputs) path digest new = new
+  start_right : (entry : Entry) (path : List ℕ) (digest : Option MethodDigest)
+      (nar : Option NarInfo) → IsNotKnown known path
+      → Right (starts entry path digest nar)
+  start_right (Add r) path digest nar new = new
+  start_right (Done deriver outputs) path digest nar new = new
 
   -- and so, with some lines of known references, are those of a registration
   own_right : (entry : Entry) (r : Registration) (references : List (List ℕ))
       → IsNotKnown known r.path → All (Contains all) references
-      → All Right (starts entry r.path r.info.digest ∷ map Reference references)
+      → All Right (starts entry r.path r.info.digest r.info.nar ∷ map Reference references)
   own_right entry r references new valid = search (rules, All-cons, start_right, All-map)
 
   -- the lines of registrations with new paths and known references are right
@@ -141,7 +144,7 @@ module _ (known all : List (List ℕ)) where
       in
       let new_before : AreUnknown known (paths_registered before) =
       subst (AreUnknown known) (take-map (λ (x : Registration). x.path) new rs) prefix.new in (
-        starts entry r.path r.info.digest,
+        starts entry r.path r.info.digest r.info.nar,
         length (header entry) + line_count before,
         record {
           before = header entry ++ lines_of entry before;
@@ -150,14 +153,14 @@ module _ (known all : List (List ℕ)) where
           is_place = sym (up_to_count _ _);
           right = up_to _ _ new_before closed;
         },
-        start_known _ _ _ _
+        start_known _ _ _ _ _
             (MatchOption-at_some (Unit {0}) (Contains known) r.path at prefix.next),
         omega arith,
       )
   entry_checked entry new first (Err (NotClosed n)) prefix
       (before, r, after, place, parts, lt, closed, (path, unknown, at), number) =
       let up = header entry ++ lines_of entry before in
-      let earlier = starts entry r.path r.info.digest ∷ map Reference unknown.before in
+      let earlier = starts entry r.path r.info.digest r.info.nar ∷ map Reference unknown.before in
       let later = map Reference unknown.after in
       let rest = lines_of entry after in
       let paths = ap paths_registered parts ∙ paths_of-append before (r ∷ after) in
@@ -166,9 +169,10 @@ module _ (known all : List (List ℕ)) where
       (omega (arith, path_count before)) in
       let split : entry_lines entry ≡ (up ++ earlier) ++ Reference path ∷ (later ++ rest) =
       split_lines entry before r after parts
-      ∙ ap (λ refs. up ++ (starts entry r.path r.info.digest ∷ (map Reference refs ++ rest)))
+      ∙ ap (λ refs. up ++ (starts entry r.path r.info.digest r.info.nar
+      ∷ (map Reference refs ++ rest)))
       unknown.parts
-      ∙ ap (λ l. up ++ (starts entry r.path r.info.digest ∷ (l ++ rest)))
+      ∙ ap (λ l. up ++ (starts entry r.path r.info.digest r.info.nar ∷ (l ++ rest)))
       (map-append Reference unknown.before (path ∷ unknown.after))
       ∙ ap (λ l. up ++ l) (append_assoc earlier (Reference path ∷ later) rest)
       ∙ sym (append_assoc up earlier (Reference path ∷ (later ++ rest))) in

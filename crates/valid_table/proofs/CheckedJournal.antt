@@ -136,8 +136,8 @@ pub record IsWrongAt (entries : List Entry) (m : ℕ) : Type 0 where
 pub wrong_line : (entries : List Entry) (m : ℕ) → IsNotClosedAt entries m ⊎ IsTwiceAt entries m
     → IsWrongAt entries m
 wrong_line entries m (inl (before, entry, path, stands, open_there)) = search rules
-wrong_line entries m (inr (before, entry, path, digest, inl stands, valid)) = search rules
-wrong_line entries m (inr (before, entry, path, digest, inr stands, valid)) = search rules
+wrong_line entries m (inr (before, entry, path, digest, nar, inl stands, valid)) = search rules
+wrong_line entries m (inr (before, entry, path, digest, nar, inr stands, valid)) = search rules
 
 -- a wrong line isn't among right ones
 not_among : (known all : List (List ℕ)) (before : List Line) (line : Line) (after : List Line)
@@ -231,10 +231,10 @@ twice_at : (entries before : List Entry) (entry : Entry) (line : Line) (n : ℕ)
     → StandsAt entries before entry line n → RegistersKnown (paths_registered (registered before))
     line
     → IsTwiceAt entries n
-twice_at entries before entry (Added path digest) n stands known =
-    (before, entry, path, digest, inl stands, known)
-twice_at entries before entry (Output path digest) n stands known =
-    (before, entry, path, digest, inr stands, known)
+twice_at entries before entry (Added path digest nar) n stands known =
+    (before, entry, path, digest, nar, inl stands, known)
+twice_at entries before entry (Output path digest nar) n stands known =
+    (before, entry, path, digest, nar, inr stands, known)
 twice_at entries before entry line n stands known = absurd known
 
 -- a line that refers to another path

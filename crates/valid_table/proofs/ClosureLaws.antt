@@ -36,7 +36,7 @@ pub registers_from_valid : (registrations : List Registration) (path : List ℕ)
     → IsValid registrations path → (info : PathInfo) × Registers registrations path info
 registers_from_valid registrations path valid =
     let none : Registration =
-    record { path = path; info = record { references = []; digest = None } } in
+    record { path = path; info = record { references = []; digest = None; nar = None } } in
     let r : Registration = get_or registrations valid.0 none in
     let own : Registration = record { path = path; info = r.info } in
     let below : valid.0 < length registrations = omega (arith, valid.1, path_count registrations) in

@@ -53,7 +53,7 @@ lead version dir bytes entry rest from left h begins goes_on =
 bad_added : (version : Version) (dir : List ℕ) (from : Place) (bytes : List ℕ) (left : ℕ)
     → (h : IsBadFields version dir 65 None bytes left) → (line : Line) (rest : List ℕ)
     → GoesOnWith version dir from bytes line rest → ⊥
-bad_added version dir from bytes left h (Added path digest) rest goes = search (rules, line_of)
+bad_added version dir from bytes left h (Added path digest nar) rest goes = search (rules, line_of)
 bad_added version dir from bytes left h line rest goes = search (rules, first)
 
 -- reading an added path stops where its line, or one of its references, is bad
@@ -65,8 +65,8 @@ added_stops version dir from bytes left (inl h) begins =
 added_stops version dir from bytes left (inr h) begins =
     stop_behind _ _ _ _ _ _ left
     (h.begins ∙ ap (λ (f : List ℕ). 65 ∷ 32 ∷ f) h.line.parts)
-    (has_to_enter version dir from bytes begins (Added h.path h.digest)
-    (h.line.of_dir, h.line.is_digest))
+    (has_to_enter version dir from bytes begins (Added h.path h.digest h.nar)
+    (h.line.of_dir, h.line.is_known))
     (h.stops version None)
 
 -- with a deriver's letter only such a line goes on
@@ -107,12 +107,12 @@ nothing_begins : (version : Version) (dir : List ℕ) (from : Place) (bytes : Li
     → GoesOnWith version dir from bytes line rest → ⊥
 nothing_begins version dir Start bytes added derived begins line rest goes = absurd begins
 nothing_begins version dir Opened bytes added derived begins line rest goes = absurd begins
-nothing_begins version dir from bytes added derived begins (Added path digest) rest goes =
+nothing_begins version dir from bytes added derived begins (Added path digest nar) rest goes =
     added _ goes.parts
 nothing_begins version dir from bytes added derived begins (Deriver path) rest goes =
     derived _ goes.parts
 nothing_begins version dir (Within (Some output) last) bytes added derived begins
-    (Output path digest) rest
+    (Output path digest nar) rest
     goes = begins.0 _ goes.parts
 nothing_begins version dir (Within (Some output) last) bytes added derived begins (Reference path)
     rest

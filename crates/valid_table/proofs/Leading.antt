@@ -66,7 +66,7 @@ pub ahead_of : (version : Version) (dir : List ℕ) (Is : Place → Type 0) (pla
     (rest : List ℕ) → ((to : Place) → Is to → Ahead to rest) → LeadsTo version dir Is place lines
     → Ahead place (lines_text version lines ++ rest)
 ahead_of version dir Is place [] rest weaker leads = weaker place leads
-ahead_of version dir Is Opened (Output path digest ∷ lines) rest weaker leads = search rules
+ahead_of version dir Is Opened (Output path digest nar ∷ lines) rest weaker leads = search rules
 ahead_of version dir Is Opened (line ∷ lines) rest weaker leads = absurd leads.0
 ahead_of version dir Is place (line ∷ lines) rest weaker leads = tt
 
@@ -77,12 +77,12 @@ pub line_of : (version : Version) (dir : List ℕ) (place : Place) (line : Line)
     → MayBeLine version dir place line
     → IsLineOf version dir line
 line_of version dir Start First may = tt
-line_of version dir Begun (Added path digest) may = may
+line_of version dir Begun (Added path digest nar) may = may
 line_of version dir Begun (Deriver path) may = may
-line_of version dir Opened (Output path digest) may = (may.0, may.1)
-line_of version dir (Within output last) (Added path digest) may = may
+line_of version dir Opened (Output path digest nar) may = (may.0, may.1)
+line_of version dir (Within output last) (Added path digest nar) may = may
 line_of version dir (Within output last) (Deriver path) may = may
-line_of version dir (Within (Some before) last) (Output path digest) may = (may.0, may.1)
+line_of version dir (Within (Some before) last) (Output path digest nar) may = (may.0, may.1)
 line_of version dir (Within output last) (Reference path) may = may.0
 line_of version dir place line may = absurd may
 

@@ -17,6 +17,7 @@ pub mod FirstRows
 pub mod Following
 pub mod JournalLists
 pub mod Keys
+pub mod KnownTexts
 pub mod Leading
 pub mod LineLists
 pub mod LinePaths
@@ -25,6 +26,7 @@ pub mod LineTexts
 pub mod Linking
 pub mod Marks
 pub mod Merged
+pub mod NarTexts
 pub mod OneAnswer
 pub mod OneList
 pub mod OutputLines

@@ -4,11 +4,12 @@ use Rattle.std.specs.List.{flat_map, last_or}
 use Rattle.std.proofs.lemmas.List.{append_assoc}
 use Rattle.std.proofs.lemmas.List.Elements.{All-cons, All-nil, All-head, All-tail}
 use Rattle.nix_names.specs.StorePaths.{IsPathOf}
-use Rattle.nix_names.specs.declared.digest.Digest.{Digest}
+use Rattle.nix_names.specs.declared.method.MethodDigest.{MethodDigest}
+use Rattle.valid_table.specs.PathInfos.{NarInfo}
 use Rattle.valid_table.specs.Entries.{paths_registered}
 use Rattle.valid_table.specs.private.LineTexts.{lines_text}
 use Rattle.valid_table.specs.private.Steps.{Place, Start, Begun, Opened, Within, Ahead, LeadsTo, MayBegin, MayBeOutputAfter, MayBeLine, behind}
-use Rattle.valid_table.specs.Texts.{IsDigestOf, IsEntryIn, IsOf, IsJournalText, Line, First, Added, Deriver, Output, Reference, entry_lines, lines, output_lines, text}
+use Rattle.valid_table.specs.Texts.{IsKnownOf, IsEntryIn, IsOf, IsJournalText, Line, First, Added, Deriver, Output, Reference, entry_lines, lines, output_lines, text}
 use Rattle.valid_table.specs.declared.entry.Entry.{Entry}
 use Rattle.valid_table.specs.declared.entry.Entry.TheVariants.{Add, Done}
 use Rattle.valid_table.specs.declared.entry.Registration.{Registration}
@@ -47,10 +48,11 @@ place_at None last = Opened
 place_at (Some output) last = Within (Some output) last
 
 pub may_stand : (version : Version) (dir : List ℕ) (before last : Option (List ℕ)) (path : List ℕ)
-    (digest : Option Digest) → MayBeOutputAfter version dir before path digest
-    → MayBeLine version dir (place_at before last) (Output path digest)
-may_stand version dir None last path digest may = may
-may_stand version dir (Some output) last path digest may = may
+    (digest : Option MethodDigest) (nar : Option NarInfo)
+    → MayBeOutputAfter version dir before path digest nar
+    → MayBeLine version dir (place_at before last) (Output path digest nar)
+may_stand version dir None last path digest nar may = may
+may_stand version dir (Some output) last path digest nar may = may
 
 -- outputs that rise after the one before them
 pub outputs_back : (version : Version) (dir : List ℕ) (Of : Place → List Line → Type 0)
@@ -64,11 +66,12 @@ outputs_back version dir Of back [] before last more of_dir above of = of last
 outputs_back version dir Of back (o ∷ outputs) before last more of_dir above of =
     let is : IsOf version dir o = All-head (IsOf version dir) o _ of_dir in
     let later = flat_map output_lines outputs ++ more in
-    subst (λ (ls : List Line). Of (place_at before last) (Output o.path o.info.digest ∷ ls))
+    subst (λ (ls : List Line). Of (place_at before last) (Output o.path o.info.digest o.info.nar
+    ∷ ls))
     (sym (append_assoc (map Reference o.info.references) (flat_map output_lines outputs) more))
-    (back (place_at before last) (Output o.path o.info.digest)
+    (back (place_at before last) (Output o.path o.info.digest o.info.nar)
     (map Reference o.info.references ++ later)
-    (may_stand _ _ _ _ _ _ (is.path, is.digest, above.0))
+    (may_stand _ _ _ _ _ _ _ (is.path, (is.digest, is.nar), above.0))
     (references_back _ _ Of back _ _ _ _ is.references
     (above_of_rising _ is.rising)
     (outputs_back version dir Of back outputs (Some o.path) (last_or None o.info.references) more
@@ -101,8 +104,8 @@ pub entry_back : (version : Version) (dir : List ℕ) (Of : Place → List Line 
     → ((to : Place) → IsBehind entry to → Of to more)
     → Of from (entry_lines entry ++ more)
 entry_back version dir Of back from (Add r) more may is of =
-    back from (Added r.path r.info.digest) (map Reference r.info.references ++ more)
-    (may (Added r.path r.info.digest) (is.path, is.digest))
+    back from (Added r.path r.info.digest r.info.nar) (map Reference r.info.references ++ more)
+    (may (Added r.path r.info.digest r.info.nar) (is.path, (is.digest, is.nar)))
     (references_back _ _ Of back _ _ _ _ is.references
     (above_of_rising _ is.rising)
     (of (Within None (last_or None r.info.references)) tt))
@@ -135,7 +138,7 @@ Ends version dir place come = LeadsTo version dir MayEnd place come
 pub within_enters : (version : Version) (dir : List ℕ) (output last : Option (List ℕ))
     (line : Line) → MayBegin version dir line
     → MayBeLine version dir (Within output last) line
-within_enters version dir output last (Added path digest) may = may
+within_enters version dir output last (Added path digest nar) may = may
 within_enters version dir output last (Deriver path) may = may
 within_enters version dir output last line may = absurd may
 
@@ -202,29 +205,32 @@ entries_come version dir place come entries may each are = search (rules, All-ni
 -- what a path registers with a digest and the references that come
 abbrev registration : {version : Version} {dir : List ℕ} {place : Place} {come : List Line}
     (path : List ℕ)
-    (digest : Option Digest) → Comes version dir place come → Registration
-registration path digest c =
-    record { path = path; info = record { references = c.references; digest = digest } }
+    (digest : Option MethodDigest) (nar : Option NarInfo) → Comes version dir place come
+    → Registration
+registration path digest nar c =
+    record { path = path; info = record { references = c.references; digest = digest; nar = nar } }
 
 -- it is of the store folder
 registration_of : {version : Version} {dir : List ℕ} {output : Option (List ℕ)} {come : List Line}
     (path : List ℕ)
-    (digest : Option Digest) (c : Comes version dir (Within output None) come) → IsPathOf dir path
-    → IsDigestOf version digest → IsOf version dir (registration path digest c)
-registration_of path digest c is_path is_digest = search (rules, rising_of_above)
+    (digest : Option MethodDigest)
+    (nar : Option NarInfo) (c : Comes version dir (Within output None) come) → IsPathOf dir path
+    → IsKnownOf version digest nar → IsOf version dir (registration path digest nar c)
+registration_of path digest nar c is_path is_known = search (rules, rising_of_above)
 
 -- one more added path
 one_added : (version : Version) (dir : List ℕ) (place : Place) (path : List ℕ)
-    (digest : Option Digest)
-    (come : List Line) → MayCome place [] [] → IsPathOf dir path × IsDigestOf version digest
-    → Comes version dir (Within None None) come → Comes version dir place (Added path digest ∷ come)
-one_added version dir place path digest come may is c =
-    entries_come version dir place (Added path digest ∷ come)
-    (Add (registration path digest c) ∷ c.entries)
+    (digest : Option MethodDigest) (nar : Option NarInfo)
+    (come : List Line) → MayCome place [] [] → IsPathOf dir path × IsKnownOf version digest nar
+    → Comes version dir (Within None None) come
+    → Comes version dir place (Added path digest nar ∷ come)
+one_added version dir place path digest nar come may is c =
+    entries_come version dir place (Added path digest nar ∷ come)
+    (Add (registration path digest nar c) ∷ c.entries)
     may
-    (All-cons (IsEntryIn version dir) (Add (registration path digest c)) c.entries
-    (registration_of path digest c is.0 is.1) c.entries_of_dir)
-    (ap (λ (tail : List Line). Added path digest ∷ tail)
+    (All-cons (IsEntryIn version dir) (Add (registration path digest nar c)) c.entries
+    (registration_of path digest nar c is.0 is.1) c.entries_of_dir)
+    (ap (λ (tail : List Line). Added path digest nar ∷ tail)
     (c.are ∙ ap (λ (os : List Registration). map Reference c.references
     ++ (flat_map output_lines os ++ flat_map entry_lines c.entries)) c.may.1))
 
@@ -243,12 +249,12 @@ one_done version dir place deriver come may is c =
 
 -- one more output
 one_output : (version : Version) (dir : List ℕ) (place : Place) (path : List ℕ)
-    (digest : Option Digest)
-    (come : List Line) → IsPathOf dir path → IsDigestOf version digest
+    (digest : Option MethodDigest) (nar : Option NarInfo)
+    (come : List Line) → IsPathOf dir path → IsKnownOf version digest nar
     → (c : Comes version dir (Within (Some path) None) come)
-    → MayCome place [] (registration path digest c ∷ c.outputs)
-    → Comes version dir place (Output path digest ∷ come)
-one_output version dir place path digest come is_path is_digest c may =
+    → MayCome place [] (registration path digest nar c ∷ c.outputs)
+    → Comes version dir place (Output path digest nar ∷ come)
+one_output version dir place path digest nar come is_path is_known c may =
     search (rules, append_assoc, All-nil, All-cons, registration_of)
 
 -- one more reference
@@ -278,16 +284,16 @@ comes_back : (version : Version) (dir : List ℕ) (place : Place) (line : Line) 
     → MayBeLine version dir place line → ToCome version dir (behind place line) come
     → ToCome version dir place (line ∷ come)
 comes_back version dir Start line come may c = tt
-comes_back version dir Begun (Added path digest) come may c = search (rules, one_added, may)
+comes_back version dir Begun (Added path digest nar) come may c = search (rules, one_added, may)
 comes_back version dir Begun (Deriver path) come may c = search (rules, one_done, may)
-comes_back version dir Opened (Output path digest) come may c =
-    one_output _ _ _ _ _ _ may.0 may.1 c (refl, λ none. cc none, (tt, c.may.1))
-comes_back version dir (Within output last) (Added path digest) come may c =
+comes_back version dir Opened (Output path digest nar) come may c =
+    one_output _ _ _ _ _ _ _ may.0 may.1 c (refl, λ none. cc none, (tt, c.may.1))
+comes_back version dir (Within output last) (Added path digest nar) come may c =
     search (rules, one_added, none_behind)
 comes_back version dir (Within output last) (Deriver path) come may c =
     search (rules, one_done, none_behind, may)
-comes_back version dir (Within (Some before) last) (Output path digest) come may c =
-    one_output _ _ _ _ _ _ may.0 may.1 c (tt, (may.2, c.may.1))
+comes_back version dir (Within (Some before) last) (Output path digest nar) come may c =
+    one_output _ _ _ _ _ _ _ may.0 may.1 c (tt, (may.2, c.may.1))
 comes_back version dir (Within output last) (Reference path) come may c =
     one_reference _ _ _ _ _ _ may c
 comes_back version dir place line come may c = absurd may

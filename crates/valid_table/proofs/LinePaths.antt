@@ -3,16 +3,17 @@ use Rattle.std.proofs.Common.{false, ◌≡◌, ◌≢◌, ◌⊎◌, ℕ, List,
 use Rattle.std.proofs.lemmas.Bool.{false≢true}
 use Rattle.nix_names.specs.Names.{IsStoreDir, is_drv_name}
 use Rattle.nix_names.specs.StorePaths.{IsPathOf, name_of, path_fault}
-use Rattle.nix_names.specs.declared.digest.Digest.{Digest}
+use Rattle.nix_names.specs.declared.method.MethodDigest.{MethodDigest}
 use Rattle.nix_names.specs.declared.fault.NameFault.{NameFault}
 use Rattle.nix_names.specs.declared.fault.NameFault.TheVariants.{NoMemory}
 use Rattle.nix_names.proofs.PathFaults.{no_fault_of_path}
+use Rattle.valid_table.specs.PathInfos.{NarInfo}
 use Rattle.valid_table.specs.private.Readers.{HasNoFields, IsDeriverLine, IsFieldsLine, IsNoLine, IsPathLine}
 use Rattle.valid_table.specs.private.Steps.{IsAbove}
-use Rattle.valid_table.specs.Texts.{IsDigestOf, digest_text}
+use Rattle.valid_table.specs.Texts.{IsKnownOf, known_text}
 use Rattle.valid_table.specs.declared.path_table.version.Version.{Version}
 use Rattle.valid_table.proofs.LineTexts.{fields_apart, two_fields, two_path_lines}
-use Rattle.valid_table.proofs.Separators.{Lacks, digest_lacks, dir_lacks, lacks_not, newline, path_lacks, same_cut, space}
+use Rattle.valid_table.proofs.Separators.{Lacks, known_lacks, dir_lacks, lacks_not, newline, path_lacks, same_cut, space}
 
 -- bytes that are refused, not for want of memory, are no path
 pub no_path : (dir text : List ℕ) (fault : NameFault) → (path_fault dir text ≡ Some fault)
@@ -36,34 +37,37 @@ other_path_line dir bytes line behind path rest of_dir none parts other is =
     other (subst (IsPathOf dir) same.0 is.of_dir)
 
 -- without a space there are no fields
-pub no_space : (version : Version) (dir bytes path : List ℕ) (digest : Option Digest)
+pub no_space : (version : Version) (dir bytes path : List ℕ) (digest : Option MethodDigest)
+    (nar : Option NarInfo)
     (rest : List ℕ) → Lacks 32 bytes
-    → IsFieldsLine version dir bytes path digest rest → ⊥
-no_space version dir bytes path digest rest none is = search (rules, lacks_not, fields_apart)
+    → IsFieldsLine version dir bytes path digest nar rest → ⊥
+no_space version dir bytes path digest nar rest none is = search (rules, lacks_not, fields_apart)
 
 -- fields, and what stands before the first space and after it
 module _ (version : Version) (dir bytes text fields : List ℕ) (of_dir : IsStoreDir dir)
     (none : Lacks 32 text)
-    (parts : bytes ≡ text ++ 32 ∷ fields) (path : List ℕ) (digest : Option Digest)
-    (rest : List ℕ) (is : IsFieldsLine version dir bytes path digest rest) where
+    (parts : bytes ≡ text ++ 32 ∷ fields) (path : List ℕ) (digest : Option MethodDigest)
+    (nar : Option NarInfo)
+    (rest : List ℕ) (is : IsFieldsLine version dir bytes path digest nar rest) where
   -- the path of the fields is what stands before the space
-  behind_space : (path ≡ text) × (digest_text version digest ++ (10 ∷ rest) ≡ fields)
+  behind_space : (path ≡ text) × (known_text version digest nar ++ (10 ∷ rest) ≡ fields)
   behind_space =
       same_cut _ _ _ _ _
       (path_lacks _ space _ _ (dir_lacks _ space _ of_dir) is.of_dir) none
-      (sym (fields_apart _ _ _ _) ∙ sym is.parts ∙ parts)
+      (sym (fields_apart _ _ _ _ _) ∙ sym is.parts ∙ parts)
 
   -- a newline stands after the space
   pub no_newline : Lacks 10 fields → ⊥
   no_newline lacks = lacks_not _ _ _ (subst (Lacks 10) (sym behind_space.1) lacks)
 
-  -- a digest's text stands up to that newline
+  -- what is known of the path stands up to that newline
   pub other_digest : (line behind : List ℕ) → Lacks 10 line → fields ≡ line ++ 10 ∷ behind
-      → ((d : Option Digest) → IsDigestOf version d → line ≢ digest_text version d) → ⊥
+      → ((d : Option MethodDigest) (n : Option NarInfo) → IsKnownOf version d n
+      → line ≢ known_text version d n) → ⊥
   other_digest line behind lacks ends other =
-      other digest is.is_digest
+      other digest nar is.is_known
       (sym (same_cut _ _ _ _ _
-      (digest_lacks _ _ is.is_digest)
+      (known_lacks _ _ _ is.is_known)
       lacks (behind_space.1 ∙ ends)).0)
 
   -- and a path before the space
@@ -87,10 +91,11 @@ not_ahead dir bytes path behind other rest line none is =
 -- a path that isn't above the one before it is not the one of a line that is wanted
 pub low_fields : (version : Version) (dir : List ℕ) (before : Option (List ℕ))
     (fields path : List ℕ)
-    (digest : Option Digest) (rest : List ℕ)
-    → IsFieldsLine version dir fields path digest rest → (IsAbove before path → ⊥)
+    (digest : Option MethodDigest) (nar : Option NarInfo) (rest : List ℕ)
+    → IsFieldsLine version dir fields path digest nar rest → (IsAbove before path → ⊥)
     → HasNoFields version dir before fields
-low_fields version dir before fields path digest rest line low = λ other sum more above is.
-    low (subst (IsAbove before) (two_fields _ _ _ _ _ _ _ _ _ is
+low_fields version dir before fields path digest nar rest line low =
+    λ other sum archive more above is.
+    low (subst (IsAbove before) (two_fields _ _ _ _ _ _ _ _ _ _ _ is
     line).0
     above)

@@ -1,61 +1,29 @@
 -- The bytes of a journal's lines: each ends in its only newline, and two lines are told apart by
 -- their bytes.
-use Rattle.std.proofs.Common.{◌≡◌, ◌≢◌, ◌==◌, ℕ, not, List, [], ◌∷◌, ◌++◌, length, get_or, drop, refl, ap, sym, ◌∙◌, arith, All, Option, Some, None, rules}
-use Rattle.std.specs.Prelude.{◌≤◌, codes, map}
-use Rattle.std.proofs.lemmas.List.{append_assoc, append_cancel_left, length-append}
+use Rattle.std.proofs.Common.{◌≡◌, ◌≢◌, ◌==◌, ℕ, not, List, [], ◌∷◌, ◌++◌, length, get_or, drop, refl, ap, sym, ◌∙◌, arith, All, Option, rules}
+use Rattle.std.specs.Prelude.{codes, map}
+use Rattle.std.proofs.lemmas.List.{append_assoc, append_cancel_left}
 use Rattle.std.proofs.lemmas.List.Elements.{All-append, All-cons, All-head, All-tail}
-use Rattle.hex.specs.Hex.{lower_digits}
-use Rattle.hex.proofs.HexLemmas.{length-encode_with}
-use Rattle.nix_names.specs.Digests.{algorithm_of, bytes_of, size_of}
 use Rattle.nix_names.specs.StorePaths.{IsDrvPath, IsPathOf}
-use Rattle.nix_names.specs.declared.digest.Algorithm.{Algorithm}
-use Rattle.nix_names.specs.declared.digest.Algorithm.TheVariants.{Md5, Sha1, Sha256, Sha512}
-use Rattle.nix_names.specs.declared.digest.Digest.{Digest}
+use Rattle.nix_names.specs.declared.method.MethodDigest.{MethodDigest}
+use Rattle.valid_table.specs.PathInfos.{NarInfo}
 use Rattle.valid_table.specs.BadLines.{AreLines}
 use Rattle.valid_table.specs.private.LineTexts.{fields_text, lines_text, references_text}
 use Rattle.valid_table.specs.private.Readers.{IsFieldsLine, IsPathLine}
-use Rattle.valid_table.specs.Texts.{IsDigestOf, Line, First, Added, Deriver, Output, Reference, digest_text, line_text, version_line}
+use Rattle.valid_table.specs.Texts.{IsKnownOf, Line, First, Added, Deriver, Output, Reference, known_text, line_text, version_line}
 use Rattle.valid_table.specs.declared.path_table.version.Version.{Version}
-use Rattle.valid_table.specs.declared.path_table.version.Version.TheVariants.{One, Two}
-use Rattle.valid_table.proofs.Separators.{Lacks, digest_lacks, newline, passing, path_lacks, same_cut, same_path, space}
-use Rattle.nix_names.proofs.DigestTexts.{one_digest, one_text}
+use Rattle.valid_table.specs.declared.path_table.version.Version.TheVariants.{One, Two, Three}
+use Rattle.valid_table.proofs.Separators.{Lacks, known_lacks, newline, passing, path_lacks, same_cut, same_path, space}
+use Rattle.valid_table.proofs.KnownTexts.{same_known}
 
 -- ---- fields
 
 -- a path, a space, a digest and a newline, and what is after them
-pub fields_apart : (version : Version) (path : List ℕ) (digest : Option Digest) (rest : List ℕ)
-    → fields_text version path digest ++ rest ≡ path ++
-    (32 ∷ (digest_text version digest ++ (10 ∷ rest)))
-fields_apart version path digest rest = search (rules, append_assoc)
-
--- an algorithm's digests have two bytes at least
-some_bytes : (algorithm : Algorithm) → 2 ≤ size_of algorithm
-some_bytes Md5 = omega arith
-some_bytes Sha1 = omega arith
-some_bytes Sha256 = omega arith
-some_bytes Sha512 = omega arith
-
--- a digest's text isn't that of none
-no_dash : (version : Version) (digest : Digest) → IsDigestOf version (Some digest)
-    → codes "-" ≢ digest_text version (Some digest)
-no_dash One digest is e = absurd (omega (
-  arith,
-  ap length e,
-  length-encode_with lower_digits (bytes_of digest),
-  is.1.0,
-  some_bytes (algorithm_of digest),
-))
-no_dash Two digest is e = search (rules, length-append, length-encode_with, some_bytes)
-
--- a digest has one text
-same_digest : (version : Version) (a b : Option Digest) → IsDigestOf version a
-    → IsDigestOf version b → digest_text version a ≡ digest_text version b → a ≡ b
-same_digest version None None one two e = refl
-same_digest version None (Some b) one two e = absurd (no_dash _ b two e)
-same_digest version (Some a) None one two e = absurd (no_dash _ a one (sym e))
-same_digest One (Some a) (Some b) one two e =
-    ap Some (one_digest a b one.1 two.1 (one.0 ∙ sym two.0) e)
-same_digest Two (Some a) (Some b) one two e = ap Some (one_text a b one two e)
+pub fields_apart : (version : Version) (path : List ℕ) (digest : Option MethodDigest)
+    (nar : Option NarInfo) (rest : List ℕ)
+    → fields_text version path digest nar ++ rest ≡ path ++
+    (32 ∷ (known_text version digest nar ++ (10 ∷ rest)))
+fields_apart version path digest nar rest = search (rules, append_assoc)
 
 -- bytes have one path with a newline after it
 pub two_path_lines : (dir bytes path rest other more : List ℕ) → IsPathLine dir bytes path rest
@@ -63,41 +31,42 @@ pub two_path_lines : (dir bytes path rest other more : List ℕ) → IsPathLine 
 two_path_lines dir bytes path rest other more one two =
     same_path _ newline _ _ _ _ _ one.of_dir two.of_dir (sym one.parts ∙ two.parts)
 
--- bytes have one path with a digest after it
-pub two_fields : (version : Version) (dir bytes path : List ℕ) (digest : Option Digest)
-    (rest other : List ℕ)
-    (sum : Option Digest) (more : List ℕ) → IsFieldsLine version dir bytes path digest rest
-    → IsFieldsLine version dir bytes other sum more
-    → (path ≡ other) × (digest ≡ sum) × (rest ≡ more)
-two_fields version dir bytes path digest rest other sum more one two =
+-- bytes have one path with what is known of it after it
+pub two_fields : (version : Version) (dir bytes path : List ℕ) (digest : Option MethodDigest)
+    (nar : Option NarInfo) (rest other : List ℕ) (sum : Option MethodDigest)
+    (archive : Option NarInfo) (more : List ℕ)
+    → IsFieldsLine version dir bytes path digest nar rest
+    → IsFieldsLine version dir bytes other sum archive more
+    → (path ≡ other) × (digest ≡ sum) × (nar ≡ archive) × (rest ≡ more)
+two_fields version dir bytes path digest nar rest other sum archive more one two =
     let paths = same_path _ space _ _ _ _ _ one.of_dir two.of_dir
-    (sym (one.parts ∙ fields_apart _ _ _ _) ∙ two.parts ∙ fields_apart _
-    _ _ _)
+    (sym (one.parts ∙ fields_apart _ _ _ _ _) ∙ two.parts ∙ fields_apart _ _ _ _ _)
     in
-    let digests = same_cut _ _ _ _ _
-    (digest_lacks _ _ one.is_digest) (digest_lacks _ _ two.is_digest) paths.1 in
-    (paths.0, same_digest _ _ _ one.is_digest two.is_digest digests.0, digests.1)
+    let both = same_cut _ _ _ _ _
+    (known_lacks _ _ _ one.is_known) (known_lacks _ _ _ two.is_known) paths.1 in
+    let known = same_known _ _ _ _ _ one.is_known two.is_known both.0 in
+    (paths.0, known.0, known.1, both.1)
 
 -- ---- lines
 
 -- the fields of a line have their forms
 abbrev pub IsLineOf : Version → List ℕ → Line → Type 0
 IsLineOf version dir First = Unit {0}
-IsLineOf version dir (Added path digest) = IsPathOf dir path × IsDigestOf version digest
+IsLineOf version dir (Added path digest nar) = IsPathOf dir path × IsKnownOf version digest nar
 IsLineOf version dir (Deriver path) = IsPathOf dir path × IsDrvPath path
-IsLineOf version dir (Output path digest) = IsPathOf dir path × IsDigestOf version digest
+IsLineOf version dir (Output path digest nar) = IsPathOf dir path × IsKnownOf version digest nar
 IsLineOf version dir (Reference path) = IsPathOf dir path
 
 -- the fields of two lines, told apart by their bytes
-same_fields : (version : Version) (dir p q : List ℕ) (a b : Option Digest) (x y : List ℕ)
-    → IsPathOf dir p
-    × IsDigestOf version a → IsPathOf dir q × IsDigestOf version b
-    → fields_text version p a ++ x ≡ fields_text version q b ++ y
-    → (p ≡ q) × (a ≡ b) × (x ≡ y)
-same_fields version dir p q a b x y one two e =
-    two_fields _ _ _ p a x q b y
-    (record { of_dir = one.0; is_digest = one.1; parts = refl })
-    (record { of_dir = two.0; is_digest = two.1; parts = e })
+same_fields : (version : Version) (dir p q : List ℕ) (a b : Option MethodDigest)
+    (m n : Option NarInfo) (x y : List ℕ) → IsPathOf dir p × IsKnownOf version a m
+    → IsPathOf dir q × IsKnownOf version b n
+    → fields_text version p a m ++ x ≡ fields_text version q b n ++ y
+    → (p ≡ q) × (a ≡ b) × (m ≡ n) × (x ≡ y)
+same_fields version dir p q a b m n x y one two e =
+    two_fields _ _ _ p a m x q b n y
+    (record { of_dir = one.0; is_known = one.1; parts = refl })
+    (record { of_dir = two.0; is_known = two.1; parts = e })
 
 same_lone_path : (dir p q x y : List ℕ) → IsPathOf dir p → IsPathOf dir q → (p ++ (10 ∷ [])) ++ x
     ≡ (q ++ (10 ∷ [])) ++ y → (p ≡ q) × (x ≡ y)
@@ -113,21 +82,28 @@ first bytes = get_or bytes 0 0
 version_letter : (version : Version) (rest : List ℕ) → first (version_line version ++ rest) ≡ 114
 version_letter One rest = refl
 version_letter Two rest = refl
+version_letter Three rest = refl
 
 -- two texts that begin with lines are split alike
 pub same_lines : (version : Version) (dir : List ℕ) (a b : Line) (x y : List ℕ)
     → IsLineOf version dir a → IsLineOf version dir b
     → line_text version a ++ x ≡ line_text version b ++ y → (a ≡ b) × (x ≡ y)
 same_lines version dir First First x y one two e = search (rules, append_cancel_left)
-same_lines version dir (Added p a) (Added q b) x y one two e =
-    let same = same_fields _ _ p q a b x y one two (ap (drop 2) e) in
-    (ap (λ path. Added path a) same.0 ∙ ap (Added q) same.1, same.2)
+same_lines version dir (Added p a m) (Added q b n) x y one two e =
+    let same = same_fields _ _ p q a b m n x y one two (ap (drop 2) e) in (
+      ap (λ path. Added path a m) same.0 ∙ ap (λ digest. Added q digest m) same.1
+          ∙ ap (Added q b) same.2,
+      same.3,
+    )
 same_lines version dir (Deriver p) (Deriver q) x y one two e =
     let same = same_lone_path _ p q x y one.0 two.0 (ap (drop 2) e) in
     (ap Deriver same.0, same.1)
-same_lines version dir (Output p a) (Output q b) x y one two e =
-    let same = same_fields _ _ p q a b x y one two (ap (drop 2) e) in
-    (ap (λ path. Output path a) same.0 ∙ ap (Output q) same.1, same.2)
+same_lines version dir (Output p a m) (Output q b n) x y one two e =
+    let same = same_fields _ _ p q a b m n x y one two (ap (drop 2) e) in (
+      ap (λ path. Output path a m) same.0 ∙ ap (λ digest. Output q digest m) same.1
+          ∙ ap (Output q b) same.2,
+      same.3,
+    )
 same_lines version dir (Reference p) (Reference q) x y one two e =
     let same = same_lone_path _ p q x y one two (ap (drop 2) e) in
     (ap Reference same.0, same.1)
@@ -145,13 +121,14 @@ references_are version (path ∷ paths) = search (rules, references_are version 
 abbrev pub version_body : Version → List ℕ
 version_body One = codes "realiser-journal 1"
 version_body Two = codes "realiser-journal 2"
+version_body Three = codes "realiser-journal 3"
 
 -- a line's bytes before its newline
 abbrev pub body : Version → Line → List ℕ
 body version First = version_body version
-body version (Added path digest) = codes "A " ++ (path ++ (32 ∷ digest_text version digest))
+body version (Added path digest nar) = codes "A " ++ (path ++ (32 ∷ known_text version digest nar))
 body version (Deriver path) = codes "D " ++ path
-body version (Output path digest) = codes "O " ++ (path ++ (32 ∷ digest_text version digest))
+body version (Output path digest nar) = codes "O " ++ (path ++ (32 ∷ known_text version digest nar))
 body version (Reference path) = codes "R " ++ path
 
 -- a line and what follows it
@@ -159,9 +136,10 @@ pub line_and : (version : Version) (line : Line) (rest : List ℕ)
     → line_text version line ++ rest ≡ body version line ++ 10 ∷ rest
 line_and One First rest = refl
 line_and Two First rest = refl
-line_and version (Added path digest) rest = search (rules, fields_apart, append_assoc)
+line_and Three First rest = refl
+line_and version (Added path digest nar) rest = search (rules, fields_apart, append_assoc)
 line_and version (Deriver path) rest = search (rules, append_assoc)
-line_and version (Output path digest) rest = search (rules, fields_apart, append_assoc)
+line_and version (Output path digest nar) rest = search (rules, fields_apart, append_assoc)
 line_and version (Reference path) rest = search (rules, append_assoc)
 
 -- a letter and a space before bytes without newlines
@@ -169,15 +147,16 @@ lettered : (letter : ℕ) (bytes : List ℕ) → letter ≢ 10 → Lacks 10 byte
     → Lacks 10 (letter ∷ 32 ∷ bytes)
 lettered letter bytes other clear = search (rules, All-cons)
 
--- a path and its digest have no newline
-record_lacks : (version : Version) (dir path : List ℕ) (digest : Option Digest) → Lacks 10 dir
+-- a path and what is known of it have no newline
+record_lacks : (version : Version) (dir path : List ℕ) (digest : Option MethodDigest)
+    (nar : Option NarInfo) → Lacks 10 dir
     → IsPathOf dir path
-    × IsDigestOf version digest → Lacks 10 (path ++ (32 ∷ digest_text version digest))
-record_lacks version dir path digest clear is =
+    × IsKnownOf version digest nar → Lacks 10 (path ++ (32 ∷ known_text version digest nar))
+record_lacks version dir path digest nar clear is =
     All-append (λ b. b ≢ 10) _ _
     (path_lacks _ newline _ _ clear is.0)
     (All-cons (λ b. b ≢ 10) _ _ (λ e. absurd (omega arith))
-    (digest_lacks _ _ is.1))
+    (known_lacks _ _ _ is.1))
 
 -- a line has no newline before its last byte
 pub body_lacks : (version : Version) (dir : List ℕ) (line : Line) → Lacks 10 dir
@@ -185,12 +164,14 @@ pub body_lacks : (version : Version) (dir : List ℕ) (line : Line) → Lacks 10
     → Lacks 10 (body version line)
 body_lacks One dir First clear is = passing (λ b. not (b == 10)) _ (version_body One) refl refl
 body_lacks Two dir First clear is = passing (λ b. not (b == 10)) _ (version_body Two) refl refl
-body_lacks version dir (Added path digest) clear is =
-    lettered _ _ (λ e. absurd (omega arith)) (record_lacks _ _ _ _ clear is)
+body_lacks Three dir First clear is =
+    passing (λ b. not (b == 10)) _ (version_body Three) refl refl
+body_lacks version dir (Added path digest nar) clear is =
+    lettered _ _ (λ e. absurd (omega arith)) (record_lacks _ _ _ _ _ clear is)
 body_lacks version dir (Deriver path) clear is = lettered _ _ (λ e. absurd (omega arith))
     (path_lacks _ newline _ _ clear is.0)
-body_lacks version dir (Output path digest) clear is =
-    lettered _ _ (λ e. absurd (omega arith)) (record_lacks _ _ _ _ clear is)
+body_lacks version dir (Output path digest nar) clear is =
+    lettered _ _ (λ e. absurd (omega arith)) (record_lacks _ _ _ _ _ clear is)
 body_lacks version dir (Reference path) clear is = lettered _ _ (λ e. absurd (omega arith))
     (path_lacks _ newline _ _ clear is)
 

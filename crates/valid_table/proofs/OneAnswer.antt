@@ -50,10 +50,10 @@ one_line entries before other entry another a b n one two =
 -- so no line refers to a path and registers one
 one_fault : (entries : List Entry) (n : ℕ) → IsNotClosedAt entries n → IsTwiceAt entries n → ⊥
 one_fault entries n (before, entry, path, stands, open_there)
-    (other, another, again, digest, inl added, valid) =
+    (other, another, again, digest, nar, inl added, valid) =
     let same = one_line _ _ _ _ _ _ _ n stands added in cc
 one_fault entries n (before, entry, path, stands, open_there)
-    (other, another, again, digest, inr output, valid) =
+    (other, another, again, digest, nar, inr output, valid) =
     let same = one_line _ _ _ _ _ _ _ n stands output in cc
 
 -- two least lines with a fault are the same

@@ -2,7 +2,8 @@
 use Rattle.std.proofs.Common.{◌≡◌, ℕ, List, [], ◌∷◌, ◌++◌, inl, inr, map, refl, ap, sym, subst, ◌∙◌, Option, ◌≢◌, rules}
 use Rattle.std.specs.List.{flat_map}
 use Rattle.std.proofs.lemmas.List.{append-nil, append_assoc, length-append}
-use Rattle.nix_names.specs.declared.digest.Digest.{Digest}
+use Rattle.nix_names.specs.declared.method.MethodDigest.{MethodDigest}
+use Rattle.valid_table.specs.PathInfos.{NarInfo}
 use Rattle.valid_table.specs.private.LineTexts.{lines_text}
 use Rattle.valid_table.specs.Reading.{BeginsVersion}
 use Rattle.valid_table.specs.ReadingLaws.{TextHasOneList}
@@ -12,7 +13,7 @@ use Rattle.valid_table.specs.declared.entry.Entry.{Entry}
 use Rattle.valid_table.specs.declared.entry.Entry.TheVariants.{Add, Done}
 use Rattle.valid_table.specs.declared.entry.Registration.{Registration}
 use Rattle.valid_table.specs.declared.path_table.version.Version.{Version}
-use Rattle.valid_table.specs.declared.path_table.version.Version.TheVariants.{One, Two}
+use Rattle.valid_table.specs.declared.path_table.version.Version.TheVariants.{One, Two, Three}
 use Rattle.valid_table.proofs.Leading.{aligned, lines_of}
 use Rattle.valid_table.proofs.LineLists.{Ends, MayEnd, lines_end}
 use Rattle.valid_table.proofs.LineTexts.{body, line_and}
@@ -51,18 +52,26 @@ record Told : Type 0 where
   pub entries : List Entry
 
 -- what a path registers with a digest and the references after it
-abbrev registration : List ℕ → Option Digest → Told → Registration
-registration path digest later =
-    record { path = path; info = record { references = later.references; digest = digest } }
+abbrev registration : List ℕ → Option MethodDigest → Option NarInfo → Told → Registration
+registration path digest nar later =
+    record {
+      path = path;
+      info = record {
+        references = later.references;
+        digest = digest;
+        nar =
+            nar;
+      };
+    }
 
 -- what a line tells with what those after it tell
 abbrev with_line : Line → Told → Told
 with_line First later = later
-with_line (Added path digest) later =
+with_line (Added path digest nar) later =
     record {
       references = [];
       outputs = [];
-      entries = Add (registration path digest later)
+      entries = Add (registration path digest nar later)
           ∷ later.entries;
     }
 with_line (Deriver path) later = record {
@@ -70,10 +79,10 @@ with_line (Deriver path) later = record {
   outputs = [];
   entries = Done path later.outputs ∷ later.entries;
 }
-with_line (Output path digest) later =
+with_line (Output path digest nar) later =
     record {
       references = [];
-      outputs = registration path digest later ∷ later.outputs;
+      outputs = registration path digest nar later ∷ later.outputs;
       entries = later.entries;
     }
 with_line (Reference path) later =
@@ -110,7 +119,7 @@ outputs_told :
     ≡ record { references = []; outputs = outputs; entries = entries }
 outputs_told [] come entries e = e
 outputs_told (r ∷ outputs) come entries e =
-    let start = Output r.path r.info.digest in
+    let start = Output r.path r.info.digest r.info.nar in
     let later = flat_map output_lines outputs ++ come in
     ap (λ (some : List Line). with_line start (told some))
     (append_assoc (map Reference r.info.references) (flat_map output_lines outputs) come)
@@ -123,7 +132,8 @@ entries_told : (entries : List Entry) → told (flat_map entry_lines entries)
     ≡ record { references = []; outputs = []; entries = entries }
 entries_told [] = refl
 entries_told (Add r ∷ entries) =
-    ap (with_line (Added r.path r.info.digest)) (references_told _ _ [] entries (entries_told _))
+    ap (with_line (Added r.path r.info.digest r.info.nar)) (references_told _ _ [] entries
+    (entries_told _))
 entries_told (Done deriver outputs ∷ entries) =
     ap (with_line (Deriver deriver)) (outputs_told _ _ _ (entries_told _))
 
@@ -149,6 +159,7 @@ one_in version dir bytes a b one two =
 not_empty : (version : Version) (bytes : List ℕ) → BeginsVersion version bytes → bytes ≢ []
 not_empty One bytes (rest, begins) none = search (rules, none)
 not_empty Two bytes (rest, begins) none = search (rules, none)
+not_empty Three bytes (rest, begins) none = search (rules, none)
 
 -- one text is that of one list of entries
 pub text_has_one_list : TextHasOneList

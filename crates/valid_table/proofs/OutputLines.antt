@@ -5,7 +5,8 @@ use Rattle.std.proofs.lemmas.List.{append-nil, map-append}
 use Rattle.std.proofs.lemmas.List.Concat.{flat_map-append}
 use Rattle.std.proofs.lemmas.List.Elements.{All-push}
 use Rattle.nix_names.specs.Rising.{IsRising}
-use Rattle.nix_names.specs.declared.digest.Digest.{Digest}
+use Rattle.nix_names.specs.declared.method.MethodDigest.{MethodDigest}
+use Rattle.valid_table.specs.PathInfos.{NarInfo}
 use Rattle.valid_table.specs.Entries.{paths_registered}
 use Rattle.valid_table.specs.private.LineTexts.{lines_text, registration_text}
 use Rattle.valid_table.specs.private.Readers.{HasRegistration, IsBadFields, SoFarOutputs, StopsInRegistration}
@@ -36,10 +37,11 @@ text_more version outputs o behind =
 -- ---- where an output stops
 
 may_follow : (version : Version) (dir : List ℕ) (before last : Option (List ℕ)) (path : List ℕ)
-    (digest : Option Digest) → MayBeLine version dir (place_at before last) (Output path digest)
-    → MayBeOutputAfter version dir before path digest
-may_follow version dir None last path digest may = may
-may_follow version dir (Some output) last path digest may = may
+    (digest : Option MethodDigest) (nar : Option NarInfo)
+    → MayBeLine version dir (place_at before last) (Output path digest nar)
+    → MayBeOutputAfter version dir before path digest nar
+may_follow version dir None last path digest nar may = may
+may_follow version dir (Some output) last path digest nar may = may
 
 -- there an output's letter comes
 letter_ahead : (before last : Option (List ℕ)) (bytes fields : List ℕ) → bytes ≡ 79 ∷ 32 ∷ fields
@@ -52,7 +54,8 @@ stuck : (version : Version) (dir : List ℕ) (before last : Option (List ℕ)) (
     (left : ℕ)
     → (h : IsBadFields version dir 79 before bytes left) → (line : Line) (rest : List ℕ)
     → GoesOnWith version dir (place_at before last) bytes line rest → ⊥
-stuck version dir before last bytes left h (Output path digest) rest go = search (rules, may_follow)
+stuck version dir before last bytes left h (Output path digest nar) rest go =
+    search (rules, may_follow)
 stuck version dir before last bytes left h line rest go = search (rules, first)
 
 -- reading an output stops where its line, or one of its references, is bad
@@ -65,7 +68,7 @@ output_stops version dir before last bytes left (inl h) =
 output_stops version dir before last bytes left (inr h) =
     stop_behind _ _ _ _ _ _ _
     (h.begins ∙ ap (λ (f : List ℕ). 79 ∷ 32 ∷ f) h.line.parts)
-    (may_stand _ _ _ _ _ _ (h.line.of_dir, h.line.is_digest, h.above))
+    (may_stand _ _ _ _ _ _ _ (h.line.of_dir, h.line.is_known, h.above))
     (h.stops version (Some h.path))
 
 pub outputs_stop : (version : Version) (dir bytes : List ℕ) (outputs : List Registration)

@@ -5,12 +5,12 @@ use Rattle.std.proofs.lemmas.List.{append-nil, append_assoc}
 use Rattle.std.proofs.lemmas.List.Concat.{flat_map-append}
 use Rattle.std.proofs.lemmas.List.Elements.{All-push}
 use Rattle.nix_names.specs.StorePaths.{IsPathOf}
-use Rattle.nix_names.specs.declared.digest.Digest.{Digest}
+use Rattle.nix_names.specs.declared.method.MethodDigest.{MethodDigest}
 use Rattle.valid_table.specs.private.LineTexts.{fields_text, lines_text, references_text}
-use Rattle.valid_table.specs.PathInfos.{PathInfo}
+use Rattle.valid_table.specs.PathInfos.{NarInfo, PathInfo}
 use Rattle.valid_table.specs.private.Readers.{ReadsReferences, HasRegistration, IsFieldsLine, IsPathLine, SoFarReferences}
 use Rattle.valid_table.specs.private.Steps.{IsAbove, GoesOnWith, Stops, Within}
-use Rattle.valid_table.specs.Texts.{IsDigestOf, Line, Reference}
+use Rattle.valid_table.specs.Texts.{IsDigestOf, IsNarOf, Line, Reference}
 use Rattle.valid_table.specs.declared.path_table.version.Version.{Version}
 use Rattle.valid_table.proofs.LineTexts.{references_are, two_path_lines}
 use Rattle.valid_table.proofs.LineLists.{references_back}
@@ -92,17 +92,19 @@ above_looked_up paths shown last path same at above = search (rules, last_is)
 
 -- a registration that was read: its line and those of its references
 pub registration_found : (version : Version) (dir : List ℕ) (letter : ℕ) (before : Option (List ℕ))
-    (bytes fields path : List ℕ) (digest : Option Digest) (behind : List ℕ) (info : PathInfo)
+    (bytes fields path : List ℕ) (digest : Option MethodDigest)
+    (nar : Option NarInfo) (behind : List ℕ) (info : PathInfo)
     (rest : List ℕ) → bytes ≡ letter ∷ 32 ∷ fields
-    → IsFieldsLine version dir fields path digest behind → IsAbove before path
-    → ReadsReferences dir behind info.references rest → info.digest ≡ digest
+    → IsFieldsLine version dir fields path digest nar behind → IsAbove before path
+    → ReadsReferences dir behind info.references rest → info.digest ≡ digest → info.nar ≡ nar
     → HasRegistration version dir letter before bytes (record { path = path; info = info }) rest
-registration_found version dir letter before bytes fields path digest behind info rest begins line
-    above has same =
-    let prefix = fields_text version path info.digest in
+registration_found version dir letter before bytes fields path digest nar behind info rest begins
+    line above has same also =
+    let prefix = fields_text version path info.digest info.nar in
     let lines = lines_text version (map Reference info.references) in
     let is : fields ≡ (prefix ++ lines) ++ rest = line.parts
-    ∙ ap (λ d. fields_text version path d ++ behind) (sym same)
+    ∙ ap (λ d. fields_text version path d nar ++ behind) (sym same)
+    ∙ ap (λ n. fields_text version path info.digest n ++ behind) (sym also)
     ∙ ap (λ (t : List ℕ). prefix ++ t)
     (has.so_far.parts
     ∙ ap (λ (t : List ℕ). t ++ rest) (sym (references_are _ _)))
@@ -111,7 +113,8 @@ registration_found version dir letter before bytes fields path digest behind inf
       parts = begins ∙ ap (λ (f : List ℕ). letter ∷ 32 ∷ f) is;
       of_dir = record {
         path = line.of_dir;
-        digest = subst (IsDigestOf version) (sym same) line.is_digest;
+        digest = subst (IsDigestOf version) (sym same) line.is_known.0;
+        nar = subst (IsNarOf version) (sym also) line.is_known.1;
         references = has.so_far.of_dir;
         rising = has.so_far.rising;
       };

@@ -41,7 +41,7 @@ pub search_tells :
 search_tells rs path (Ok i) rises within here = (
   λ _.
       let none : Registration =
-      record { path = path; info = record { references = []; digest = None } } in
+      record { path = path; info = record { references = []; digest = None; nar = None } } in
       let same : (get_or rs i none).path ≡ path =
       equal_from_eq _ _ (texts_ties (get_or rs i none).path path ∙ ap is_eq (here none)) in (
         i,
@@ -54,7 +54,7 @@ search_tells rs path (Err i) rises within apart = (
   λ no. absurd (false≢true no),
   λ valid.
       let none : Registration =
-      record { path = path; info = record { references = []; digest = None } } in
+      record { path = path; info = record { references = []; digest = None; nar = None } } in
       let k = valid.0 in
       let lt : k < length rs = omega (arith, valid.1, path_count rs)
       in

@@ -10,15 +10,15 @@ use Rattle.valid_table.specs.Reading.{BeginsVersion, IsTooLong, max_len}
 use Rattle.valid_table.specs.Texts.{IsTextIn, text, version_line}
 use Rattle.valid_table.specs.declared.entry.Entry.{Entry}
 use Rattle.valid_table.specs.declared.path_table.version.Version.{Version}
-use Rattle.valid_table.specs.declared.path_table.version.Version.TheVariants.{One, Two}
+use Rattle.valid_table.specs.declared.path_table.version.Version.TheVariants.{One, Two, Three}
 use Rattle.valid_table.proofs.Separators.{Lacks, apart, lacks_not, same_cut}
 
 -- ---- another version
 
--- bytes are decimal digits, and neither `1` nor `2` alone
+-- bytes are decimal digits, and none of `1`, `2` and `3` alone
 abbrev pub IsOtherNumber : List ℕ → Type 0
 IsOtherNumber bytes = (bytes ≢ []) × All (λ b. IsTrue (is_ascii_digit b)) bytes
-    × (bytes ≢ codes "1") × (bytes ≢ codes "2")
+    × (bytes ≢ codes "1") × (bytes ≢ codes "2") × (bytes ≢ codes "3")
 
 -- decimal digits have no newline
 digits_lack : (digits : List ℕ) → All (λ b. IsTrue (is_ascii_digit b)) digits → Lacks 10 digits
@@ -36,6 +36,7 @@ by_number bytes version number rest begins line one = (
     decimal = is.1;
     not_one = is.2;
     not_two = is.3;
+    not_three = is.4;
     parts = begins ∙ ap (λ more. codes "realiser-journal " ++ more) line;
   },
   λ is.
@@ -47,6 +48,7 @@ by_number bytes version number rest begins line one = (
         subst (All (λ b. IsTrue (is_ascii_digit b))) same is.decimal,
         λ alone. is.not_one (same ∙ alone),
         λ alone. is.not_two (same ∙ alone),
+        λ alone. is.not_three (same ∙ alone),
       ),
 )
 
@@ -68,6 +70,8 @@ not_other One bytes (rest, whole) other =
     ((by_number _ _ _ _ whole refl (digit_lacks _ (λ e. absurd (omega (arith, e))))).1 other).2 refl
 not_other Two bytes (rest, whole) other =
     ((by_number _ _ _ _ whole refl (digit_lacks _ (λ e. absurd (omega (arith, e))))).1 other).3 refl
+not_other Three bytes (rest, whole) other =
+    ((by_number _ _ _ _ whole refl (digit_lacks _ (λ e. absurd (omega (arith, e))))).1 other).4 refl
 
 -- the byte that tells a version
 abbrev digit_in : List ℕ → ℕ
@@ -80,6 +84,11 @@ one_version One One bytes first second = refl
 one_version One Two bytes (rest, one) (more, two) = search (rules, digit_in)
 one_version Two One bytes (rest, one) (more, two) = search (rules, digit_in)
 one_version Two Two bytes first second = refl
+one_version One Three bytes (rest, one) (more, two) = search (rules, digit_in)
+one_version Two Three bytes (rest, one) (more, two) = search (rules, digit_in)
+one_version Three One bytes (rest, one) (more, two) = search (rules, digit_in)
+one_version Three Two bytes (rest, one) (more, two) = search (rules, digit_in)
+one_version Three Three bytes first second = refl
 
 -- what is after a prefix, which is this line
 pub stripped : (bytes line prefix : List ℕ) (found : Option (Bor (List ℕ))) → prefix ≡ line
@@ -87,13 +96,14 @@ pub stripped : (bytes line prefix : List ℕ) (found : Option (Bor (List ℕ))) 
     → MatchOption found ((rest : List ℕ) → bytes ≢ line ++ rest) (λ x. bytes ≡ line ++ x.now)
 stripped bytes line prefix found same is = search rules
 
--- bytes that begin neither with the line of version 1 nor with that of version 2 begin with no
--- version's
+-- bytes that begin with the line of none of the three versions begin with no version's
 pub no_version : (bytes : List ℕ) → ((rest : List ℕ) → bytes ≢ version_line One ++ rest)
     → ((rest : List ℕ) → bytes ≢ version_line Two ++ rest)
+    → ((rest : List ℕ) → bytes ≢ version_line Three ++ rest)
     → (version : Version) → BeginsVersion version bytes → ⊥
-no_version bytes one two One (rest, begins) = one rest begins
-no_version bytes one two Two (rest, begins) = two rest begins
+no_version bytes one two three One (rest, begins) = one rest begins
+no_version bytes one two three Two (rest, begins) = two rest begins
+no_version bytes one two three Three (rest, begins) = three rest begins
 
 -- a text begins with the line of its version
 pub text_begins : (version : Version) (dir bytes : List ℕ) (entries : List Entry)
@@ -103,10 +113,11 @@ text_begins version dir bytes entries is = search rules
 
 -- ---- the limits
 
--- no version has a greater limit than version 2
-most : (version : Version) → max_len version ≤ max_len Two
+-- no version has a greater limit than version 3
+most : (version : Version) → max_len version ≤ max_len Three
 most One = omega arith
 most Two = omega arith
+most Three = omega arith
 
 -- bytes that begin with a version's line are too long where they are past its limit
 pub too_long_in : (version : Version) (bytes : List ℕ) → BeginsVersion version bytes
@@ -120,9 +131,9 @@ too_long_in version bytes begins = (λ long. inr (version, begins, long), back)
 -- bytes that begin with no version's line are too long where they are past all limits
 pub too_long_without : (bytes : List ℕ)
     → ((version : Version) → BeginsVersion version bytes → ⊥)
-    → (max_len Two < length bytes) ↔ IsTooLong bytes
+    → (max_len Three < length bytes) ↔ IsTooLong bytes
 too_long_without bytes none = (λ long. inl long, back)
   where
-    back : IsTooLong bytes → max_len Two < length bytes
+    back : IsTooLong bytes → max_len Three < length bytes
     back (inl long) = long
     back (inr (version, begins, long)) = absurd (none version begins)

@@ -41,7 +41,7 @@ pub record IsBadLine (dir : Dir) (bytes : Bytes) (n : ℕ) : Type 0 where
   pub stands : Stands dir before bytes rest
   pub falls : (more : Bytes) → Stands dir n bytes more → ⊥
 
--- Line 1 is the first line of a journal of a version other than 1 and 2.
+-- Line 1 is the first line of a journal of a version other than 1, 2 and 3.
 pub record IsOtherVersion (bytes : Bytes) : Type 0 where
   pub digits : Bytes
   pub rest : Bytes
@@ -49,6 +49,7 @@ pub record IsOtherVersion (bytes : Bytes) : Type 0 where
   pub decimal : All (λ b. IsTrue (is_ascii_digit b)) digits
   pub not_one : digits ≢ codes "1"
   pub not_two : digits ≢ codes "2"
+  pub not_three : digits ≢ codes "3"
   pub parts : bytes ≡ codes "realiser-journal " ++ (digits ++ (10 ∷ rest))
 
 -- a text of a journal has no bad line

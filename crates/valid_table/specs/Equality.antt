@@ -1,5 +1,5 @@
 -- What `==` answers of entries and of their parts.
-use Rattle.std.specs.Prelude.{◌≡◌, ◌&&◌, ◌↔◌, List, Bool, true, false, IsTrue, nat_eq, refl}
+use Rattle.std.specs.Prelude.{◌≡◌, ◌&&◌, ◌↔◌, ℕ, List, Bool, true, false, IsTrue, nat_eq, refl}
 use Rattle.std.specs.Cmp.{IsEquivalence, and_equiv, nat_eq_equiv, on_equiv}
 use Rattle.std.specs.Cmp.Lexicographic.{lists_equiv, nat_list_eq_equiv, options_equiv, pointwise}
 use Rattle.std.specs.Option.{option_eq}
@@ -7,7 +7,10 @@ use Rattle.std.proofs.Common.{sym, true≢false}
 use Rattle.nix_names.specs.Bytes.{Path}
 use Rattle.nix_names.specs.Digests.{algorithm_of, bytes_of, size_of}
 use Rattle.nix_names.specs.declared.digest.Digest.{Digest}
-use Rattle.valid_table.specs.PathInfos.{PathInfo}
+use Rattle.nix_names.specs.declared.method.Method.{Method}
+use Rattle.nix_names.specs.declared.method.Method.TheVariants.{Flat, Recursive}
+use Rattle.nix_names.specs.declared.method.MethodDigest.{MethodDigest}
+use Rattle.valid_table.specs.PathInfos.{NarInfo, PathInfo}
 use Rattle.valid_table.specs.declared.entry.Entry.{Entry}
 use Rattle.valid_table.specs.declared.entry.Entry.TheVariants.{Add, Done}
 use Rattle.valid_table.specs.declared.entry.Registration.{Registration}
@@ -18,11 +21,26 @@ same_digest a b =
     nat_eq (size_of (algorithm_of a)) (size_of (algorithm_of b))
     && pointwise nat_eq (bytes_of a) (bytes_of b)
 
--- `==` of records: it compares their references and their digests
+-- a number for each method
+abbrev pub number_of_method : Method → ℕ
+number_of_method Flat = 0
+number_of_method Recursive = 1
+
+-- `==` of digests with their methods: it compares both
+abbrev pub same_found : MethodDigest → MethodDigest → Bool
+same_found a b =
+    nat_eq (number_of_method a.method) (number_of_method b.method)
+    && same_digest a.digest b.digest
+
+-- `==` of archives: it compares their digests and their lengths
+abbrev pub same_nar : NarInfo → NarInfo → Bool
+same_nar a b = pointwise nat_eq a.hash b.hash && nat_eq a.size b.size
+
+-- `==` of records: it compares their references, their digests and their archives
 abbrev pub same_record : PathInfo → PathInfo → Bool
 same_record a b =
     pointwise (pointwise nat_eq) a.references b.references
-    && option_eq same_digest a.digest b.digest
+    && (option_eq same_found a.digest b.digest && option_eq same_nar a.nar b.nar)
 
 -- `==` of registrations: it compares their paths and their records
 abbrev pub same_registration : Registration → Registration → Bool
@@ -42,11 +60,24 @@ same_digest_laws =
     and_equiv (on_equiv (λ (d : Digest). size_of (algorithm_of d)) nat_eq_equiv)
     (on_equiv bytes_of nat_list_eq_equiv)
 
+-- equality of digests with their methods is an equivalence
+pub same_found_laws : IsEquivalence same_found
+same_found_laws =
+    and_equiv (on_equiv (λ (d : MethodDigest). number_of_method d.method) nat_eq_equiv)
+    (on_equiv (λ (d : MethodDigest). d.digest) same_digest_laws)
+
+-- equality of archives is an equivalence
+pub same_nar_laws : IsEquivalence same_nar
+same_nar_laws =
+    and_equiv (on_equiv (λ (n : NarInfo). n.hash) nat_list_eq_equiv)
+    (on_equiv (λ (n : NarInfo). n.size) nat_eq_equiv)
+
 -- equality of records is an equivalence
 pub same_record_laws : IsEquivalence same_record
 same_record_laws =
     and_equiv (on_equiv (λ (r : PathInfo). r.references) (lists_equiv nat_list_eq_equiv))
-    (on_equiv (λ (r : PathInfo). r.digest) (options_equiv same_digest_laws))
+    (and_equiv (on_equiv (λ (r : PathInfo). r.digest) (options_equiv same_found_laws))
+    (on_equiv (λ (r : PathInfo). r.nar) (options_equiv same_nar_laws)))
 
 -- equality of registrations is an equivalence
 pub same_registration_laws : IsEquivalence same_registration

@@ -1,8 +1,9 @@
 -- Which lines of a journal refer to paths that are not registered, or register paths again.
 use Rattle.std.specs.Prelude.{◌≡◌, ◌⊎◌, ◌+◌, ◌≤◌, ℕ, List, ◌∷◌, ◌++◌, Option, length}
 use Rattle.nix_names.specs.Bytes.{Path}
-use Rattle.nix_names.specs.declared.digest.Digest.{Digest}
+use Rattle.nix_names.specs.declared.method.MethodDigest.{MethodDigest}
 use Rattle.valid_table.specs.Entries.{registered, registered_by}
+use Rattle.valid_table.specs.PathInfos.{NarInfo}
 use Rattle.valid_table.specs.Texts.{Line, Added, Output, Reference, lines, entry_lines}
 use Rattle.valid_table.specs.Valid.{IsValid}
 use Rattle.valid_table.specs.declared.entry.Entry.{Entry}
@@ -28,9 +29,10 @@ IsNotClosedAt entries n =
 -- line n registers a path that an earlier entry registered
 abbrev pub IsTwiceAt : List Entry → ℕ → Type 0
 IsTwiceAt entries n =
-    (before : List Entry) × (entry : Entry) × (path : Path) × (digest : Option Digest)
-    × (StandsAt entries before entry (Added path digest) n
-    ⊎ StandsAt entries before entry (Output path digest) n)
+    (before : List Entry) × (entry : Entry) × (path : Path) × (digest : Option MethodDigest)
+    × (nar : Option NarInfo)
+    × (StandsAt entries before entry (Added path digest nar) n
+    ⊎ StandsAt entries before entry (Output path digest nar) n)
     × IsValid (registered before) path
 
 -- no line before line n has one of these faults

@@ -10,13 +10,14 @@ use Rattle.valid_table.specs.Valid.{IsJournal}
 use Rattle.valid_table.specs.declared.entry.Entry.{Entry}
 use Rattle.valid_table.specs.declared.fault.TableFault.{TableFault}
 use Rattle.valid_table.specs.declared.path_table.version.Version.{Version}
-use Rattle.valid_table.specs.declared.path_table.version.Version.TheVariants.{One, Two}
+use Rattle.valid_table.specs.declared.path_table.version.Version.TheVariants.{One, Two, Three}
 use Rattle.valid_table.specs.declared.fault.TableFault.TheVariants.{NoMemory, BadLine, NotClosed, Twice, WrongVersion, TooLong}
 
 -- the greatest length of a journal's text in a version
 abbrev pub max_len : Version → ℕ
 max_len One = 67108864
 max_len Two = 134217728
+max_len Three = 134217728
 
 -- the bytes begin with the line of a version
 abbrev pub BeginsVersion : Version → Bytes → Type 0
@@ -25,7 +26,7 @@ BeginsVersion version bytes = (rest : Bytes) × (bytes ≡ version_line version 
 -- the bytes are more than a journal of any version may have, or they begin with the line of a
 -- version and are more than a journal of that version may have
 abbrev pub IsTooLong : Bytes → Type 0
-IsTooLong bytes = (max_len Two < length bytes)
+IsTooLong bytes = (max_len Three < length bytes)
     ⊎ ((version : Version) × BeginsVersion version bytes × (max_len version < length bytes))
 
 -- what is answered for entries whose text was read

@@ -8,7 +8,8 @@ use Rattle.valid_table.specs.Valid.{IsJournal}
 use Rattle.valid_table.specs.declared.entry.Entry.{Entry}
 use Rattle.valid_table.specs.declared.fault.TableFault.{TableFault}
 use Rattle.valid_table.specs.declared.fault.TableFault.TheVariants.{NoMemory}
-use Rattle.valid_table.specs.declared.path_table.version.Version.TheVariants.{One, Two}
+use Rattle.valid_table.specs.declared.path_table.version.Version.{Version}
+use Rattle.valid_table.specs.declared.path_table.version.Version.TheVariants.{One, Two, Three}
 
 -- a text is the text of at most one list of entries
 abbrev pub TextHasOneList : Type 0
@@ -30,19 +31,31 @@ AnswerIsOne =
     → IsJournalReading dir bytes a → IsJournalReading dir bytes b
     → (a ≡ b) ⊎ (a ≡ Err NoMemory) ⊎ (b ≡ Err NoMemory)
 
--- a version 1 text and the version 2 text of its entries have the same entries; the second has at
--- most twice the length, so it is within its limit where the first is within its own
+-- a version comes before another
+abbrev pub IsEarlier : (old new : Version) → Type 0
+IsEarlier One Two = Unit {0}
+IsEarlier One Three = Unit {0}
+IsEarlier Two Three = Unit {0}
+IsEarlier old new = ⊥
+
+-- a text of a version and the text of its entries in a later one have the same entries; the second
+-- has at most twice the length, so it is within its limit where the first is within half of that
 abbrev pub VersionsHaveTheSameEntries : Type 0
 VersionsHaveTheSameEntries =
-    (dir : Dir) (bytes : Bytes) (entries : List Entry) → IsTextIn One dir entries bytes
-    → IsTextIn Two dir entries (text Two entries)
-    × (length (text Two entries) ≤ 2 * length bytes)
+    (old new : Version) (dir : Dir) (bytes : Bytes) (entries : List Entry) → IsEarlier old new
+    → IsTextIn old dir entries bytes
+    → IsTextIn new dir entries (text new entries)
+    × (length (text new entries) ≤ 2 * length bytes)
 
--- the entries that are read of a version 1 text are read again of the version 2 text of these
--- entries, want of memory apart
+-- The entries that are read of a text of a version are read again of the text of these entries in a
+-- later one, want of memory apart. A text of version 2 may be so long that the text in version 3 is
+-- past the limit; one of version 1 may not.
 abbrev pub WrittenJournalsAreReadAgain : Type 0
 WrittenJournalsAreReadAgain =
-    (dir : Dir) (bytes : Bytes) (entries : List Entry) (answer : Result (List Entry) TableFault)
-    → IsStoreDir dir → IsTextIn One dir entries bytes → IsJournalReading dir bytes (Ok entries)
-    → IsJournalReading dir (text Two entries) answer
+    (old new : Version) (dir : Dir) (bytes : Bytes) (entries : List Entry)
+    (answer : Result (List Entry) TableFault)
+    → IsEarlier old new → IsStoreDir dir → IsTextIn old dir entries bytes
+    → IsJournalReading dir bytes (Ok entries)
+    → (old ≡ Two → IsTooLong (text new entries) → ⊥)
+    → IsJournalReading dir (text new entries) answer
     → (answer ≡ Ok entries) ⊎ (answer ≡ Err NoMemory)

@@ -2,18 +2,20 @@
 ghost use Rattle.std.specs.Prelude.{◌≡◌, ◌≢◌, ◌<◌, ◌↔◌, [], List, IfOk, IfErr, IsOk, IsTrue, MatchOption, None, Some, length, slice_get, vec_capacity};
 ghost use Rattle.nix_names.specs.Rising.{IsRising};
 ghost use Rattle.valid_table.specs.Entries.{IsSortedOf, paths_registered, registered_by};
-ghost use Rattle.valid_table.specs.private.RecordContents.{digest_known, references_known};
+ghost use Rattle.valid_table.specs.private.RecordContents.{digest_known, nar_known, references_known, some_stored};
+ghost use Rattle.valid_table.specs.Written.{needs_three};
 ghost use Rattle.valid_table.specs.Valid.{IsOnce};
 
-use crate::journal_text::stored_digest::StoredDigest;
-use nix_names::{Digest, StorePath};
+use crate::journal_text::stored_digest::StoredMethodDigest;
+use crate::nar::Nar;
+use nix_names::{Method, MethodDigest, StorePath};
 use std::alloc::{AllocError, Global};
 use std::marker::Model;
 use std::slice;
 use std::sync::{Arc, ArcSlice};
 
-/// What is known of a valid path. A contract sees its references and its digest. All copies of a
-/// record share its memory, also across threads. A record that has neither references nor a digest
+/// What is known of a valid path. A contract sees its references, its digest and its archive. All
+/// copies of a record share its memory, also across threads. A record that has none of the three
 /// takes no memory.
 #[derive(Debug, Drop)]
 pub struct Record {
@@ -25,20 +27,21 @@ pub struct Record {
 enum RecordContent {
     Nothing,
     References(ArcSlice<StorePath>),
-    Digest(Arc<StoredDigest>),
-    Both(Arc<Both>),
+    Digest(Arc<StoredMethodDigest>),
+    Details(Arc<Details>),
 }
 
-// References and a digest, in one block.
+// References, a digest and an archive, in one block.
 #[derive(Debug, Drop)]
-struct Both {
+struct Details {
     references: ArcSlice<StorePath>,
-    digest: StoredDigest,
+    digest: Option<StoredMethodDigest>,
+    nar: Option<Nar>,
 }
 
 impl Model for Record {
     ghost use Rattle.nix_names.specs.Rising.{IsRising};
-    ghost use Rattle.valid_table.specs.private.RecordContents.{digest_known, references_known};
+    ghost use Rattle.valid_table.specs.private.RecordContents.{digest_known, nar_known, references_known};
     ghost use Rattle.valid_table.specs.PathInfos.{PathInfo};
 
     ghost Value = { PathInfo };
@@ -46,23 +49,30 @@ impl Model for Record {
     ghost view = { λ r. record {
       references = references_known r.known;
       digest = digest_known r.known;
+      nar = nar_known r.known;
     } };
 
     ghost invariant = { λ r. IsRising (references_known r.known) };
 }
 
 impl Record {
-    /// The record of a path with these references, and with the digest of its bytes where it is a
-    /// file. Takes memory only where there are references or a digest.
-    pub fn new(references: Vec<StorePath>, digest: Option<Digest>) -> Result<Record, AllocError>
+    /// The record of a path with these references, with the digest of its bytes where it is a file
+    /// or of its archive, and with its archive. Takes memory only where one of the three is there.
+    pub fn new(
+        references: Vec<StorePath>,
+        digest: Option<MethodDigest>,
+        nar: Option<Nar>,
+    ) -> Result<Record, AllocError>
         requires rising { IsRising references.items }
         ensures references { IfOk result (λ r. r.references ≡ references.items) }
         ensures digest { IfOk result (λ r. r.digest ≡ digest) }
-        ensures none { references.items ≡ [] → digest ≡ None → IsOk result }
+        ensures nar { IfOk result (λ r. r.nar ≡ nar) }
+        ensures none { references.items ≡ [] → digest ≡ None → nar ≡ None → IsOk result }
     {
-        let known = match digest {
-            None => RecordContent::without_digest(references)?,
-            Some(digest) => RecordContent::with_digest(references, digest)?,
+        let known = match (digest, nar) {
+            (None, None) => RecordContent::of_references(references)?,
+            (Some(digest), None) => RecordContent::of_digest(references, digest)?,
+            (digest, nar) => RecordContent::of_all(references, digest, nar)?,
         };
         Ok(Record { known })
     }
@@ -75,18 +85,45 @@ impl Record {
         match &self.known {
             RecordContent::Nothing | RecordContent::Digest(_) => &[],
             RecordContent::References(shared) => shared.as_slice(),
-            RecordContent::Both(both) => both.references.as_slice(),
+            RecordContent::Details(shared) => shared.references.as_slice(),
         }
     }
 
-    /// The digest of the path's bytes where it is a file, else none.
-    pub fn digest(&self) -> Option<Digest>
+    /// The digest of the path's bytes where it is a file, or of its archive, where it is known.
+    pub fn digest(&self) -> Option<MethodDigest>
         ensures { result ≡ self.now.digest }
     {
         match &self.known {
             RecordContent::Nothing | RecordContent::References(_) => None,
-            RecordContent::Digest(shared) => Some(shared.digest()),
-            RecordContent::Both(both) => Some(both.digest.digest()),
+            RecordContent::Digest(shared) => Some(shared.found()),
+            RecordContent::Details(shared) => stored(&shared.digest),
+        }
+    }
+
+    /// The SHA-256 and the length of the path's archive, where they are known.
+    pub fn nar(&self) -> Option<Nar>
+        ensures { result ≡ self.now.nar }
+    {
+        match &self.known {
+            RecordContent::Nothing | RecordContent::References(_) | RecordContent::Digest(_) =>
+                None,
+            RecordContent::Details(shared) => shared.nar,
+        }
+    }
+
+    // Whether only version 3 of a journal's text can tell what is known of the path.
+    pub(crate) fn needs_three(&self) -> bool
+        ensures { result ≡ needs_three self.now }
+    {
+        if self.nar().is_some() {
+            return true;
+        }
+        match self.digest() {
+            None => false,
+            Some(found) => match found.method {
+                Method::Flat => false,
+                Method::Recursive => true,
+            },
         }
     }
 
@@ -99,17 +136,28 @@ impl Record {
             RecordContent::Nothing => RecordContent::Nothing,
             RecordContent::References(shared) => RecordContent::References(shared.clone()?),
             RecordContent::Digest(shared) => RecordContent::Digest(shared.clone()?),
-            RecordContent::Both(both) => RecordContent::Both(both.clone()?),
+            RecordContent::Details(shared) => RecordContent::Details(shared.clone()?),
         };
         Ok(Record { known })
     }
 }
 
+// A digest that is stored, where there is one.
+fn stored(digest: &Option<StoredMethodDigest>) -> Option<MethodDigest>
+    ensures { result ≡ some_stored digest.now }
+{
+    match digest {
+        None => None,
+        Some(digest) => Some(digest.found()),
+    }
+}
+
 impl RecordContent {
-    // What is known of a path that has no digest.
-    fn without_digest(references: Vec<StorePath>) -> Result<RecordContent, AllocError>
+    // What is known of a path with these references alone.
+    fn of_references(references: Vec<StorePath>) -> Result<RecordContent, AllocError>
         ensures references { IfOk result (λ k. references_known k ≡ references.items) }
         ensures digest { IfOk result (λ k. digest_known k ≡ None) }
+        ensures nar { IfOk result (λ k. nar_known k ≡ None) }
         ensures none { references.items ≡ [] → IsOk result }
     {
         if references.is_empty() {
@@ -119,19 +167,45 @@ impl RecordContent {
         Ok(RecordContent::References(shared))
     }
 
-    // What is known of a path that has a digest.
-    fn with_digest(references: Vec<StorePath>, digest: Digest) -> Result<RecordContent, AllocError>
+    // What is known of a path with these references and a digest.
+    fn of_digest(
+        references: Vec<StorePath>,
+        digest: MethodDigest,
+    ) -> Result<RecordContent, AllocError>
         ensures references { IfOk result (λ k. references_known k ≡ references.items) }
         ensures digest { IfOk result (λ k. digest_known k ≡ Some digest) }
+        ensures nar { IfOk result (λ k. nar_known k ≡ None) }
+    {
+        if !references.is_empty() {
+            return RecordContent::of_all(references, Some(digest), None);
+        }
+        let alloc = *references.allocator();
+        let digest = StoredMethodDigest::new(alloc, digest)?;
+        Ok(RecordContent::Digest(Arc::new(alloc, digest)?))
+    }
+
+    // What is known of a path with these references, a digest and an archive.
+    fn of_all(
+        references: Vec<StorePath>,
+        digest: Option<MethodDigest>,
+        nar: Option<Nar>,
+    ) -> Result<RecordContent, AllocError>
+        ensures references { IfOk result (λ k. references_known k ≡ references.items) }
+        ensures digest { IfOk result (λ k. digest_known k ≡ digest) }
+        ensures nar { IfOk result (λ k. nar_known k ≡ nar) }
     {
         let alloc = *references.allocator();
-        let digest = StoredDigest::new(alloc, digest)?;
-        if references.is_empty() {
-            Ok(RecordContent::Digest(Arc::new(alloc, digest)?))
-        } else {
-            let references = ArcSlice::from_vec(references)?;
-            Ok(RecordContent::Both(Arc::new(alloc, Both { references, digest })?))
-        }
+        let digest = match digest {
+            None => None,
+            Some(digest) => Some(StoredMethodDigest::new(alloc, digest)?),
+        };
+        let references = ArcSlice::from_vec(references)?;
+        let details = Details {
+            references,
+            digest,
+            nar,
+        };
+        Ok(RecordContent::Details(Arc::new(alloc, details)?))
     }
 }
 

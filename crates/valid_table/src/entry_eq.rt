@@ -10,7 +10,9 @@ impl PartialEq for Record {
     ghost laws = { partial_equiv_from_equiv same_record_laws };
 
     fn eq(&self, other: &Record) -> bool {
-        self.references() == other.references() && self.digest() == other.digest()
+        self.references() == other.references()
+            && self.digest() == other.digest()
+            && self.nar() == other.nar()
     }
 }
 

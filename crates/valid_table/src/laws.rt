@@ -4,7 +4,7 @@ ghost use Rattle.valid_table.specs.BadLines.{BadLineIsOne, TextsHaveNoBadLine};
 ghost use Rattle.valid_table.specs.Closure.{ClosureIsOne, ClosureStays};
 ghost use Rattle.valid_table.specs.Equality.{EqualEntriesAreSame};
 ghost use Rattle.valid_table.specs.ReadingLaws.{AnswerIsOne, JournalTextsAreRead, TextHasOneList, VersionsHaveTheSameEntries, WrittenJournalsAreReadAgain};
-ghost use Rattle.valid_table.specs.Written.{TextGoesOn};
+ghost use Rattle.valid_table.specs.Written.{TextGoesOn, WrittenTextsAreTexts};
 
 /// The closure of paths that are valid in a closed list of entries stays the same in each list of
 /// entries that begins with it.
@@ -32,8 +32,8 @@ pub fn text_has_one_list()
     ensures { TextHasOneList }
 {}
 
-/// The text of a journal of a store folder, of at most 134,217,728 bytes in version 2 or 67,108,864
-/// in version 1, is read as just that journal, want of memory apart.
+/// The text of a journal of a store folder, of at most 134,217,728 bytes in version 2 or 3, or
+/// 67,108,864 in version 1, is read as just that journal, want of memory apart.
 pub fn journal_texts_are_read()
     ensures { JournalTextsAreRead }
 {}
@@ -44,21 +44,28 @@ pub fn answer_is_one()
     ensures { AnswerIsOne }
 {}
 
-/// A version 1 text and the version 2 text of its entries have the same entries; the second is at
-/// most twice as long.
+/// A text of version 1 or 2 and the text of its entries in a later version have the same entries;
+/// the second is at most twice as long.
 pub fn versions_have_the_same_entries()
     ensures { VersionsHaveTheSameEntries }
 {}
 
-/// The entries that are read of a version 1 text of a store folder are read again of the version 2
-/// text of these entries, want of memory apart.
+/// The entries that are read of a text of version 1 or 2 of a store folder are read again of the
+/// text of these entries in a later version, want of memory apart. Of version 2 that holds where
+/// the text in version 3 is within the limit.
 pub fn written_journals_are_read_again()
     ensures { WrittenJournalsAreReadAgain }
 {}
 
-/// A journal's text, and then the lines of further entries, are the text of all of them.
+/// A journal's text in a version, and then the lines of further entries in that version, are the
+/// text of all of them.
 pub fn text_goes_on()
     ensures { TextGoesOn }
+{}
+
+/// Entries that have a text in some version have one in the version in which they are written.
+pub fn written_texts_are_texts()
+    ensures { WrittenTextsAreTexts }
 {}
 
 /// Two entries are equal by `==` exactly where they are the same.

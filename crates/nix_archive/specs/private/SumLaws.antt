@@ -1,5 +1,5 @@
 -- Sums of bytes join.
-use Rattle.std.specs.Prelude.{◌≡◌, ◌+◌, ℕ, List, [], ◌++◌, length}
+use Rattle.std.specs.Prelude.{◌≡◌, ◌+◌, ◌-◌, ◌^◌, ℕ, List, [], ◌++◌, length, min}
 use Rattle.std.proofs.Common.{append-nil, append_assoc, arith, length-append, subst, sym}
 use Rattle.nix_archive.specs.Trees.{Bytes}
 use Rattle.nix_archive.specs.Sums.{IsSummed}
@@ -19,8 +19,9 @@ pub summed_both : {D : Type 0} (holds : D → List ℕ → Type 0) (first then :
 summed_both holds first then count between counts hasher middle hashes a b = record {
   counted = λ lt.
       let long : length (first ++ then) ≡ length first + length then = length-append first then in
-      let one : between ≡ count + length first = a.counted (omega (arith, long, lt)) in
-      let two : counts ≡ between + length then = b.counted (omega (arith, long, lt, one)) in
+      let one : between ≡ min (count + length first) (2 ^ 64 - 1) = a.counted lt in
+      let two : counts ≡ min (between + length then) (2 ^ 64 - 1) =
+      b.counted (omega (arith, one)) in
       omega (arith, long, one, two);
   held = λ before h. subst (holds hashes) (append_assoc before first then)
       (b.held (before ++ first) (a.held before h));

@@ -18,15 +18,15 @@ header (Done deriver outputs) = Deriver deriver ∷ []
 
 -- a line is right: it registers no known path, and refers only to one of all paths
 abbrev pub IsRight : (known all : List Path) → Line → Type 0
-IsRight known all (Added path digest) = Contains known path → ⊥
-IsRight known all (Output path digest) = Contains known path → ⊥
+IsRight known all (Added path digest nar) = Contains known path → ⊥
+IsRight known all (Output path digest nar) = Contains known path → ⊥
 IsRight known all (Reference path) = Contains all path
 IsRight known all line = Unit {0}
 
 -- a line registers a known path
 abbrev pub RegistersKnown : (known : List Path) → Line → Type 0
-RegistersKnown known (Added path digest) = Contains known path
-RegistersKnown known (Output path digest) = Contains known path
+RegistersKnown known (Added path digest nar) = Contains known path
+RegistersKnown known (Output path digest nar) = Contains known path
 RegistersKnown known line = ⊥
 
 -- a line refers to a path that is none of all paths

@@ -3,13 +3,14 @@ use Rattle.std.specs.Prelude.{◌≡◌, ◌≢◌, ◌⊎◌, ℕ, List, [], �
 use Rattle.nix_names.specs.Bytes.{Bytes, Dir, Path}
 use Rattle.nix_names.specs.Rising.{IsRising}
 use Rattle.nix_names.specs.StorePaths.{IsDrvPath, IsPathOf}
-use Rattle.nix_names.specs.declared.digest.Digest.{Digest}
+use Rattle.nix_names.specs.declared.method.MethodDigest.{MethodDigest}
 use Rattle.valid_table.specs.BadLines.{BeginsOutput}
 use Rattle.valid_table.specs.Entries.{paths_registered}
+use Rattle.valid_table.specs.PathInfos.{NarInfo}
 use Rattle.valid_table.specs.private.LineTexts.{fields_text, lines_text, references_text, registration_text}
 use Rattle.valid_table.specs.Reading.{BeginsVersion}
 use Rattle.valid_table.specs.private.Steps.{IsAbove, Place, Start, Begun, Within, Stops}
-use Rattle.valid_table.specs.Texts.{IsDigestOf, IsEntryIn, IsOf, entry_lines, lines, output_lines}
+use Rattle.valid_table.specs.Texts.{IsEntryIn, IsKnownOf, IsOf, entry_lines, lines, output_lines}
 use Rattle.valid_table.specs.declared.entry.Entry.{Entry}
 use Rattle.valid_table.specs.declared.entry.Entry.TheVariants.{Add, Done}
 use Rattle.valid_table.specs.declared.entry.Registration.{Registration}
@@ -38,12 +39,13 @@ pub record IsDeriverLine (dir : Dir) (bytes : Bytes) (path : Path) (rest : Bytes
   pub named : IsDrvPath path
   pub ahead : BeginsOutput rest
 
--- The bytes are a path of the store folder, a space, a digest's text, a newline and the rest.
+-- The bytes are a path of the store folder, a space, the text of what is known of it, a newline and
+-- the rest.
 pub record IsFieldsLine (version : Version) (dir : Dir) (bytes : Bytes) (path : Path)
-    (digest : Option Digest) (rest : Bytes) : Type 0 where
+    (digest : Option MethodDigest) (nar : Option NarInfo) (rest : Bytes) : Type 0 where
   pub of_dir : IsPathOf dir path
-  pub is_digest : IsDigestOf version digest
-  pub parts : bytes ≡ fields_text version path digest ++ rest
+  pub is_known : IsKnownOf version digest nar
+  pub parts : bytes ≡ fields_text version path digest nar ++ rest
 
 -- The bytes are the lines of these references and the rest.
 pub record SoFarReferences (dir : Dir) (bytes : Bytes) (references : List Path) (rest : Bytes)
@@ -67,11 +69,12 @@ pub record HasRegistration (version : Version) (dir : Dir) (letter : ℕ)
   pub above : IsAbove before r.path
   pub ends : IsNoLine 82 rest
 
--- the bytes begin with no path and digest of a line, of which the path is greater than the one
+-- the bytes begin with no path and what is known of it, of which the path is greater than the one
 -- before it
 abbrev pub HasNoFields : Version → Dir → (before : Option Path) → Bytes → Type 0
-HasNoFields version dir before bytes = (path : Path) (digest : Option Digest) (rest : Bytes)
-    → IsAbove before path → IsFieldsLine version dir bytes path digest rest → ⊥
+HasNoFields version dir before bytes = (path : Path) (digest : Option MethodDigest)
+    (nar : Option NarInfo) (rest : Bytes)
+    → IsAbove before path → IsFieldsLine version dir bytes path digest nar rest → ⊥
 
 -- reading references stops with `left` bytes left, in each version, for an added path as for an
 -- output
@@ -93,10 +96,11 @@ pub record HasBadReference (version : Version) (dir : Dir) (letter : ℕ)
   pub fields : Bytes
   pub begins : bytes ≡ letter ∷ 32 ∷ fields
   pub path : Path
-  pub digest : Option Digest
+  pub digest : Option MethodDigest
+  pub nar : Option NarInfo
   pub rest : Bytes
   pub above : IsAbove before path
-  pub line : IsFieldsLine version dir fields path digest rest
+  pub line : IsFieldsLine version dir fields path digest nar rest
   pub stops : StopsInReferences dir rest left
 
 -- reading a registration stops with `left` bytes left

@@ -6,10 +6,11 @@ use Rattle.std.specs.Ordering.{nat_cmp}
 use Rattle.std.specs.declared.cmp.Ordering.TheVariants.{Less}
 use Rattle.nix_names.specs.Bytes.{Bytes, Dir, Path}
 use Rattle.nix_names.specs.StorePaths.{IsDrvPath, IsPathOf}
-use Rattle.nix_names.specs.declared.digest.Digest.{Digest}
+use Rattle.nix_names.specs.declared.method.MethodDigest.{MethodDigest}
 use Rattle.valid_table.specs.BadLines.{BeginsOutput}
+use Rattle.valid_table.specs.PathInfos.{NarInfo}
 use Rattle.valid_table.specs.private.LineTexts.{lines_text}
-use Rattle.valid_table.specs.Texts.{IsDigestOf, Line, First, Added, Deriver, Output, Reference, line_text}
+use Rattle.valid_table.specs.Texts.{IsKnownOf, Line, First, Added, Deriver, Output, Reference, line_text}
 use Rattle.valid_table.specs.declared.path_table.version.Version.{Version}
 
 -- A place between lines: before line 1, after line 1, after a deriver, or within the lines of an
@@ -28,32 +29,34 @@ IsAbove (Some before) path = slice_cmp nat_cmp before path ≡ Less
 
 -- a line may stand where an entry may begin
 abbrev pub MayBegin : Version → Dir → Line → Type 0
-MayBegin version dir (Added path digest) = IsPathOf dir path × IsDigestOf version digest
+MayBegin version dir (Added path digest nar) = IsPathOf dir path × IsKnownOf version digest nar
 MayBegin version dir (Deriver path) = IsPathOf dir path × IsDrvPath path
 MayBegin version dir line = ⊥
 
 -- an output may stand after a deriver, or after an output with a lesser path
-abbrev pub MayBeOutputAfter : Version → Dir → (before : Option Path) → Path → Option Digest → Type 0
-MayBeOutputAfter version dir before path digest = IsPathOf dir path × IsDigestOf version digest
-    × IsAbove before path
+abbrev pub MayBeOutputAfter : Version → Dir → (before : Option Path) → Path → Option MethodDigest
+    → Option NarInfo → Type 0
+MayBeOutputAfter version dir before path digest nar = IsPathOf dir path
+    × IsKnownOf version digest nar × IsAbove before path
 
 -- a line may stand at a place
 abbrev pub MayBeLine : Version → Dir → Place → Line → Type 0
 MayBeLine version dir Start First = Unit {0}
 MayBeLine version dir Begun line = MayBegin version dir line
 MayBeLine version dir (Within output last) (Reference path) = IsPathOf dir path × IsAbove last path
-MayBeLine version dir (Within (Some before) last) (Output path digest) =
-    MayBeOutputAfter version dir (Some before) path digest
+MayBeLine version dir (Within (Some before) last) (Output path digest nar) =
+    MayBeOutputAfter version dir (Some before) path digest nar
 MayBeLine version dir (Within output last) line = MayBegin version dir line
-MayBeLine version dir Opened (Output path digest) = MayBeOutputAfter version dir None path digest
+MayBeLine version dir Opened (Output path digest nar) =
+    MayBeOutputAfter version dir None path digest nar
 MayBeLine version dir place line = ⊥
 
 -- the place after a line
 abbrev pub behind : Place → Line → Place
 behind place First = Begun
-behind place (Added path digest) = Within None None
+behind place (Added path digest nar) = Within None None
 behind place (Deriver path) = Opened
-behind place (Output path digest) = Within (Some path) None
+behind place (Output path digest nar) = Within (Some path) None
 behind (Within output last) (Reference path) = Within output (Some path)
 behind place (Reference path) = place
 

@@ -1,17 +1,24 @@
 //! One line of a journal's text.
-ghost use Rattle.std.specs.Prelude.{◌≡◌, ◌≢◌, ◌↔◌, ◌+◌, ◌-◌, ◌≤◌, ◌++◌, ◌∷◌, [], All, IfOk, IsTrue, List, MatchOption, Option, Some, ℕ, codes, length, take};
+ghost use Rattle.std.specs.Prelude.{◌≡◌, ◌≢◌, ◌↔◌, ◌+◌, ◌-◌, ◌≤◌, ◌++◌, ◌∷◌, [], All, IfOk, IsTrue, List, MatchOption, None, Option, Some, ℕ, codes, length, take};
 ghost use Rattle.std.specs.Char.{is_ascii_digit};
 ghost use Rattle.memchr.specs.Find.{is_byte, places};
 ghost use Rattle.nix_names.specs.StorePaths.{IsPathOf};
 ghost use Rattle.nix_names.specs.Names.{IsStoreDir};
 ghost use Rattle.nix_names.specs.declared.digest.Digest.{Digest as ADigest};
+ghost use Rattle.nix_names.specs.declared.method.Method.TheVariants.{Flat};
+ghost use Rattle.nix_names.specs.declared.method.MethodDigest.{MethodDigest as AMethodDigest};
 ghost use Rattle.valid_table.specs.BadLines.{IsOtherVersion};
+ghost use Rattle.valid_table.specs.PathInfos.{NarInfo};
 ghost use Rattle.valid_table.specs.private.Readers.{IsDeriverLine, IsFieldsLine, IsNoLine, IsPathLine};
 ghost use Rattle.valid_table.specs.Texts.{IsDigestOf, digest_text};
 
+use crate::journal_text::known::{Known, known_of};
 use crate::path_table::version::Version;
 use memchr::{memchr, memchr_iter};
-use nix_names::{Algorithm, Digest, NameFault, StoreDir, StorePath, is_drv_name, parse_path};
+use nix_names::{
+    Algorithm, Digest, Method, MethodDigest, NameFault, StoreDir, StorePath, is_drv_name,
+    parse_path,
+};
 use std::alloc::{AllocError, Global};
 
 // The bytes with which the first line of each version begins.
@@ -67,9 +74,9 @@ pub(crate) fn path_of(
 
 // The digest of a line, where the bytes are its text in a version: none for a dash, or the digest
 // whose text they are.
-pub(crate) fn digest_of(version: Version, text: &[u8]) -> Option<Option<Digest>>
+pub(crate) fn digest_of(version: Version, text: &[u8]) -> Option<Option<MethodDigest>>
     ensures { MatchOption result
-        ((digest : Option ADigest) → IsDigestOf version digest
+        ((digest : Option AMethodDigest) → IsDigestOf version digest
         → text.now ≢ digest_text version digest)
         (λ digest. IsDigestOf version digest × (text.now ≡ digest_text version digest)) }
 {
@@ -83,18 +90,34 @@ pub(crate) fn digest_of(version: Version, text: &[u8]) -> Option<Option<Digest>>
 }
 
 // The digest whose text in a version the bytes are: the 64 lower-case hexadecimal digits of
-// SHA-256 in version 1, and an algorithm's name, a colon and its digits in version 2.
-#[tactic(auto, using(crate::proofs::DigestTexts::in_one))]
-fn some_digest_of(version: Version, text: &[u8]) -> Option<Digest>
+// SHA-256 in version 1, an algorithm's name, a colon and its digits in version 2, and the same with
+// or without `r:` before it in version 3.
+#[tactic(auto, using(crate::proofs::DigestTexts::in_one, crate::proofs::DigestTexts::in_two))]
+fn some_digest_of(version: Version, text: &[u8]) -> Option<MethodDigest>
     ensures { MatchOption result
-        ((digest : ADigest) → IsDigestOf version (Some digest)
+        ((digest : AMethodDigest) → IsDigestOf version (Some digest)
         → text.now ≢ digest_text version (Some digest))
         (λ digest. IsDigestOf version (Some digest)
         × (text.now ≡ digest_text version (Some digest))) }
 {
     match version {
-        Version::One => Digest::of_digits(Algorithm::Sha256, text),
-        Version::Two => Digest::of_text(text),
+        Version::One => flat(Digest::of_digits(Algorithm::Sha256, text)),
+        Version::Two => flat(Digest::of_text(text)),
+        Version::Three => MethodDigest::of_text(text),
+    }
+}
+
+// A digest as that of a file's bytes.
+fn flat(digest: Option<Digest>) -> Option<MethodDigest>
+    ensures { MatchOption result (digest ≡ None)
+        (λ found. (digest ≡ Some found.digest) × (found.method ≡ Flat)) }
+{
+    match digest {
+        None => None,
+        Some(digest) => Some(MethodDigest {
+            method: Method::Flat,
+            digest,
+        }),
     }
 }
 
@@ -142,19 +165,28 @@ pub(crate) fn deriver_line<'a>(
     }
 }
 
-// The path, the space, the digest in a version and the newline at the head of the bytes, and what
-// is after them.
+// The fields of a line: its path, what it tells of the path, and the bytes after the line.
+#[derive(Debug, Drop)]
+pub(crate) struct Fields<'a> {
+    pub path: StorePath,
+    pub known: Known,
+    pub rest: &'a [u8],
+}
+
+// The path, the space, what is known of the path in a version and the newline at the head of the
+// bytes, and what is after them.
 pub(crate) fn fields_line<'a>(
     alloc: Global,
     dir: &StoreDir,
     version: Version,
     bytes: &'a [u8],
-) -> Result<Option<(StorePath, Option<Digest>, &'a [u8])>, AllocError>
+) -> Result<Option<Fields<'a>>, AllocError>
     ensures { IfOk result
         (λ found. MatchOption found
-        ((path : List ℕ) (digest : Option ADigest) (rest : List ℕ)
-        → IsFieldsLine version dir.now bytes.now path digest rest → ⊥)
-        (λ x. IsFieldsLine version dir.now bytes.now x.0 x.1 x.2.now)) }
+        ((path : List ℕ) (digest : Option AMethodDigest) (nar : Option NarInfo) (rest : List ℕ)
+        → IsFieldsLine version dir.now bytes.now path digest nar rest → ⊥)
+        (λ x. IsFieldsLine version dir.now bytes.now x.path x.known.digest x.known.nar
+        x.rest.now)) }
 {
     let Some((text, fields)) = split_at_byte(b' ', bytes) else {
         return Ok(None);
@@ -162,11 +194,11 @@ pub(crate) fn fields_line<'a>(
     let Some(path) = path_of(alloc, dir, text)? else {
         return Ok(None);
     };
-    let Some((digest, rest)) = split_at_byte(b'\n', fields) else {
+    let Some((known, rest)) = split_at_byte(b'\n', fields) else {
         return Ok(None);
     };
-    match digest_of(version, digest) {
-        Some(digest) => Ok(Some((path, digest, rest))),
+    match known_of(version, known) {
+        Some(known) => Ok(Some(Fields { path, known, rest })),
         None => Ok(None),
     }
 }
@@ -193,14 +225,15 @@ pub(crate) fn is_other_version(bytes: &[u8]) -> bool
     is_other_number(number)
 }
 
-// Whether the bytes are decimal digits, and neither `1` nor `2` alone.
+// Whether the bytes are decimal digits, and none of `1`, `2` and `3` alone.
 fn is_other_number(bytes: &[u8]) -> bool
     ensures { IsTrue result
         ↔ ((bytes.now ≢ []) × All (λ b. IsTrue (is_ascii_digit b)) bytes.now
-        × (bytes.now ≢ codes "1") × (bytes.now ≢ codes "2")) }
+        × (bytes.now ≢ codes "1") × (bytes.now ≢ codes "2") × (bytes.now ≢ codes "3")) }
 {
     !bytes.is_empty()
         && bytes != b"1".as_slice()
         && bytes != b"2".as_slice()
+        && bytes != b"3".as_slice()
         && bytes.iter().all(|b| b.is_ascii_digit())
 }

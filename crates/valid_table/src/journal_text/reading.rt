@@ -14,16 +14,17 @@ ghost use Rattle.valid_table.specs.declared.path_table.version.Version.{Version 
 use crate::entry::{Entry, Outputs, Record, Registration};
 use crate::fault::TableFault;
 use crate::journal::Journal;
+use crate::journal_text::known::Known;
 use crate::journal_text::lines::{
-    behind_letter, deriver_line, fields_line, is_other_version, line_number, path_line,
+    Fields, behind_letter, deriver_line, fields_line, is_other_version, line_number, path_line,
     show_store_dir,
 };
 use crate::path_table::version::{Version, is_too_long, version_of};
-use nix_names::{Digest, StoreDir, StorePath};
+use nix_names::{StoreDir, StorePath};
 use std::alloc::{AllocError, AllocFailed, Global};
 
 impl Journal {
-    /// The journal whose text the bytes are, in version 1 or in version 2. No bytes are the text of
+    /// The journal whose text the bytes are, in version 1, 2 or 3. No bytes are the text of
     /// the journal without entries.
     ///
     /// Answers the first of these faults that holds. `TooLong` is for more than 134,217,728 bytes,
@@ -118,44 +119,46 @@ fn references_of<'a>(
     Ok((references, rest))
 }
 
-// The record with a digest and with the references at the head of the bytes, and the bytes after
-// their lines.
+// The record with what a line tells and with the references at the head of the bytes, and the bytes
+// after their lines.
 fn record_of<'a>(
     alloc: Global,
     dir: &StoreDir,
-    digest: Option<Digest>,
+    known: Known,
     bytes: &'a [u8],
 ) -> Result<(Record, &'a [u8]), LineFault>
     ensures references { IfOk result
         (λ x. ReadsReferences dir.now bytes.now x.0.references x.1.now) }
-    ensures digest { IfOk result (λ x. x.0.digest ≡ digest) }
+    ensures digest { IfOk result (λ x. x.0.digest ≡ known.digest) }
+    ensures nar { IfOk result (λ x. x.0.nar ≡ known.nar) }
     ensures left { IfErr result (StopsWhere (StopsInReferences dir.now bytes.now)) }
 {
     let (references, rest) = references_of(alloc, dir, bytes)?;
-    let info = Record::new(references, digest)?;
+    let info = Record::new(references, known.digest, known.nar)?;
     Ok((info, rest))
 }
 
-// The path, greater than the one before it, and the digest at the head of the bytes, and the bytes
-// after their line. None where no such line is there.
+// The path, greater than the one before it, and what is known of it at the head of the bytes, and
+// the bytes after their line. None where no such line is there.
 fn fields_above<'a>(
     alloc: Global,
     dir: &StoreDir,
     version: Version,
     before: Option<&StorePath>,
     bytes: &'a [u8],
-) -> Result<Option<(StorePath, Option<Digest>, &'a [u8])>, AllocError>
+) -> Result<Option<Fields<'a>>, AllocError>
     ensures { IfOk result
         (λ found. MatchOption found
         (HasNoFields version dir.now (option_copied before.entry) bytes.now)
-        (λ x. IsAbove (option_copied before.entry) x.0
-        × IsFieldsLine version dir.now bytes.now x.0 x.1 x.2.now)) }
+        (λ x. IsAbove (option_copied before.entry) x.path
+        × IsFieldsLine version dir.now bytes.now x.path x.known.digest x.known.nar
+        x.rest.now)) }
 {
-    let Some((path, digest, rest)) = fields_line(alloc, dir, version, bytes)? else {
+    let Some(fields) = fields_line(alloc, dir, version, bytes)? else {
         return Ok(None);
     };
-    if is_above(before, &path) {
-        Ok(Some((path, digest, rest)))
+    if is_above(before, &fields.path) {
+        Ok(Some(fields))
     } else {
         Ok(None)
     }
@@ -183,10 +186,11 @@ fn registration_of<'a>(
     let Some(fields) = behind_letter(letter, bytes) else {
         return Ok(None);
     };
-    let Some((path, digest, rest)) = fields_above(alloc, dir, version, before, fields)? else {
+    let Some(Fields { path, known, rest }) = fields_above(alloc, dir, version, before, fields)?
+    else {
         return Err(LineFault::Left(bytes.len()));
     };
-    let (info, rest) = record_of(alloc, dir, digest, rest)?;
+    let (info, rest) = record_of(alloc, dir, known, rest)?;
     Ok(Some((Registration { path, info }, rest)))
 }
 

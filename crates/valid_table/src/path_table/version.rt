@@ -7,13 +7,16 @@ ghost use Rattle.valid_table.specs.Texts.{version_line};
 /// The most bytes that a journal's text may have, in any version.
 pub const MAX_JOURNAL: usize = 134_217_728;
 
-// A version of a journal's text.
+/// A version of a journal's text.
 #[derive(Clone, Copy, Debug, PartialEq, Eq)]
-pub(crate) enum Version {
-    // Version 1, in which a digest is its digits, and SHA-256 is the only algorithm.
+pub enum Version {
+    /// Version 1, in which a digest is its digits, and SHA-256 is the only algorithm.
     One,
-    // Version 2, in which a digest is its algorithm's name, a colon and its digits.
+    /// Version 2, in which a digest is its algorithm's name, a colon and its digits.
     Two,
+    /// Version 3, in which a digest may be that of an archive, with `r:` before it, and in which
+    /// the SHA-256 and the length of a path's archive follow the digest.
+    Three,
 }
 
 impl Version {
@@ -24,6 +27,7 @@ impl Version {
         match self {
             Version::One => b"realiser-journal 1\n",
             Version::Two => b"realiser-journal 2\n",
+            Version::Three => b"realiser-journal 3\n",
         }
     }
 
@@ -33,7 +37,7 @@ impl Version {
     {
         match self {
             Version::One => 67_108_864,
-            Version::Two => MAX_JOURNAL,
+            Version::Two | Version::Three => MAX_JOURNAL,
         }
     }
 
@@ -57,6 +61,9 @@ pub(crate) fn version_of(bytes: &[u8]) -> Option<(Version, &[u8])>
     if let Some(rest) = Version::Two.behind_line(bytes) {
         return Some((Version::Two, rest));
     }
+    if let Some(rest) = Version::Three.behind_line(bytes) {
+        return Some((Version::Three, rest));
+    }
     None
 }
 
@@ -68,6 +75,6 @@ pub(crate) fn is_too_long(bytes: &[u8]) -> bool
 {
     match version_of(bytes) {
         Some((version, _)) => bytes.len() > version.max_len(),
-        None => bytes.len() > Version::Two.max_len(),
+        None => bytes.len() > Version::Three.max_len(),
     }
 }

@@ -13,8 +13,8 @@ returns g c = λ tree first begun last hasher middle hashes fresh head body.
     let is : magic ++ text ≡ nar tree = ap (λ l. magic ++ l) (text_of_tree tree) in
     let both = summed_both g.D.Digest.holds magic text first begun last hasher middle hashes head body
     in
-    let none : first ≡ 0 = fresh.counted (omega arith) in
+    let none : first ≡ 0 = omega (arith, fresh.counted) in
     subst (λ l. IsSum g.D.Digest.holds l last hashes) is record {
-      counted = λ lt. omega (arith, none, both.counted (omega (arith, none, lt)));
+      counted = omega (arith, none, both.counted (omega (arith, none)));
       held = both.held [] fresh.held;
     }
