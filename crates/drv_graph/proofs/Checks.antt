@@ -24,7 +24,7 @@ use Rattle.std.specs.declared.cmp.Ordering.TheVariants.{Less}
 use Rattle.std.specs.declared.alloc.AllocError.{AllocError}
 use Rattle.std.specs.declared.alloc.Global.{Global}
 use Rattle.std.proofs.lemmas.Map.Keys.{Less-from_sorted}
-use Rattle.drv_graph.specs.Kinds.{HasKind}
+use Rattle.drv_graph.specs.Kinds.{HasKind, Takes}
 use Rattle.drv_graph.specs.Outputs.{AreSound, HasOtherEntry, IsKnownUse, IsOutputsCheck, IsWellNamed, PathsFit, Use, uses}
 use Rattle.drv_graph.specs.declared.kinds.Kind.{Kind}
 use Rattle.drv_graph.specs.declared.fault.OutputFault.{OutputFault}
@@ -33,53 +33,65 @@ use Rattle.drv_graph.proofs.KindAnswers.{kind_not_mixed}
 use Rattle.drv_graph.proofs.Loops.{beside, zipped_from_map, slice_get-take}
 use Rattle.drv_graph.proofs.OneText.{one_path}
 use Rattle.nix_names.proofs.Lists.{Contains-from_get, Contains-map, get_from_contains, split_get}
+use Rattle.drv_graph.specs.declared.profile.Profile.{Profile}
 
 -- ---- kind, names and uses
 
-pub kind_is_sound : (name : List ℕ) (drv : Drv) (used : List Drv) (fault : OutputFault)
-    → IsKindFault drv fault → IsSoundCheck name drv used (Err fault)
-kind_is_sound name drv used NoMemory h = h
-kind_is_sound name drv used MixedOutputs h = h
-kind_is_sound name drv used (UnknownMethod output) h = h
-kind_is_sound name drv used BadName h = absurd h
-kind_is_sound name drv used (UnknownOutput input output) h = absurd h
-kind_is_sound name drv used (OutputMismatch output expected) h = h
-kind_is_sound name drv used (EnvMismatch output) h = h
+pub kind_is_sound : (profile : Profile) (name : List ℕ) (drv : Drv) (used : List Drv)
+    (fault : OutputFault)
+    → IsKindFault profile drv fault → IsSoundCheck profile name drv used (Err fault)
+kind_is_sound profile name drv used NoMemory h = h
+kind_is_sound profile name drv used MixedOutputs h = h
+kind_is_sound profile name drv used (UnknownMethod output) h = h
+kind_is_sound profile name drv used BadName h = absurd h
+kind_is_sound profile name drv used (UnknownOutput input output) h = absurd h
+kind_is_sound profile name drv used (OutputMismatch output expected) h = h
+kind_is_sound profile name drv used (EnvMismatch output) h = h
 
-pub name_is_sound : (name : List ℕ) (drv : Drv) (used : List Drv) (kind : Kind)
-    (outputs : List Output) (fault : OutputFault) → HasKind drv kind → outputs ≡ drv.outputs
-    → IsNameFault name outputs fault → IsSoundCheck name drv used (Err fault)
-name_is_sound name drv used kind outputs NoMemory is same h = kind_not_mixed drv _ is
-name_is_sound name drv used kind outputs BadName is same h = search rules
-name_is_sound name drv used kind outputs MixedOutputs is same h = absurd h
-name_is_sound name drv used kind outputs (UnknownMethod output) is same h = absurd h
-name_is_sound name drv used kind outputs (UnknownOutput input output) is same h = absurd h
-name_is_sound name drv used kind outputs (OutputMismatch output expected) is same h = h
-name_is_sound name drv used kind outputs (EnvMismatch output) is same h = h
+pub name_is_sound : (profile : Profile) (name : List ℕ) (drv : Drv) (used : List Drv) (kind : Kind)
+    (outputs : List Output) (fault : OutputFault) → HasKind drv kind → Takes profile kind
+    → outputs ≡ drv.outputs → IsNameFault name outputs fault → IsSoundCheck profile name drv used
+    (Err fault)
+name_is_sound profile name drv used kind outputs NoMemory is taken same h = kind_not_mixed drv _ is
+name_is_sound profile name drv used kind outputs BadName is taken same h = search rules
+name_is_sound profile name drv used kind outputs MixedOutputs is taken same h = absurd h
+name_is_sound profile name drv used kind outputs (UnknownMethod output) is taken same h = absurd h
+name_is_sound profile name drv used kind outputs
+    (UnknownOutput input output) is taken same h = absurd h
+name_is_sound profile name drv used kind outputs
+    (OutputMismatch output expected) is taken same h = h
+name_is_sound profile name drv used kind outputs (EnvMismatch output) is taken same h = h
 
-pub use_is_sound : (name : List ℕ) (drv : Drv) (used : List Drv) (kind : Kind)
-    (outputs : List Output) (inputs : List Input) (fault : OutputFault) → HasKind drv kind → outputs
-    ≡ drv.outputs
+pub use_is_sound : (profile : Profile) (name : List ℕ) (drv : Drv) (used : List Drv) (kind : Kind)
+    (outputs : List Output) (inputs : List Input) (fault : OutputFault) → HasKind drv kind
+    → Takes profile kind → outputs ≡ drv.outputs
     → All (IsWellNamed name) outputs → inputs ≡ drv.inputs → IsUseFault (uses inputs used) fault
-    → IsSoundCheck name drv used (Err fault)
-use_is_sound name drv used kind outputs inputs NoMemory is same named here h =
+    → IsSoundCheck profile name drv used (Err fault)
+use_is_sound profile name drv used kind outputs inputs NoMemory is taken same named here h =
     kind_not_mixed drv kind is
-use_is_sound name drv used kind outputs inputs (UnknownOutput input output) is same named here h =
+use_is_sound profile name drv used kind outputs inputs
+    (UnknownOutput input output) is taken same named here h =
     search rules
-use_is_sound name drv used kind outputs inputs MixedOutputs is same named here h = absurd h
-use_is_sound name drv used kind outputs inputs (UnknownMethod output) is same named here h =
+use_is_sound profile name drv used kind outputs inputs MixedOutputs is taken same named here h =
     absurd h
-use_is_sound name drv used kind outputs inputs BadName is same named here h = absurd h
-use_is_sound name drv used kind outputs inputs (OutputMismatch output expected) is same named here
+use_is_sound profile name drv used kind outputs inputs
+    (UnknownMethod output) is taken same named here h =
+    absurd h
+use_is_sound profile name drv used kind outputs inputs BadName is taken same named here h = absurd h
+use_is_sound profile name drv used kind outputs inputs
+    (OutputMismatch output expected) is taken same named here
     h = h
-use_is_sound name drv used kind outputs inputs (EnvMismatch output) is same named here h = h
+use_is_sound profile name drv used kind outputs inputs
+    (EnvMismatch output) is taken same named here h = h
 
-pub all_sound : (name : List ℕ) (drv : Drv) (used : List Drv) (kind : Kind) (outputs : List Output)
-    (inputs : List Input) → HasKind drv kind → outputs ≡ drv.outputs
+pub all_sound : {profile : Profile} (name : List ℕ) (drv : Drv) (used : List Drv) (kind : Kind)
+    (outputs : List Output)
+    (inputs : List Input) → HasKind drv kind → Takes profile kind → outputs ≡ drv.outputs
     → All (IsWellNamed name) outputs → inputs ≡ drv.inputs → All IsKnownUse (uses inputs used)
-    → AreSound name drv used kind
-all_sound name drv used kind outputs inputs is same named here known = record {
+    → AreSound profile name drv used kind
+all_sound name drv used kind outputs inputs is taken same named here known = record {
   has_kind = is;
+  taken = taken;
   named = subst (λ (os : List Output). All (IsWellNamed name) os) same named;
   known = subst (λ (is : List Input). All IsKnownUse (uses is used)) here known;
 }
@@ -225,9 +237,10 @@ module _ (in_draft : Bool) (dir name : List ℕ) (kind : Kind) (drv : Drv) (hash
       }
 
   -- what is wrong with the values is what the check answers
-  pub value_is_checked : (used : List Drv) (fault : OutputFault) → AreSound name drv used kind
+  pub value_is_checked : {profile : Profile} (used : List Drv) (fault : OutputFault)
+      → AreSound profile name drv used kind
       → IsValueFault in_draft drv paths fault
-      → IsOutputsCheck (FitsExpected in_draft) dir name drv used hashes (Err fault)
+      → IsOutputsCheck (FitsExpected in_draft) profile dir name drv used hashes (Err fault)
   value_is_checked used (OutputMismatch output path) sound (o, pair, is) =
       let first = first_mismatch o _ pair in (kind, sound, (o, first.0, first.1, is))
   value_is_checked used (EnvMismatch output) sound (fit, (o, path, pair, is)) =
@@ -239,10 +252,10 @@ module _ (in_draft : Bool) (dir name : List ℕ) (kind : Kind) (drv : Drv) (hash
   value_is_checked used (UnknownOutput input output) sound h = absurd h
 
   -- a check that finds nothing
-  pub all_right : (used : List Drv) → AreSound name drv used kind
+  pub all_right : {profile : Profile} (used : List Drv) → AreSound profile name drv used kind
       → FitBefore (PathFits in_draft) drv.outputs paths (length drv.outputs)
       → FitBefore (EntriesFit in_draft drv.env) drv.outputs paths (length drv.outputs)
-      → IsOutputsCheck (FitsExpected in_draft) dir name drv used hashes (Ok kind)
+      → IsOutputsCheck (FitsExpected in_draft) profile dir name drv used hashes (Ok kind)
   all_right used sound fit entries = (sound, paths_fit fit, entries_fit entries)
 
 -- what holds anyway holds where a call succeeds

@@ -9,6 +9,7 @@ use Rattle.drv_graph.specs.Plans.{Graph}
 use Rattle.drv_graph.specs.SoundGraphs.{IsSound}
 use Rattle.drv_graph.specs.PlanNodes.{AreKept, IsPlanNode, IsSameNode, nodes_of}
 use Rattle.drv_graph.specs.declared.node.PlanNode.{PlanNode}
+use Rattle.drv_graph.specs.declared.profile.Profile.{Profile}
 
 -- one path more was copied
 pub copied_more : (paths copies : List (List ℕ)) (i : ℕ) (path copy : List ℕ) → i < length paths
@@ -48,17 +49,20 @@ kept_copies xs ys zip right = subst (λ ns. All (IsPlanNode ns) ys) (sym (same_n
     (all_kept _ _ _ zip right)
 
 -- a copied plan is seen as the same graph
-pub same_graph : (xs ys : List PlanNode) (roots others : List ℕ) → AllZip IsSameNode xs ys → others
-    ≡ roots → ◌≡◌ {A = Graph} (record { nodes = nodes_of ys; roots = others })
-    (record { nodes = nodes_of xs; roots = roots })
-same_graph xs ys roots others zip same = let nodes = same_nodes _ _ zip in cc
+pub same_graph : (profile : Profile) (xs ys : List PlanNode) (roots others : List ℕ)
+    → AllZip IsSameNode xs ys → others
+    ≡ roots → ◌≡◌ {A = Graph} (record { profile = profile; nodes = nodes_of ys; roots = others })
+    (record { profile = profile; nodes = nodes_of xs; roots = roots })
+same_graph profile xs ys roots others zip same = let nodes = same_nodes _ _ zip in cc
 
 -- and is right
-pub copy_sound : (xs ys : List PlanNode) (roots others : List ℕ) → AllZip IsSameNode xs ys → others
-    ≡ roots → AreKept xs × IsSound (record { nodes = nodes_of xs; roots = roots }) → AreKept ys
-    × IsSound (record { nodes = nodes_of ys; roots = others })
-copy_sound xs ys roots others zip same right = (
+pub copy_sound : (profile : Profile) (xs ys : List PlanNode) (roots others : List ℕ)
+    → AllZip IsSameNode xs ys → others
+    ≡ roots → AreKept xs × IsSound
+    (record { profile = profile; nodes = nodes_of xs; roots = roots }) → AreKept ys
+    × IsSound (record { profile = profile; nodes = nodes_of ys; roots = others })
+copy_sound profile xs ys roots others zip same right = (
   kept_copies _ _ zip right.0,
-  subst IsSound (sym (same_graph _ _ _ _ zip same))
+  subst IsSound (sym (same_graph _ _ _ _ _ zip same))
       right.1,
 )

@@ -8,6 +8,7 @@ use Rattle.drv_graph.specs.Nodes.{Node}
 use Rattle.drv_graph.specs.declared.fault.GraphFault.{GraphFault}
 use Rattle.drv_graph.specs.declared.fault.GraphFault.TheVariants.{NoMemory, At, Draft, Name}
 use Rattle.drv_graph.specs.declared.fault.NodeFault.TheVariants.{Unreadable, TooMany, Text, Cycle, Outputs, OutputClash}
+use Rattle.drv_graph.specs.declared.profile.Profile.{Profile}
 
 -- what was counted from later on was counted from before
 pub counted_before : (G H : List ℕ → Answer → Type 0) (before from after : ℕ) (fault : GraphFault)
@@ -38,13 +39,15 @@ target_counted gives before after dir name draft fault (inr (names, inl memory))
 target_counted gives before after dir name draft fault (inr (names, inr (text, is, stray))) =
     rw is tt
 
-pub fill_counted : (gives : List ℕ → Answer → Type 0) (before after : ℕ) (dir name : List ℕ)
+pub fill_counted : (profile : Profile) (gives : List ℕ → Answer → Type 0) (before after : ℕ)
+    (dir name : List ℕ)
     (nodes : List Node) (draft : Drv) (fault : GraphFault)
-    → IsFillRefused dir name nodes draft fault → IsCountedFault gives before after fault
-fill_counted gives before after dir name nodes draft fault (inl memory) = rw memory tt
-fill_counted gives before after dir name nodes draft fault (inr (used, hashes, are, inl memory)) =
+    → IsFillRefused profile dir name nodes draft fault → IsCountedFault gives before after fault
+fill_counted profile gives before after dir name nodes draft fault (inl memory) = rw memory tt
+fill_counted profile gives before after dir name nodes draft fault
+    (inr (used, hashes, are, inl memory)) =
     rw memory tt
-fill_counted gives before after dir name nodes draft fault
+fill_counted profile gives before after dir name nodes draft fault
     (inr (used, hashes, are, inr (of, is, some, check))) = rw is tt
 
 pub text_counted : (gives : List ℕ → Answer → Type 0) (before after : ℕ) (drv : Drv)

@@ -37,6 +37,7 @@ use Rattle.drv_graph.proofs.FilledDrafts.{filled_right}
 use Rattle.drv_graph.proofs.PathLists.{other_path}
 use Rattle.drv_graph.proofs.UsedNodes.{used_drvs, used_hashes, used_paths}
 use Rattle.nix_names.proofs.Lists.{Contains-first, Contains-later}
+use Rattle.drv_graph.specs.declared.profile.Profile.{Profile}
 
 -- ---- the draft's references
 
@@ -81,11 +82,12 @@ pub same_inputs : (parts : Parts) (draft : Drv) (inputs : List InputStruct)
     ≡ map path_of inputs → given ≡ paths → given ≡ inputs_of draft
 same_inputs parts draft inputs paths given view same are is = search (rules, map-map)
 
-pub numbers_loaded : (dir : List ℕ) (gives : List ℕ → Answer → Type 0) (roots : List (List ℕ))
-    (answer : Result Graph GraphFault) → IsRising roots → IsLoading dir gives roots answer
+pub numbers_loaded : (profile : Profile) (dir : List ℕ) (gives : List ℕ → Answer → Type 0)
+    (roots : List (List ℕ))
+    (answer : Result Graph GraphFault) → IsRising roots → IsLoading profile dir gives roots answer
     → IfOk answer (λ (graph : Graph). AreNumbers graph.nodes graph.roots roots)
-numbers_loaded dir gives roots (Ok graph) rises loaded = search (rules, once_rising)
-numbers_loaded dir gives roots (Err fault) rises loaded = tt
+numbers_loaded profile dir gives roots (Ok graph) rises loaded = search (rules, once_rising)
+numbers_loaded profile dir gives roots (Err fault) rises loaded = tt
 
 -- ---- the filled derivation
 
@@ -105,16 +107,19 @@ are_used kept numbers used given draft right are zip same =
           paths (used_hashes _ _ _ right zip);
     })
 
-pub paths_long : (dir name : List ℕ) (draft : Drv) (used : List Drv)
-    (hashes paths given : List (List ℕ)) → AreDraftPaths dir name draft used hashes paths → given
+pub paths_long : {profile : Profile} (dir name : List ℕ) (draft : Drv) (used : List Drv)
+    (hashes paths given : List (List ℕ)) → AreDraftPaths profile dir name draft used hashes paths
+    → given
     ≡ paths → length given ≡ length draft.outputs
 paths_long dir name draft used hashes paths given (kind, right, expected) same =
     search (rules, AllZip-long)
 
-pub filled_behind : (dir name : List ℕ) (nodes : List Node) (draft filled : Drv) (used : List Drv)
+pub filled_behind : {profile : Profile} (dir name : List ℕ) (nodes : List Node)
+    (draft filled : Drv) (used : List Drv)
     (hashes paths given : List (List ℕ)) → AreUsed nodes draft used hashes
-    → AreDraftPaths dir name draft used hashes paths → given ≡ paths → IsPlaced given draft filled
-    → IsFilledBehind dir name nodes draft filled
+    → AreDraftPaths profile dir name draft used hashes paths → given ≡ paths
+    → IsPlaced given draft filled
+    → IsFilledBehind profile dir name nodes draft filled
 filled_behind dir name nodes draft filled used hashes paths given behind (kind, right, expected)
     same is = record {
       used = used;
@@ -130,38 +135,52 @@ filled_behind dir name nodes draft filled used hashes paths given behind (kind, 
 
 module _ (dir : List ℕ) (gives : List ℕ → Answer → Type 0) (name : List ℕ) (draft : Drv) where
   module _ (target : Target) (is_target : IsTarget dir name draft target) where
-    pub load_refused : (fault : GraphFault) → IsLoading dir gives (inputs_of draft) (Err fault)
-        → IsFilling dir gives name draft (Err fault)
-    load_refused NoMemory loaded = is_target.names.0
-    load_refused (At path fault) loaded = search (rules, none_stray)
-    load_refused (Draft fault) loaded = absurd loaded
-    load_refused Name loaded = absurd loaded
+    pub load_refused : (profile : Profile) (fault : GraphFault)
+        → IsLoading profile dir gives (inputs_of draft) (Err fault)
+        → IsFilling profile dir gives name draft (Err fault)
+    load_refused profile NoMemory loaded = is_target.names.0
+    load_refused profile (At path fault) loaded = search (rules, none_stray)
+    load_refused profile (Draft fault) loaded = absurd loaded
+    load_refused profile Name loaded = absurd loaded
 
-    module _ (graph : Graph) (is_plan : IsPlan dir gives (inputs_of draft) graph) where
+    module _ {profile : Profile} (graph : Graph)
+        (loaded : IsPlan dir gives (inputs_of draft) graph × (graph.profile ≡ profile)) where
       abbrev behind : (used : List Drv) (hashes : List (List ℕ))
-          → AreUsed graph.nodes draft used hashes → MayFill dir gives name draft
+          → AreUsed graph.nodes draft used hashes → MayFill profile dir gives name draft
       behind used hashes are = record {
         graph = graph;
-        is_plan = is_plan;
+        is_plan = loaded.0;
+        is_under = loaded.1;
         used = used;
         hashes = hashes;
         are_used = are.are_used;
         are_hashes = are.are_hashes;
       }
 
-      pub fill_refused : (fault : GraphFault) → IsFillRefused dir name graph.nodes draft fault
-          → IsFilling dir gives name draft (Err fault)
-      fill_refused fault (inl memory) = rw memory is_target.names.0
-      fill_refused fault (inr (used, hashes, are, inl memory)) = rw memory is_target.names.0
-      fill_refused fault (inr (used, hashes, are, inr (of, is, some, check))) =
+      refused_as : (fault : GraphFault) → IsFillRefused profile dir name graph.nodes draft fault
+          → IsFilling profile dir gives name draft (Err fault)
+      refused_as fault (inl memory) = rw memory is_target.names.0
+      refused_as fault (inr (used, hashes, are, inl memory)) = rw memory is_target.names.0
+      refused_as fault (inr (used, hashes, are, inr (of, is, some, check))) =
           rw is (
             is_target.names,
             (none_stray _ _ is_target.in_store, some, (behind used hashes are, check)),
           )
 
-      module _ (filled : Drv) (is_filled : IsFilledBehind dir name graph.nodes draft filled) where
+      pub fill_refused : (fault : GraphFault)
+          → IsFillRefused graph.profile dir name graph.nodes draft fault
+          → IsFilling profile dir gives name draft (Err fault)
+      fill_refused fault refused =
+          refused_as fault
+          (subst (λ p. IsFillRefused p dir name graph.nodes draft fault) loaded.1 refused)
+
+      module _ (filled : Drv)
+          (by_plan : IsFilledBehind graph.profile dir name graph.nodes draft filled) where
+        is_filled : IsFilledBehind profile dir name graph.nodes draft filled
+        is_filled = subst (λ p. IsFilledBehind p dir name graph.nodes draft filled) loaded.1 by_plan
+
         abbrev filled_text : (bytes : List ℕ) → IsDrvText filled bytes
-            → IsFilledText dir gives name draft filled bytes
+            → IsFilledText profile dir gives name draft filled bytes
         filled_text bytes is_text = record {
           behind = behind is_filled.used is_filled.hashes is_filled.behind;
           kind = is_filled.kind;
@@ -171,7 +190,7 @@ module _ (dir : List ℕ) (gives : List ℕ → Answer → Type 0) (name : List 
         }
 
         pub text_refused : (fault : GraphFault) → IsTextRefused filled fault
-            → IsFilling dir gives name draft (Err fault)
+            → IsFilling profile dir gives name draft (Err fault)
         text_refused fault (inl memory) = rw memory is_target.names.0
         text_refused fault (inr (is, (bytes, is_text, long))) =
             rw is (
@@ -187,7 +206,7 @@ module _ (dir : List ℕ) (gives : List ℕ → Answer → Type 0) (name : List 
         same_paths = search rules
 
         pub filling_right : (path : List ℕ) → IsTextPath dir target.file.items target.refs.items
-            filled path → IsFilling dir gives name draft (Ok (filled, path))
+            filled path → IsFilling profile dir gives name draft (Ok (filled, path))
         filling_right path is =
             let refs = subst (λ (ps : List (List ℕ)). IsReferencesOf ps target.refs.items)
             (sym same_paths) is_target.refs in

@@ -17,6 +17,7 @@ use Rattle.drv_graph.proofs.Loops.{beside}
 use Rattle.drv_graph.proofs.OneText.{one_path}
 use Rattle.drv_graph.proofs.PathLists.{path_cases}
 use Rattle.nix_names.proofs.Lists.{Contains-first, Contains-from_get, Contains-later, get_from_contains, get_mapped}
+use Rattle.drv_graph.specs.declared.profile.Profile.{Profile}
 
 -- a value that fits a path becomes that path
 placed_is : (value path : List ℕ) → IsThePathOrEmpty value path → placed value path ≡ path
@@ -105,8 +106,8 @@ module _ (dir name : List ℕ) (kind : Kind) (draft : Drv) (hashes paths : List 
         subst (IsThePathOrEmpty d.value) (sym path) fits,
       )
 
-  pub filled_right : (used : List Drv) (filled : Drv)
-      → IsOutputsCheck IsThePathOrEmpty dir name draft used hashes (Ok kind)
+  pub filled_right : {profile : Profile} (used : List Drv) (filled : Drv)
+      → IsOutputsCheck IsThePathOrEmpty profile dir name draft used hashes (Ok kind)
       → IsPlaced paths draft filled → IsFilled Expected draft filled
   filled_right used filled right is =
       let fit : (o : Output) → Contains draft.outputs o → (p : List ℕ) × Expected o p

@@ -5,24 +5,27 @@ use Rattle.nix_drv.specs.Sources.{Answer}
 use Rattle.drv_graph.specs.private.Walks.{IsGoingOn, IsStepping, LeavesNone}
 use Rattle.drv_graph.specs.declared.walk_state.WalkState.{WalkState}
 use Rattle.drv_graph.specs.declared.walk_state.Visit.{Visit}
+use Rattle.drv_graph.specs.declared.profile.Profile.{Profile}
 
 -- the derivation is kept open, with one number more
-pub went_along : (dir : List ℕ) (gives : List ℕ → Answer → Type 0) (before after : WalkState)
+pub went_along : {profile : Profile} (dir : List ℕ) (gives : List ℕ → Answer → Type 0)
+    (before after : WalkState)
     (below visits : List Visit) (visit next : Visit) (child : Option Visit) (made : ⊤)
     → LeavesNone before after → child ≡ None → IsStepping dir gives before.marks after.marks visit
     next (Ok child) → visits ≡ below ++ next ∷ []
-    → IsGoingOn dir gives before after below visit visits (Ok made)
+    → IsGoingOn profile dir gives before after below visit visits (Ok made)
 went_along dir gives before after below visits visit next (Some child) made none is step shape =
     absurd cc
 went_along dir gives before after below visits visit next None made none is step shape =
     inr (inl (next, none, step, shape))
 
 -- another one is opened
-pub went_down : (dir : List ℕ) (gives : List ℕ → Answer → Type 0) (before after : WalkState)
+pub went_down : {profile : Profile} (dir : List ℕ) (gives : List ℕ → Answer → Type 0)
+    (before after : WalkState)
     (below pushed visits : List Visit) (visit next child : Visit) (made : ⊤)
     → LeavesNone before after → IsStepping dir gives before.marks after.marks visit next
     (Ok (Some child)) → pushed ≡ below ++ next ∷ [] → visits ≡ pushed ++ child ∷ []
-    → IsGoingOn dir gives before after below visit visits (Ok made)
+    → IsGoingOn profile dir gives before after below visit visits (Ok made)
 went_down dir gives before after below pushed visits visit next child made none step first shape =
     let same : next ≡ visit = step.same in
     inr (inr (

@@ -11,7 +11,7 @@ use Rattle.nix_drv.specs.Derivation.{Drv, Output}
 use Rattle.nix_drv.specs.OwnPath.{referenced_paths}
 use Rattle.nix_drv.specs.Parts.{output_of}
 use Rattle.nix_drv.specs.declared.derivation.Output.{Output as OutputStruct}
-use Rattle.drv_graph.specs.Expected.{IsExpected, drv_name_of, path_name}
+use Rattle.drv_graph.specs.Expected.{IsExpected, drv_name_of, fixed_path, path_name}
 use Rattle.drv_graph.specs.Kinds.{HasKind}
 use Rattle.drv_graph.specs.Nodes.{Node, inputs_of}
 use Rattle.drv_graph.specs.Outputs.{IsThePath, IsWellNamed}
@@ -19,7 +19,11 @@ use Rattle.drv_graph.specs.PlanNodes.{output_paths_of}
 use Rattle.drv_graph.specs.Plans.{MayAnswer}
 use Rattle.drv_graph.specs.declared.kinds.Kind.{Kind}
 use Rattle.drv_graph.specs.declared.kinds.Kind.TheVariants.{Addressed, Fixed}
-use Rattle.drv_graph.specs.declared.kinds.Method.TheVariants.{Flat, Recursive}
+use Rattle.nix_names.specs.declared.digest.Digest.{Digest}
+use Rattle.nix_names.specs.declared.digest.Digest.TheVariants.{Md5, Sha1, Sha256, Sha512}
+use Rattle.nix_names.specs.declared.method.Method.{Method}
+use Rattle.nix_names.specs.declared.method.Method.TheVariants.{Flat, Recursive}
+use Rattle.drv_graph.specs.declared.profile.Profile.{Profile}
 
 -- what is true of all that a list is seen as is true of an item that was read
 pub item_is : {A B : Type 0} (P : B → Type 0) (view : A → B) (xs : List A) (i : ℕ) (x : A)
@@ -56,20 +60,28 @@ pub fixed_named : (name : List ℕ) (kind : Kind) (drv : Drv) → HasKind drv ki
 fixed_named name kind drv is named o only out =
     search (rules, name_of_out, All-contains, Contains-first)
 
+-- the path of a fixed output is a path of the folder
+fixed_in_store : (dir name : List ℕ) (method : Method) (digest : Digest) → is_name name ≡ true
+    → IsPathOf dir (fixed_path dir name method digest)
+fixed_in_store dir name Flat digest named = search (rules, store_path_is_path)
+fixed_in_store dir name Recursive (Md5 bytes) named = search (rules, store_path_is_path)
+fixed_in_store dir name Recursive (Sha1 bytes) named = search (rules, store_path_is_path)
+fixed_in_store dir name Recursive (Sha256 bytes) named = search (rules, store_path_is_path)
+fixed_in_store dir name Recursive (Sha512 bytes) named = search (rules, store_path_is_path)
+
 -- an expected path is a path of the folder
 expected_in_store : (dir name : List ℕ) (kind : Kind) (drv : Drv) (hashes : List (List ℕ))
     → HasKind drv kind → All (IsWellNamed name) drv.outputs → (o : Output) → Contains drv.outputs o
     → (path : List ℕ) → IsExpected dir name kind drv hashes o path → IsPathOf dir path
 expected_in_store dir name Addressed drv hashes is named o has path (bytes, is_text, made) =
     search (rules, store_path_is_path, All-contains)
-expected_in_store dir name (Fixed Flat digest) drv hashes is named o has path made =
-    search (rules, store_path_is_path, fixed_named)
-expected_in_store dir name (Fixed Recursive digest) drv hashes is named o has path made =
-    search (rules, store_path_is_path, fixed_named)
+expected_in_store dir name (Fixed method digest) drv hashes is named o has path made =
+    search (rules, fixed_in_store, fixed_named)
 
 -- so are the paths of outputs that are right
-pub outputs_in_store : (dir : List ℕ) (nodes : List Node) (node : Node) (kind : Kind)
-    → MayAnswer dir nodes node (Ok kind) → All (IsPathOf dir) (output_paths_of node.drv)
+pub outputs_in_store : {profile : Profile} (dir : List ℕ) (nodes : List Node) (node : Node)
+    (kind : Kind)
+    → MayAnswer profile dir nodes node (Ok kind) → All (IsPathOf dir) (output_paths_of node.drv)
 outputs_in_store dir nodes node kind right =
     All-from_contains (IsPathOf dir) _ (λ path has.
     let from = Contains-from_map (λ (o : Output). o.path) _ _ has in

@@ -20,6 +20,7 @@ use Rattle.drv_graph.proofs.Numbers.{number_grows}
 use Rattle.drv_graph.proofs.PathLists.{same_place}
 use Rattle.drv_graph.proofs.Roots.{number_source}
 use Rattle.nix_names.proofs.Lists.{All-from_contains, Contains-cons_cases, Contains-from_get, Contains-map, Contains-nothing, get_from_contains, get_mapped}
+use Rattle.drv_graph.specs.declared.profile.Profile.{Profile}
 
 -- the derivation that is kept with a number
 kept_at : (kept : List PlanNode) (n : ℕ) (node : PlanNode) → n < length (nodes_of kept) → node
@@ -39,16 +40,20 @@ pub kept_path : (kept : List PlanNode) (n : ℕ) (node : PlanNode) → n < lengt
 kept_path kept n node lt is = search (rules, get_mapped, kept_node)
 
 -- its path has the name of a derivation's file
-pub kept_named : (kept : List PlanNode) (roots : List ℕ) (n : ℕ) (node : PlanNode) → n
+pub kept_named : {profile : Profile} (kept : List PlanNode) (roots : List ℕ) (n : ℕ)
+    (node : PlanNode) → n
     < length (nodes_of kept) → node ≡ get_or kept n node
-    → IsSound (record { nodes = nodes_of kept; roots = roots }) → IsDrvPath node.path
+    → IsSound (record { profile = profile; nodes = nodes_of kept; roots = roots })
+    → IsDrvPath node.path
 kept_named kept roots n node lt is sound =
     search (rules, All-contains, Contains-from_get, kept_node)
 
 -- the paths of its outputs are kept, each once
-pub kept_distinct : (kept : List PlanNode) (roots : List ℕ) (n : ℕ) (node : PlanNode) → n
+pub kept_distinct : {profile : Profile} (kept : List PlanNode) (roots : List ℕ) (n : ℕ)
+    (node : PlanNode) → n
     < length (nodes_of kept) → node ≡ get_or kept n node → AreKept kept
-    → IsSound (record { nodes = nodes_of kept; roots = roots }) → AreDistinct node.outputs.items
+    → IsSound (record { profile = profile; nodes = nodes_of kept; roots = roots })
+    → AreDistinct node.outputs.items
 kept_distinct kept roots n node lt is are sound =
     search (rules, All-contains, Contains-from_get, kept_at, kept_node)
 
@@ -113,9 +118,11 @@ smaller graph d node ns sound at numbers n has =
       length-take-le d graph.nodes (omega (arith, lt)),
     )
 
-pub inputs_smaller : (kept : List PlanNode) (roots : List ℕ) (d : ℕ) (node : PlanNode) → d
+pub inputs_smaller : {profile : Profile} (kept : List PlanNode) (roots : List ℕ) (d : ℕ)
+    (node : PlanNode) → d
     < length (nodes_of kept) → node ≡ get_or kept d node → AreKept kept
-    × IsSound (record { nodes = nodes_of kept; roots = roots }) → All (λ n. n < d) node.inputs.items
+    × IsSound (record { profile = profile; nodes = nodes_of kept; roots = roots }) → All
+    (λ n. n < d) node.inputs.items
 inputs_smaller kept roots d node lt is right =
     let own : IsPlanNode (nodes_of kept) node =
     All-contains (IsPlanNode (nodes_of kept)) _ _ right.0

@@ -33,6 +33,7 @@ use Rattle.drv_graph.proofs.OwnOutputs.{own_outputs}
 use Rattle.drv_graph.proofs.PathLists.{distinct_push}
 use Rattle.drv_graph.proofs.Twins.{some_output}
 use Rattle.nix_names.proofs.Lists.{All-from_contains, Contains-from_map, Contains-map, get_from_contains, get_grows, get_mapped, get_pushed}
+use Rattle.drv_graph.specs.declared.profile.Profile.{Profile}
 
 -- the parts that are lent are those of the derivation
 pub parts_outputs : (parts : Parts) (drv : Drv) (lent : List OutputStruct) → drv_of parts ≡ drv
@@ -58,21 +59,22 @@ pub all_numbers : (nodes : List Node) (visit : Visit) → IsVisit nodes visit �
 all_numbers nodes visit is all = search (rules, take_all)
 
 -- the fault of outputs that clash is true
-pub leaving_clash : (dir : List ℕ) (kept given : List PlanNode) (visit : Visit)
+pub leaving_clash : {profile : Profile} (dir : List ℕ) (kept given : List PlanNode) (visit : Visit)
     (outputs : List (List ℕ)) (owners : List ℕ → Option ℕ) (fault : GraphFault) (kind : Kind)
-    → MayAnswer dir (nodes_of kept) (visited visit) (Ok kind) → given ≡ kept
+    → MayAnswer profile dir (nodes_of kept) (visited visit) (Ok kind) → given ≡ kept
     → outputs ≡ output_paths_of visit.drv → IsOwning given visit.path outputs owners (Err fault)
-    → IsLeavingFault dir kept visit fault
+    → IsLeavingFault profile dir kept visit fault
 leaving_clash dir kept given visit outputs owners fault kind right same are (inl memory) =
     search rules
-leaving_clash dir kept given visit outputs owners fault kind right same are (inr (is, found)) =
+leaving_clash {profile} dir kept given visit outputs owners fault kind right same are
+    (inr (is, found)) =
     let clash : IsClash kept (output_paths_of visit.drv) = subst (IsClash kept) are
     (subst (λ k. IsClash k outputs) same found) in
     let mine = Contains-from_map (λ (o : Output). o.path) _ _
     clash.is_own in
     let other = Contains-from_map (λ (o : Output). o.path) clash.node.drv.outputs _
     clash.is_output in
-    subst (IsLeavingFault dir kept visit) (sym is) (
+    subst (IsLeavingFault profile dir kept visit) (sym is) (
       refl,
       (kind, right),
       (
@@ -88,8 +90,9 @@ last_cases x [] = ([], x, refl)
 last_cases x (z ∷ zs) = let rest = last_cases z _ in (x ∷ rest.0, rest.1, ap (λ l. x ∷ l) rest.2)
 
 -- one more lawful node
-pub lawful_push : (dir : List ℕ) (nodes : List Node) (node : Node) → AreLawful dir nodes
-    → IsLawful dir nodes node → AreLawful dir (nodes ++ node ∷ [])
+pub lawful_push : {profile : Profile} (dir : List ℕ) (nodes : List Node) (node : Node)
+    → AreLawful profile dir nodes
+    → IsLawful profile dir nodes node → AreLawful profile dir (nodes ++ node ∷ [])
 lawful_push dir nodes node all one before [] other parts = search (rules, same_from_push)
 lawful_push dir nodes node all one before (x ∷ xs) other parts =
     let rest = last_cases x _ in
@@ -160,30 +163,31 @@ kept_push kept one right new =
 
 -- what was left is right with one derivation more
 found_right :
-    (dir : List ℕ) (kept : List PlanNode) (after : WalkState) (one : PlanNode)
+    {profile : Profile} (dir : List ℕ) (kept : List PlanNode) (after : WalkState) (one : PlanNode)
     (owners : List ℕ → Option ℕ) (outputs : List (List ℕ)) →
     AreKept kept →
     AreDistinct (paths_of (nodes_of kept)) →
-    AreLawful dir (nodes_of kept) →
+    AreLawful profile dir (nodes_of kept) →
     IsPlanNode (nodes_of kept) one →
     (Contains (paths_of (nodes_of kept)) one.path → ⊥) →
-    MayAnswer dir (nodes_of kept) (node_of one) (Ok one.kind) →
+    MayAnswer profile dir (nodes_of kept) (node_of one) (Ok one.kind) →
     All (λ (n : Node). AreDistinct (output_paths_of n.drv)) (nodes_of kept) →
     AreDistinct (output_paths_of one.drv) →
     outputs ≡ output_paths_of one.drv →
     AreOwners owners (outputs_of kept ++ outputs ∷ []) →
     after.nodes.items ≡ kept ++ one ∷ [] →
     owned after.owners ≡ owners →
-    IsWalkSoFar dir after
-found_right dir kept after one owners outputs right distinct lawful is_kept new answer others once
+    IsWalkSoFar profile dir after
+found_right
+    {profile} dir kept after one owners outputs right distinct lawful is_kept new answer others once
     are entered grown same = record {
       kept = subst AreKept (sym grown) (kept_push _ _ right is_kept);
       distinct = subst (λ l. AreDistinct (paths_of (nodes_of l))) (sym grown)
           (subst (λ ns. AreDistinct (paths_of ns)) (sym (map_push node_of _ _))
           (subst AreDistinct (sym (map_push (λ (n : Node). n.path) _ _))
           (distinct_push _ _ distinct new)));
-      lawful = subst (λ l. AreLawful dir (nodes_of l)) (sym grown)
-          (subst (AreLawful dir) (sym (map_push node_of _ _))
+      lawful = subst (λ l. AreLawful profile dir (nodes_of l)) (sym grown)
+          (subst (AreLawful profile dir) (sym (map_push node_of _ _))
           (lawful_push _ _ _ lawful is_lawful));
       own_outputs =
           subst (λ l. All (λ (n : Node). AreDistinct (output_paths_of n.drv)) (nodes_of l))
@@ -201,13 +205,13 @@ found_right dir kept after one owners outputs right distinct lawful is_kept new 
     its_entered : AreOwners owners (outputs_of kept ++ output_paths_of one.drv ∷ [])
     its_entered = search rules
 
-    is_lawful : IsLawful dir (nodes_of kept) (node_of one)
+    is_lawful : IsLawful profile dir (nodes_of kept) (node_of one)
     is_lawful = search (rules, apart_drv, its_entered)
 
 -- the owner of its outputs is its first twin
-its_first : (dir : List ℕ) (kept : List PlanNode) (visit : Visit) (kind : Kind)
+its_first : {profile : Profile} (dir : List ℕ) (kept : List PlanNode) (visit : Visit) (kind : Kind)
     (owners : List ℕ → Option ℕ) (first : ℕ) (entered : List (List ℕ))
-    → MayAnswer dir (nodes_of kept) (visited visit) (Ok kind)
+    → MayAnswer profile dir (nodes_of kept) (visited visit) (Ok kind)
     → entered ≡ output_paths_of visit.drv
     → AreOwners owners (outputs_of kept ++ entered ∷ []) × AreOwnedBy owners first entered
     → first ≡ position_or_len (λ (n : Node). are_twins n.drv visit.drv) (nodes_of kept)
@@ -222,14 +226,15 @@ its_first dir kept visit kind owners first entered right are owned_right =
 
 -- a derivation is left
 pub leaving_kept :
-    (dir : List ℕ) (before after : WalkState) (visit : Visit) (kind : Kind) (hash : List ℕ)
+    {profile : Profile} (dir : List ℕ) (before after : WalkState) (visit : Visit) (kind : Kind)
+    (hash : List ℕ)
     (outputs sources : Vec (List ℕ)) (first : ℕ) (given : List PlanNode) (entered : List (List ℕ))
     (owners : List ℕ → Option ℕ) →
-    IsWalkSoFar dir before →
+    IsWalkSoFar profile dir before →
     IsVisit (nodes_of before.nodes.items) visit →
     HasAllNumbers visit →
     (Contains (paths_of (nodes_of before.nodes.items)) visit.path → ⊥) →
-    MayAnswer dir (nodes_of before.nodes.items) (visited visit) (Ok kind)
+    MayAnswer profile dir (nodes_of before.nodes.items) (visited visit) (Ok kind)
     × HasHash (nodes_of before.nodes.items) visit.drv kind hash →
     outputs.items ≡ output_paths_of visit.drv →
     sources.items ≡ visit.drv.sources →
@@ -243,7 +248,7 @@ pub leaving_kept :
     SetsEntry (marked before.marks) (marked after.marks) visit.path
     (Some (length before.nodes.items)) →
     length (keys after.marks) ≡ length (keys before.marks) →
-    LeavesVisit dir before after visit
+    LeavesVisit profile dir before after visit
 leaving_kept dir before after visit kind hash outputs sources first given entered owners
     found is all new right are lent same own rising owning grown owners_same marks count =
     let kept = before.nodes.items in
@@ -273,9 +278,11 @@ leaving_kept dir before after visit kind hash outputs sources first given entere
     }
 
 -- what the check of an open derivation answered, at the nodes that it was lent
-pub checking_right : (dir : List ℕ) (kept given : List PlanNode) (visit : Visit) (kind : Kind)
-    (hash : List ℕ) → given ≡ kept → MayAnswer dir (nodes_of given) (visited visit) (Ok kind)
+pub checking_right : {profile : Profile} (dir : List ℕ) (kept given : List PlanNode)
+    (visit : Visit) (kind : Kind)
+    (hash : List ℕ) → given ≡ kept → MayAnswer profile dir (nodes_of given) (visited visit)
+    (Ok kind)
     × HasHash (nodes_of given) visit.drv kind hash
-    → MayAnswer dir (nodes_of kept) (visited visit) (Ok kind)
+    → MayAnswer profile dir (nodes_of kept) (visited visit) (Ok kind)
     × HasHash (nodes_of kept) visit.drv kind hash
 checking_right dir kept given visit kind hash same right = search rules

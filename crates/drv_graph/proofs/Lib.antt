@@ -3,6 +3,7 @@ pub mod OneText
 pub mod KindAnswers
 pub mod OneHashes
 pub mod EqualPlans
+pub mod Profiles
 pub mod Uniting
 pub mod Masking
 pub mod Checks

@@ -12,7 +12,7 @@ use Rattle.nix_drv.specs.Sources.{Answer, GivesSame}
 use Rattle.drv_graph.specs.Loading.{AreDistinct, max_nodes}
 use Rattle.drv_graph.specs.Nodes.{Node, output_paths_of, paths_of}
 use Rattle.drv_graph.specs.private.Owners.{AreOwners, outputs_of, owned}
-use Rattle.drv_graph.specs.Plans.{AreLawful, AreLeft, AreNumbers, IsPlan, IsReachedBy, MayBeAt, MayUse, each_once}
+use Rattle.drv_graph.specs.Plans.{AreLawful, AreLeft, AreNumbers, Graph, IsPlan, IsReachedBy, MayBeAt, MayUse, each_once}
 use Rattle.drv_graph.specs.Plans.AreLeft.{none_left}
 use Rattle.drv_graph.specs.PlanNodes.{AreKept, IsPlanNode, nodes_of}
 use Rattle.drv_graph.specs.SoundGraphs.{IsSound}
@@ -25,17 +25,18 @@ use Rattle.drv_graph.proofs.Owners.{owners_none}
 use Rattle.drv_graph.proofs.PlanOrder.{left_append, plan_reached, plan_whole}
 use Rattle.drv_graph.proofs.Roots.{roots_more}
 use Rattle.drv_graph.proofs.SameSources.{walked_by}
+use Rattle.drv_graph.specs.declared.profile.Profile.{Profile}
 
 -- What the first roots reach was left, in plan order, and these are their numbers.
-pub record IsReachedSome (dir : List ℕ) (gives : List ℕ → Answer → Type 0)
+pub record IsReachedSome (profile : Profile) (dir : List ℕ) (gives : List ℕ → Answer → Type 0)
     (roots done : List (List ℕ)) (found : WalkState) (numbers : List ℕ) : Type 0 where
-  pub walked : IsWalked dir gives roots found []
+  pub walked : IsWalked profile dir gives roots found []
   pub in_order : (nodes : List Node) → All (Contains nodes) (nodes_of found.nodes.items)
       → AreLeft nodes [] done (paths_of (nodes_of found.nodes.items))
   pub are_numbers : AreNumbers (nodes_of found.nodes.items) numbers (each_once done)
   pub once : IsDistinct nat_eq numbers
 
-no_nodes : (dir : List ℕ) → AreLawful dir []
+no_nodes : {profile : Profile} (dir : List ℕ) → AreLawful profile dir []
 no_nodes dir [] after node parts = absurd cc
 no_nodes dir (x ∷ xs) after node parts = absurd cc
 
@@ -55,16 +56,17 @@ no_more : (found : WalkState) → IsEmptyWalk found → length (keys found.marks
 no_more found empty = search (rules, no_keys)
 
 -- nothing was left yet
-pub loading_begins : (dir : List ℕ) (gives : List ℕ → Answer → Type 0) (roots : List (List ℕ))
+pub loading_begins : {profile : Profile} (dir : List ℕ) (gives : List ℕ → Answer → Type 0)
+    (roots : List (List ℕ))
     (found : WalkState) (numbers : List ℕ) → IsEmptyWalk found → numbers ≡ []
-    → IsDistinct nat_eq numbers → IsReachedSome dir gives roots [] found numbers
-loading_begins dir gives roots found numbers empty none once = record {
+    → IsDistinct nat_eq numbers → IsReachedSome profile dir gives roots [] found numbers
+loading_begins {profile} dir gives roots found numbers empty none once = record {
   walked = record {
     right = record {
       kept = subst AreKept (sym empty.0) (All-nil (IsPlanNode []));
       distinct = subst (λ l. IsDistinct (pointwise nat_eq) (paths_of (nodes_of l))) (sym empty.0)
           distinct_none;
-      lawful = subst (λ l. AreLawful dir (nodes_of l)) (sym empty.0) (no_nodes _);
+      lawful = subst (λ l. AreLawful profile dir (nodes_of l)) (sym empty.0) (no_nodes _);
       own_outputs =
           subst (λ l. All (λ (n : Node). AreDistinct (output_paths_of n.drv)) (nodes_of l))
           (sym empty.0) (All-nil (λ (n : Node). AreDistinct (output_paths_of n.drv)));
@@ -88,14 +90,14 @@ loading_begins dir gives roots found numbers empty none once = record {
 
 -- one more root
 pub loading_more :
-    (dir : List ℕ) (G H : List ℕ → Answer → Type 0) (roots done : List (List ℕ))
+    {profile : Profile} (dir : List ℕ) (G H : List ℕ → Answer → Type 0) (roots done : List (List ℕ))
     (found after : WalkState) (numbers next : List ℕ) (root : List ℕ) (number : ℕ) →
     GivesSame G H →
-    IsReachedSome dir G roots done found numbers →
-    IsVisited dir H roots root found after number →
+    IsReachedSome profile dir G roots done found numbers →
+    IsVisited profile dir H roots root found after number →
     next ≡ insert_key nat_eq numbers number →
     IsDistinct nat_eq next →
-    IsReachedSome dir G roots (done ++ root ∷ []) after next
+    IsReachedSome profile dir G roots (done ++ root ∷ []) after next
 loading_more dir G H roots done found after numbers next root number same some visited inserted
     once = record {
       walked = walked_by _ G H same _ _ [] visited.walked;
@@ -118,13 +120,15 @@ loading_more dir G H roots done found after numbers next root number same some v
     }
 
 -- after all roots
-pub loading_ends : (dir : List ℕ) (gives : List ℕ → Answer → Type 0) (roots : List (List ℕ))
+pub loading_ends : {profile : Profile} (dir : List ℕ) (gives : List ℕ → Answer → Type 0)
+    (roots : List (List ℕ))
     (place : ℕ) (found : WalkState) (numbers : List ℕ) → length roots ≤ place
-    → IsReachedSome dir gives roots (take place roots) found numbers
-    → IsReachedAll dir gives roots found numbers
-loading_ends dir gives roots place found numbers all some =
-    let whole : IsReachedSome dir gives roots roots found numbers =
-    subst (λ l. IsReachedSome dir gives roots l found numbers) (take_all place roots all) some
+    → IsReachedSome profile dir gives roots (take place roots) found numbers
+    → IsReachedAll profile dir gives roots found numbers
+loading_ends {profile} dir gives roots place found numbers all some =
+    let whole : IsReachedSome profile dir gives roots roots found numbers =
+    subst (λ l. IsReachedSome profile dir gives roots l found numbers)
+    (take_all place roots all) some
     in
     record {
       walked = whole.walked;
@@ -134,15 +138,25 @@ loading_ends dir gives roots place found numbers all some =
     }
 
 -- there are no more than a plan may have
-few_found : (dir : List ℕ) (gives : List ℕ → Answer → Type 0) (roots : List (List ℕ))
-    (found : WalkState) (numbers : List ℕ) → IsReachedAll dir gives roots found numbers
+few_found : {profile : Profile} (dir : List ℕ) (gives : List ℕ → Answer → Type 0)
+    (roots : List (List ℕ))
+    (found : WalkState) (numbers : List ℕ) → IsReachedAll profile dir gives roots found numbers
     → length (nodes_of found.nodes.items) ≤ max_nodes
 few_found dir gives roots found numbers all = search (rules, length-map)
 
+-- what was found, as contracts see a plan
+abbrev pub found_graph : Profile → WalkState → List ℕ → Graph
+found_graph profile found numbers = record {
+  profile = profile;
+  nodes = nodes_of found.nodes.items;
+  roots = numbers;
+}
+
 -- what was found is the plan
-pub plan_found : (dir : List ℕ) (gives : List ℕ → Answer → Type 0) (roots : List (List ℕ))
-    (found : WalkState) (numbers : List ℕ) → IsReachedAll dir gives roots found numbers
-    → IsPlan dir gives roots (record { nodes = nodes_of found.nodes.items; roots = numbers })
+pub plan_found : {profile : Profile} (dir : List ℕ) (gives : List ℕ → Answer → Type 0)
+    (roots : List (List ℕ))
+    (found : WalkState) (numbers : List ℕ) → IsReachedAll profile dir gives roots found numbers
+    → IsPlan dir gives roots (found_graph profile found numbers)
 plan_found dir gives roots found numbers all =
     let order = all.in_order (nodes_of found.nodes.items)
     (All-contains_itself _) in
@@ -157,10 +171,11 @@ plan_found dir gives roots found numbers all =
     }
 
 -- and is right without its source
-pub sound_found : (dir : List ℕ) (gives : List ℕ → Answer → Type 0) (roots : List (List ℕ))
-    (found : WalkState) (numbers : List ℕ) → IsReachedAll dir gives roots found numbers
+pub sound_found : {profile : Profile} (dir : List ℕ) (gives : List ℕ → Answer → Type 0)
+    (roots : List (List ℕ))
+    (found : WalkState) (numbers : List ℕ) → IsReachedAll profile dir gives roots found numbers
     → AreKept found.nodes.items
-    × IsSound (record { nodes = nodes_of found.nodes.items; roots = numbers })
+    × IsSound (found_graph profile found numbers)
 sound_found dir gives roots found numbers all = (
   all.walked.right.kept,
   record {

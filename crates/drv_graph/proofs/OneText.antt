@@ -13,7 +13,6 @@ use Rattle.drv_graph.specs.Modulo.{HasOneModuloText, IsNamed, IsUnited, masked, 
 use Rattle.drv_graph.specs.private.Uniting.{input_paths}
 use Rattle.drv_graph.specs.declared.kinds.Kind.{Kind}
 use Rattle.drv_graph.specs.declared.kinds.Kind.TheVariants.{Addressed, Fixed}
-use Rattle.drv_graph.specs.declared.kinds.Method.TheVariants.{Flat, Recursive}
 use Rattle.nix_names.proofs.Lists.{Contains-cons_cases, Contains-first, Contains-later, Contains-map}
 
 -- ---- names that inputs have at a path
@@ -136,5 +135,4 @@ pub one_path : (dir name : List ℕ) (kind : Kind) (drv : Drv) (hashes : List (L
 one_path dir name Addressed drv hashes output p q (a, is_a, p_is) (b, is_b, q_is) =
     p_is ∙ ap (λ (bytes : List ℕ). store_path (codes "output:" ++ output.name) (sha256 bytes) dir
     (path_name name output.name)) (one_text drv hashes true a b is_a is_b) ∙ sym q_is
-one_path dir name (Fixed Flat digest) drv hashes output p q p_is q_is = p_is ∙ sym q_is
-one_path dir name (Fixed Recursive digest) drv hashes output p q p_is q_is = p_is ∙ sym q_is
+one_path dir name (Fixed method digest) drv hashes output p q p_is q_is = p_is ∙ sym q_is

@@ -26,6 +26,7 @@ use Rattle.drv_graph.specs.declared.kinds.Kind.{Kind}
 use Rattle.drv_graph.specs.declared.kinds.Kind.TheVariants.{Addressed, Fixed}
 use Rattle.drv_graph.proofs.PathLists.{other_path}
 use Rattle.nix_names.proofs.Lists.{All-from_contains, Contains-cons_cases, Contains-first, Contains-later, Contains-map, Contains-nothing}
+use Rattle.drv_graph.specs.declared.profile.Profile.{Profile}
 
 -- a text isn't itself with more after it
 no_more : (a b : List ℕ) → a ≡ a ++ codes "-" ++ b → ⊥
@@ -113,8 +114,9 @@ paths_differ (x ∷ xs) rising same =
     )
 
 -- so those of a derivation whose outputs are right have
-pub own_outputs : (dir : List ℕ) (before : List Node) (node : Node) (kind : Kind)
-    → MayAnswer dir before node (Ok kind) → IsRising (output_names node.drv)
+pub own_outputs : {profile : Profile} (dir : List ℕ) (before : List Node) (node : Node)
+    (kind : Kind)
+    → MayAnswer profile dir before node (Ok kind) → IsRising (output_names node.drv)
     → AreDistinct (output_paths_of node.drv)
 own_outputs dir before node kind right rising = search (rules, paths_differ, one_name)
 

@@ -14,6 +14,7 @@ use Rattle.drv_graph.specs.declared.fault.NodeFault.TheVariants.{Unreadable, Too
 use Rattle.drv_graph.specs.declared.fault.OutputFault.{OutputFault}
 use Rattle.drv_graph.specs.declared.kinds.Kind.{Kind}
 use Rattle.drv_graph.specs.declared.walk_state.WalkState.{WalkState}
+use Rattle.drv_graph.specs.declared.profile.Profile.{Profile}
 
 pub gives_back : (G H : List ℕ → Answer → Type 0) → GivesSame G H → GivesSame H G
 gives_back G H same path answer = search rules
@@ -40,24 +41,27 @@ module _ (dir : List ℕ) (G H : List ℕ → Answer → Type 0) (same : GivesSa
       → All (λ (n : Node). MayBeAt dir G n.path n.drv) nodes
   given_by nodes all = search (rules, All-weaker, stands_by)
 
-  checked_by : (path : List ℕ) (answer : Result Kind OutputFault) → MayCheck dir H path answer
-      → MayCheck dir G path answer
+  checked_by : {profile : Profile} (path : List ℕ) (answer : Result Kind OutputFault)
+      → MayCheck profile dir H path answer
+      → MayCheck profile dir G path answer
   checked_by path answer checked = search (rules, stands_by, given_by)
 
   -- what was left and is open is right by the other source too
-  pub walked_by : (roots : List (List ℕ)) (found : WalkState) (pending : List (List ℕ))
-      → IsWalked dir H roots found pending → IsWalked dir G roots found pending
+  pub walked_by : {profile : Profile} (roots : List (List ℕ)) (found : WalkState)
+      (pending : List (List ℕ))
+      → IsWalked profile dir H roots found pending → IsWalked profile dir G roots found pending
   walked_by roots found pending walked = search (rules, given_by, All-weaker, reached_by)
 
   -- a fault is true by the other source too
-  pub fault_by : (roots : List (List ℕ)) (fault : GraphFault) → IsLoading dir H roots (Err fault)
-      → IsLoading dir G roots (Err fault)
+  pub fault_by : (profile : Profile) (roots : List (List ℕ)) (fault : GraphFault)
+      → IsLoading profile dir H roots (Err fault)
+      → IsLoading profile dir G roots (Err fault)
   unfolding checked_by
-  fault_by roots NoMemory at = tt
-  fault_by roots (At p Unreadable) at = search (rules, reached_by)
-  fault_by roots (At p TooMany) at = search (rules, reached_by, All-weaker)
-  fault_by roots (At p (Text text)) at = search (rules, reached_by)
-  fault_by roots (At p Cycle) at = (
+  fault_by profile roots NoMemory at = tt
+  fault_by profile roots (At p Unreadable) at = search (rules, reached_by)
+  fault_by profile roots (At p TooMany) at = search (rules, reached_by, All-weaker)
+  fault_by profile roots (At p (Text text)) at = search (rules, reached_by)
+  fault_by profile roots (At p Cycle) at = (
     reached_by _ p at.0,
     record {
       user = at.1.user;
@@ -66,8 +70,8 @@ module _ (dir : List ℕ) (G H : List ℕ → Answer → Type 0) (same : GivesSa
       closes = uses_by _ p at.1.closes;
     },
   )
-  fault_by roots (At p (Outputs outputs)) at = search (rules, reached_by, checked_by)
-  fault_by roots (At p OutputClash) at = (
+  fault_by profile roots (At p (Outputs outputs)) at = search (rules, reached_by, checked_by)
+  fault_by profile roots (At p OutputClash) at = (
     reached_by _ p at.0,
     record {
       kind = at.1.kind;
@@ -80,5 +84,5 @@ module _ (dir : List ℕ) (G H : List ℕ → Answer → Type 0) (same : GivesSa
       no_twin = at.1.no_twin;
     },
   )
-  fault_by roots (Draft found) at = absurd at
-  fault_by roots Name at = absurd at
+  fault_by profile roots (Draft found) at = absurd at
+  fault_by profile roots Name at = absurd at

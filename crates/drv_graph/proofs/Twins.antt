@@ -14,9 +14,10 @@ use Rattle.drv_graph.specs.Plans.{AreLawful, AreTwins, IsLawful, ShareOutput}
 use Rattle.drv_graph.specs.TwinLaws.{FixedTwinsHaveOneHash, SharersAreTwins, TwinsShareOutputs}
 use Rattle.drv_graph.specs.declared.kinds.Kind.{Kind}
 use Rattle.drv_graph.specs.declared.kinds.Kind.TheVariants.{Addressed, Fixed}
-use Rattle.drv_graph.specs.declared.kinds.Method.{Method}
+use Rattle.nix_names.specs.declared.method.Method.{Method}
 use Rattle.drv_graph.proofs.PathLists.{as_long}
 use Rattle.nix_names.proofs.Lists.{Contains-cons_cases, Contains-first, Contains-from_get, Contains-from_map, Contains-map, Contains-nothing, either_side, get_from_contains, same_element, split_get}
+use Rattle.drv_graph.specs.declared.profile.Profile.{Profile}
 
 -- ---- those that share an output path
 
@@ -28,12 +29,14 @@ get_taken (y ∷ ys) (suc n) zero x low at = at
 get_taken (y ∷ ys) (suc n) (suc k) x low at = get_taken _ n k x (omega (arith, low)) at
 
 -- a derivation at a place is lawful after those before it
-lawful_at : (dir : List ℕ) (nodes : List Node) (n : ℕ) (node : Node) → AreLawful dir nodes
-    → slice_get nodes n ≡ Some node → IsLawful dir (take n nodes) node
+lawful_at : {profile : Profile} (dir : List ℕ) (nodes : List Node) (n : ℕ) (node : Node)
+    → AreLawful profile dir nodes
+    → slice_get nodes n ≡ Some node → IsLawful profile dir (take n nodes) node
 lawful_at dir nodes n node lawful at = search (rules, split_get)
 
 -- an earlier one that shares an output path is a twin
-twin_before : (dir : List ℕ) (nodes : List Node) (i j : ℕ) (a b : Node) → AreLawful dir nodes
+twin_before : {profile : Profile} (dir : List ℕ) (nodes : List Node) (i j : ℕ) (a b : Node)
+    → AreLawful profile dir nodes
     → slice_get nodes i ≡ Some a → slice_get nodes j ≡ Some b → i < j → ShareOutput a.drv b.drv
     → AreTwins a.drv b.drv
 twin_before dir nodes i j a b lawful at at' low shares =

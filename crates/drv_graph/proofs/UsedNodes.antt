@@ -22,6 +22,7 @@ use Rattle.drv_graph.specs.declared.node.PlanNode.{PlanNode}
 use Rattle.drv_graph.specs.declared.outputs.UsedInput.{UsedInput}
 use Rattle.drv_graph.proofs.Numbers.{first_number, later_numbers, numbers_within}
 use Rattle.nix_names.proofs.Lists.{Contains-from_get, Contains-map, get_mapped}
+use Rattle.drv_graph.specs.declared.profile.Profile.{Profile}
 
 -- the path of the node that is used is the one with its number
 used_path : (kept : List PlanNode) (n : ℕ) (u : UsedInput) (p : List ℕ) → IsUsed kept n u
@@ -130,31 +131,47 @@ hashes_are kept visit us right numbers zip = search (rules, used_paths, used_has
 
 -- what the check of the outputs of an open derivation answers
 pub answer_is :
-    (dir : List ℕ) (kept : List PlanNode) (visit : Visit) (us given : List UsedInput)
+    {profile : Profile} (dir : List ℕ) (kept : List PlanNode) (visit : Visit)
+    (us given : List UsedInput)
     (name : List ℕ) (answer : Result Kind OutputFault) →
     AreKept kept →
     AreNumbers (nodes_of kept) visit.numbers.items (inputs_of visit.drv) →
     AllZip (IsUsed kept) visit.numbers.items us →
     name ≡ drv_name_of visit.path →
     given ≡ us →
-    IsOutputsCheck IsThePath dir name visit.drv (drvs_of_uses given) (hashes_of given) answer →
-    MayAnswer dir (nodes_of kept) (visited visit) answer
-answer_is dir kept visit us given name answer right numbers zip named same checked =
-    search (rules, used_paths, used_drvs, hashes_are)
+    IsOutputsCheck IsThePath profile dir name visit.drv (drvs_of_uses given)
+    (hashes_of given) answer →
+    MayAnswer profile dir (nodes_of kept) (visited visit) answer
+answer_is {profile} dir kept visit us given name answer right numbers zip named same checked =
+    record {
+      used = drvs_of_uses us;
+      hashes = hashes_of us;
+      are_used = subst (λ (ps : List (List ℕ)). AreDrvsOf (nodes_of kept) ps (drvs_of_uses us))
+          (used_paths _ _ _ _ zip numbers) (used_drvs _ _ _ zip);
+      are_hashes = hashes_are kept visit us right numbers zip;
+      check = subst
+          (λ (n : List ℕ). IsOutputsCheck IsThePath profile dir n visit.drv (drvs_of_uses us)
+          (hashes_of us) answer) named
+          (subst
+          (λ (gs : List UsedInput). IsOutputsCheck IsThePath profile dir name visit.drv
+          (drvs_of_uses gs) (hashes_of gs) answer) same checked);
+    }
 
 -- what the check of the outputs answers where it finds nothing wrong
 pub check_right :
-    (dir : List ℕ) (kept : List PlanNode) (visit : Visit) (us given hashed : List UsedInput)
+    {profile : Profile} (dir : List ℕ) (kept : List PlanNode) (visit : Visit)
+    (us given hashed : List UsedInput)
     (name : List ℕ) (kind : Kind) (hash : List ℕ) →
     AreKept kept →
     AreNumbers (nodes_of kept) visit.numbers.items (inputs_of visit.drv) →
     AllZip (IsUsed kept) visit.numbers.items us →
     name ≡ drv_name_of visit.path →
     given ≡ us →
-    IsOutputsCheck IsThePath dir name visit.drv (drvs_of_uses given) (hashes_of given) (Ok kind) →
+    IsOutputsCheck IsThePath profile dir name visit.drv (drvs_of_uses given) (hashes_of given)
+    (Ok kind) →
     hashed ≡ us →
     IsHashBy kind visit.drv (hashes_of hashed) hash →
-    MayAnswer dir (nodes_of kept) (visited visit) (Ok kind)
+    MayAnswer profile dir (nodes_of kept) (visited visit) (Ok kind)
     × HasHash (nodes_of kept) visit.drv kind hash
 check_right dir kept visit us given hashed name kind hash right numbers zip named same checked
     same_too hash_is = (
@@ -168,26 +185,32 @@ check_right dir kept visit us given hashed name kind hash right numbers zip name
 
 -- what it answers where it finds something wrong
 pub check_wrong :
-    (dir : List ℕ) (kept : List PlanNode) (visit : Visit) (us given : List UsedInput)
+    (profile : Profile) (dir : List ℕ) (kept : List PlanNode) (visit : Visit)
+    (us given : List UsedInput)
     (name : List ℕ) (fault : OutputFault) (answer : GraphFault) →
     AreKept kept →
     AreNumbers (nodes_of kept) visit.numbers.items (inputs_of visit.drv) →
     AllZip (IsUsed kept) visit.numbers.items us →
     name ≡ drv_name_of visit.path →
     given ≡ us →
-    IsOutputsCheck IsThePath dir name visit.drv (drvs_of_uses given) (hashes_of given) (Err fault) →
+    IsOutputsCheck IsThePath profile dir name visit.drv (drvs_of_uses given) (hashes_of given)
+    (Err fault) →
     IsOutputFaultAt visit.path fault answer →
-    IsLeavingFault dir kept visit answer
-check_wrong dir kept visit us given name fault NoMemory right numbers zip named same checked at = tt
-check_wrong dir kept visit us given name fault (At path found) right numbers zip named same checked
+    IsLeavingFault profile dir kept visit answer
+check_wrong profile dir kept visit us given name fault NoMemory right numbers zip named same
+    checked at = tt
+check_wrong profile dir kept visit us given name fault
+    (At path found) right numbers zip named same checked
     at =
-    subst (λ f. IsLeavingFault dir kept visit (At path f)) (sym at.1) (
+    subst (λ f. IsLeavingFault profile dir kept visit (At path f)) (sym at.1) (
       at.0,
       at.2,
       answer_is dir kept visit us given name (Err fault) right numbers zip named same
           checked,
     )
-check_wrong dir kept visit us given name fault (Draft found) right numbers zip named same checked
+check_wrong profile dir kept visit us given name fault
+    (Draft found) right numbers zip named same checked
     at = absurd at
-check_wrong dir kept visit us given name fault Name right numbers zip named same checked at =
+check_wrong profile dir kept visit us given name fault Name right numbers zip named same checked at
+    =
     absurd at

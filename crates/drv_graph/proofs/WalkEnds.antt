@@ -28,6 +28,7 @@ use Rattle.drv_graph.proofs.PathLists.{distinct_push}
 use Rattle.drv_graph.proofs.PlanOrder.{leads_more}
 use Rattle.drv_graph.proofs.Walking.{AreOpen, IsOpen, IsWalk, IsWanted, Remains, uses_input, wanted_reached}
 use Rattle.nix_names.proofs.Lists.{All-from_contains, All-left, Contains-cons_cases, Contains-first, Contains-from_get, Contains-map, Contains-nothing}
+use Rattle.drv_graph.specs.declared.profile.Profile.{Profile}
 
 -- what is open stays right as nodes are added
 open_grows : (dir : List ℕ) (gives : List ℕ → Answer → Type 0) (roots : List (List ℕ))
@@ -52,12 +53,13 @@ open_grows dir gives roots root nodes more (v ∷ vs) are = (
 
 -- the innermost open derivation is left
 pub walk_leaves :
-    (dir : List ℕ) (gives : List ℕ → Answer → Type 0) (roots : List (List ℕ)) (root : List ℕ)
+    {profile : Profile} (dir : List ℕ) (gives : List ℕ → Answer → Type 0) (roots : List (List ℕ))
+    (root : List ℕ)
     (start : List Node) (found after : WalkState) (visit : Visit) (visits : List Visit) →
-    IsWalk dir gives roots root start found (visit ∷ visits) →
+    IsWalk profile dir gives roots root start found (visit ∷ visits) →
     HasAllNumbers visit →
-    LeavesVisit dir found after visit →
-    IsWalk dir gives roots root start after visits
+    LeavesVisit profile dir found after visit →
+    IsWalk profile dir gives roots root start after visits
 walk_leaves dir gives roots root start found after visit visits walk all leaves = record {
   walked = record {
     right = leaves.found;
@@ -170,9 +172,10 @@ on_cycle dir gives roots root nodes (v ∷ vs) path are wanted has =
     }
 
 -- each path that was met is reached
-met_reached : (dir : List ℕ) (gives : List ℕ → Answer → Type 0) (roots : List (List ℕ))
+met_reached : {profile : Profile} (dir : List ℕ) (gives : List ℕ → Answer → Type 0)
+    (roots : List (List ℕ))
     (root : List ℕ) (start : List Node) (found : WalkState) (visits : List Visit)
-    → IsWalk dir gives roots root start found visits → (path : List ℕ)
+    → IsWalk profile dir gives roots root start found visits → (path : List ℕ)
     → Contains (keys found.marks) path → IsReachedBy (MayUse dir gives) roots path
 met_reached dir gives roots root start found visits walk path has =
     by (marked found.marks path) refl
@@ -190,9 +193,11 @@ met_reached dir gives roots root start found visits walk path has =
         (Contains-from_get (paths_of (nodes_of found.nodes.items)) n path
         ((walk.walked.marks.numbered path n).0 is))
 
-too_many : (dir : List ℕ) (gives : List ℕ → Answer → Type 0) (roots : List (List ℕ)) (root : List ℕ)
+too_many : {profile : Profile} (dir : List ℕ) (gives : List ℕ → Answer → Type 0)
+    (roots : List (List ℕ)) (root : List ℕ)
     (start : List Node) (found : WalkState) (visits : List Visit) (path : List ℕ)
-    → IsWalk dir gives roots root start found visits → IsReachedBy (MayUse dir gives) roots path
+    → IsWalk profile dir gives roots root start found visits → IsReachedBy
+    (MayUse dir gives) roots path
     → marked found.marks path ≡ None → AreDistinct (keys found.marks) → max_nodes
     ≤ length (keys found.marks) → ReachTooMany (MayUse dir gives) roots
 too_many dir gives roots root start found visits path walk reached none distinct many =
@@ -210,44 +215,48 @@ too_many dir gives roots root start found visits path walk reached none distinct
 
 -- a fault of what is wanted next is true
 pub meeting_fault :
-    (dir : List ℕ) (gives : List ℕ → Answer → Type 0) (roots : List (List ℕ)) (root : List ℕ)
+    {profile : Profile} (dir : List ℕ) (gives : List ℕ → Answer → Type 0) (roots : List (List ℕ))
+    (root : List ℕ)
     (start : List Node) (found : WalkState) (visits : List Visit) (path : List ℕ)
     (fault : GraphFault) →
     Contains roots root →
-    IsWalk dir gives roots root start found visits →
+    IsWalk profile dir gives roots root start found visits →
     IsWanted root visits path →
     IsMeetingFault dir gives found.marks path fault →
-    IsLoading dir gives roots (Err fault)
-meeting_fault dir gives roots root start found visits path fault has_root walk wanted (inl cycle) =
+    IsLoading profile dir gives roots (Err fault)
+meeting_fault {profile} dir gives roots root start found visits path fault has_root walk wanted
+    (inl cycle) =
     by fault cycle.0
   where
     reached : IsReachedBy (MayUse dir gives) roots path
     reached = search (rules, wanted_reached)
 
-    by : (f : GraphFault) → IsFaultAt path Cycle f → IsLoading dir gives roots (Err f)
+    by : (f : GraphFault) → IsFaultAt path Cycle f → IsLoading profile dir gives roots (Err f)
     by NoMemory at = tt
     by (At p found_fault) at = search (rules, reached, on_cycle)
     by (Draft found_fault) at = absurd at
     by Name at = absurd at
-meeting_fault dir gives roots root start found visits path fault has_root walk wanted
+meeting_fault {profile} dir gives roots root start found visits path fault has_root walk wanted
     (inr reading) = by fault reading.0
   where
     reached : IsReachedBy (MayUse dir gives) roots path
     reached = search (rules, wanted_reached)
 
     by : (f : GraphFault) → IsReadingFault dir gives path (length (keys found.marks)) f
-        → IsLoading dir gives roots (Err f)
+        → IsLoading profile dir gives roots (Err f)
     by NoMemory at = tt
     by (At p Unreadable) at = search (rules, reached)
-    by (At p TooMany) at = subst (λ q. IsLoading dir gives roots (Err (At q TooMany))) (sym at.0) (
-      reached,
-      (
-        at.1,
-        too_many _ gives _ _ _ _ _ _ walk reached reading.1
-            reading.2 at.2,
-      ),
-    )
-    by (At p (Text text)) at = subst (λ q. IsLoading dir gives roots (Err (At q (Text text))))
+    by (At p TooMany) at = subst (λ q. IsLoading profile dir gives roots (Err (At q TooMany)))
+        (sym at.0) (
+          reached,
+          (
+            at.1,
+            too_many _ gives _ _ _ _ _ _ walk reached reading.1
+                reading.2 at.2,
+          ),
+        )
+    by (At p (Text text)) at = subst
+        (λ q. IsLoading profile dir gives roots (Err (At q (Text text))))
         (sym at.0) (reached, (at.1, at.3))
     by (At p Cycle) at = absurd at
     by (At p (Outputs outputs)) at = absurd at
@@ -257,34 +266,37 @@ meeting_fault dir gives roots root start found visits path fault has_root walk w
 
 -- what the check of the innermost open derivation may answer after what was left
 checked_behind :
-    (dir : List ℕ) (gives : List ℕ → Answer → Type 0) (roots : List (List ℕ)) (root : List ℕ)
+    {profile : Profile} (dir : List ℕ) (gives : List ℕ → Answer → Type 0) (roots : List (List ℕ))
+    (root : List ℕ)
     (start : List Node) (found : WalkState) (visit : Visit) (visits : List Visit)
     (answer : Result Kind OutputFault) →
-    IsWalk dir gives roots root start found (visit ∷ visits) →
-    MayAnswer dir (nodes_of found.nodes.items) (visited visit) answer →
-    MayCheck dir gives visit.path answer
+    IsWalk profile dir gives roots root start found (visit ∷ visits) →
+    MayAnswer profile dir (nodes_of found.nodes.items) (visited visit) answer →
+    MayCheck profile dir gives visit.path answer
 checked_behind dir gives roots root start found visit visits answer walk check =
     search (rules, length-map)
 
 -- a fault of the innermost open derivation is true
 pub leaving_fault :
-    (dir : List ℕ) (gives : List ℕ → Answer → Type 0) (roots : List (List ℕ)) (root : List ℕ)
+    {profile : Profile} (dir : List ℕ) (gives : List ℕ → Answer → Type 0) (roots : List (List ℕ))
+    (root : List ℕ)
     (start : List Node) (found : WalkState) (visit : Visit) (visits : List Visit)
     (fault : GraphFault) →
-    IsWalk dir gives roots root start found (visit ∷ visits) →
-    IsLeavingFault dir found.nodes.items visit fault →
-    IsLoading dir gives roots (Err fault)
+    IsWalk profile dir gives roots root start found (visit ∷ visits) →
+    IsLeavingFault profile dir found.nodes.items visit fault →
+    IsLoading profile dir gives roots (Err fault)
 unfolding checked_behind
 leaving_fault dir gives roots root start found visit visits NoMemory walk at = tt
-leaving_fault dir gives roots root start found visit visits (At p (Outputs outputs)) walk at =
-    subst (λ q. IsLoading dir gives roots (Err (At q (Outputs outputs)))) (sym at.0) (
+leaving_fault {profile} dir gives roots root start found visit visits
+    (At p (Outputs outputs)) walk at =
+    subst (λ q. IsLoading profile dir gives roots (Err (At q (Outputs outputs)))) (sym at.0) (
       walk.pending.0.reached,
       (
         at.1,
         checked_behind _ gives _ _ _ _ _ _ _ walk at.2,
       ),
     )
-leaving_fault dir gives roots root start found visit visits (At p OutputClash) walk at =
+leaving_fault {profile} dir gives roots root start found visit visits (At p OutputClash) walk at =
     let other = at.2.0 in
     let left = paths_of (nodes_of found.nodes.items) in
     let there : Contains left other.path = Contains-map (λ (n : Node). n.path)
@@ -293,7 +305,7 @@ leaving_fault dir gives roots root start found visit visits (At p OutputClash) w
     λ same. pending_not_left (marked found.marks) _ _ _
     walk.walked.marks (Contains-first _ _)
     (subst (Contains left) same there) in
-    subst (λ q. IsLoading dir gives roots (Err (At q OutputClash))) (sym at.0) (
+    subst (λ q. IsLoading profile dir gives roots (Err (At q OutputClash))) (sym at.0) (
       walk.pending.0.reached,
       record {
         kind = at.1.0;

@@ -25,6 +25,7 @@ use Rattle.drv_graph.proofs.Marks.{pending_not_left}
 use Rattle.drv_graph.proofs.Walking.{IsWalk, IsWanted, walk_advances, walk_opens}
 use Rattle.drv_graph.proofs.WalkEnds.{leaving_fault, meeting_fault, walk_leaves}
 use Rattle.nix_names.proofs.Lists.{Contains-first, Contains-from_get}
+use Rattle.drv_graph.specs.declared.profile.Profile.{Profile}
 
 -- sources that give the same
 pub gives_trans : (G H K : List ℕ → Answer → Type 0) → GivesSame G H → GivesSame H K → GivesSame G K
@@ -66,16 +67,17 @@ pub reverse_push : (below : List Visit) (visit : Visit) → reverse (below ++ vi
     ∷ reverse below
 reverse_push below visit = reverse-append below (visit ∷ [])
 
-module _ (dir : List ℕ) (G H : List ℕ → Answer → Type 0) (roots : List (List ℕ)) (root : List ℕ)
+module _ {profile : Profile} (dir : List ℕ) (G H : List ℕ → Answer → Type 0)
+    (roots : List (List ℕ)) (root : List ℕ)
     (start : List Node) where
   popped : (found : WalkState) (before below : List Visit) (visit : Visit)
-      → IsWalk dir G roots root start found (reverse before) → before ≡ below ++ visit ∷ []
-      → IsWalk dir G roots root start found (visit ∷ reverse below)
+      → IsWalk profile dir G roots root start found (reverse before) → before ≡ below ++ visit ∷ []
+      → IsWalk profile dir G roots root start found (visit ∷ reverse below)
   popped found before below visit walk parts = search (rules, reverse, reverse_push)
 
   -- what is asked of the innermost open derivation
   pub popped_is : (found : WalkState) (before below : List Visit) (visit : Visit)
-      → IsWalk dir G roots root start found (reverse before) → before ≡ below ++ visit ∷ []
+      → IsWalk profile dir G roots root start found (reverse before) → before ≡ below ++ visit ∷ []
       → IsVisit (nodes_of found.nodes.items) visit × (marked found.marks visit.path ≡ Some None)
       × (Contains (paths_of (nodes_of found.nodes.items)) visit.path → ⊥)
   popped_is found before below visit walk parts =
@@ -90,13 +92,13 @@ module _ (dir : List ℕ) (G H : List ℕ → Answer → Type 0) (roots : List (
 
   -- its sources are in the folder
   pub popped_sources : (found : WalkState) (before below : List Visit) (visit : Visit)
-      → IsWalk dir G roots root start found (reverse before) → before ≡ below ++ visit ∷ []
+      → IsWalk profile dir G roots root start found (reverse before) → before ≡ below ++ visit ∷ []
       → All (IsPathOf dir) visit.drv.sources
   popped_sources found before below visit walk parts =
       sources_in_store _ _ (popped _ _ _ _ walk parts).pending.0.stands.found.in_store
 
   wanted_input : (found : WalkState) (visit : Visit) (below : List Visit) (input : List ℕ)
-      → IsWalk dir G roots root start found (visit ∷ below)
+      → IsWalk profile dir G roots root start found (visit ∷ below)
       → slice_get visit.inputs.items (length visit.numbers.items) ≡ Some input
       → IsWanted root (visit ∷ below) input
   wanted_input found visit below input walk is = search rules
@@ -106,17 +108,18 @@ module _ (dir : List ℕ) (G H : List ℕ → Answer → Type 0) (roots : List (
       (found after : WalkState) (before below rest : List Visit) (visit : Visit) (made : ⊤) →
       Contains roots root →
       GivesSame G H →
-      IsWalk dir G roots root start found (reverse before) →
+      IsWalk profile dir G roots root start found (reverse before) →
       before ≡ below ++ visit ∷ [] →
-      IsGoingOn dir H found after below visit rest (Ok made) →
-      IsWalk dir G roots root start after (reverse rest)
+      IsGoingOn profile dir H found after below visit rest (Ok made) →
+      IsWalk profile dir G roots root start after (reverse rest)
   walk_goes_on found after before below rest visit made has_root same walk parts (inl left) =
-      subst (λ vs. IsWalk dir G roots root start after (reverse vs)) (sym left.2)
+      subst (λ vs. IsWalk profile dir G roots root start after (reverse vs)) (sym left.2)
       (walk_leaves _ G _ _ _ _ _ _ _
       (popped _ _ _ _ walk parts) left.0 left.1)
   walk_goes_on found after before below rest visit made has_root same walk parts
       (inr (inl (next, none, step, is))) =
-      subst (IsWalk dir G roots root start after) (sym (ap reverse is ∙ reverse_push below _))
+      subst (IsWalk profile dir G roots root start after)
+      (sym (ap reverse is ∙ reverse_push below _))
       (walk_advances _ G _ _ _ _ _ _ _ _
       (popped _ _ _ _ walk parts) none step)
   walk_goes_on found after before below rest visit made has_root same walk parts
@@ -125,7 +128,7 @@ module _ (dir : List ℕ) (G H : List ℕ → Answer → Type 0) (roots : List (
       let shape : reverse rest ≡ child ∷ visit ∷ reverse below = ap reverse is
       ∙ reverse_push (below ++ visit ∷ []) child
       ∙ ap (λ l. child ∷ l) (reverse_push below visit) in
-      subst (IsWalk dir G roots root start after) (sym shape)
+      subst (IsWalk profile dir G roots root start after) (sym shape)
       (walk_opens _ G _ _ _ _ _ _ _ _
       has_root top (wanted_input _ _ _ _ top step.is_input) none
       (same_opens _ G H _ _ _ _ same step.opens))
@@ -136,10 +139,10 @@ module _ (dir : List ℕ) (G H : List ℕ → Answer → Type 0) (roots : List (
       (fault : GraphFault) →
       Contains roots root →
       GivesSame G H →
-      IsWalk dir G roots root start found (reverse before) →
+      IsWalk profile dir G roots root start found (reverse before) →
       before ≡ below ++ visit ∷ [] →
-      IsGoingOn dir H found after below visit rest (Err fault) →
-      IsLoading dir G roots (Err fault)
+      IsGoingOn profile dir H found after below visit rest (Err fault) →
+      IsLoading profile dir G roots (Err fault)
   walk_stops found after before below rest visit fault has_root same walk parts (inl refused) =
       search rules
   walk_stops found after before below rest visit fault has_root same walk parts (inr (inl left)) =
@@ -153,9 +156,9 @@ module _ (dir : List ℕ) (G H : List ℕ → Answer → Type 0) (roots : List (
   -- at the root nothing is open
   pub root_opens : (found after : WalkState) (visits : List Visit) (child : Visit)
       → Contains roots root → GivesSame G H
-      → IsWalk dir G roots root start found (reverse visits) → length visits ≡ 0
+      → IsWalk profile dir G roots root start found (reverse visits) → length visits ≡ 0
       → LeavesNone found after → Opens dir H found.marks after.marks root child
-      → IsWalk dir G roots root start after (child ∷ [])
+      → IsWalk profile dir G roots root start after (child ∷ [])
   root_opens found after [] child has_root same walk none left opens =
       walk_opens _ G _ _ _ _ _ [] root child has_root walk refl left
       (same_opens _ G H _ _ _ _ same opens)
@@ -164,8 +167,8 @@ module _ (dir : List ℕ) (G H : List ℕ → Answer → Type 0) (roots : List (
 
   pub root_stops : (found : WalkState) (visits : List Visit) (fault : GraphFault)
       → Contains roots root → GivesSame G H
-      → IsWalk dir G roots root start found (reverse visits) → length visits ≡ 0
-      → IsMeetingFault dir H found.marks root fault → IsLoading dir G roots (Err fault)
+      → IsWalk profile dir G roots root start found (reverse visits) → length visits ≡ 0
+      → IsMeetingFault dir H found.marks root fault → IsLoading profile dir G roots (Err fault)
   root_stops found [] fault has_root same walk none at =
       meeting_fault _ G _ _ _ _ [] root fault has_root walk refl
       (same_meeting dir G H found.marks root fault same at)
@@ -173,12 +176,13 @@ module _ (dir : List ℕ) (G H : List ℕ → Answer → Type 0) (roots : List (
 
 -- the root was left, so the walk is done
 pub walk_ends :
-    (dir : List ℕ) (G : List ℕ → Answer → Type 0) (roots : List (List ℕ)) (root : List ℕ)
+    {profile : Profile} (dir : List ℕ) (G : List ℕ → Answer → Type 0) (roots : List (List ℕ))
+    (root : List ℕ)
     (before found : WalkState) (visits : List Visit) (number : ℕ) →
-    IsWalk dir G roots root (nodes_of before.nodes.items) found (reverse visits) →
+    IsWalk profile dir G roots root (nodes_of before.nodes.items) found (reverse visits) →
     length visits ≡ 0 →
     marked found.marks root ≡ Some (Some number) →
-    IsVisited dir G roots root before found number
+    IsVisited profile dir G roots root before found number
 walk_ends dir G roots root before found (v ∷ vs) number walk none is = absurd (omega (arith, none))
 walk_ends dir G roots root before found [] number walk none is =
     let at = (walk.walked.marks.numbered root number).0 is in
@@ -227,18 +231,18 @@ vec_fits v = omega (arith, v.ok.0, v.small)
 
 -- a walk that goes on has less to do
 pub less_going :
-    (dir : List ℕ) (H : List ℕ → Answer → Type 0) (found after : WalkState)
+    {profile : Profile} (dir : List ℕ) (H : List ℕ → Answer → Type 0) (found after : WalkState)
     (before below rest : List Visit) (visit : Visit) (made : ⊤) →
     before ≡ below ++ visit ∷ [] →
-    IsGoingOn dir H found after below visit rest (Ok made) →
+    IsGoingOn profile dir H found after below visit rest (Ok made) →
     to_do (length (keys after.marks)) (reverse rest)
     < to_do (length (keys found.marks)) (reverse before)
-less_going dir H found after before below rest visit made parts going =
+less_going {profile} dir H found after before below rest visit made parts going =
     subst (λ vs. to_do (length (keys after.marks)) (reverse rest)
     < to_do (length (keys found.marks)) vs) (sym (ap reverse parts ∙ reverse_push below visit))
     (by going)
   where
-    by : IsGoingOn dir H found after below visit rest (Ok made)
+    by : IsGoingOn profile dir H found after below visit rest (Ok made)
         → to_do (length (keys after.marks)) (reverse rest)
         < to_do (length (keys found.marks)) (visit ∷ reverse below)
     by (inl left) = search (rules, to_do, reverse, less_left)

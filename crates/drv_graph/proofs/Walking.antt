@@ -16,6 +16,7 @@ use Rattle.drv_graph.proofs.Marks.{marks_opened, new_not_left, new_not_pending}
 use Rattle.drv_graph.proofs.Numbers.{numbers_push}
 use Rattle.drv_graph.proofs.PlanOrder.{left_later, reached_more}
 use Rattle.nix_names.proofs.Lists.{Contains-from_get, drop_at, take_at}
+use Rattle.drv_graph.specs.declared.profile.Profile.{Profile}
 
 -- What is open of a derivation is right: it may stand at its path, and is reached.
 pub record IsOpen (dir : List ℕ) (gives : List ℕ → Answer → Type 0) (roots : List (List ℕ))
@@ -53,9 +54,10 @@ visits_of visits = map visited visits
 
 -- A walk from a root: what was left and what is open is right, and leads on to the end by plan
 -- order.
-pub record IsWalk (dir : List ℕ) (gives : List ℕ → Answer → Type 0) (roots : List (List ℕ))
+pub record IsWalk (profile : Profile) (dir : List ℕ) (gives : List ℕ → Answer → Type 0)
+    (roots : List (List ℕ))
     (root : List ℕ) (start : List Node) (found : WalkState) (visits : List Visit) : Type 0 where
-  pub walked : IsWalked dir gives roots found (pending_of visits)
+  pub walked : IsWalked profile dir gives roots found (pending_of visits)
   pub pending : AreOpen dir gives roots root (nodes_of found.nodes.items) visits
   pub more : List Node
   pub grown : nodes_of found.nodes.items ≡ start ++ more
@@ -112,21 +114,22 @@ wanted_reached dir gives roots root nodes (v ∷ vs) path has_root are wanted =
     search (rules, reached_more, uses_input)
 
 -- what was left stays right where nothing is left
-found_same : (dir : List ℕ) (found after : WalkState) → LeavesNone found after
-    → IsWalkSoFar dir found → IsWalkSoFar dir after
+found_same : {profile : Profile} (dir : List ℕ) (found after : WalkState) → LeavesNone found after
+    → IsWalkSoFar profile dir found → IsWalkSoFar profile dir after
 found_same dir found after none right = search rules
 
 -- what is wanted is opened
 pub walk_opens :
-    (dir : List ℕ) (gives : List ℕ → Answer → Type 0) (roots : List (List ℕ)) (root : List ℕ)
+    {profile : Profile} (dir : List ℕ) (gives : List ℕ → Answer → Type 0) (roots : List (List ℕ))
+    (root : List ℕ)
     (start : List Node) (found after : WalkState) (visits : List Visit) (path : List ℕ)
     (child : Visit) →
     Contains roots root →
-    IsWalk dir gives roots root start found visits →
+    IsWalk profile dir gives roots root start found visits →
     IsWanted root visits path →
     LeavesNone found after →
     Opens dir gives found.marks after.marks path child →
-    IsWalk dir gives roots root start after (child ∷ visits)
+    IsWalk profile dir gives roots root start after (child ∷ visits)
 walk_opens dir gives roots root start found after visits path child has_root walk wanted none
     opens =
     let left = paths_of (nodes_of found.nodes.items) in
@@ -197,12 +200,13 @@ walk_opens dir gives roots root start found after visits path child has_root wal
 
 -- the innermost open derivation gets the number of its next input
 pub walk_advances :
-    (dir : List ℕ) (gives : List ℕ → Answer → Type 0) (roots : List (List ℕ)) (root : List ℕ)
+    {profile : Profile} (dir : List ℕ) (gives : List ℕ → Answer → Type 0) (roots : List (List ℕ))
+    (root : List ℕ)
     (start : List Node) (found after : WalkState) (visit next : Visit) (visits : List Visit) →
-    IsWalk dir gives roots root start found (visit ∷ visits) →
+    IsWalk profile dir gives roots root start found (visit ∷ visits) →
     LeavesNone found after →
     Advances found.marks after.marks visit next →
-    IsWalk dir gives roots root start after (next ∷ visits)
+    IsWalk profile dir gives roots root start after (next ∷ visits)
 walk_advances dir gives roots root start found after visit next visits walk none step =
     let ns = nodes_of found.nodes.items in
     let nodes_same : nodes_of after.nodes.items ≡ nodes_of found.nodes.items =

@@ -1,4 +1,4 @@
--- What `fill_outputs` answers: a draft in which each empty output path is replaced by the expected
+-- What `fill_outputs_as` answers: a draft in which each empty output path is replaced by the expected
 -- path (Nix manual, "Store Derivation"; keeping values that are right already is this product's
 -- own).
 use Rattle.std.specs.Prelude.{◌≡◌, ◌≢◌, ◌<◌, ◌≤◌, ◌++◌, List, length, codes, Contains, IsTrue, Result, Ok, Err}
@@ -23,6 +23,7 @@ use Rattle.drv_graph.specs.declared.fault.GraphFault.TheVariants.{NoMemory, At, 
 use Rattle.drv_graph.specs.declared.fault.NodeFault.{NodeFault}
 use Rattle.drv_graph.specs.declared.fault.NodeFault.TheVariants.{Text, Outputs}
 use Rattle.drv_graph.specs.declared.fault.OutputFault.TheVariants.{NoMemory as NoRoom}
+use Rattle.drv_graph.specs.declared.profile.Profile.{Profile}
 
 -- An output with its expected path; only an empty path is changed.
 pub record IsFilledOutput (Expected : Output → Path → Type 0) (draft filled : Output)
@@ -59,23 +60,27 @@ file_name name = name ++ codes ".drv"
 abbrev pub AreNames : Name → Type 0
 AreNames name = IsTrue (is_name name) × IsTrue (is_name (file_name name))
 
--- A plan of a draft's inputs, by answers that the source may give, and the derivations and the
+-- A plan of a draft's inputs under a profile, by answers that the source may give, and the derivations and the
 -- modulo hashes of these inputs.
-pub record MayFill (dir : Dir) (gives : Path → Answer → Type 0) (name : Name) (draft : Drv)
+pub record MayFill (profile : Profile) (dir : Dir) (gives : Path → Answer → Type 0) (name : Name)
+    (draft : Drv)
     : Type 0 where
   pub graph : Graph
   pub is_plan : IsPlan dir gives (inputs_of draft) graph
+  pub is_under : graph.profile ≡ profile
   pub used : List Drv
   pub hashes : List Hash
   pub are_used : AreDrvsOf graph.nodes (inputs_of draft) used
   pub are_hashes : AreHashes graph.nodes (inputs_of draft) hashes
 
 -- The filled derivation of a draft, and its text.
-pub record IsFilledText (dir : Dir) (gives : Path → Answer → Type 0) (name : Name)
+pub record IsFilledText (profile : Profile) (dir : Dir) (gives : Path → Answer → Type 0)
+    (name : Name)
     (draft filled : Drv) (bytes : Bytes) : Type 0 where
-  pub behind : MayFill dir gives name draft
+  pub behind : MayFill profile dir gives name draft
   pub kind : Kind
-  pub right : IsOutputsCheck IsThePathOrEmpty dir name draft behind.used behind.hashes (Ok kind)
+  pub right : IsOutputsCheck IsThePathOrEmpty profile dir name draft behind.used behind.hashes
+      (Ok kind)
   pub filled_is : IsFilled (IsExpected dir name kind draft behind.hashes) draft filled
   pub is_text : IsDrvText filled bytes
 
@@ -84,32 +89,35 @@ abbrev pub AreInStore : (dir : Dir) → Drv → Type 0
 AreInStore dir draft = (text : Bytes) → IsFirstStray dir (referenced_paths draft) text → ⊥
 
 -- the fault is true of the draft, or of its filled text
-abbrev pub IsTrueOfDraft : (dir : Dir) → (gives : Path → Answer → Type 0) → (name : Name)
+abbrev pub IsTrueOfDraft : (profile : Profile) → (dir : Dir) → (gives : Path → Answer → Type 0)
+    → (name : Name)
     → Drv → NodeFault → Type 0
-IsTrueOfDraft dir gives name draft (Text (BadReference text)) =
+IsTrueOfDraft profile dir gives name draft (Text (BadReference text)) =
     IsFirstStray dir (referenced_paths draft) text.items
-IsTrueOfDraft dir gives name draft (Text TooLong) = AreInStore dir draft
-    × ((filled : Drv) × (bytes : Bytes) × IsFilledText dir gives name draft filled bytes
+IsTrueOfDraft profile dir gives name draft (Text TooLong) = AreInStore dir draft
+    × ((filled : Drv) × (bytes : Bytes) × IsFilledText profile dir gives name draft filled bytes
     × (max_len < length bytes))
-IsTrueOfDraft dir gives name draft (Outputs fault) =
+IsTrueOfDraft profile dir gives name draft (Outputs fault) =
     AreInStore dir draft × (fault ≢ NoRoom)
-    × ((behind : MayFill dir gives name draft)
-    × IsOutputsCheck IsThePathOrEmpty dir name draft behind.used behind.hashes (Err fault))
-IsTrueOfDraft dir gives name draft fault = ⊥
+    × ((behind : MayFill profile dir gives name draft)
+    × IsOutputsCheck IsThePathOrEmpty profile dir name draft behind.used behind.hashes (Err fault))
+IsTrueOfDraft profile dir gives name draft fault = ⊥
 
 -- What filling a draft under a name answers: the filled derivation with the path of its text, or
 -- the first fault in this order: of the name, of the draft's references, of its inputs, of its
 -- outputs, of its filled text. `NoMemory` comes only where `name` is a name of a store path.
-abbrev pub IsFilling : (dir : Dir) → (gives : Path → Answer → Type 0) → (name : Name) → Drv
+abbrev pub IsFilling : (profile : Profile) → (dir : Dir) → (gives : Path → Answer → Type 0)
+    → (name : Name) → Drv
     → Result (Drv × Path) GraphFault → Type 0
-IsFilling dir gives name draft (Ok made) =
+IsFilling profile dir gives name draft (Ok made) =
     AreNames name × AreInStore dir draft
-    × ((bytes : Bytes) × IsFilledText dir gives name draft made.0 bytes × (length bytes ≤ max_len)
+    × ((bytes : Bytes) × IsFilledText profile dir gives name draft made.0 bytes × (length bytes ≤
+    max_len)
     × IsOwnPath dir (file_name name) made.0 bytes made.1)
-IsFilling dir gives name draft (Err NoName) = AreNames name → ⊥
-IsFilling dir gives name draft (Err (At path fault)) =
+IsFilling profile dir gives name draft (Err NoName) = AreNames name → ⊥
+IsFilling profile dir gives name draft (Err (At path fault)) =
     AreNames name × AreInStore dir draft × IsReachedBy (MayUse dir gives) (inputs_of draft) path
-    × IsTrueAt dir gives (inputs_of draft) path fault
-IsFilling dir gives name draft (Err (Draft fault)) = AreNames name
-    × IsTrueOfDraft dir gives name draft fault
-IsFilling dir gives name draft (Err NoMemory) = IsTrue (is_name name)
+    × IsTrueAt profile dir gives (inputs_of draft) path fault
+IsFilling profile dir gives name draft (Err (Draft fault)) = AreNames name
+    × IsTrueOfDraft profile dir gives name draft fault
+IsFilling profile dir gives name draft (Err NoMemory) = IsTrue (is_name name)

@@ -11,6 +11,7 @@ pub mod Nodes
 pub mod Outputs
 pub mod PlanNodes
 pub mod Plans
+pub mod ProfileLaws
 pub mod SoundGraphs
 pub mod TwinLaws
 pub mod Twins

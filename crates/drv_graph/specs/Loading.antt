@@ -1,4 +1,4 @@
--- What `Plan::load` answers: the plan of the roots, or a fault that is true of the path that it
+-- What `Plan::load_as` answers: the plan of the roots, or a fault that is true of the path that it
 -- names (the faults are this product's own).
 use Rattle.std.specs.Prelude.{◌≡◌, ◌≢◌, ◌⊎◌, ◌<◌, ⊤, ℕ, List, length, nat_eq, All, Contains, Result, Ok, Err}
 use Rattle.std.specs.Cmp.Lexicographic.{pointwise}
@@ -18,6 +18,7 @@ use Rattle.drv_graph.specs.declared.fault.NodeFault.TheVariants.{Unreadable, Too
 use Rattle.drv_graph.specs.declared.fault.OutputFault.{OutputFault}
 use Rattle.drv_graph.specs.declared.kinds.Kind.{Kind}
 use Rattle.drv_graph.specs.declared.fault.OutputFault.TheVariants.{NoMemory as NoRoom}
+use Rattle.drv_graph.specs.declared.profile.Profile.{Profile}
 
 -- the greatest number of derivations in a plan
 abbrev pub max_nodes : ℕ
@@ -43,23 +44,24 @@ pub record IsOnCycle (Step : (user input : Path) → Type 0) (path : Path) : Typ
 
 -- What the check of the outputs of the derivation at a path may answer. Its inputs are among other
 -- nodes: the source may give these, they are lawful, and with this one they are within the limit.
-pub record MayCheck (dir : Dir) (gives : Path → Answer → Type 0) (path : Path)
+pub record MayCheck (profile : Profile) (dir : Dir) (gives : Path → Answer → Type 0) (path : Path)
     (answer : Result Kind OutputFault) : Type 0 where
   pub drv : Drv
   pub stands : MayBeAt dir gives path drv
   pub nodes : List Node
   pub distinct : AreDistinct (paths_of nodes)
   pub given : All (λ (n : Node). MayBeAt dir gives n.path n.drv) nodes
-  pub lawful : AreLawful dir nodes
+  pub lawful : AreLawful profile dir nodes
   pub few : length nodes < max_nodes
-  pub check : MayAnswer dir nodes (record { path = path; drv = drv }) answer
+  pub check : MayAnswer profile dir nodes (record { path = path; drv = drv }) answer
 
 -- The outputs of the derivation at the path are right, but it shares an output path with another
 -- derivation. That one is reached too, was checked before, and isn't its twin.
-pub record Clashes (dir : Dir) (gives : Path → Answer → Type 0) (roots : List Path)
+pub record Clashes (profile : Profile) (dir : Dir) (gives : Path → Answer → Type 0)
+    (roots : List Path)
     (path : Path) : Type 0 where
   pub kind : Kind
-  pub checked : MayCheck dir gives path (Ok kind)
+  pub checked : MayCheck profile dir gives path (Ok kind)
   pub earlier : Node
   pub is_earlier : Contains checked.nodes earlier
   pub reached : IsReachedBy (MayUse dir gives) roots earlier.path
@@ -68,26 +70,30 @@ pub record Clashes (dir : Dir) (gives : Path → Answer → Type 0) (roots : Lis
   pub no_twin : AreTwins earlier.drv checked.drv → ⊥
 
 -- the fault is true of the path, by answers that the source may give
-abbrev pub IsTrueAt : (dir : Dir) → (gives : Path → Answer → Type 0) → (roots : List Path)
+abbrev pub IsTrueAt : (profile : Profile) → (dir : Dir) → (gives : Path → Answer → Type 0)
+    → (roots : List Path)
     → (path : Path) → NodeFault → Type 0
-IsTrueAt dir gives roots path Unreadable = gives path (Err Missing) ⊎ gives path (Err Device)
-IsTrueAt dir gives roots path TooMany = ((bytes : Bytes) × gives path (Ok bytes))
+IsTrueAt profile dir gives roots path Unreadable = gives path (Err Missing) ⊎ gives path
+    (Err Device)
+IsTrueAt profile dir gives roots path TooMany = ((bytes : Bytes) × gives path (Ok bytes))
     × ReachTooMany (MayUse dir gives) roots
-IsTrueAt dir gives roots path (Text fault) = (fault ≢ NoSpace)
+IsTrueAt profile dir gives roots path (Text fault) = (fault ≢ NoSpace)
     × ((bytes : Bytes) × gives path (Ok bytes) × IsCheck dir path bytes (Err fault))
-IsTrueAt dir gives roots path Cycle = IsOnCycle (MayUse dir gives) path
-IsTrueAt dir gives roots path (Outputs fault) = (fault ≢ NoRoom)
-    × MayCheck dir gives path (Err fault)
-IsTrueAt dir gives roots path OutputClash = Clashes dir gives roots path
+IsTrueAt profile dir gives roots path Cycle = IsOnCycle (MayUse dir gives) path
+IsTrueAt profile dir gives roots path (Outputs fault) = (fault ≢ NoRoom)
+    × MayCheck profile dir gives path (Err fault)
+IsTrueAt profile dir gives roots path OutputClash = Clashes profile dir gives roots path
 
--- what loading answers for some roots
-abbrev pub IsLoading : (dir : Dir) → (gives : Path → Answer → Type 0) → (roots : List Path)
+-- what loading some roots under a profile answers
+abbrev pub IsLoading : (profile : Profile) → (dir : Dir) → (gives : Path → Answer → Type 0)
+    → (roots : List Path)
     → Result Graph GraphFault → Type 0
-IsLoading dir gives roots (Ok graph) = IsPlan dir gives roots graph
-IsLoading dir gives roots (Err (At path fault)) = IsReachedBy (MayUse dir gives) roots path
-    × IsTrueAt dir gives roots path fault
-IsLoading dir gives roots (Err NoMemory) = ⊤
-IsLoading dir gives roots result = ⊥
+IsLoading profile dir gives roots (Ok graph) = IsPlan dir gives roots graph ×
+    (graph.profile ≡ profile)
+IsLoading profile dir gives roots (Err (At path fault)) = IsReachedBy (MayUse dir gives) roots path
+    × IsTrueAt profile dir gives roots path fault
+IsLoading profile dir gives roots (Err NoMemory) = ⊤
+IsLoading profile dir gives roots result = ⊥
 
 -- the count of the device's failures rose, or is the greatest count
 abbrev pub HasRisen : (before after : ℕ) → Type 0

@@ -5,12 +5,13 @@ use Rattle.nix_names.specs.Bytes.{Bytes, Dir, Path, Name, Hash}
 use Rattle.nix_names.specs.Names.{is_name}
 use Rattle.nix_names.specs.Firsts.{IsFirstWhere}
 use Rattle.nix_drv.specs.Derivation.{Drv, Output, Input, EnvEntry}
-use Rattle.drv_graph.specs.Kinds.{HasKind, AreMixed, HasUnknownMethod}
+use Rattle.drv_graph.specs.Kinds.{HasKind, AreMixed, HasUnknownMethod, Takes}
 use Rattle.drv_graph.specs.declared.kinds.Kind.{Kind}
 use Rattle.drv_graph.specs.Expected.{IsExpected, path_name}
 use Rattle.drv_graph.specs.Modulo.{names_of}
 use Rattle.drv_graph.specs.declared.fault.OutputFault.{OutputFault}
 use Rattle.drv_graph.specs.declared.fault.OutputFault.TheVariants.{NoMemory, MixedOutputs, UnknownMethod, BadName, UnknownOutput, OutputMismatch, EnvMismatch}
+use Rattle.drv_graph.specs.declared.profile.Profile.{Profile}
 
 -- One output that a derivation uses: the path of the input derivation, the output's name, and that
 -- derivation.
@@ -43,10 +44,12 @@ IsThePath value path = value ≡ path
 abbrev pub IsThePathOrEmpty : (value : Bytes) → (path : Path) → Type 0
 IsThePathOrEmpty value path = (value ≡ []) ⊎ (value ≡ path)
 
--- The outputs are sound: they have this kind, they are well named, and each output that is used of
--- an input is there. Nothing is said of their paths.
-pub record AreSound (name : Name) (drv : Drv) (used : List Drv) (kind : Kind) : Type 0 where
+-- The outputs are sound: they have this kind and the profile takes it, they are well named, and
+-- each output that is used of an input is there. Nothing is said of their paths.
+pub record AreSound (profile : Profile) (name : Name) (drv : Drv) (used : List Drv)
+    (kind : Kind) : Type 0 where
   pub has_kind : HasKind drv kind
+  pub taken : Takes profile kind
   pub named : All (IsWellNamed name) drv.outputs
   pub known : All IsKnownUse (uses drv.inputs used)
 
@@ -64,35 +67,36 @@ HasOtherEntry Fits Expected drv output =
     × Expected output path × (Fits entry.value path → ⊥)
 
 -- What the check of a derivation's outputs answers, by its name, its inputs' derivations and their
--- hashes. The first of these that holds: mixed outputs; a method or a hash that isn't known; a name
--- that is no name of a store path; the first use of an output that isn't there; the first output
--- with a path that doesn't fit the expected one; the first output with such an entry. Want of
--- memory may come in place of any but the first.
-abbrev pub IsOutputsCheck : (Fits : Bytes → Path → Type 0) → (dir : Dir) → (name : Name) → Drv
-    → (used : List Drv) → (hashes : List Hash) → Result Kind OutputFault → Type 0
-IsOutputsCheck Fits dir name drv used hashes (Ok kind) =
-    AreSound name drv used kind × PathsFit Fits (IsExpected dir name kind drv hashes) drv
+-- hashes. The first of these that holds: mixed outputs; a method or a hash that isn't known, or that
+-- the profile doesn't take; a name that is no name of a store path; the first use of an output that
+-- isn't there; the first output with a path that doesn't fit the expected one; the first output
+-- with such an entry. Want of memory may come in place of any but the first.
+abbrev pub IsOutputsCheck : (Fits : Bytes → Path → Type 0) → (profile : Profile) → (dir : Dir)
+    → (name : Name) → Drv → (used : List Drv) → (hashes : List Hash) → Result Kind OutputFault
+    → Type 0
+IsOutputsCheck Fits profile dir name drv used hashes (Ok kind) =
+    AreSound profile name drv used kind × PathsFit Fits (IsExpected dir name kind drv hashes) drv
     × All (λ o. HasOtherEntry Fits (IsExpected dir name kind drv hashes) drv o → ⊥) drv.outputs
-IsOutputsCheck Fits dir name drv used hashes (Err MixedOutputs) = AreMixed drv
-IsOutputsCheck Fits dir name drv used hashes (Err (UnknownMethod output)) =
+IsOutputsCheck Fits profile dir name drv used hashes (Err MixedOutputs) = AreMixed drv
+IsOutputsCheck Fits profile dir name drv used hashes (Err (UnknownMethod output)) =
     (AreMixed drv → ⊥)
-    × ((o : Output) × Contains drv.outputs o × HasUnknownMethod o × (output.items ≡ o.name))
-IsOutputsCheck Fits dir name drv used hashes (Err BadName) =
-    (kind : Kind) × HasKind drv kind
+    × ((o : Output) × Contains drv.outputs o × HasUnknownMethod profile o × (output.items ≡ o.name))
+IsOutputsCheck Fits profile dir name drv used hashes (Err BadName) =
+    (kind : Kind) × HasKind drv kind × Takes profile kind
     × ((o : Output) × Contains drv.outputs o × (IsWellNamed name o → ⊥))
-IsOutputsCheck Fits dir name drv used hashes (Err (UnknownOutput input output)) =
-    (kind : Kind) × HasKind drv kind × All (IsWellNamed name) drv.outputs
+IsOutputsCheck Fits profile dir name drv used hashes (Err (UnknownOutput input output)) =
+    (kind : Kind) × HasKind drv kind × Takes profile kind × All (IsWellNamed name) drv.outputs
     × ((u : Use) × IsFirstWhere (λ other. IsKnownUse other → ⊥) (uses drv.inputs used) u
     × (input ≡ u.input) × (output.items ≡ u.output))
-IsOutputsCheck Fits dir name drv used hashes (Err (OutputMismatch output expected)) =
-    (kind : Kind) × AreSound name drv used kind
+IsOutputsCheck Fits profile dir name drv used hashes (Err (OutputMismatch output expected)) =
+    (kind : Kind) × AreSound profile name drv used kind
     × ((o : Output)
     × IsFirstWhere (λ (p : Output). (path : Path) × IsExpected dir name kind drv hashes p path
     × (Fits p.path path → ⊥)) drv.outputs o
     × IsExpected dir name kind drv hashes o expected × (output.items ≡ o.name))
-IsOutputsCheck Fits dir name drv used hashes (Err (EnvMismatch output)) =
-    (kind : Kind) × AreSound name drv used kind
+IsOutputsCheck Fits profile dir name drv used hashes (Err (EnvMismatch output)) =
+    (kind : Kind) × AreSound profile name drv used kind
     × PathsFit Fits (IsExpected dir name kind drv hashes) drv
     × ((o : Output) × IsFirstWhere (HasOtherEntry Fits (IsExpected dir name kind drv hashes) drv)
     drv.outputs o × (output.items ≡ o.name))
-IsOutputsCheck Fits dir name drv used hashes (Err NoMemory) = AreMixed drv → ⊥
+IsOutputsCheck Fits profile dir name drv used hashes (Err NoMemory) = AreMixed drv → ⊥

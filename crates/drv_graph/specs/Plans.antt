@@ -11,10 +11,12 @@ use Rattle.drv_graph.specs.declared.kinds.Kind.{Kind}
 use Rattle.drv_graph.specs.Nodes.{Node, AreHashes, inputs_of, output_paths_of, paths_of}
 use Rattle.drv_graph.specs.Outputs.{IsOutputsCheck, IsThePath}
 use Rattle.drv_graph.specs.declared.fault.OutputFault.{OutputFault}
+use Rattle.drv_graph.specs.declared.profile.Profile.{Profile}
 
--- A plan as contracts see it: its nodes in plan order, and the numbers of its roots. A node's
--- number is its place, counted from 0.
+-- A plan as contracts see it: the profile under which it was loaded, its nodes in plan order, and
+-- the numbers of its roots. A node's number is its place, counted from 0.
 pub record Graph : Type 0 where
+  pub profile : Profile
   pub nodes : List Node
   pub roots : List ℕ
 
@@ -76,13 +78,14 @@ AreDrvsOf nodes (path ∷ paths) (drv ∷ drvs) = Contains nodes (record { path 
     × AreDrvsOf nodes paths drvs
 
 -- What the check of a node's outputs may answer, where the nodes before it have its inputs.
-pub record MayAnswer (dir : Dir) (before : List Node) (node : Node)
+pub record MayAnswer (profile : Profile) (dir : Dir) (before : List Node) (node : Node)
     (answer : Result Kind OutputFault) : Type 0 where
   pub used : List Drv
   pub hashes : List Hash
   pub are_used : AreDrvsOf before (inputs_of node.drv) used
   pub are_hashes : AreHashes before (inputs_of node.drv) hashes
-  pub check : IsOutputsCheck IsThePath dir (drv_name_of node.path) node.drv used hashes answer
+  pub check : IsOutputsCheck IsThePath profile dir
+      (drv_name_of node.path) node.drv used hashes answer
 
 -- two derivations share an output's path
 abbrev pub ShareOutput : Drv → Drv → Type 0
@@ -98,16 +101,18 @@ AreTwins a b = HaveSamePaths (output_paths_of a) (output_paths_of b)
 
 -- *Lawful*: a node's inputs are among the nodes before it, and its outputs are right. It is a twin
 -- of each node before it with which it shares an output path.
-pub record IsLawful (dir : Dir) (before : List Node) (node : Node) : Type 0 where
+pub record IsLawful (profile : Profile) (dir : Dir) (before : List Node)
+    (node : Node) : Type 0 where
   pub kind : Kind
-  pub right : MayAnswer dir before node (Ok kind)
+  pub right : MayAnswer profile dir before node (Ok kind)
   pub apart : (earlier : Node) → Contains before earlier
       → (ShareOutput earlier.drv node.drv → ⊥) ⊎ AreTwins earlier.drv node.drv
 
 -- each node is lawful after the nodes before it
-abbrev pub AreLawful : (dir : Dir) → List Node → Type 0
-AreLawful dir nodes = (before after : List Node) (node : Node) → nodes ≡ before ++ node ∷ after
-    → IsLawful dir before node
+abbrev pub AreLawful : (profile : Profile) → (dir : Dir) → List Node → Type 0
+AreLawful profile dir nodes = (before after : List Node) (node : Node)
+    → nodes ≡ before ++ node ∷ after
+    → IsLawful profile dir before node
 
 -- the paths of a list, each once, at its first place
 abbrev pub each_once : List Path → List Path
@@ -128,6 +133,6 @@ pub record IsPlan (dir : Dir) (gives : Path → Answer → Type 0) (roots : List
       → IsReachedBy (Uses graph.nodes) roots path
   pub whole : (path : Path) → IsReachedBy (Uses graph.nodes) roots path
       → Contains (paths_of graph.nodes) path
-  pub lawful : AreLawful dir graph.nodes
+  pub lawful : AreLawful graph.profile dir graph.nodes
   pub few : length graph.nodes ≤ 65536
   pub is_roots : AreNumbers graph.nodes graph.roots (each_once roots)

@@ -14,7 +14,7 @@ use Rattle.drv_graph.specs.Loading.{AreDistinct, max_nodes}
 -- outputs have one path.
 pub record IsSound (graph : Graph) : Type 0 where
   pub dir : Dir
-  pub lawful : AreLawful dir graph.nodes
+  pub lawful : AreLawful graph.profile dir graph.nodes
   pub distinct : AreDistinct (paths_of graph.nodes)
   pub few : length graph.nodes ≤ max_nodes
   pub roots_within : All (λ root. root < length graph.nodes) graph.roots

@@ -10,7 +10,7 @@ use Rattle.drv_graph.specs.Plans.{AreTwins, Graph, ShareOutput}
 use Rattle.drv_graph.specs.SoundGraphs.{IsSound}
 use Rattle.drv_graph.specs.Twins.{are_twins}
 use Rattle.drv_graph.specs.declared.kinds.Kind.TheVariants.{Fixed}
-use Rattle.drv_graph.specs.declared.kinds.Method.{Method}
+use Rattle.nix_names.specs.declared.method.Method.{Method}
 
 -- two derivations of a sound plan that share one output path are twins
 abbrev pub SharersAreTwins : Type 0

@@ -5,15 +5,15 @@ ghost use Rattle.nix_names.specs.Names.{is_name};
 ghost use Rattle.nix_names.specs.StorePaths.{store_path};
 ghost use Rattle.nix_drv.specs.Parts.{output_of};
 ghost use Rattle.drv_graph.specs.private.Checking.{AreExpected};
-ghost use Rattle.drv_graph.specs.Expected.{flat_text, path_name};
-ghost use Rattle.drv_graph.specs.Kinds.{HasKind, MayBeDeclared};
-ghost use Rattle.drv_graph.specs.private.ExpectedPaths.{IsFixedPath, IsMaskedDigest, output_path};
+ghost use Rattle.drv_graph.specs.Expected.{fixed_inner_text, fixed_path, path_name};
+ghost use Rattle.drv_graph.specs.Kinds.{HasKind};
+ghost use Rattle.drv_graph.specs.private.ExpectedPaths.{IsMaskedDigest, output_path};
 ghost use Rattle.drv_graph.specs.Outputs.{IsWellNamed};
 
-use crate::kinds::{Kind, Method};
+use crate::kinds::Kind;
 use crate::modulo::text_by_hashes;
 use nix_drv::{Derivation, Output};
-use nix_names::{Digest, StoreDir, StorePath, make_named_path};
+use nix_names::{Digest, Method, MethodDigest, StoreDir, StorePath, make_named_path};
 use sha2::{Digest as _, Sha256};
 use std::alloc::{AllocError, Global};
 
@@ -105,30 +105,49 @@ fn fixed_path(
     method: Method,
     digest: &Digest,
 ) -> Result<StorePath, AllocError>
-    requires named { IsTrue (is_name name.now) }
-    requires taken { MayBeDeclared method digest.now }
-    ensures { IfOk result (λ path. IsFixedPath dir.now name.now method digest.now path) }
+    requires { IsTrue (is_name name.now) }
+    ensures { IfOk result (λ path. path ≡ fixed_path dir.now name.now method digest.now) }
 {
     match method {
-        Method::Flat => {
-            let inner = flat_digest(alloc, digest)?;
-            make_named_path(alloc, b"output:out", &inner, dir, name)
-        }
-        Method::Recursive => {
-            let Digest::Sha256(inner) = digest else {
-                unreachable!()
-            };
-            make_named_path(alloc, b"source", inner, dir, name)
-        }
+        Method::Flat => path_by_text(alloc, dir, name, method, digest),
+        Method::Recursive => match digest {
+            Digest::Sha256(inner) => make_named_path(alloc, b"source", inner, dir, name),
+            _ => path_by_text(alloc, dir, name, method, digest),
+        },
     }
 }
 
-// The inner digest of a flat fixed output's path.
-fn flat_digest(alloc: Global, digest: &Digest) -> Result<[u8; 32], AllocError>
-    ensures { IfOk result (λ inner. inner ≡ sha256 (flat_text digest.now)) }
+// The path of a fixed output that isn't the path of a source.
+fn path_by_text(
+    alloc: Global,
+    dir: &StoreDir,
+    name: &[u8],
+    method: Method,
+    digest: &Digest,
+) -> Result<StorePath, AllocError>
+    requires { IsTrue (is_name name.now) }
+    ensures { IfOk result (λ path. path
+        ≡ store_path (codes "output:out") (sha256 (fixed_inner_text method digest.now)) dir.now
+        name.now) }
 {
+    let inner = fixed_inner_digest(alloc, method, digest)?;
+    make_named_path(alloc, b"output:out", &inner, dir, name)
+}
+
+// The inner digest of a fixed output's path, where that isn't the path of a source.
+fn fixed_inner_digest(
+    alloc: Global,
+    method: Method,
+    digest: &Digest,
+) -> Result<[u8; 32], AllocError>
+    ensures { IfOk result (λ inner. inner ≡ sha256 (fixed_inner_text method digest.now)) }
+{
+    let found = MethodDigest {
+        method,
+        digest: *digest,
+    };
     let mut text = Vec::from_slice(alloc, b"fixed:out:")?;
-    digest.push_text(&mut text)?;
+    found.push_text(&mut text)?;
     text.extend_from_slice(b":")?;
     Ok(Sha256::digest(&text))
 }

@@ -20,6 +20,7 @@ use crate::outputs::{UsedInput, expected_outputs};
 use crate::paths::known_paths;
 use crate::places::place;
 use crate::plan::Plan;
+use crate::profile::{Profile, Rules};
 use crate::walk_state::used_inputs;
 use nix_drv::{Derivation, DrvFault, DrvSource, MAX_LEN, named_text_path, references, write};
 use nix_names::{StoreDir, StorePath, is_name};
@@ -32,15 +33,7 @@ struct Target {
     refs: Vec<StorePath>,
 }
 
-/// The derivation of a draft under a name, and the path of its text in the folder. The draft's
-/// empty output paths, and the empty values under outputs' names in its environment, become the
-/// paths that are expected; nothing else is changed. In this order: `Name` where the name, or it
-/// with `.drv` after it, is no name; `Draft` with `BadReference` for the first input or source
-/// that is no path of the folder; the faults of `Plan::load` of its inputs as roots; `Draft` with
-/// the first fault of its outputs, where a value that is neither empty nor the expected path is
-/// `OutputMismatch` or `EnvMismatch`; `Draft` with `TooLong` where the filled text has more than
-/// 4,194,304 bytes. Beside the plan of its inputs and the check of its outputs, the draft is copied
-/// once, and its filled text is written and digested once.
+/// A draft under a name, filled under the profile `Plain`, as `fill_outputs_as` does it.
 pub fn fill_outputs<S: DrvSource>(
     alloc: Global,
     source: &mut S,
@@ -52,10 +45,37 @@ pub fn fill_outputs<S: DrvSource>(
     ensures counts { S.failures source.old ≤ S.failures source.new }
     ensures device { IfErr result (IsCountedFault (S.gives source.old) (S.failures source.old)
         (S.failures source.new)) }
-    ensures filling { IsFilling dir.now (S.gives source.old) name.now draft.now result }
+    ensures filling { IsFilling Profile.Plain dir.now (S.gives source.old) name.now draft.now
+        result }
+{
+    fill_outputs_as(alloc, Profile::Plain, source, dir, name, draft)
+}
+
+/// The derivation of a draft under a name, and the path of its text in the folder. The draft's
+/// empty output paths, and the empty values under outputs' names in its environment, become the
+/// paths that are expected; nothing else is changed. In this order: `Name` where the name, or it
+/// with `.drv` after it, is no name; `Draft` with `BadReference` for the first input or source that
+/// is no path of the folder; the faults of `Plan::load_as` of its inputs as roots; `Draft` with the
+/// first fault of its outputs, where a value that is neither empty nor the expected path is
+/// `OutputMismatch` or `EnvMismatch`; `Draft` with `TooLong` where the filled text has more than
+/// 4,194,304 bytes. Beside the plan of its inputs and the check of its outputs, the draft is copied
+/// once, and its filled text is written and digested once.
+pub fn fill_outputs_as<S: DrvSource>(
+    alloc: Global,
+    profile: Profile,
+    source: &mut S,
+    dir: &StoreDir,
+    name: &[u8],
+    draft: &Derivation,
+) -> Result<(Derivation, StorePath), GraphFault>
+    ensures keeps { GivesSame (S.gives source.old) (S.gives source.new) }
+    ensures counts { S.failures source.old ≤ S.failures source.new }
+    ensures device { IfErr result (IsCountedFault (S.gives source.old) (S.failures source.old)
+        (S.failures source.new)) }
+    ensures filling { IsFilling profile dir.now (S.gives source.old) name.now draft.now result }
 {
     let target = target_of(alloc, dir, name, draft)?;
-    let plan = load_inputs(alloc, source, dir, draft)?;
+    let plan = load_inputs(alloc, profile, source, dir, draft)?;
     let filled = fill(alloc, dir, name, draft, &plan)?;
     let path = own_path(alloc, dir, &target, &filled)?;
     Ok((filled, path))
@@ -114,6 +134,7 @@ fn draft_references(
 // The plan of the draft's inputs.
 fn load_inputs<S: DrvSource>(
     alloc: Global,
+    profile: Profile,
     source: &mut S,
     dir: &StoreDir,
     draft: &Derivation,
@@ -123,11 +144,11 @@ fn load_inputs<S: DrvSource>(
     ensures counts { S.failures source.old ≤ S.failures source.new }
     ensures device { IfErr result (IsCountedFault (S.gives source.old) (S.failures source.old)
         (S.failures source.new)) }
-    ensures loading { IsLoading dir.now (S.gives source.old) (inputs_of draft.now) result }
+    ensures loading { IsLoading profile dir.now (S.gives source.old) (inputs_of draft.now) result }
     ensures numbers { IfOk result (λ plan. AreNumbers plan.nodes plan.roots (inputs_of draft.now)) }
 {
     let inputs = known_paths(alloc, dir, &draft.parts().inputs)?;
-    Plan::load(alloc, source, dir, &inputs)
+    Plan::load_as(alloc, profile, source, dir, &inputs)
 }
 
 // The draft with its outputs' expected paths in its empty places, by the plan of its inputs.
@@ -139,32 +160,37 @@ fn fill(
     plan: &Plan,
 ) -> Result<Derivation, GraphFault>
     requires { AreNumbers plan.now.nodes plan.now.roots (inputs_of draft.now) }
-    ensures ok { IfOk result (IsFilledBehind dir.now name.now plan.now.nodes draft.now) }
-    ensures err { IfErr result (IsFillRefused dir.now name.now plan.now.nodes draft.now) }
+    ensures ok { IfOk result (IsFilledBehind plan.now.profile dir.now name.now plan.now.nodes
+        draft.now) }
+    ensures err { IfErr result (IsFillRefused plan.now.profile dir.now name.now plan.now.nodes
+        draft.now) }
 {
     let used = used_inputs(alloc, plan.nodes(), plan.roots())?;
-    let paths = draft_paths(alloc, dir, name, draft, &used)?;
+    let rules = Rules {
+        profile: plan.profile(),
+        dir,
+    };
+    let paths = draft_paths(alloc, &rules, name, draft, &used)?;
     Ok(place(alloc, draft, &paths)?)
 }
 
 // The expected paths of the draft's outputs, or the first fault of them.
 fn draft_paths(
     alloc: Global,
-    dir: &StoreDir,
+    rules: &Rules,
     name: &[u8],
     draft: &Derivation,
     used: &[UsedInput],
 ) -> Result<Vec<StorePath>, GraphFault>
     requires { used_paths_of used.now ≡ inputs_of draft.now }
     ensures ok { IfOk result
-        (λ paths. AreDraftPaths dir.now name.now draft.now (drvs_of_uses used.now)
-        (hashes_of used.now)
-        paths.items) }
+        (λ paths. AreDraftPaths rules.now.profile rules.now.dir.now name.now draft.now
+        (drvs_of_uses used.now) (hashes_of used.now) paths.items) }
     ensures err { IfErr result
-        (AreOutputsRefused dir.now name.now draft.now (drvs_of_uses used.now)
-        (hashes_of used.now)) }
+        (AreOutputsRefused rules.now.profile rules.now.dir.now name.now draft.now
+        (drvs_of_uses used.now) (hashes_of used.now)) }
 {
-    match expected_outputs(alloc, dir, name, draft, used, true) {
+    match expected_outputs(alloc, rules, name, draft, used, true) {
         Ok((_, paths)) => Ok(paths),
         Err(OutputFault::NoMemory) => Err(GraphFault::NoMemory),
         Err(fault) => Err(GraphFault::Draft(NodeFault::Outputs(fault))),

@@ -3,20 +3,26 @@ ghost use Rattle.std.specs.Prelude.{◌≡◌, ◌∷◌, [], IfOk, IfErr, Match
 ghost use Rattle.std.specs.Bool.{MatchBool};
 ghost use Rattle.nix_drv.specs.Derivation.{Output as DrvOutput};
 ghost use Rattle.nix_drv.specs.Parts.{output_of};
-ghost use Rattle.drv_graph.specs.private.Checking.{IsFixedKind, IsKindFault, IsNotFixed, NamesUnknown, SaysSome};
-ghost use Rattle.drv_graph.specs.Kinds.{HasKind, IsAddressed, IsFixed};
+ghost use Rattle.drv_graph.specs.private.Checking.{IsFixedKind, IsKindFault, IsNotFixed, IsNotTaken, NamesUnknown, SaysSome};
+ghost use Rattle.drv_graph.specs.Kinds.{HasKind, IsAddressed, IsFixed, Takes};
 
 use crate::fault::OutputFault;
-use crate::kinds::{Kind, Method};
+use crate::kinds::Kind;
+use crate::profile::Profile;
 use nix_drv::{Derivation, Output};
-use nix_names::{Algorithm, Digest};
+use nix_names::{Algorithm, Digest, Method};
 use std::alloc::{AllocError, Global};
 
 // The kind of a derivation's outputs. `MixedOutputs` where they are of none, and else
-// `UnknownMethod` where the only output has a method or a hash that isn't known.
-pub(crate) fn kind_of(alloc: Global, drv: &Derivation) -> Result<Kind, OutputFault>
-    ensures ok { IfOk result (HasKind drv.now) }
-    ensures err { IfErr result (IsKindFault drv.now) }
+// `UnknownMethod` where the only output has a method or a hash that isn't known, or that the
+// profile doesn't take.
+pub(crate) fn kind_of(
+    alloc: Global,
+    profile: Profile,
+    drv: &Derivation,
+) -> Result<Kind, OutputFault>
+    ensures ok { IfOk result (λ kind. HasKind drv.now kind × Takes profile kind) }
+    ensures err { IfErr result (IsKindFault profile drv.now) }
 {
     let outputs = drv.outputs();
     if outputs.is_empty() {
@@ -26,7 +32,7 @@ pub(crate) fn kind_of(alloc: Global, drv: &Derivation) -> Result<Kind, OutputFau
         return Ok(Kind::Addressed);
     }
     match only_out(outputs) {
-        Some(output) => fixed_kind(alloc, output),
+        Some(output) => fixed_kind(alloc, profile, output),
         None => Err(OutputFault::MixedOutputs),
     }
 }
@@ -68,11 +74,12 @@ fn only_out(outputs: &[Output]) -> Option<&Output>
     }
 }
 
-// The kind that a fixed output has. `UnknownMethod` where its method or its hash isn't known.
-fn fixed_kind(alloc: Global, output: &Output) -> Result<Kind, OutputFault>
-    ensures { IsFixedKind (output_of output.now) result }
+// The kind that a fixed output has. `UnknownMethod` where its method or its hash isn't known, or
+// the profile doesn't take it.
+fn fixed_kind(alloc: Global, profile: Profile, output: &Output) -> Result<Kind, OutputFault>
+    ensures { IsFixedKind profile (output_of output.now) result }
 {
-    match method_and_digest(output) {
+    match taken_digest(profile, output) {
         Some((method, digest)) => Ok(Kind::Fixed(method, digest)),
         None => Err(unknown_method(alloc, output)?),
     }
@@ -85,16 +92,27 @@ fn unknown_method(alloc: Global, output: &Output) -> Result<OutputFault, AllocEr
     Ok(OutputFault::UnknownMethod(Vec::from_slice(alloc, &output.name)?))
 }
 
+// The method and the digest of a fixed output, where both are known and the profile takes them.
+fn taken_digest(profile: Profile, output: &Output) -> Option<(Method, Digest)>
+    ensures { MatchOption result (IsNotTaken profile (output_of output.now))
+        (λ found. IsFixed (output_of output.now) found.0 found.1
+        × Takes profile (Kind.Fixed found.0 found.1)) }
+{
+    let (method, digest) = method_and_digest(output)?;
+    if profile.takes(method, &digest) {
+        Some((method, digest))
+    } else {
+        None
+    }
+}
+
 // The method and the digest of a fixed output, where both are known.
 fn method_and_digest(output: &Output) -> Option<(Method, Digest)>
     ensures { MatchOption result (IsNotFixed (output_of output.now))
         (λ found. IsFixed (output_of output.now) found.0 found.1) }
 {
-    if output.algo.as_slice() == b"r:sha256".as_slice() {
-        let digest = Digest::of_digits(Algorithm::Sha256, &output.hash)?;
-        return Some((Method::Recursive, digest));
-    }
-    let algorithm = Algorithm::of_name(&output.algo)?;
+    let (method, name) = Method::of_marked(&output.algo);
+    let algorithm = Algorithm::of_name(name)?;
     let digest = Digest::of_digits(algorithm, &output.hash)?;
-    Some((Method::Flat, digest))
+    Some((method, digest))
 }

@@ -1,11 +1,13 @@
-//! What holds of modulo texts, modulo hashes, expected paths and twins, proved over the
+//! What holds of modulo texts, modulo hashes, expected paths, twins and profiles, proved over the
 //! definitions.
 
 ghost use Rattle.drv_graph.specs.Equality.{EqualPlansAreSame};
 ghost use Rattle.drv_graph.specs.GraphLaws.{HasOneExpectedPath, HaveOneHashEach};
 ghost use Rattle.drv_graph.specs.Modulo.{HasOneModuloText};
+ghost use Rattle.drv_graph.specs.ProfileLaws.{PlainPlansAreNixPlans};
 ghost use Rattle.drv_graph.specs.TwinLaws.{FixedTwinsHaveOneHash, SharersAreTwins, TwinsAreTold, TwinsShareOutputs};
 
+use nix_drv::DrvSource;
 use nix_drv::laws::equal_derivations_are_same;
 
 /// A derivation has one modulo text for the same hashes of its inputs, masked or not.
@@ -46,8 +48,15 @@ pub fn fixed_twins_have_one_hash()
     ensures { FixedTwinsHaveOneHash }
 {}
 
-/// Two plans are equal by `==` exactly where they are the same: by their derivations with their
-/// paths, and by their roots.
+/// By the answers of one source, a plan under the profile `Plain` is one under `Nix` too.
+pub fn plain_plans_are_nix_plans<S: DrvSource>(source: &S)
+    ensures { PlainPlansAreNixPlans (S.gives source.now) }
+{
+    let _ = source;
+}
+
+/// Two plans are equal by `==` exactly where they are the same: by their profiles, by their
+/// derivations with their paths, and by their roots.
 pub fn equal_plans_are_same()
     ensures { EqualPlansAreSame }
 {

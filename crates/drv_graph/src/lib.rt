@@ -9,6 +9,7 @@
 //! | `walk_state` | the state of a walk, and how it leaves a derivation |
 //! | `output_owners` | which derivation owns an output path |
 //! | `node` | a derivation of a plan, and what is kept beside it |
+//! | `profile` | the rules under which plans are loaded |
 //! | `kinds`, `kind_of` | the kinds of outputs, and a derivation's kind |
 //! | `modulo` | the texts behind modulo hashes |
 //! | `expected` | the paths that outputs must have |
@@ -36,12 +37,15 @@ mod paths;
 mod places;
 mod plan;
 mod plan_eq;
+mod profile;
 mod values;
 mod walk;
 mod walk_state;
 
 pub use fault::{GraphFault, NodeFault, OutputFault};
-pub use fill::fill_outputs;
-pub use kinds::{Kind, Method};
+pub use fill::{fill_outputs, fill_outputs_as};
+pub use kinds::Kind;
 pub use modulo::modulo_text;
+pub use nix_names::Method;
 pub use plan::Plan;
+pub use profile::Profile;

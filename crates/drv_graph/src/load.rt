@@ -5,11 +5,12 @@ ghost use Rattle.drv_graph.specs.Loading.{IsCountedFault};
 ghost use Rattle.drv_graph.specs.private.Walks.{IsEmptyWalk, IsWalkingAll};
 
 use crate::fault::GraphFault;
+use crate::profile::Rules;
 use crate::walk::walk;
 use crate::walk_state::WalkState;
 use indexmap::{IndexMap, IndexSet};
 use nix_drv::DrvSource;
-use nix_names::{StoreDir, StorePath};
+use nix_names::StorePath;
 use std::alloc::Global;
 
 // A walk that reached all that the roots reach, and the numbers of the roots, each once.
@@ -23,19 +24,20 @@ pub(crate) struct LoadedGraph {
 pub(crate) fn walk_all<S: DrvSource>(
     alloc: Global,
     source: &mut S,
-    dir: &StoreDir,
+    rules: &Rules,
     roots: &[StorePath],
 ) -> Result<LoadedGraph, GraphFault>
     ensures keeps { GivesSame (S.gives source.old) (S.gives source.new) }
     ensures counts { S.failures source.old ≤ S.failures source.new }
     ensures device { IfErr result (IsCountedFault (S.gives source.old) (S.failures source.old)
         (S.failures source.new)) }
-    ensures walking { IsWalkingAll dir.now (S.gives source.old) roots.now result }
+    ensures walking { IsWalkingAll rules.now.profile rules.now.dir.now (S.gives source.old)
+        roots.now result }
 {
     let mut found = empty_walk(alloc);
     let mut numbers = IndexSet::new(alloc);
     'roots: for place in 0..roots.len() {
-        let number = walk(alloc, source, dir, &mut found, roots, place)?;
+        let number = walk(alloc, source, rules, &mut found, roots, place)?;
         numbers.insert(number)?;
     }
     Ok(LoadedGraph {

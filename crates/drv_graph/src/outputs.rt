@@ -15,9 +15,10 @@ use crate::fault::OutputFault;
 use crate::kind_of::kind_of;
 use crate::kinds::Kind;
 use crate::modulo::text_by_hashes;
+use crate::profile::{Profile, Rules};
 use crate::values::check_values;
 use nix_drv::{Derivation, Input, Output};
-use nix_names::{StoreDir, StorePath, is_name};
+use nix_names::{StorePath, is_name};
 use sha2::{Digest, Sha256};
 use std::alloc::{AllocError, Global};
 
@@ -33,16 +34,16 @@ pub(crate) struct UsedInput<'a> {
 // `used` has its inputs in its text's order.
 pub(crate) fn check_outputs(
     alloc: Global,
-    dir: &StoreDir,
+    rules: &Rules,
     name: &[u8],
     drv: &Derivation,
     used: &[UsedInput],
 ) -> Result<Kind, OutputFault>
     requires { paths_of_uses used.now ≡ inputs_of drv.now }
-    ensures { IsOutputsCheck IsThePath dir.now name.now drv.now (drvs_of_uses used.now)
-        (hashes_of used.now) result }
+    ensures { IsOutputsCheck IsThePath rules.now.profile rules.now.dir.now name.now drv.now
+        (drvs_of_uses used.now) (hashes_of used.now) result }
 {
-    let (kind, _) = expected_outputs(alloc, dir, name, drv, used, false)?;
+    let (kind, _) = expected_outputs(alloc, rules, name, drv, used, false)?;
     Ok(kind)
 }
 
@@ -50,20 +51,19 @@ pub(crate) fn check_outputs(
 // a value may be empty where the expected path belongs.
 pub(crate) fn expected_outputs(
     alloc: Global,
-    dir: &StoreDir,
+    rules: &Rules,
     name: &[u8],
     drv: &Derivation,
     used: &[UsedInput],
     in_draft: bool,
 ) -> Result<(Kind, Vec<StorePath>), OutputFault>
     requires { paths_of_uses used.now ≡ inputs_of drv.now }
-    ensures { IsExpecting in_draft dir.now name.now drv.now (drvs_of_uses used.now)
-        (hashes_of used.now)
-        result }
+    ensures { IsExpecting in_draft rules.now.profile rules.now.dir.now name.now drv.now
+        (drvs_of_uses used.now) (hashes_of used.now) result }
 {
-    let kind = check_sound(alloc, name, drv, used)?;
+    let kind = check_sound(alloc, rules.profile, name, drv, used)?;
     let hashes = hashes(alloc, used)?;
-    let paths = expected_paths(alloc, dir, name, drv, kind, &hashes)?;
+    let paths = expected_paths(alloc, rules.dir, name, drv, kind, &hashes)?;
     check_values(alloc, drv, paths.as_slice(), in_draft)?;
     Ok((kind, paths))
 }
@@ -85,14 +85,15 @@ fn hashes(alloc: Global, used: &[UsedInput]) -> Result<Vec<[u8; 32]>, AllocError
 // the outputs that are used of inputs.
 fn check_sound(
     alloc: Global,
+    profile: Profile,
     name: &[u8],
     drv: &Derivation,
     used: &[UsedInput],
 ) -> Result<Kind, OutputFault>
     requires { paths_of_uses used.now ≡ inputs_of drv.now }
-    ensures { IsSoundCheck name.now drv.now (drvs_of_uses used.now) result }
+    ensures { IsSoundCheck profile name.now drv.now (drvs_of_uses used.now) result }
 {
-    let kind = kind_of(alloc, drv)?;
+    let kind = kind_of(alloc, profile, drv)?;
     check_names(alloc, name, drv.outputs())?;
     check_uses(alloc, drv.inputs(), used)?;
     Ok(kind)

@@ -16,6 +16,7 @@ use crate::fault::GraphFault;
 use crate::kinds::Kind;
 use crate::load::{LoadedGraph, walk_all};
 use crate::node::{PlanNode, copy_nodes, same_nodes};
+use crate::profile::{Profile, Rules};
 use crate::walk_state::WalkState;
 use nix_drv::{Derivation, DrvSource};
 use nix_names::{StoreDir, StorePath};
@@ -23,9 +24,11 @@ use std::alloc::Global;
 use std::marker::Model;
 
 /// The derivations that some roots reach, each after its inputs; a derivation's number is its
-/// place, counted from 0. A contract sees the derivations with their paths, and the roots' numbers.
+/// place, counted from 0. A contract sees the profile under which they were loaded, the derivations
+/// with their paths, and the roots' numbers.
 #[derive(Debug, Drop)]
 pub struct Plan {
+    profile: Profile,
     nodes: Vec<PlanNode>,
     roots: Vec<usize>,
 }
@@ -38,22 +41,22 @@ impl Model for Plan {
     ghost use Rattle.drv_graph.specs.PlanNodes.{AreKept, nodes_of};
     ghost use Rattle.drv_graph.specs.SoundGraphs.{IsSound};
 
-    ghost view = { λ plan. record { nodes = nodes_of plan.nodes.items; roots = plan.roots.items } };
+    ghost view = { λ plan. record {
+      profile = plan.profile;
+      nodes = nodes_of plan.nodes.items;
+      roots = plan.roots.items;
+    } };
 
     ghost invariant = { λ plan. AreKept plan.nodes.items × IsSound
-        (record { nodes = nodes_of plan.nodes.items; roots = plan.roots.items }) };
+        (record {
+          profile = plan.profile;
+          nodes = nodes_of plan.nodes.items;
+          roots = plan.roots.items;
+        }) };
 }
 
 impl Plan {
-    /// The plan of the roots: what they reach by the source's answers, in the folder. A root that
-    /// is repeated counts once. A fault has the path at which it was found. At each derivation that
-    /// is met for the first time, in this order: `Unreadable`, `TooMany`, the faults of
-    /// `check_text`, those of its inputs in turn, those of its outputs, `OutputClash` last. An
-    /// input whose own inputs are still being met is a `Cycle`: that is answered in the input's
-    /// turn, at its path, after the faults of the inputs before it. Where the device failed, the
-    /// source counted it. Each path is fetched once, and each derivation read, checked and digested
-    /// once; the rest is linear in the pairs of a user and an input, by look-ups by hash. Does not
-    /// recurse.
+    /// The plan of the roots under the profile `Plain`, as `load_as` gives it.
     pub fn load<S: DrvSource>(
         alloc: Global,
         source: &mut S,
@@ -64,16 +67,46 @@ impl Plan {
         ensures counts { S.failures source.old ≤ S.failures source.new }
         ensures device { IfErr result (IsCountedFault (S.gives source.old)
             (S.failures source.old) (S.failures source.new)) }
-        ensures loading { IsLoading dir.now (S.gives source.old) roots.now result }
+        ensures loading { IsLoading Profile.Plain dir.now (S.gives source.old) roots.now result }
     {
-        let LoadedGraph { found, roots } = walk_all(alloc, source, dir, roots)?;
+        Plan::load_as(alloc, Profile::Plain, source, dir, roots)
+    }
+
+    /// The plan of the roots under a profile: what they reach by the source's answers, in the
+    /// folder. A root that is repeated counts once. A fault has the path at which it was found. At
+    /// each derivation that is met for the first time, in this order: `Unreadable`, `TooMany`, the
+    /// faults of `check_text`, those of its inputs in turn, those of its outputs, `OutputClash`
+    /// last. An input whose own inputs are still being met is a `Cycle`: that is answered in the
+    /// input's turn, at its path, after the faults of the inputs before it. Where the device
+    /// failed, the source counted it. Each path is fetched once, and each derivation read, checked
+    /// and digested once; the rest is linear in the pairs of a user and an input, by look-ups by
+    /// hash. Does not recurse.
+    pub fn load_as<S: DrvSource>(
+        alloc: Global,
+        profile: Profile,
+        source: &mut S,
+        dir: &StoreDir,
+        roots: &[StorePath],
+    ) -> Result<Plan, GraphFault>
+        ensures keeps { GivesSame (S.gives source.old) (S.gives source.new) }
+        ensures counts { S.failures source.old ≤ S.failures source.new }
+        ensures device { IfErr result (IsCountedFault (S.gives source.old)
+            (S.failures source.old) (S.failures source.new)) }
+        ensures loading { IsLoading profile dir.now (S.gives source.old) roots.now result }
+    {
+        let rules = Rules { profile, dir };
+        let LoadedGraph { found, roots } = walk_all(alloc, source, &rules, roots)?;
         let roots = Vec::from_slice(alloc, roots.as_slice())?;
         let WalkState {
             nodes,
             marks: _,
             owners: _,
         } = found;
-        Ok(Plan { nodes, roots })
+        Ok(Plan {
+            profile,
+            nodes,
+            roots,
+        })
     }
 
     /// A copy of the plan. Answers `NoMemory` where memory is refused, and no other fault. Copies
@@ -84,7 +117,11 @@ impl Plan {
     {
         let nodes = copy_nodes(alloc, &self.nodes)?;
         let roots = Vec::from_slice(alloc, &self.roots)?;
-        Ok(Plan { nodes, roots })
+        Ok(Plan {
+            profile: self.profile,
+            nodes,
+            roots,
+        })
     }
 
     // Whether the plans have the same derivations in the same order.
@@ -92,6 +129,13 @@ impl Plan {
         ensures { result ≡ pointwise same_node self.now.nodes other.now.nodes }
     {
         same_nodes(&self.nodes, &other.nodes)
+    }
+
+    /// The profile under which the plan was loaded.
+    pub fn profile(&self) -> Profile
+        ensures { result ≡ self.now.profile }
+    {
+        self.profile
     }
 
     /// How many derivations there are.

@@ -10,7 +10,9 @@ impl PartialEq for Plan {
     ghost laws = { partial_equiv_from_equiv same_graph_laws };
 
     fn eq(&self, other: &Plan) -> bool {
-        self.roots() == other.roots() && self.has_same_nodes(other)
+        self.profile().is_same(other.profile())
+            && self.roots() == other.roots()
+            && self.has_same_nodes(other)
     }
 }
 

@@ -11,6 +11,7 @@ ghost use Rattle.drv_graph.specs.private.Walks.{IsFetching, IsWalkSoFar, IsGoing
 
 use crate::fault::{GraphFault, NodeFault};
 use crate::paths::known_paths;
+use crate::profile::Rules;
 use crate::walk_state::{Visit, WalkState, leave};
 use indexmap::IndexMap;
 use nix_drv::{Derivation, DrvFault, DrvSource, SourceFault, check_text};
@@ -34,26 +35,28 @@ pub(crate) enum Meeting {
 pub(crate) fn walk<S: DrvSource>(
     alloc: Global,
     source: &mut S,
-    dir: &StoreDir,
+    rules: &Rules,
     found: &mut WalkState,
     roots: &[StorePath],
     place: usize,
 ) -> Result<usize, GraphFault>
     requires place { place < length roots.now }
-    requires walked { IsWalked dir.now (S.gives source.old) roots.now found.old [] }
+    requires walked { IsWalked rules.now.profile rules.now.dir.now (S.gives source.old) roots.now
+        found.old [] }
     ensures keeps { GivesSame (S.gives source.old) (S.gives source.new) }
     ensures counts { S.failures source.old ≤ S.failures source.new }
     ensures device { IfErr result (IsCountedFault (S.gives source.old) (S.failures source.old)
         (S.failures source.new)) }
     ensures walking { (root : List ℕ) → slice_get roots.now place ≡ Some root
-        → IsWalking dir.now (S.gives source.old) roots.now root found.old found.new result }
+        → IsWalking rules.now.profile rules.now.dir.now (S.gives source.old) roots.now root
+        found.old found.new result }
 {
     let root = &roots[place];
     let mut visits = Vec::new(alloc);
     'walk: loop {
         match visits.pop() {
-            Some(visit) => go_on(alloc, source, dir, found, &mut visits, visit)?,
-            None => match meet(alloc, source, dir, &mut found.marks, root)? {
+            Some(visit) => go_on(alloc, source, rules, found, &mut visits, visit)?,
+            None => match meet(alloc, source, rules.dir, &mut found.marks, root)? {
                 Meeting::Done(number) => return Ok(number),
                 Meeting::New(visit) => visits.push(visit)?,
             },
@@ -66,27 +69,27 @@ pub(crate) fn walk<S: DrvSource>(
 fn go_on<S: DrvSource>(
     alloc: Global,
     source: &mut S,
-    dir: &StoreDir,
+    rules: &Rules,
     found: &mut WalkState,
     visits: &mut Vec<Visit>,
     mut visit: Visit,
 ) -> Result<(), GraphFault>
-    requires found { IsWalkSoFar dir.now found.old }
+    requires found { IsWalkSoFar rules.now.profile rules.now.dir.now found.old }
     requires visit { IsVisit (nodes_of found.old.nodes.items) visit }
     requires pending { marked found.old.marks visit.path ≡ Some None }
     requires is_new { Contains (paths_of (nodes_of found.old.nodes.items)) visit.path → ⊥ }
-    requires in_store { All (IsPathOf dir.now) visit.drv.sources }
+    requires in_store { All (IsPathOf rules.now.dir.now) visit.drv.sources }
     ensures keeps { GivesSame (S.gives source.old) (S.gives source.new) }
     ensures counts { S.failures source.old ≤ S.failures source.new }
     ensures device { IfErr result (IsCountedFault (S.gives source.old) (S.failures source.old)
         (S.failures source.new)) }
-    ensures going_on { IsGoingOn dir.now (S.gives source.old) found.old found.new visits.old.items
-        visit visits.new.items result }
+    ensures going_on { IsGoingOn rules.now.profile rules.now.dir.now (S.gives source.old) found.old
+        found.new visits.old.items visit visits.new.items result }
 {
     if visit.inputs.len() <= visit.numbers.len() {
-        return leave(alloc, dir, found, visit);
+        return leave(alloc, rules, found, visit);
     }
-    let child = step(alloc, source, dir, &mut found.marks, &mut visit)?;
+    let child = step(alloc, source, rules.dir, &mut found.marks, &mut visit)?;
     visits.push(visit)?;
     if let Some(child) = child {
         visits.push(child)?;

@@ -15,9 +15,10 @@ use crate::node::PlanNode;
 use crate::output_owners::own;
 use crate::outputs::{UsedInput, check_outputs, modulo_hash};
 use crate::paths::known_paths;
+use crate::profile::Rules;
 use indexmap::IndexMap;
 use nix_drv::Derivation;
-use nix_names::{StoreDir, StorePath};
+use nix_names::StorePath;
 use std::alloc::{AllocError, Global};
 
 // The length of `.drv`, in which the name of a derivation's file ends.
@@ -50,22 +51,22 @@ pub(crate) struct Visit {
 // number.
 pub(crate) fn leave(
     alloc: Global,
-    dir: &StoreDir,
+    rules: &Rules,
     found: &mut WalkState,
     visit: Visit,
 ) -> Result<(), GraphFault>
-    requires found { IsWalkSoFar dir.now found.old }
+    requires found { IsWalkSoFar rules.now.profile rules.now.dir.now found.old }
     requires visit { IsVisit (nodes_of found.old.nodes.items) visit }
     requires walked { HasAllNumbers visit }
     requires pending { marked found.old.marks visit.path ≡ Some None }
     requires is_new { Contains (paths_of (nodes_of found.old.nodes.items)) visit.path → ⊥ }
-    requires in_store { All (IsPathOf dir.now) visit.drv.sources }
-    ensures { IsLeaving dir.now found.old found.new visit result }
+    requires in_store { All (IsPathOf rules.now.dir.now) visit.drv.sources }
+    ensures { IsLeaving rules.now.profile rules.now.dir.now found.old found.new visit result }
 {
-    let (kind, hash) = check_visit(alloc, dir, &found.nodes, &visit)?;
+    let (kind, hash) = check_visit(alloc, rules, &found.nodes, &visit)?;
     let parts = visit.drv.parts();
-    let outputs = known_paths(alloc, dir, &parts.outputs)?;
-    let sources = known_paths(alloc, dir, &parts.sources)?;
+    let outputs = known_paths(alloc, rules.dir, &parts.outputs)?;
+    let sources = known_paths(alloc, rules.dir, &parts.sources)?;
     let first = own(
         alloc,
         &found.nodes,
@@ -95,18 +96,18 @@ pub(crate) fn leave(
 // The kind of the outputs and the modulo hash of an open derivation whose inputs were all left.
 fn check_visit(
     alloc: Global,
-    dir: &StoreDir,
+    rules: &Rules,
     kept: &[PlanNode],
     visit: &Visit,
 ) -> Result<(Kind, [u8; 32]), GraphFault>
     requires kept { AreKept kept.now }
     requires numbers { AreNumbers (nodes_of kept.now) visit.now.numbers.items
         (inputs_of visit.now.drv) }
-    ensures { IsOutputsChecking dir.now kept.now visit.now result }
+    ensures { IsOutputsChecking rules.now.profile rules.now.dir.now kept.now visit.now result }
 {
     let used = used_inputs(alloc, kept, &visit.numbers)?;
     let name = drv_name(&visit.path);
-    match check_outputs(alloc, dir, name, &visit.drv, &used) {
+    match check_outputs(alloc, rules, name, &visit.drv, &used) {
         Ok(kind) => {
             let hash = modulo_hash(alloc, &visit.drv, kind, &used)?;
             Ok((kind, hash))

@@ -4,7 +4,7 @@ use Rattle.std.proofs.lemmas.List.{drop_more}
 use Rattle.ref_scan.specs.Links.{targets, targets_among}
 use Rattle.ref_scan.specs.private.Walk.{count_below, pieces_below}
 use Rattle.ref_scan.specs.Trees.{pieces, pieces_among, depth_of, depth_among, entry_count, entry_count_among, file_bytes, file_bytes_among}
-use Rattle.ref_scan.specs.declared.tree.Tree.{Tree, File, Pieces, Link, Dir, Dir', Row_of-Member, end_of-Member, more_of-Member, items-the_row-Member}
+use Rattle.ref_scan.specs.declared.tree.Tree.{Tree, File, Pieces, Executable, Link, Dir, Dir', Row_of-Member, end_of-Member, more_of-Member, items-the_row-Member}
 use Rattle.ref_scan.specs.declared.tree.Tree.TheBlock.{hidden-the_row-Member-0, items_hidden-the_row-Member-0}
 use Rattle.ref_scan.specs.declared.tree.Member.{Member}
 
@@ -75,6 +75,7 @@ bytes_dir entries =
 pub depth_some : (tree : Tree) → 1 ≤ depth_of tree
 depth_some (File bytes) = omega arith
 depth_some (Pieces parts) = omega arith
+depth_some (Executable parts) = omega arith
 depth_some (Link target) = omega arith
 depth_some (Dir' shape entries) = omega arith
 

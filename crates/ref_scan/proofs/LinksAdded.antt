@@ -5,7 +5,7 @@ use Rattle.std.proofs.lemmas.List.Sums.{sum_by-append}
 use Rattle.ref_scan.specs.Links.{LinksAdd, plain_bytes, plain_bytes_among, plain_pieces, plain_pieces_among, targets, targets_among}
 use Rattle.ref_scan.specs.Scan.{Within}
 use Rattle.ref_scan.specs.Trees.{file_bytes, file_bytes_among, pieces, pieces_among}
-use Rattle.ref_scan.specs.declared.tree.Tree.{Tree, File, Pieces, Link, Dir', Row_of-Member, end_of-Member, more_of-Member}
+use Rattle.ref_scan.specs.declared.tree.Tree.{Tree, File, Pieces, Executable, Link, Dir', Row_of-Member, end_of-Member, more_of-Member}
 use Rattle.ref_scan.proofs.Pieces.{Any-either, Any-left, Any-none, Any-right}
 
 -- some of a list is some of either of two others
@@ -43,6 +43,7 @@ mutual
       → IsParted (Within part) (pieces tree) (plain_pieces tree) (targets tree)
   occurs_in part (File bytes) = parted_left (Within part) (bytes.items ∷ [])
   occurs_in part (Pieces parts) = parted_left (Within part) (pieces (Pieces parts))
+  occurs_in part (Executable parts) = parted_left (Within part) (pieces (Executable parts))
   occurs_in part (Link target) = parted_right (Within part) (target.items ∷ [])
   occurs_in part (Dir' shape entries) = occurs_among part entries
 
@@ -63,6 +64,7 @@ mutual
       ≡ plain_bytes tree + sum_by length (targets tree)
   bytes_in (File bytes) = omega arith
   bytes_in (Pieces parts) = omega arith
+  bytes_in (Executable parts) = omega arith
   bytes_in (Link target) = omega arith
   bytes_in (Dir' shape entries) = bytes_among entries
 
@@ -88,6 +90,7 @@ mutual
   plain_in : (tree : Tree) → targets tree ≡ [] → pieces tree ≡ plain_pieces tree
   plain_in (File bytes) none = refl
   plain_in (Pieces parts) none = refl
+  plain_in (Executable parts) none = refl
   plain_in (Link target) none = absurd cc
   plain_in (Dir' shape entries) none = plain_among entries none
 

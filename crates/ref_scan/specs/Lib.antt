@@ -1,4 +1,5 @@
 -- What public contracts cite, and what that rests on.
+pub mod Archives
 pub mod Faults
 pub mod Feed
 pub mod Links

@@ -3,13 +3,14 @@ use Rattle.std.specs.Prelude.{◌≡◌, ◌↔◌, ◌⊎◌, ℕ, ◌+◌, Lis
 use Rattle.nix_names.specs.Bytes.{Bytes}
 use Rattle.ref_scan.specs.Scan.{OccursIn}
 use Rattle.ref_scan.specs.Trees.{file_bytes, joined, pieces}
-use Rattle.ref_scan.specs.declared.tree.Tree.{Tree, File, Pieces, Link, Dir', Row_of-Member, end_of-Member, more_of-Member}
+use Rattle.ref_scan.specs.declared.tree.Tree.{Tree, File, Pieces, Executable, Link, Dir', Row_of-Member, end_of-Member, more_of-Member}
 
 abbrev mutual
   -- the targets of a tree's links, at any depth
   pub targets : Tree → List Bytes
   targets (File bytes) = []
   targets (Pieces parts) = []
+  targets (Executable parts) = []
   targets (Link target) = target.items ∷ []
   targets (Dir' shape entries) = targets_among entries
 
@@ -23,6 +24,7 @@ abbrev mutual
   pub plain_pieces : Tree → List Bytes
   plain_pieces (File bytes) = bytes.items ∷ []
   plain_pieces (Pieces parts) = joined parts.items ∷ []
+  plain_pieces (Executable parts) = joined parts.items ∷ []
   plain_pieces (Link target) = []
   plain_pieces (Dir' shape entries) = plain_pieces_among entries
 
@@ -37,6 +39,7 @@ abbrev mutual
   pub plain_bytes : Tree → ℕ
   plain_bytes (File bytes) = length bytes.items
   plain_bytes (Pieces parts) = length (joined parts.items)
+  plain_bytes (Executable parts) = length (joined parts.items)
   plain_bytes (Link target) = 0
   plain_bytes (Dir' shape entries) = plain_bytes_among entries
 

@@ -1,11 +1,12 @@
 -- Trees of files, symbolic links and folders: the pieces in which a reference may stand, and the
--- measures that an output's limits bound.
+-- measures that an output's limits bound. In all of them a file that its owner may execute is a file
+-- as any other: only an archive (NAR) and the rules on fixed outputs tell the two apart.
 use Rattle.std.specs.Prelude.{ℕ, ◌+◌, ◌≤◌, max, List, [], ◌∷◌, ◌++◌, length}
 use Rattle.std.specs.List.{flat_map}
 use Rattle.std.specs.declared.alloc.Global.{Global}
 use Rattle.std.specs.declared.vec.Vec.{Vec}
 use Rattle.nix_names.specs.Bytes.{Bytes}
-use Rattle.ref_scan.specs.declared.tree.Tree.{Tree, File, Pieces, Link, Dir', Row_of-Member, end_of-Member, more_of-Member}
+use Rattle.ref_scan.specs.declared.tree.Tree.{Tree, File, Pieces, Executable, Link, Dir', Row_of-Member, end_of-Member, more_of-Member}
 
 -- the bytes that the pieces of a file make together; no pieces are the empty file
 abbrev pub joined : List (Vec ℕ Global) → Bytes
@@ -18,6 +19,7 @@ abbrev mutual
   pub pieces : Tree → List Bytes
   pieces (File bytes) = bytes.items ∷ []
   pieces (Pieces parts) = joined parts.items ∷ []
+  pieces (Executable parts) = joined parts.items ∷ []
   pieces (Link target) = target.items ∷ []
   pieces (Dir' shape entries) = pieces_among entries
 
@@ -31,6 +33,7 @@ abbrev mutual
   pub depth_of : Tree → ℕ
   depth_of (File bytes) = 1
   depth_of (Pieces parts) = 1
+  depth_of (Executable parts) = 1
   depth_of (Link target) = 1
   depth_of (Dir' shape entries) = 1 + depth_among entries
 
@@ -44,6 +47,7 @@ abbrev mutual
   pub entry_count : Tree → ℕ
   entry_count (File bytes) = 0
   entry_count (Pieces parts) = 0
+  entry_count (Executable parts) = 0
   entry_count (Link target) = 0
   entry_count (Dir' shape entries) = entry_count_among entries
 
@@ -57,6 +61,7 @@ abbrev mutual
   pub file_bytes : Tree → ℕ
   file_bytes (File bytes) = length bytes.items
   file_bytes (Pieces parts) = length (joined parts.items)
+  file_bytes (Executable parts) = length (joined parts.items)
   file_bytes (Link target) = length target.items
   file_bytes (Dir' shape entries) = file_bytes_among entries
 

@@ -4,4 +4,5 @@ pub mod Marks
 pub mod Places
 pub mod Room
 pub mod Scanned
+pub mod Telling
 pub mod Walk

@@ -1,5 +1,6 @@
 //! Laws over the definitions that contracts cite, each on the contract of a function that does
 //! nothing.
+ghost use Rattle.ref_scan.specs.Archives.{ArchiveIsOne};
 ghost use Rattle.ref_scan.specs.Links.{LinksAdd};
 ghost use Rattle.ref_scan.specs.Scan.{IsFound};
 ghost use Rattle.ref_scan.specs.declared.tree.Tree.{Tree};
@@ -17,4 +18,10 @@ pub fn found_is_one()
 /// tree without links the files and the names alone are searched.
 pub fn links_add()
     ensures { (tree : Tree) → LinksAdd tree }
+{}
+
+/// A tree has one archive at most: of the trees that are that of its archive, one may stand in an
+/// archive, in which each folder's names rise.
+pub fn archive_is_one()
+    ensures { ArchiveIsOne }
 {}

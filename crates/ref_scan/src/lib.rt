@@ -8,6 +8,7 @@
 //! | `marks` | which hash parts stand within the bytes that were fed |
 //! | `search`, `index`, `alphabet` | some bytes searched for all hash parts at once |
 //! | `seam`, `fed` | what is kept of a piece, and what was fed |
+//! | `telling` | the archive (NAR) of a tree, told event by event, and its length and digest |
 //! | `fault` | why a scan gave up |
 //! | `laws` | laws over the definitions that contracts cite |
 #![tactic(auto)]
@@ -22,9 +23,13 @@ mod references;
 mod scanner;
 mod seam;
 mod search;
+mod telling;
 mod tree;
 
 pub use fault::ScanFault;
 pub use references::scan;
 pub use scanner::Scanner;
+pub use telling::sum::{ArchiveSum, archive_digest, archive_into, archive_sum};
+pub use telling::told::Told;
+pub use telling::walk::tell;
 pub use tree::{MAX_DEPTH, MAX_ENTRIES, MAX_FILE_BYTES, Member, Tree};

@@ -81,11 +81,11 @@ fn visit<'a>(
 {
     match tree {
         Tree::File(bytes) | Tree::Link(bytes) => feed_list(marks, bytes),
-        Tree::Pieces(pieces) => {
+        Tree::Pieces(pieces) | Tree::Executable(pieces) => {
             feed_pieces(marks, pieces);
             marks.cut();
         }
-        Tree::Dir(members) => folders.push(members)?,
+        Tree::Dir(members) => folders.push(members.as_slice())?,
     }
     Ok(())
 }

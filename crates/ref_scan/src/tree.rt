@@ -12,8 +12,9 @@ pub const MAX_ENTRIES: usize = 65_536;
 /// The most bytes of an output's files and of its links' targets together.
 pub const MAX_FILE_BYTES: usize = 67_108_864;
 
-/// A file, a symbolic link, or a folder with all that is in it. Dropping a tree recurses, once for
-/// each level, and so does `{:?}`.
+/// A file, a symbolic link, or a folder with all that is in it. Only an archive (NAR) and the rules
+/// on fixed outputs tell a file that its owner may execute from another file: to scans and limits it
+/// is a file. Dropping a tree recurses, once for each level, and so does `{:?}`.
 #[derive(Debug, Drop)]
 #[cycle(tree)]
 pub enum Tree {
@@ -21,6 +22,9 @@ pub enum Tree {
     File(Vec<u8>),
     /// A file's bytes, in the pieces in which it was read. No pieces are the empty file.
     Pieces(Vec<Vec<u8>>),
+    /// A file that its owner may execute, in the pieces in which it was read. No pieces are the empty
+    /// file.
+    Executable(Vec<Vec<u8>>),
     /// A symbolic link's target, as it was read: it is not followed.
     Link(Vec<u8>),
     /// A folder's members, in any order.
@@ -66,10 +70,7 @@ impl Tree {
     {
         match self {
             Tree::File(bytes) | Tree::Link(bytes) => room_beside_bytes(bytes, room),
-            Tree::Pieces(pieces) => Some(Room {
-                bytes: bytes_beside(pieces, room.bytes)?,
-                ..room
-            }),
+            Tree::Pieces(pieces) | Tree::Executable(pieces) => room_beside_pieces(pieces, room),
             Tree::Dir(entries) => {
                 let mut left = Room {
                     entries: room.entries.checked_sub(entries.len())?,
@@ -92,6 +93,18 @@ fn room_beside_bytes(bytes: &[u8], room: Room) -> Option<Room>
 {
     Some(Room {
         bytes: room.bytes.checked_sub(bytes.len())?,
+        ..room
+    })
+}
+
+// What is left of the room beside a file in pieces.
+fn room_beside_pieces(pieces: &[Vec<u8>], room: Room) -> Option<Room>
+    ensures { MatchOption result (room.bytes < length (joined pieces.now))
+        (λ left. (left.entries ≡ room.entries)
+        × (left.bytes + length (joined pieces.now) ≡ room.bytes)) }
+{
+    Some(Room {
+        bytes: bytes_beside(pieces, room.bytes)?,
         ..room
     })
 }

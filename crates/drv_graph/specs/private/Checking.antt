@@ -7,41 +7,48 @@ use Rattle.nix_names.specs.Firsts.{IsFirstWhere}
 use Rattle.nix_names.specs.declared.digest.Digest.{Digest}
 use Rattle.nix_drv.specs.Derivation.{Drv, Output, EnvEntry}
 use Rattle.drv_graph.specs.Expected.{IsExpected}
-use Rattle.drv_graph.specs.Kinds.{HasKind, AreMixed, IsAddressed, IsFixed, HasUnknownMethod}
+use Rattle.drv_graph.specs.Kinds.{HasKind, AreMixed, IsAddressed, IsFixed, HasUnknownMethod, Takes}
 use Rattle.drv_graph.specs.Outputs.{AreSound, IsKnownUse, IsOutputsCheck, IsThePath, IsThePathOrEmpty, IsWellNamed, Use, uses}
 use Rattle.drv_graph.specs.declared.kinds.Kind.{Kind}
 use Rattle.drv_graph.specs.declared.kinds.Kind.TheVariants.{Fixed}
-use Rattle.drv_graph.specs.declared.kinds.Method.{Method}
+use Rattle.nix_names.specs.declared.method.Method.{Method}
 use Rattle.drv_graph.specs.declared.fault.OutputFault.{OutputFault}
 use Rattle.drv_graph.specs.declared.fault.OutputFault.TheVariants.{NoMemory, MixedOutputs, UnknownMethod, BadName, UnknownOutput, OutputMismatch, EnvMismatch}
+use Rattle.drv_graph.specs.declared.profile.Profile.{Profile}
 
 -- some output isn't input-addressed
 abbrev pub SaysSome : List Output → Type 0
 SaysSome outputs = (o : Output) × Contains outputs o × (IsAddressed o → ⊥)
 
--- an output's content is fixed by no known method
-abbrev pub IsNotFixed : Output → Type 0
-IsNotFixed output = (method : Method) (digest : Digest) → IsFixed output method digest → ⊥
+-- a profile takes an output by no method and digest
+abbrev pub IsNotTaken : Profile → Output → Type 0
+IsNotTaken profile output = (method : Method) (digest : Digest) → IsFixed output method digest
+    → Takes profile (Fixed method digest) → ⊥
 
 -- the fault names this output as one with no known method
 abbrev pub NamesUnknown : Output → OutputFault → Type 0
 NamesUnknown o (UnknownMethod output) = output.items ≡ o.name
 NamesUnknown o fault = ⊥
 
--- the kind of a fixed output, or the fault that it has no known method
-abbrev pub IsFixedKind : Output → Result Kind OutputFault → Type 0
-IsFixedKind o (Ok (Fixed method digest)) = IsFixed o method digest
-IsFixedKind o (Err (UnknownMethod output)) = IsNotFixed o × (output.items ≡ o.name)
-IsFixedKind o (Err NoMemory) = ⊤
-IsFixedKind o result = ⊥
+-- an output has no known method, or no hash of it
+abbrev pub IsNotFixed : Output → Type 0
+IsNotFixed output = (method : Method) (digest : Digest) → IsFixed output method digest → ⊥
+
+-- the kind of a fixed output that the profile takes, or the fault that it has no known method
+abbrev pub IsFixedKind : Profile → Output → Result Kind OutputFault → Type 0
+IsFixedKind profile o (Ok (Fixed method digest)) = IsFixed o method digest
+    × Takes profile (Fixed method digest)
+IsFixedKind profile o (Err (UnknownMethod output)) = IsNotTaken profile o × (output.items ≡ o.name)
+IsFixedKind profile o (Err NoMemory) = ⊤
+IsFixedKind profile o result = ⊥
 
 -- what is wrong with the kind of a derivation's outputs
-abbrev pub IsKindFault : Drv → OutputFault → Type 0
-IsKindFault drv MixedOutputs = AreMixed drv
-IsKindFault drv (UnknownMethod output) = (AreMixed drv → ⊥)
-    × ((o : Output) × Contains drv.outputs o × HasUnknownMethod o × (output.items ≡ o.name))
-IsKindFault drv NoMemory = AreMixed drv → ⊥
-IsKindFault drv fault = ⊥
+abbrev pub IsKindFault : Profile → Drv → OutputFault → Type 0
+IsKindFault profile drv MixedOutputs = AreMixed drv
+IsKindFault profile drv (UnknownMethod output) = (AreMixed drv → ⊥)
+    × ((o : Output) × Contains drv.outputs o × HasUnknownMethod profile o × (output.items ≡ o.name))
+IsKindFault profile drv NoMemory = AreMixed drv → ⊥
+IsKindFault profile drv fault = ⊥
 
 -- what is wrong with the names of some outputs
 abbrev pub IsNameFault : (name : Name) → List Output → OutputFault → Type 0
@@ -59,18 +66,21 @@ IsUseFault used fault = ⊥
 
 -- the kind of a derivation whose outputs are sound, or the first fault in the kind, the outputs'
 -- names and the uses
-abbrev pub IsSoundCheck : (name : Name) → Drv → (used : List Drv) → Result Kind OutputFault
+abbrev pub IsSoundCheck : Profile → (name : Name) → Drv → (used : List Drv)
+    → Result Kind OutputFault
     → Type 0
-IsSoundCheck name drv used (Ok kind) = AreSound name drv used kind
-IsSoundCheck name drv used (Err MixedOutputs) = AreMixed drv
-IsSoundCheck name drv used (Err (UnknownMethod output)) = IsKindFault drv (UnknownMethod output)
-IsSoundCheck name drv used (Err BadName) = (kind : Kind) × HasKind drv kind
+IsSoundCheck profile name drv used (Ok kind) = AreSound profile name drv used kind
+IsSoundCheck profile name drv used (Err MixedOutputs) = AreMixed drv
+IsSoundCheck profile name drv used (Err (UnknownMethod output)) = IsKindFault profile drv
+    (UnknownMethod output)
+IsSoundCheck profile name drv used (Err BadName) = (kind : Kind) × HasKind drv kind
+    × Takes profile kind
     × IsNameFault name drv.outputs BadName
-IsSoundCheck name drv used (Err (UnknownOutput input output)) =
-    (kind : Kind) × HasKind drv kind × All (IsWellNamed name) drv.outputs
+IsSoundCheck profile name drv used (Err (UnknownOutput input output)) =
+    (kind : Kind) × HasKind drv kind × Takes profile kind × All (IsWellNamed name) drv.outputs
     × IsUseFault (uses drv.inputs used) (UnknownOutput input output)
-IsSoundCheck name drv used (Err NoMemory) = AreMixed drv → ⊥
-IsSoundCheck name drv used result = ⊥
+IsSoundCheck profile name drv used (Err NoMemory) = AreMixed drv → ⊥
+IsSoundCheck profile name drv used result = ⊥
 
 -- a value is the expected path; in a draft it may also be empty
 abbrev pub FitsExpected : (in_draft : Bool) → (value : Bytes) → (path : Path) → Type 0
@@ -157,10 +167,11 @@ AreExpected dir name kind drv hashes paths = AllZip (IsExpected dir name kind dr
     drv.outputs paths
 
 -- the kind and the expected paths of a derivation's outputs, or the fault that their check answers
-abbrev pub IsExpecting : (in_draft : Bool) → (dir : Dir) → (name : Name) → Drv → (used : List Drv)
+abbrev pub IsExpecting : (in_draft : Bool) → (profile : Profile) → (dir : Dir) → (name : Name)
+    → Drv → (used : List Drv)
     → (hashes : List Hash) → Result (Kind × Vec Path Global) OutputFault → Type 0
-IsExpecting in_draft dir name drv used hashes (Ok found) =
-    IsOutputsCheck (FitsExpected in_draft) dir name drv used hashes (Ok found.0)
+IsExpecting in_draft profile dir name drv used hashes (Ok found) =
+    IsOutputsCheck (FitsExpected in_draft) profile dir name drv used hashes (Ok found.0)
     × AreExpected dir name found.0 drv hashes found.1.items
-IsExpecting in_draft dir name drv used hashes (Err fault) =
-    IsOutputsCheck (FitsExpected in_draft) dir name drv used hashes (Err fault)
+IsExpecting in_draft profile dir name drv used hashes (Err fault) =
+    IsOutputsCheck (FitsExpected in_draft) profile dir name drv used hashes (Err fault)

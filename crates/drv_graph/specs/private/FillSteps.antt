@@ -23,6 +23,7 @@ use Rattle.drv_graph.specs.declared.fault.OutputFault.{OutputFault}
 use Rattle.drv_graph.specs.declared.fault.OutputFault.TheVariants.{NoMemory as NoRoom}
 use Rattle.drv_graph.specs.declared.fill.Target.{Target}
 use Rattle.drv_graph.specs.declared.kinds.Kind.{Kind}
+use Rattle.drv_graph.specs.declared.profile.Profile.{Profile}
 
 -- the name, or the name of its file, is no name of a store path; or memory was refused for the name
 -- of the file
@@ -56,38 +57,42 @@ pub record AreUsed (nodes : List Node) (draft : Drv) (used : List Drv) (hashes :
   pub are_hashes : AreHashes nodes (inputs_of draft) hashes
 
 -- the outputs of a draft are right, and their expected paths are these
-abbrev pub AreDraftPaths : (dir : Dir) → (name : Name) → Drv → (used : List Drv)
+abbrev pub AreDraftPaths : (profile : Profile) → (dir : Dir) → (name : Name) → Drv
+    → (used : List Drv)
     → (hashes : List Hash) → (paths : List Path) → Type 0
-AreDraftPaths dir name draft used hashes paths =
-    (kind : Kind) × IsOutputsCheck IsThePathOrEmpty dir name draft used hashes (Ok kind)
+AreDraftPaths profile dir name draft used hashes paths =
+    (kind : Kind) × IsOutputsCheck IsThePathOrEmpty profile dir name draft used hashes (Ok kind)
     × AreExpected dir name kind draft hashes paths
 
 -- something is wrong with the outputs of a draft, or memory was refused
-abbrev pub AreOutputsRefused : (dir : Dir) → (name : Name) → Drv → (used : List Drv)
+abbrev pub AreOutputsRefused : (profile : Profile) → (dir : Dir) → (name : Name) → Drv
+    → (used : List Drv)
     → (hashes : List Hash) → GraphFault → Type 0
-AreOutputsRefused dir name draft used hashes fault =
+AreOutputsRefused profile dir name draft used hashes fault =
     (fault ≡ NoMemory)
     ⊎ ((of : OutputFault) × (fault ≡ Draft (Outputs of)) × (of ≢ NoRoom)
-    × IsOutputsCheck IsThePathOrEmpty dir name draft used hashes (Err of))
+    × IsOutputsCheck IsThePathOrEmpty profile dir name draft used hashes (Err of))
 
 -- A draft whose inputs are among some nodes is filled.
-pub record IsFilledBehind (dir : Dir) (name : Name) (nodes : List Node) (draft filled : Drv)
+pub record IsFilledBehind (profile : Profile) (dir : Dir) (name : Name) (nodes : List Node)
+    (draft filled : Drv)
     : Type 0 where
   pub used : List Drv
   pub hashes : List Hash
   pub behind : AreUsed nodes draft used hashes
   pub kind : Kind
-  pub right : IsOutputsCheck IsThePathOrEmpty dir name draft used hashes (Ok kind)
+  pub right : IsOutputsCheck IsThePathOrEmpty profile dir name draft used hashes (Ok kind)
   pub filled_is : IsFilled (IsExpected dir name kind draft hashes) draft filled
 
 -- something is wrong with the outputs of a draft whose inputs are among some nodes, or memory was
 -- refused
-abbrev pub IsFillRefused : (dir : Dir) → (name : Name) → (nodes : List Node) → Drv → GraphFault
+abbrev pub IsFillRefused : (profile : Profile) → (dir : Dir) → (name : Name) → (nodes : List Node)
+    → Drv → GraphFault
     → Type 0
-IsFillRefused dir name nodes draft fault =
+IsFillRefused profile dir name nodes draft fault =
     (fault ≡ NoMemory)
     ⊎ ((used : List Drv) × (hashes : List Hash) × AreUsed nodes draft used hashes
-    × AreOutputsRefused dir name draft used hashes fault)
+    × AreOutputsRefused profile dir name draft used hashes fault)
 
 -- the text of a derivation has too many bytes, or memory was refused
 abbrev pub IsTextRefused : Drv → GraphFault → Type 0

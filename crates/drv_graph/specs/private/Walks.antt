@@ -30,6 +30,7 @@ use Rattle.drv_graph.specs.declared.load.LoadedGraph.{LoadedGraph}
 use Rattle.drv_graph.specs.declared.walk.Meeting.{Meeting}
 use Rattle.drv_graph.specs.declared.walk.Meeting.TheVariants.{Done, New}
 use Rattle.drv_graph.specs.declared.node.PlanNode.{PlanNode}
+use Rattle.drv_graph.specs.declared.profile.Profile.{Profile}
 
 -- a path's mark: none where the path wasn't met, one without a number while its derivation is open,
 -- and one with its number when that was left
@@ -80,39 +81,44 @@ kept_visit visit kind hash outputs sources first =
     }
 
 -- What a walk found so far is right.
-pub record IsWalkSoFar (dir : Dir) (found : WalkState) : Type 0 where
+pub record IsWalkSoFar (profile : Profile) (dir : Dir) (found : WalkState) : Type 0 where
   pub kept : AreKept found.nodes.items
   pub distinct : AreDistinct (paths_of (nodes_of found.nodes.items))
-  pub lawful : AreLawful dir (nodes_of found.nodes.items)
+  pub lawful : AreLawful profile dir (nodes_of found.nodes.items)
   pub own_outputs : All (λ (n : Node). AreDistinct (output_paths_of n.drv))
       (nodes_of found.nodes.items)
   pub owners : AreOwners (owned found.owners) (outputs_of found.nodes.items)
 
 -- A derivation was left: it is the last node now.
-pub record LeavesVisit (dir : Dir) (before after : WalkState) (visit : Visit) : Type 0 where
+pub record LeavesVisit (profile : Profile) (dir : Dir) (before after : WalkState)
+    (visit : Visit) : Type 0 where
   pub nodes : nodes_of after.nodes.items ≡ nodes_of before.nodes.items ++ visited visit ∷ []
-  pub found : IsWalkSoFar dir after
+  pub found : IsWalkSoFar profile dir after
   pub marks : SetsEntry (marked before.marks) (marked after.marks) visit.path
       (Some (length before.nodes.items))
   pub count : length (keys after.marks) ≡ length (keys before.marks)
 
 -- a fault in leaving a derivation is true of it
-abbrev pub IsLeavingFault : (dir : Dir) → (kept : List PlanNode) → Visit → GraphFault → Type 0
-IsLeavingFault dir kept visit NoMemory = ⊤
-IsLeavingFault dir kept visit (At path (Outputs fault)) = (path ≡ visit.path) × (fault ≢ NoRoom)
-    × MayAnswer dir (nodes_of kept) (visited visit) (Err fault)
-IsLeavingFault dir kept visit (At path OutputClash) =
+abbrev pub IsLeavingFault : (profile : Profile) → (dir : Dir) → (kept : List PlanNode) → Visit
+    → GraphFault → Type 0
+IsLeavingFault profile dir kept visit NoMemory = ⊤
+IsLeavingFault profile dir kept visit (At path (Outputs fault)) = (path ≡ visit.path) ×
+    (fault ≢ NoRoom)
+    × MayAnswer profile dir (nodes_of kept) (visited visit) (Err fault)
+IsLeavingFault profile dir kept visit (At path OutputClash) =
     (path ≡ visit.path)
-    × ((kind : Kind) × MayAnswer dir (nodes_of kept) (visited visit) (Ok kind))
+    × ((kind : Kind) × MayAnswer profile dir (nodes_of kept) (visited visit) (Ok kind))
     × ((other : Node) × Contains (nodes_of kept) other × ShareOutput other.drv visit.drv
     × (AreTwins other.drv visit.drv → ⊥))
-IsLeavingFault dir kept visit fault = ⊥
+IsLeavingFault profile dir kept visit fault = ⊥
 
 -- what leaving an open derivation answers
-abbrev pub IsLeaving : (dir : Dir) → (before after : WalkState) → Visit → Result ⊤ GraphFault
+abbrev pub IsLeaving : (profile : Profile) → (dir : Dir) → (before after : WalkState) → Visit
+    → Result ⊤ GraphFault
     → Type 0
-IsLeaving dir before after visit (Ok _) = LeavesVisit dir before after visit
-IsLeaving dir before after visit (Err fault) = IsLeavingFault dir before.nodes.items visit fault
+IsLeaving profile dir before after visit (Ok _) = LeavesVisit profile dir before after visit
+IsLeaving profile dir before after visit
+    (Err fault) = IsLeavingFault profile dir before.nodes.items visit fault
 
 -- An input, with its path, its derivation and its modulo hash, is the derivation with this number.
 pub record IsUsed (kept : List PlanNode) (number : ℕ) (used : UsedInput) : Type 0 where
@@ -124,12 +130,12 @@ pub record IsUsed (kept : List PlanNode) (number : ℕ) (used : UsedInput) : Typ
 
 -- what the check of an open derivation's outputs answers: their kind, and the derivation's modulo
 -- hash
-abbrev pub IsOutputsChecking : (dir : Dir) → (kept : List PlanNode) → Visit
+abbrev pub IsOutputsChecking : (profile : Profile) → (dir : Dir) → (kept : List PlanNode) → Visit
     → Result (Kind × Hash) GraphFault → Type 0
-IsOutputsChecking dir kept visit (Ok made) =
-    MayAnswer dir (nodes_of kept) (visited visit) (Ok made.0)
+IsOutputsChecking profile dir kept visit (Ok made) =
+    MayAnswer profile dir (nodes_of kept) (visited visit) (Ok made.0)
     × HasHash (nodes_of kept) visit.drv made.0 made.1
-IsOutputsChecking dir kept visit (Err fault) = IsLeavingFault dir kept visit fault
+IsOutputsChecking profile dir kept visit (Err fault) = IsLeavingFault profile dir kept visit fault
 
 -- this fault at this path, or refused memory
 abbrev pub IsFaultAt : (path : Path) → NodeFault → GraphFault → Type 0
@@ -265,23 +271,26 @@ pub record LeavesNone (before after : WalkState) : Type 0 where
 
 -- what going on with the innermost open derivation answers; the others, outermost first, stay below
 -- it
-abbrev pub IsGoingOn : (dir : Dir) → (gives : Path → Answer → Type 0) → (before after : WalkState)
+abbrev pub IsGoingOn : (profile : Profile) → (dir : Dir) → (gives : Path → Answer → Type 0)
+    → (before after : WalkState)
     → (below : List Visit) → (visit : Visit) → (visits : List Visit) → Result ⊤ GraphFault → Type 0
-IsGoingOn dir gives before after below visit visits (Ok _) =
-    (HasAllNumbers visit × LeavesVisit dir before after visit × (visits ≡ below))
+IsGoingOn profile dir gives before after below visit visits (Ok _) =
+    (HasAllNumbers visit × LeavesVisit profile dir before after visit × (visits ≡ below))
     ⊎ ((next : Visit) × LeavesNone before after × Advances before.marks after.marks visit next
     × (visits ≡ below ++ next ∷ []))
     ⊎ ((child : Visit) × LeavesNone before after
     × Descends dir gives before.marks after.marks visit visit child
     × (visits ≡ (below ++ visit ∷ []) ++ child ∷ []))
-IsGoingOn dir gives before after below visit visits (Err fault) =
-    (fault ≡ NoMemory) ⊎ (HasAllNumbers visit × IsLeavingFault dir before.nodes.items visit fault)
+IsGoingOn profile dir gives before after below visit visits (Err fault) =
+    (fault ≡ NoMemory) ⊎
+    (HasAllNumbers visit × IsLeavingFault profile dir before.nodes.items visit fault)
     ⊎ IsInputFault dir gives before.marks visit fault
 
 -- What was left and what is open is right: the source may give it, and the roots reach it.
-pub record IsWalked (dir : Dir) (gives : Path → Answer → Type 0) (roots : List Path)
+pub record IsWalked (profile : Profile) (dir : Dir) (gives : Path → Answer → Type 0)
+    (roots : List Path)
     (found : WalkState) (pending : List Path) : Type 0 where
-  pub right : IsWalkSoFar dir found
+  pub right : IsWalkSoFar profile dir found
   pub given : All (λ (n : Node). MayBeAt dir gives n.path n.drv) (nodes_of found.nodes.items)
   pub reached : All (IsReachedBy (MayUse dir gives) roots) (paths_of (nodes_of found.nodes.items))
   pub marks : AreMarks (marked found.marks) (paths_of (nodes_of found.nodes.items)) pending
@@ -296,19 +305,22 @@ pub record LeavesInOrder (before after : List Node) (paths : List Path) : Type 0
       → AreLeft nodes (paths_of before) paths (paths_of after)
 
 -- A root and all that it reaches are left.
-pub record IsVisited (dir : Dir) (gives : Path → Answer → Type 0) (roots : List Path)
+pub record IsVisited (profile : Profile) (dir : Dir) (gives : Path → Answer → Type 0)
+    (roots : List Path)
     (root : Path) (before after : WalkState) (number : ℕ) : Type 0 where
-  pub walked : IsWalked dir gives roots after []
+  pub walked : IsWalked profile dir gives roots after []
   pub in_order : LeavesInOrder (nodes_of before.nodes.items) (nodes_of after.nodes.items)
       (root ∷ [])
   pub is_number : slice_get (paths_of (nodes_of after.nodes.items)) number ≡ Some root
 
 -- what walking from a root answers
-abbrev pub IsWalking : (dir : Dir) → (gives : Path → Answer → Type 0) → (roots : List Path)
+abbrev pub IsWalking : (profile : Profile) → (dir : Dir) → (gives : Path → Answer → Type 0)
+    → (roots : List Path)
     → (root : Path) → (before after : WalkState) → Result ℕ GraphFault → Type 0
-IsWalking dir gives roots root before after (Ok number) =
-    IsVisited dir gives roots root before after number
-IsWalking dir gives roots root before after (Err fault) = IsLoading dir gives roots (Err fault)
+IsWalking profile dir gives roots root before after (Ok number) =
+    IsVisited profile dir gives roots root before after number
+IsWalking profile dir gives roots root before after (Err fault) = IsLoading profile dir gives roots
+    (Err fault)
 
 -- nothing was met
 abbrev pub IsEmptyWalk : WalkState → Type 0
@@ -316,17 +328,19 @@ IsEmptyWalk found = (found.nodes.items ≡ []) × (found.marks.entries ≡ [])
     × (found.owners.entries ≡ [])
 
 -- All that roots reach was left, in plan order, and these are the roots' numbers.
-pub record IsReachedAll (dir : Dir) (gives : Path → Answer → Type 0) (roots : List Path)
+pub record IsReachedAll (profile : Profile) (dir : Dir) (gives : Path → Answer → Type 0)
+    (roots : List Path)
     (found : WalkState) (numbers : List ℕ) : Type 0 where
-  pub walked : IsWalked dir gives roots found []
+  pub walked : IsWalked profile dir gives roots found []
   pub in_order : (nodes : List Node) → All (Contains nodes) (nodes_of found.nodes.items)
       → AreLeft nodes [] roots (paths_of (nodes_of found.nodes.items))
   pub are_numbers : AreNumbers (nodes_of found.nodes.items) numbers (each_once roots)
   pub once : IsDistinct nat_eq numbers
 
 -- what walking from all roots answers
-abbrev pub IsWalkingAll : (dir : Dir) → (gives : Path → Answer → Type 0)
+abbrev pub IsWalkingAll : (profile : Profile) → (dir : Dir) → (gives : Path → Answer → Type 0)
     → (roots : List Path) → Result LoadedGraph GraphFault → Type 0
-IsWalkingAll dir gives roots (Ok reached) = IsReachedAll dir gives roots reached.found
+IsWalkingAll profile dir gives roots
+    (Ok reached) = IsReachedAll profile dir gives roots reached.found
     reached.roots.keys
-IsWalkingAll dir gives roots (Err fault) = IsLoading dir gives roots (Err fault)
+IsWalkingAll profile dir gives roots (Err fault) = IsLoading profile dir gives roots (Err fault)

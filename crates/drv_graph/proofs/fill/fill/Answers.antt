@@ -2,13 +2,14 @@ use Rattle.std.proofs.Common.{◌≡◌, ℕ, List, subst, inr, rules}
 use Rattle.std.specs.List.{AllZip}
 use Rattle.nix_drv.specs.Derivation.{Drv}
 use Rattle.drv_graph.specs.Nodes.{Node, inputs_of}
-use Rattle.drv_graph.specs.private.FillSteps.{AreUsed}
+use Rattle.drv_graph.specs.private.FillSteps.{AreOutputsRefused, AreUsed, IsFilledBehind}
 use Rattle.drv_graph.specs.Plans.{AreNumbers}
 use Rattle.drv_graph.specs.PlanNodes.{AreKept, nodes_of}
 use Rattle.drv_graph.specs.private.UsedInputs.{drvs_of_uses, hashes_of}
 use Rattle.drv_graph.specs.private.Walks.{IsUsed}
 use Rattle.drv_graph.specs.declared.node.PlanNode.{PlanNode}
 use Rattle.drv_graph.specs.declared.outputs.UsedInput.{UsedInput}
+use Rattle.drv_graph.specs.declared.profile.Profile.{Profile}
 use Rattle.drv_graph.proofs.Ends.{err_is}
 use Rattle.drv_graph.proofs.FillAnswers.{are_used, filled_behind, paths_long}
 use Rattle.drv_graph.proofs.UsedNodes.{kept_within, used_paths}
@@ -44,7 +45,11 @@ returns-in_err-paths-clause-err c =
           _ _ _ c.nodes.ensures.nodes
           c.roots.ensures c.requires c.nodes.ensures.kept c.in_ok-used.ensures.ok
           c.deref.ensures.value,
-      c.in_err-paths.ensures.err,
+      subst
+          (λ (p : Profile). AreOutputsRefused p c.args.dir.now c.args.name.now c.args.draft.now
+          (drvs_of_uses c.deref.result.now) (hashes_of c.deref.result.now)
+          c.in_err-paths.field-0.0) c.profile.ensures
+          c.in_err-paths.ensures.err,
     ))
 
 pub place-requires : goal.place-requires
@@ -52,10 +57,13 @@ place-requires c = paths_long _ _ _ _ _ _ _ c.in_ok-paths.ensures.ok c.deref-2.e
 
 pub returns-clause-ok : goal.returns-clause-ok
 returns-clause-ok c =
-    filled_behind _ _ _ _
+    subst
+    (λ (p : Profile). IsFilledBehind p c.args.dir.now c.args.name.now c.args.plan.now.nodes
+    c.args.draft.now c.in_ok-place.field-0) c.profile.ensures
+    (filled_behind _ _ _ _
     _ _ _
     _ _
     (behind _ _ _ _
     _ _ _ c.nodes.ensures.nodes
     c.roots.ensures c.requires c.nodes.ensures.kept c.in_ok-used.ensures.ok
-    c.deref.ensures.value) c.in_ok-paths.ensures.ok c.deref-2.ensures.value c.in_ok-place.ensures
+    c.deref.ensures.value) c.in_ok-paths.ensures.ok c.deref-2.ensures.value c.in_ok-place.ensures)

@@ -19,16 +19,16 @@ returns-clause-loading g c =
     let same = same_inputs c.parts.result.now _ _
     _ _ c.parts.ensures.parts c.deref.ensures.value
     c.in_ok-inputs.ensures.ok c.deref-2.ensures.value in
-    subst (λ (roots : List (List ℕ)). IsLoading c.args.dir.now
-    (g.S.DrvSource.gives c.args.source.now) roots c.load.result) same c.load.ensures.loading
+    subst (λ (roots : List (List ℕ)). IsLoading c.args.profile c.args.dir.now
+    (g.S.DrvSource.gives c.args.source.now) roots c.load_as.result) same c.load_as.ensures.loading
 
 pub returns-clause-numbers : goal.returns-clause-numbers
 returns-clause-numbers g c =
     let same = same_inputs c.parts.result.now _ _
     _ _ c.parts.ensures.parts c.deref.ensures.value
     c.in_ok-inputs.ensures.ok c.deref-2.ensures.value in
-    numbers_loaded _ (g.S.DrvSource.gives c.args.source.now)
+    numbers_loaded _ _ (g.S.DrvSource.gives c.args.source.now)
     _ _
     (inputs_rise _ c.parts.ensures.in_order)
-    (subst (λ (roots : List (List ℕ)). IsLoading c.args.dir.now
-    (g.S.DrvSource.gives c.args.source.now) roots c.load.result) same c.load.ensures.loading)
+    (subst (λ (roots : List (List ℕ)). IsLoading c.args.profile c.args.dir.now
+    (g.S.DrvSource.gives c.args.source.now) roots c.load_as.result) same c.load_as.ensures.loading)

@@ -19,7 +19,7 @@ returns-in_err-number-clause-walking g c =
     let at = slice_get-get_or _ _ [] c.roots-test.true in
     rw (err_is _ _ c.from_residual.ensures.1)
     (fault_by _ (g.S.DrvSource.gives _)
-    (g.S.DrvSource.gives _) c.roots.invariant.keeps _
+    (g.S.DrvSource.gives _) c.roots.invariant.keeps _ _
     _
     (c.in_err-number.ensures.walking (get_or c.args.roots.now c.roots.place []) at))
 
@@ -34,7 +34,9 @@ roots-preserved g c =
           (g.S.DrvSource.gives _) (g.S.DrvSource.gives _)
           c.roots.invariant.keeps c.in_ok-number.ensures.keeps;
       counts = omega (arith, c.roots.invariant.counts, c.in_ok-number.ensures.counts);
-      some = subst (λ done. IsReachedSome c.args.dir.now (g.S.DrvSource.gives c.args.source.now)
+      some = subst
+          (λ done. IsReachedSome c.args.rules.now.profile c.args.rules.now.dir.now
+          (g.S.DrvSource.gives c.args.source.now)
           c.args.roots.now done c.walk.new.found c.insert.new.self.keys)
           (sym (take_more _ _ [] c.roots-test.true))
           (loading_more _ (g.S.DrvSource.gives _)

@@ -8,6 +8,7 @@ abbrev pub invariant-roots : goal.invariant-roots
 invariant-roots g l = record {
   keeps : GivesSame (g.S.DrvSource.gives l.fn.source) (g.S.DrvSource.gives l.source);
   counts : g.S.DrvSource.failures l.fn.source ≤ g.S.DrvSource.failures l.source;
-  some : IsReachedSome l.dir (g.S.DrvSource.gives l.fn.source) l.roots (take l.place l.roots)
+  some : IsReachedSome l.rules.profile l.rules.dir.now (g.S.DrvSource.gives l.fn.source) l.roots
+      (take l.place l.roots)
       l.found l.numbers.keys;
 }

@@ -23,5 +23,5 @@ returns-in_err-check_uses c = search (rules, err_is, use_is_sound)
 pub returns : goal.returns
 returns c = all_sound _ _ _
     _
-    _ _ c.in_ok-kind.ensures.ok
+    _ _ c.in_ok-kind.ensures.ok.0 c.in_ok-kind.ensures.ok.1
     c.outputs.ensures c.in_ok-check_names.ensures.ok c.inputs.ensures c.in_ok-check_uses.ensures.ok

@@ -23,7 +23,8 @@ returns-clause-going_on g c =
           }) _ _
           _ _ _ w.in-Some.child tt
           (record { nodes = refl; owners = refl })
-          (subst (λ child. IsStepping c.args.dir.now (g.S.DrvSource.gives c.args.source.now)
+          (subst (λ child. IsStepping c.args.rules.now.dir.now (g.S.DrvSource.gives
+          c.args.source.now)
           c.args.found.now.marks c.step.new.marks c.args.visit c.step.new.visit (Ok child))
           w.in-Some.is c.in_ok-child.ensures.stepping)
           c.in_ok-push.ensures.items (ap (λ v. v.items) w.visits-is ∙ w.in_ok-push-2.ensures.items)

@@ -93,14 +93,17 @@ returns-in-Done-clause-walking g c = λ root at.
     let ends = walk_ends _ (g.S.DrvSource.gives _) _
     _ _ _ _
     _ c.walk.invariant.walk none met.1 in
-    subst (λ r. IsVisited c.args.dir.now (g.S.DrvSource.gives c.args.source.now) c.args.roots.now r
+    subst
+    (λ r. IsVisited c.args.rules.now.profile c.args.rules.now.dir.now (g.S.DrvSource.gives
+    c.args.source.now) c.args.roots.now r
     c.args.found.now
     (record {
       nodes = c.walk.found.nodes;
       marks = c.meet.new.marks;
       owners = c.walk.found.owners;
     }) c.in-Done.number) same
-    (subst (λ m. IsVisited c.args.dir.now (g.S.DrvSource.gives c.args.source.now) c.args.roots.now
+    (subst (λ m. IsVisited c.args.rules.now.profile c.args.rules.now.dir.now (g.S.DrvSource.gives
+    c.args.source.now) c.args.roots.now
     c.index-roots-place.result c.args.found.now
     (record { nodes = c.walk.found.nodes; marks = m; owners = c.walk.found.owners })
     c.in-Done.number) (sym met.0) ends)
@@ -120,7 +123,7 @@ walk-preserved g c =
           (g.S.DrvSource.gives _) (g.S.DrvSource.gives _)
           c.walk.invariant.keeps c.in_ok-number-in-None.ensures.keeps;
       counts = omega (arith, c.walk.invariant.counts, c.in_ok-number-in-None.ensures.counts);
-      walk = subst (IsWalk _ (g.S.DrvSource.gives _) _
+      walk = subst (IsWalk _ _ (g.S.DrvSource.gives _) _
           _ (nodes_of _)
           (record {
             nodes = c.walk.found.nodes;

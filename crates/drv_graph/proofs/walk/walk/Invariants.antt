@@ -11,7 +11,7 @@ abbrev pub invariant-walk : goal.invariant-walk
 invariant-walk g l = record {
   keeps : GivesSame (g.S.DrvSource.gives l.fn.source) (g.S.DrvSource.gives l.source);
   counts : g.S.DrvSource.failures l.fn.source ≤ g.S.DrvSource.failures l.source;
-  walk : IsWalk l.dir (g.S.DrvSource.gives l.fn.source) l.roots l.root
+  walk : IsWalk l.rules.profile l.rules.dir.now (g.S.DrvSource.gives l.fn.source) l.roots l.root
       (nodes_of l.fn.found.nodes.items) l.found (reverse l.visits.items);
 }
 

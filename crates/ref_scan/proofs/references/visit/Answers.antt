@@ -7,8 +7,8 @@ use Rattle.ref_scan.proofs.references.visit.Goals as goal
 
 pub returns-in_ok-push-in-Dir-clause-folders : goal.returns-in_ok-push-in-Dir-clause-folders
 returns-in_ok-push-in-Dir-clause-folders c =
-    folder_visited _ _ _ _ c.deref-in-Dir.result c.in_ok-push-in-Dir.ensures.items
+    folder_visited _ _ _ _ c.as_slice.result c.in_ok-push-in-Dir.ensures.items
     (ap pieces c.in-Dir.is ∙ pieces_dir c.in-Dir.members
-    ∙ ap pieces_below (sym c.deref-in-Dir.ensures.value))
+    ∙ ap pieces_below (sym c.as_slice.ensures.value))
     (ap entry_count c.in-Dir.is ∙ count_dir c.in-Dir.members
-    ∙ ap count_below (sym c.deref-in-Dir.ensures.value))
+    ∙ ap count_below (sym c.as_slice.ensures.value))

@@ -5,7 +5,7 @@ use Rattle.ref_scan.proofs.tree.Tree.+room_beside.Goals as goal
 
 pub returns-in_err-checked_sub-in-Dir : goal.returns-in_err-checked_sub-in-Dir
 returns-in_err-checked_sub-in-Dir t c =
-    rw c.from_residual-in_err-checked_sub-in-Dir.ensures
+    rw c.from_residual.ensures
     (folder_wide _ _ _ c.in-Dir.entries c.in-Dir.is (omega arith))
 
 pub loop-entry-init : goal.loop-entry-init

@@ -4,7 +4,7 @@ use Rattle.drv_graph.proofs.Counting.{fill_counted, target_counted, text_counted
 use Rattle.drv_graph.proofs.InStore.{inputs_in_store}
 use Rattle.drv_graph.proofs.FillAnswers.{fill_refused, filling_right, load_refused, text_refused}
 use Rattle.drv_graph.proofs.Ends.{err_is}
-use Rattle.drv_graph.proofs.fill.fill_outputs.Goals as goal
+use Rattle.drv_graph.proofs.fill.fill_outputs_as.Goals as goal
 
 pub load_inputs-requires : goal.load_inputs-requires
 load_inputs-requires g c = search (rules, inputs_in_store)
@@ -24,7 +24,7 @@ returns-in_err-path-clause-device g c = search (rules, err_is, text_counted)
 pub returns-in_err-plan-clause-filling : goal.returns-in_err-plan-clause-filling
 returns-in_err-plan-clause-filling g c = rw (err_is _ _ c.from_residual-in_err-plan.ensures.1)
     (load_refused _ (g.S.DrvSource.gives _) _
-    _ _ c.in_ok-target.ensures.ok _
+    _ _ c.in_ok-target.ensures.ok _ _
     c.in_err-plan.ensures.loading)
 
 pub returns-in_err-filled-clause-filling : goal.returns-in_err-filled-clause-filling
