@@ -1,7 +1,9 @@
+pub mod Archives
 pub mod Cycles
 pub mod FixedDigests
 pub mod Linkages
 pub mod OneVerdict
 pub mod Places
+pub mod PlainRecords
 pub mod Verdicts
 pub mod Walks

@@ -3,20 +3,20 @@ use Rattle.std.proofs.Common.{◌≡◌, ◌∙◌, inl, ⊎_elim, ℕ, suc, ◌
 use Rattle.std.specs.Prelude.{pos, Err}
 use Rattle.std.specs.List.{slice_get}
 use Rattle.std.proofs.Math.Nat.{eq-or-lt_of_le}
-use Rattle.nix_names.specs.declared.digest.Algorithm.{Algorithm}
 use Rattle.nix_names.specs.declared.digest.Digest.{Digest}
+use Rattle.nix_names.specs.declared.method.Method.{Method}
 use Rattle.nix_names.proofs.Lists.{get_push_cases}
 use Rattle.nix_names.proofs.FirstElements.{first_number}
 use Rattle.drv_graph.specs.declared.kinds.Kind.{Kind}
 use Rattle.drv_graph.specs.declared.kinds.Kind.TheVariants.{Addressed, Fixed}
-use Rattle.ref_scan.specs.Trees.{Fits}
+use Rattle.drv_graph.specs.declared.profile.Profile.{Profile}
 use Rattle.ref_scan.specs.declared.tree.Tree.{Tree}
 use Rattle.valid_table.specs.PathInfos.{PathInfo}
 use Rattle.build_outcome.specs.declared.job.Answer.{Answer}
 use Rattle.build_outcome.specs.declared.job.Job.{Job}
 use Rattle.build_outcome.specs.declared.reason.Reason.{Reason}
 use Rattle.build_outcome.specs.declared.reason.Reason.TheVariants.{ExitStatus, NoStart, MissingOutput, NotFlatFile, HashMismatch, OutputCycle, TooLarge, ReadFault, OutOfMemory, Killed}
-use Rattle.build_outcome.specs.Verdicts.{AreRecords, IsCyclic, IsExamining, IsFaulty, IsFirstFault, IsRecordAt, IsRecordOf, IsTaken, AreOutputsThere, IsTreeFault, IsVerdict, algorithm_for, digest_of, outputs_of, tree_at}
+use Rattle.build_outcome.specs.Verdicts.{AreOutputsThere, AreRead, AreRecords, HasForm, IsCyclic, IsExamining, IsFaulty, IsFirstFault, IsRecordAt, IsRecordOf, IsTaken, IsTreeFault, IsVerdict, MayBeTaken, outputs_of, tree_at}
 
 -- What is known once the first `count` outputs were looked at: none of them is missing.
 abbrev pub ThereSoFar : Answer → ℕ → Type 0
@@ -34,12 +34,13 @@ SoundSoFar job answer count =
 
 pub sound_more : (job : Job) (answer : Answer) (count : ℕ) (tree : Tree)
     → SoundSoFar job answer count → tree_at answer count ≡ Some tree
-    → ((why : Reason) → IsTreeFault job.kind tree why → ⊥) → SoundSoFar job answer (count + 1)
+    → ((why : Reason) → IsTreeFault job.profile job.kind tree why → ⊥)
+    → SoundSoFar job answer (count + 1)
 sound_more job answer count tree before at taken n why below faulty =
     ⊎_elim
     (λ e.
     let there = subst (λ k. IsFaulty job answer why k) e faulty in
-    taken why (subst (λ (t : Tree). IsTreeFault job.kind t why)
+    taken why (subst (λ (t : Tree). IsTreeFault job.profile job.kind t why)
     (one_tree answer count _ _ there.1 at) there.2))
     (λ less. before n why less faulty)
     (eq-or-lt_of_le {n = n} {m = count} (omega arith))
@@ -52,39 +53,39 @@ is_taken job answer count all there sound =
 -- what lies at an output that is taken isn't at fault
 pub taken_at : (job : Job) (answer : Answer) (n : ℕ) (tree : Tree) → IsTaken job answer
     → n < length job.outputs.items → tree_at answer n ≡ Some tree
-    → (why : Reason) → IsTreeFault job.kind tree why → ⊥
+    → (why : Reason) → IsTreeFault job.profile job.kind tree why → ⊥
 taken_at job answer n tree taken below at why fault = taken.1 n why below (tree, at, fault)
 
 -- Records of the first `count` outputs.
-pub record RecordsSoFar (algorithm : Algorithm) (permitted : List (List ℕ)) (answer : Answer)
+pub record RecordsSoFar (job : Job) (permitted : List (List ℕ)) (answer : Answer)
     (infos : List PathInfo) (count : ℕ) : Type 0 where
   pub as_many : length infos ≡ count
   pub records : (n : ℕ) (info : PathInfo) → slice_get infos n ≡ Some info
-      → IsRecordAt algorithm permitted answer n info
+      → IsRecordAt job permitted answer n info
 
-pub records_none : (algorithm : Algorithm) (permitted : List (List ℕ)) (answer : Answer)
-    (infos : List PathInfo) → infos ≡ [] → RecordsSoFar algorithm permitted answer infos 0
-records_none algorithm permitted answer infos is = record {
+pub records_none : (job : Job) (permitted : List (List ℕ)) (answer : Answer)
+    (infos : List PathInfo) → infos ≡ [] → RecordsSoFar job permitted answer infos 0
+records_none job permitted answer infos is = record {
   as_many = ap length is;
   records = λ n info at. let none : slice_get [] n
       ≡ Some info = subst (λ (l : List PathInfo). slice_get l n ≡ Some info) is at in absurd cc;
 }
 
-pub records_more : (algorithm : Algorithm) (permitted : List (List ℕ)) (answer : Answer)
+pub records_more : (job : Job) (permitted : List (List ℕ)) (answer : Answer)
     (infos more : List PathInfo) (count : ℕ) (tree : Tree) (info : PathInfo)
-    → RecordsSoFar algorithm permitted answer infos count → tree_at answer count ≡ Some tree
-    → IsRecordOf algorithm permitted tree info → more ≡ infos ++ info ∷ []
-    → RecordsSoFar algorithm permitted answer more (count + 1)
-records_more algorithm permitted answer infos more count tree info before at is_record is =
-    subst (λ (l : List PathInfo). RecordsSoFar algorithm permitted answer l (count + 1)) (sym is)
+    → RecordsSoFar job permitted answer infos count → tree_at answer count ≡ Some tree
+    → IsRecordOf job permitted tree info → more ≡ infos ++ info ∷ []
+    → RecordsSoFar job permitted answer more (count + 1)
+records_more job permitted answer infos more count tree info before at is_record is =
+    subst (λ (l : List PathInfo). RecordsSoFar job permitted answer l (count + 1)) (sym is)
     (record {
       as_many = pushed infos info ∙ ap suc before.as_many ∙ omega arith;
       records = λ n other here. ⊎_elim
           (λ earlier. before.records n other earlier)
           (λ h.
           let place : n ≡ count = h.0 ∙ before.as_many in
-          subst (λ k. IsRecordAt algorithm permitted answer k other) (sym place)
-          (tree, at, subst (IsRecordOf algorithm permitted tree) h.1 is_record))
+          subst (λ k. IsRecordAt job permitted answer k other) (sym place)
+          (tree, at, subst (IsRecordOf job permitted tree) h.1 is_record))
           (get_push_cases _ _ n _ here);
     })
   where
@@ -94,48 +95,51 @@ records_more algorithm permitted answer infos more count tree info before at is_
 
 pub are_records : (job : Job) (permitted : List (List ℕ)) (answer : Answer) (infos : List PathInfo)
     (count : ℕ) → count ≡ length job.outputs.items
-    → RecordsSoFar (algorithm_for job.kind) permitted answer infos count
+    → RecordsSoFar job permitted answer infos count
     → AreRecords job permitted answer infos
 are_records job permitted answer infos count all so_far = search rules
 
 -- What is at fault with a tree, by its cases.
-pub data TreeFault (kind : Kind) (tree : Tree) : Reason → Type 0 where
-  too_large : (Fits tree → ⊥) → TreeFault kind tree TooLarge
-  not_flat : Fits tree → digest_of (algorithm_for kind) tree ≡ None
-      → TreeFault kind tree NotFlatFile
-  mismatched : (found : Digest) → Fits tree → digest_of (algorithm_for kind) tree ≡ Some found
-      → TreeFault kind tree HashMismatch
+pub data TreeFault (profile : Profile) (kind : Kind) (tree : Tree) : Reason → Type 0 where
+  too_large : (MayBeTaken profile tree → ⊥) → TreeFault profile kind tree TooLarge
+  not_flat : (method : Method) (declared : Digest) → kind ≡ Fixed method declared
+      → MayBeTaken profile tree → (HasForm profile method tree → ⊥)
+      → TreeFault profile kind tree NotFlatFile
+  mismatched : (method : Method) (declared : Digest) → kind ≡ Fixed method declared
+      → MayBeTaken profile tree → HasForm profile method tree
+      → TreeFault profile kind tree HashMismatch
 
-pub tree_fault_cases : (kind : Kind) (tree : Tree) (why : Reason) → IsTreeFault kind tree why
-    → TreeFault kind tree why
-tree_fault_cases kind tree TooLarge fault = too_large fault
-tree_fault_cases (Fixed method digest) tree NotFlatFile fault = not_flat fault.0 fault.1
-tree_fault_cases (Fixed method digest) tree HashMismatch fault =
-    mismatched fault.1.0 fault.0 fault.1.1
-tree_fault_cases Addressed tree NotFlatFile fault = absurd fault
-tree_fault_cases Addressed tree HashMismatch fault = absurd fault
-tree_fault_cases Addressed tree (ExitStatus n) fault = absurd fault
-tree_fault_cases Addressed tree NoStart fault = absurd fault
-tree_fault_cases Addressed tree (MissingOutput n) fault = absurd fault
-tree_fault_cases Addressed tree OutputCycle fault = absurd fault
-tree_fault_cases Addressed tree ReadFault fault = absurd fault
-tree_fault_cases Addressed tree OutOfMemory fault = absurd fault
-tree_fault_cases Addressed tree Killed fault = absurd fault
-tree_fault_cases (Fixed method digest) tree (ExitStatus n) fault = absurd fault
-tree_fault_cases (Fixed method digest) tree NoStart fault = absurd fault
-tree_fault_cases (Fixed method digest) tree (MissingOutput n) fault = absurd fault
-tree_fault_cases (Fixed method digest) tree OutputCycle fault = absurd fault
-tree_fault_cases (Fixed method digest) tree ReadFault fault = absurd fault
-tree_fault_cases (Fixed method digest) tree OutOfMemory fault = absurd fault
-tree_fault_cases (Fixed method digest) tree Killed fault = absurd fault
+pub tree_fault_cases : (profile : Profile) (kind : Kind) (tree : Tree) (why : Reason)
+    → IsTreeFault profile kind tree why → TreeFault profile kind tree why
+tree_fault_cases profile kind tree TooLarge fault = too_large fault
+tree_fault_cases profile (Fixed method declared) tree NotFlatFile fault =
+    not_flat method declared refl fault.0 fault.1
+tree_fault_cases profile (Fixed method declared) tree HashMismatch fault =
+    mismatched method declared refl fault.0 fault.1
+tree_fault_cases profile Addressed tree NotFlatFile fault = absurd fault
+tree_fault_cases profile Addressed tree HashMismatch fault = absurd fault
+tree_fault_cases profile Addressed tree (ExitStatus n) fault = absurd fault
+tree_fault_cases profile Addressed tree NoStart fault = absurd fault
+tree_fault_cases profile Addressed tree (MissingOutput n) fault = absurd fault
+tree_fault_cases profile Addressed tree OutputCycle fault = absurd fault
+tree_fault_cases profile Addressed tree ReadFault fault = absurd fault
+tree_fault_cases profile Addressed tree OutOfMemory fault = absurd fault
+tree_fault_cases profile Addressed tree Killed fault = absurd fault
+tree_fault_cases profile (Fixed method declared) tree (ExitStatus n) fault = absurd fault
+tree_fault_cases profile (Fixed method declared) tree NoStart fault = absurd fault
+tree_fault_cases profile (Fixed method declared) tree (MissingOutput n) fault = absurd fault
+tree_fault_cases profile (Fixed method declared) tree OutputCycle fault = absurd fault
+tree_fault_cases profile (Fixed method declared) tree ReadFault fault = absurd fault
+tree_fault_cases profile (Fixed method declared) tree OutOfMemory fault = absurd fault
+tree_fault_cases profile (Fixed method declared) tree Killed fault = absurd fault
 
 -- a fault of a tree after trees that are taken is the first
 pub first_fault : (job : Job) (permitted : List (List ℕ)) (answer : Answer) (count : ℕ)
     (tree : Tree) (why : Reason) → count < length job.outputs.items → AreOutputsThere job answer
     → SoundSoFar job answer count → tree_at answer count ≡ Some tree
-    → IsTreeFault job.kind tree why → IsVerdict job permitted answer (Err why)
+    → IsTreeFault job.profile job.kind tree why → IsVerdict job permitted answer (Err why)
 first_fault job permitted answer count tree why below there sound at fault =
-    by why (tree_fault_cases _ _ _ fault) (
+    by why (tree_fault_cases _ _ _ _ fault) (
       count,
       first_number (λ m. (reason : Reason) × IsFaulty job answer reason m)
           _ _ below (why, (tree, at, fault))
@@ -143,18 +147,19 @@ first_fault job permitted answer count tree why below there sound at fault =
       (tree, at, fault),
     )
   where
-    by : (reason : Reason) → TreeFault job.kind tree reason → IsFirstFault job answer reason
-        → IsVerdict job permitted answer (Err reason)
+    by : (reason : Reason) → TreeFault job.profile job.kind tree reason
+        → IsFirstFault job answer reason → IsVerdict job permitted answer (Err reason)
     by _ (too_large not_fit) first = (there, first)
-    by _ (not_flat fits none) first = (there, first)
-    by _ (mismatched found fits some) first = (there, first)
+    by _ (not_flat method declared is may no_form) first = (there, first)
+    by _ (mismatched method declared is may form) first = (there, first)
 
 -- the first output at which nothing lies
 pub first_missing : (job : Job) (permitted : List (List ℕ)) (answer : Answer) (count : ℕ) → count
-    < length job.outputs.items → answer.status ≡ Some (pos 0) → ThereSoFar answer count
+    < length job.outputs.items → answer.status ≡ Some (pos 0) → AreRead job answer
+    → ThereSoFar answer count
     → tree_at answer count ≡ None
     → IsVerdict job permitted answer (Err (MissingOutput count))
-first_missing job permitted answer count below ended there none = search (rules, first_number)
+first_missing job permitted answer count below ended read there none = search (rules, first_number)
 
 -- the verdict where no fault was found, by whether there is a cycle
 pub cycle_found : (job : Job) (permitted : List (List ℕ)) (answer : Answer) (infos : List PathInfo)
@@ -165,4 +170,4 @@ cycle_found job permitted answer infos taken records cyclic = search rules
 -- memory was refused once all was taken
 pub refused : (job : Job) (permitted : List (List ℕ)) (answer : Answer) (why : Reason)
     → IsTaken job answer → why ≡ OutOfMemory → IsExamining job permitted answer (Err why)
-refused job permitted answer why taken is = inl (ap Err is, taken)
+refused job permitted answer why taken is = inl (ap Err is, inl taken)

@@ -33,11 +33,12 @@ named_outputs nodes input = paths_of_found input.names
 abbrev pub seeds_of : List Node → Drv → List Path
 seeds_of nodes drv = drv.sources ++ flat_map (named_outputs nodes) drv.inputs
 
--- The job of the derivation with this number.
+-- The job of the derivation with this number, under the plan's profile.
 pub record IsJob (graph : Graph) (d : ℕ) (job : Job) : Type 0 where
   pub node : Node
   pub is_node : slice_get graph.nodes d ≡ Some node
   pub derivation : job.derivation ≡ d
+  pub profile : job.profile ≡ graph.profile
   pub builder : job.builder.items ≡ node.drv.builder
   pub args : map bytes_of job.args.items ≡ node.drv.args
   pub env : map entry_of job.env.items ≡ node.drv.env

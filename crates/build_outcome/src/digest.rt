@@ -1,9 +1,9 @@
-//! The digest of a file by each algorithm.
+//! The digests of outputs by each algorithm: of a file's bytes, and of a tree's archive.
 ghost use Rattle.std.specs.Prelude.{◌≡◌};
 ghost use Rattle.md5.specs.Md5.{md5};
 ghost use Rattle.sha1.specs.Sha1.{sha1};
 ghost use Rattle.ref_scan.specs.Trees.{joined};
-ghost use Rattle.build_outcome.specs.Verdicts.{digest_by, digest_of};
+ghost use Rattle.build_outcome.specs.Verdicts.{digest_by, file_digest_of};
 
 use md5::{Digest as _, Md5};
 use nix_names::{Algorithm, Digest};
@@ -12,12 +12,12 @@ use sha1::Sha1;
 use sha2::{Digest as Sha2, Sha256, Sha512};
 
 // The digest of a file's bytes by an algorithm; a link and a folder have none.
-pub(crate) fn digest_of(algorithm: Algorithm, tree: &Tree) -> Option<Digest>
-    ensures { result ≡ digest_of algorithm tree.now }
+pub(crate) fn file_digest_of(algorithm: Algorithm, tree: &Tree) -> Option<Digest>
+    ensures { result ≡ file_digest_of algorithm tree.now }
 {
     match tree {
         Tree::File(bytes) => Some(digest_of_bytes(algorithm, bytes)),
-        Tree::Pieces(parts) => Some(digest_of_pieces(algorithm, parts)),
+        Tree::Pieces(parts) | Tree::Executable(parts) => Some(digest_of_pieces(algorithm, parts)),
         Tree::Link(_) | Tree::Dir(_) => None,
     }
 }

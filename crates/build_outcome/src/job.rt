@@ -2,7 +2,7 @@
 ghost use Rattle.std.specs.Prelude.{◌≡◌, MatchOption, None, Some};
 ghost use Rattle.build_outcome.specs.Verdicts.{tree_at};
 
-use drv_graph::Kind;
+use drv_graph::{Kind, Profile};
 use nix_drv::EnvEntry;
 use nix_names::StorePath;
 use ref_scan::Tree;
@@ -21,6 +21,8 @@ pub struct JobOutput {
 pub struct Job {
     /// The derivation's number in the plan.
     pub derivation: usize,
+    /// The profile of the plan, under whose rules it is built.
+    pub profile: Profile,
     /// The program to run.
     pub builder: Vec<u8>,
     /// Its arguments, in order.

@@ -5,18 +5,25 @@
 //! | `job` | what a builder is given, and what it answers |
 //! | `build` | builders, which build jobs and hear of them |
 //! | `verdict`, `checked` | the verdict on an answer, and the records that it gives |
+//! | `taking` | whether an output's tree is taken, by its size, its form and its digest |
 //! | `digest` | the digest of a file by each algorithm |
+//! | `sums`, `archive_digests` | the digests and the lengths of outputs' archives |
 //! | `cycle`, `links`, `walk` | whether outputs refer to each other in a cycle |
 //! | `reason` | why building a derivation failed |
+//! | `laws` | a law over the definitions that contracts cite |
 #![tactic(auto)]
 
+mod archive_digests;
 mod build;
 mod checked;
 mod cycle;
 mod digest;
 mod job;
+pub mod laws;
 mod links;
 mod reason;
+mod sums;
+mod taking;
 mod verdict;
 mod walk;
 

@@ -14,15 +14,16 @@ pub enum Reason {
     NoStart,
     /// The output with this number, counted from 0, is missing.
     MissingOutput(usize),
-    /// A fixed output isn't one file.
+    /// A fixed output, of which a file's bytes are hashed, isn't one file, or is one that its owner
+    /// may execute and the profile is `nix`.
     NotFlatFile,
     /// A fixed output's content hasn't the declared hash.
     HashMismatch,
     /// Different outputs refer to each other.
     OutputCycle,
-    /// An output passes the limits of an output's tree.
+    /// An output passes the limits of an output's tree. There are none under the profile `nix`.
     TooLarge,
-    /// An output could not be read.
+    /// An output could not be read, or has no archive where one is asked for.
     ReadFault,
     /// Memory was refused.
     OutOfMemory,

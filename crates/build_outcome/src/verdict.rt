@@ -1,34 +1,47 @@
 //! The verdict on what a builder left behind.
-ghost use Rattle.std.specs.Prelude.{◌≡◌, ◌↔◌, ℕ, List, Ok, Err, pos, Some, IfOk, IfErr, IsTrue, MatchResult, OnOk, length, map, vec_capacity};
+ghost use Rattle.std.specs.Prelude.{◌≡◌, ◌↔◌, ℕ, List, Ok, Err, pos, Some, IfOk, IfErr, IsTrue, MatchOption, OnOk, length, map, vec_capacity};
 ghost use Rattle.nix_names.specs.Rising.{IsRising};
+ghost use Rattle.ref_scan.specs.declared.tree.Tree.{Tree as ATree};
 ghost use Rattle.build_outcome.specs.declared.job.JobOutput.{JobOutput};
-ghost use Rattle.build_outcome.specs.Verdicts.{AreRecords, IsCyclic, IsExamining, IsRecordOf, IsTaken, AreOutputsThere, IsTreeFault, IsVerdict, algorithm_for, digest_of, outputs_of};
+ghost use Rattle.build_outcome.specs.Verdicts.{AreOutputsThere, AreRead, AreRecords, HasArchive, IsCyclic, IsExamining, IsRecordDigest, IsRecordNar, IsRecordOf, IsTaken, IsTreeFault, IsVerdict, NeedsArchive, outputs_of};
+ghost use Rattle.build_outcome.specs.private.Summing.{AreSums, IsOutputSum};
 
 use crate::checked::Checked;
 use crate::cycle::is_cyclic;
-use crate::digest::digest_of;
+use crate::digest::file_digest_of;
 use crate::job::{Answer, Job, JobOutput};
 use crate::reason::Reason;
-use drv_graph::Kind;
-use nix_names::{Algorithm, Digest, StorePath};
+use crate::sums::{OutputSum, sum_at, sums_of};
+use crate::taking::check_tree;
+use drv_graph::{Kind, Profile};
+use nix_names::{Algorithm, Method, MethodDigest, StorePath};
 use ref_scan::{ScanFault, Tree, scan};
 use std::alloc::{AllocError, Global};
-use valid_table::Record;
+use valid_table::{Nar, Record};
 
 /// The verdict on what the builder of a job left behind, where the outputs may refer to these
 /// permitted paths alone: a record of each output, in the job's order, with the permitted paths
-/// that are found in it and a file's digest, which is by the declared algorithm where the output is
-/// fixed, and else by SHA-256.
+/// that are found in it, a digest, and under the profile `nix` the SHA-256 and the length of its
+/// archive (NAR). The digest of a fixed output is by the declared method and algorithm; another
+/// output has one under the profile `plain` alone, where it is a file: by SHA-256.
 ///
 /// Else the first of these that holds: `Killed`; `ExitStatus` with a status that isn't 0;
-/// `MissingOutput` with the first output at which nothing lies; for the first output at which one
-/// of them holds, `TooLarge`, or of a fixed output `NotFlatFile` or `HashMismatch`; `OutputCycle`
-/// where two different outputs lead to each other by references among the outputs. `OutOfMemory`
-/// comes where memory was refused, which is asked for only once none of those before `OutputCycle`
-/// holds.
+/// `ReadFault` where archives are asked for and what lies at an output has none of fewer than 2^63
+/// bytes; `MissingOutput` with the first output at which nothing lies; for the first output at
+/// which one of them holds, `TooLarge`, which is of the profile `plain`, or of a fixed output
+/// `NotFlatFile` or `HashMismatch`; `OutputCycle` where two different outputs lead to each other by
+/// references among the outputs. Archives are asked for under the profile `nix`, and under `plain`
+/// where the archive of a fixed output is declared. Under `nix` a file that its owner may execute
+/// is no flat file.
+///
+/// `OutOfMemory` comes where memory was refused. That is asked for once the exit status is 0 where
+/// archives are asked for, and else only once none of the reasons before `OutputCycle` holds.
 ///
 /// A tree is scanned as `ref_scan::scan` says, and the bytes of a file are read once more for the
-/// digest. Takes memory for the records, and for the outputs and the references among them.
+/// digest. Where archives are asked for, all of a tree is read once more for its archive, and again
+/// where the archive of a fixed output is declared by another algorithm than SHA-256. Takes memory
+/// for the records and the archives' sums, for the walks through trees, and for the outputs and the
+/// references among them.
 pub fn examine(
     alloc: Global,
     job: &Job,
@@ -38,9 +51,9 @@ pub fn examine(
     requires { IsRising permitted.now }
     ensures { IsExamining job.now permitted.now answer result }
 {
-    check_complete(job, &answer)?;
-    check_trees(job, &answer)?;
-    let records = records_of(alloc, job, permitted, &answer)?;
+    let sums = check_complete(alloc, job, &answer)?;
+    check_trees(job, &answer, &sums)?;
+    let records = records_of(alloc, job, permitted, &answer, &sums)?;
     if refer_in_cycle(alloc, job, &records)? {
         return Err(Reason::OutputCycle);
     }
@@ -69,19 +82,22 @@ fn paths_of(alloc: Global, outputs: &[JobOutput]) -> Result<Vec<StorePath>, Allo
     Ok(paths)
 }
 
-// Whether the builder ended well and left something at each output's path.
-fn check_complete(job: &Job, answer: &Answer) -> Result<(), Reason>
-    ensures there { OnOk result (AreOutputsThere job.now answer.now) }
+// Whether the builder ended well and left something at each output's path. The sums of the archives
+// that are asked for.
+fn check_complete(
+    alloc: Global,
+    job: &Job,
+    answer: &Answer,
+) -> Result<Vec<Option<OutputSum>>, Reason>
+    ensures there { IfOk result (λ _. AreOutputsThere job.now answer.now) }
+    ensures sums { IfOk result (λ sums. AreSums job.now answer.now sums.items) }
     ensures err { IfErr result (λ why. (permitted : List (List ℕ))
-        → IsVerdict job.now permitted answer.now (Err why)) }
+        → IsExamining job.now permitted answer.now (Err why)) }
 {
     check_status(answer)?;
-    for n in 0..job.outputs.len() {
-        if answer.tree_at(n).is_none() {
-            return Err(Reason::MissingOutput(n));
-        }
-    }
-    Ok(())
+    let sums = sums_of(alloc, job, answer)?;
+    check_there(job, answer)?;
+    Ok(sums)
 }
 
 // Whether the builder ended with exit status 0.
@@ -97,9 +113,26 @@ fn check_status(answer: &Answer) -> Result<(), Reason>
     }
 }
 
+// Whether the builder left something at each output's path.
+fn check_there(job: &Job, answer: &Answer) -> Result<(), Reason>
+    requires ended { answer.now.status ≡ Some (pos 0) }
+    requires read { AreRead job.now answer.now }
+    ensures there { OnOk result (AreOutputsThere job.now answer.now) }
+    ensures err { IfErr result (λ why. (permitted : List (List ℕ))
+        → IsVerdict job.now permitted answer.now (Err why)) }
+{
+    for n in 0..job.outputs.len() {
+        if answer.tree_at(n).is_none() {
+            return Err(Reason::MissingOutput(n));
+        }
+    }
+    Ok(())
+}
+
 // Whether what lies at each output's path is taken. Takes no memory.
-fn check_trees(job: &Job, answer: &Answer) -> Result<(), Reason>
-    requires { AreOutputsThere job.now answer.now }
+fn check_trees(job: &Job, answer: &Answer, sums: &[Option<OutputSum>]) -> Result<(), Reason>
+    requires there { AreOutputsThere job.now answer.now }
+    requires sums { AreSums job.now answer.now sums.now }
     ensures taken { OnOk result (IsTaken job.now answer.now) }
     ensures err { IfErr result (λ why. (permitted : List (List ℕ))
         → IsVerdict job.now permitted answer.now (Err why)) }
@@ -108,27 +141,9 @@ fn check_trees(job: &Job, answer: &Answer) -> Result<(), Reason>
         let Some(tree) = answer.tree_at(n) else {
             unreachable!()
         };
-        check_tree(&job.kind, tree)?;
+        check_tree(job, tree, sum_at(sums, n))?;
     }
     Ok(())
-}
-
-// Whether an output's tree is taken.
-fn check_tree(kind: &Kind, tree: &Tree) -> Result<(), Reason>
-    ensures taken { OnOk result ((why : Reason) → IsTreeFault kind.now tree.now why → ⊥) }
-    ensures err { IfErr result (λ why. IsTreeFault kind.now tree.now why) }
-{
-    if !tree.fits() {
-        return Err(Reason::TooLarge);
-    }
-    let Kind::Fixed(_, declared) = kind else {
-        return Ok(());
-    };
-    match digest_of(declared.algorithm(), tree) {
-        None => Err(Reason::NotFlatFile),
-        Some(found) if found != *declared => Err(Reason::HashMismatch),
-        Some(_) => Ok(()),
-    }
 }
 
 // The record of what lies at each output's path, which is taken.
@@ -137,9 +152,11 @@ fn records_of(
     job: &Job,
     permitted: &[StorePath],
     answer: &Answer,
+    sums: &[Option<OutputSum>],
 ) -> Result<Vec<Record>, AllocError>
     requires rising { IsRising permitted.now }
     requires taken { IsTaken job.now answer.now }
+    requires sums { AreSums job.now answer.now sums.now }
     ensures records { IfOk result
         (λ records. AreRecords job.now permitted.now answer.now records.items) }
     ensures room { IfOk result
@@ -150,36 +167,75 @@ fn records_of(
         let Some(tree) = answer.tree_at(n) else {
             unreachable!()
         };
-        records.push_reserved(record_of(alloc, &job.kind, permitted, tree)?);
+        records.push_reserved(record_of(alloc, job, permitted, tree, sum_at(sums, n))?);
     }
     Ok(records)
 }
 
-// The record of an output with this tree, which is taken.
+// The record of an output with this tree, which is taken; `sum` is that of its archive where
+// archives are asked for.
+#[tactic(auto, using(crate::proofs::Archives::archived_by))]
 fn record_of(
     alloc: Global,
-    kind: &Kind,
+    job: &Job,
     permitted: &[StorePath],
     tree: &Tree,
+    sum: Option<&OutputSum>,
 ) -> Result<Record, AllocError>
     requires rising { IsRising permitted.now }
-    requires taken { (why : Reason) → IsTreeFault kind.now tree.now why → ⊥ }
-    ensures { IfOk result (λ info.
-        IsRecordOf (algorithm_for kind.now) permitted.now tree.now info) }
+    requires taken { (why : Reason) → IsTreeFault job.now.profile job.now.kind tree.now why → ⊥ }
+    requires sum { MatchOption sum (NeedsArchive job.now.profile job.now.kind → ⊥)
+        (λ sum. IsOutputSum job.now.kind tree.now sum.now) }
+    ensures { IfOk result (λ info. IsRecordOf job.now permitted.now tree.now info) }
 {
+    let digest = record_digest(job, tree);
+    let nar = record_nar(job, sum);
     match scan(alloc, tree, permitted) {
-        Ok(references) => Record::new(references, output_digest(kind, tree)),
+        Ok(references) => Record::new(references, digest, nar),
         Err(ScanFault::NoMemory) => Err(AllocError),
     }
 }
 
-// The digest of an output's tree, which is taken: a fixed output has the declared one.
-fn output_digest(kind: &Kind, tree: &Tree) -> Option<Digest>
-    requires { (why : Reason) → IsTreeFault kind.now tree.now why → ⊥ }
-    ensures { result ≡ digest_of (algorithm_for kind.now) tree.now }
+// The digest in the record of an output with this tree, which is taken: a fixed output has the
+// declared one.
+fn record_digest(job: &Job, tree: &Tree) -> Option<MethodDigest>
+    requires taken { (why : Reason) → IsTreeFault job.now.profile job.now.kind tree.now why → ⊥ }
+    requires read { NeedsArchive job.now.profile job.now.kind
+        → (bytes : List ℕ) × HasArchive tree.now bytes }
+    ensures { IsRecordDigest job.now.profile job.now.kind tree.now result }
 {
-    match kind {
-        Kind::Addressed => digest_of(Algorithm::Sha256, tree),
-        Kind::Fixed(_, declared) => Some(*declared),
+    match job.kind {
+        Kind::Addressed => addressed_digest(job.profile, tree),
+        Kind::Fixed(method, digest) => Some(MethodDigest { method, digest }),
+    }
+}
+
+// The digest in the record of an output that isn't fixed: under `plain` that of a file.
+fn addressed_digest(profile: Profile, tree: &Tree) -> Option<MethodDigest>
+    ensures { IsRecordDigest profile Kind.Addressed tree.now result }
+{
+    match profile {
+        Profile::Plain => {
+            let digest = file_digest_of(Algorithm::Sha256, tree)?;
+            Some(MethodDigest {
+                method: Method::Flat,
+                digest,
+            })
+        }
+        Profile::Nix => None,
+    }
+}
+
+// The archive in the record of an output, by the sum of its tree's archive.
+#[tactic(auto, using(crate::proofs::Archives::nar_summed))]
+fn record_nar(job: &Job, sum: Option<&OutputSum>) -> Option<Nar>
+    ensures { (tree : ATree)
+        → MatchOption sum.entry (NeedsArchive job.now.profile job.now.kind → ⊥)
+        (λ sum. IsOutputSum job.now.kind tree sum.now)
+        → IsRecordNar job.now.profile tree result }
+{
+    match job.profile {
+        Profile::Plain => None,
+        Profile::Nix => Some(sum?.nar),
     }
 }

@@ -1,9 +1,10 @@
 -- What is held of a forecast says what is foretold.
-use Rattle.std.proofs.Common.{◌≡◌, ◌∙◌, ℕ, ◌<◌, Bool, List, length, sym, ap, rules}
+use Rattle.std.proofs.Common.{◌≡◌, ℕ, ◌<◌, Bool, List, length, rules}
 use Rattle.drv_graph.specs.Plans.{Graph}
 use Rattle.valid_table.specs.declared.entry.Entry.{Entry}
 use Rattle.run_states.specs.StateTables.{AreStandings, AreWanted}
-use Rattle.run_states.specs.Runs.{Run}
+use Rattle.run_states.specs.Systems.{Platform}
+use Rattle.run_states.specs.Runs.{Run, terms_of}
 use Rattle.run_states.specs.declared.precondition.Precondition.{Precondition}
 use Rattle.run_states.specs.declared.state.State.{State}
 use Rattle.run_states.proofs.StateLaws.{length_states, state_at as state_among}
@@ -22,13 +23,13 @@ module _ (run : Run) (opening : List Entry) (wanted : List Bool) (states : List 
 
 -- ---- a new forecast
 
-pub are_held : (graph : Graph) (system : List ℕ) (opening : List Entry)
+pub are_held : (graph : Graph) (system : Platform) (opening : List Entry)
     (standings : List Precondition) (wanted : List Bool) (states : List State)
-    → AreStandings system opening graph.nodes standings
+    → AreStandings (record { profile = graph.profile; system = system }) opening graph.nodes standings
     → ((run : Run) (first : List Entry) → run.graph ≡ graph
-    → AreStandings run.system first graph.nodes standings → AreWanted run first wanted)
+    → AreStandings (terms_of run) first graph.nodes standings → AreWanted run first wanted)
     → ((run : Run) (first : List Entry) → run.graph ≡ graph
-    → AreStandings run.system first graph.nodes standings → AreWanted run first wanted
+    → AreStandings (terms_of run) first graph.nodes standings → AreWanted run first wanted
     → AreForetold run first states)
     → IsHeld (record { graph = graph; system = system }) opening wanted states
 are_held graph system opening standings wanted states stand want told = search rules

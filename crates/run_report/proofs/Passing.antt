@@ -5,14 +5,14 @@ use Rattle.std.specs.List.{list_all, list_any, slice_index_or}
 use Rattle.std.proofs.Math.ListN.{get_or-append, length-append, length-set, set}
 use Rattle.std.proofs.Math.Seq.{get_or-append_seam}
 use Rattle.std.proofs.lemmas.Bool.{and_from, and_left, and_right, cases_eq, cases_lt, eq-eqb, eqb-true, false≢true, true≢false}
-use Rattle.std.proofs.lemmas.List.{get_or-map, get_or-set_other, get_or-set_same, get_or_past, length-map, length-replicate, map-append}
+use Rattle.std.proofs.lemmas.List.{get_or-set_other, get_or-set_same, length-replicate}
 use Rattle.drv_graph.specs.Nodes.{Node}
 use Rattle.drv_graph.specs.Plans.{Graph}
 use Rattle.drv_graph.specs.SoundGraphs.{IsSound}
 use Rattle.drv_graph.specs.Twins.{are_twins_at, first_twin_of}
 use Rattle.valid_table.specs.declared.entry.Entry.{Entry}
 use Rattle.run_states.specs.StateTables.{AreStandings, AreWanted}
-use Rattle.run_states.specs.Runs.{Run, earlier_twins, inputs_at, is_wanted, rows_of, standing_at}
+use Rattle.run_states.specs.Runs.{Run, earlier_twins, inputs_at, is_wanted, rows_of, standing_at, terms_of}
 use Rattle.run_states.specs.States.{by_hindrance, by_inputs, by_twins, by_validity, is_bad, is_done, is_good, is_open, states_by}
 use Rattle.run_states.specs.declared.state.State.{State}
 use Rattle.run_states.specs.declared.state.State.TheVariants.{Blocked, Building, Done, Failed, Ready, Refused, Reused}
@@ -217,7 +217,7 @@ module _ (nodes : List Node) (wanted : List Bool) (states : List State) (s : Sta
 pub record AreFirst (graph : Graph) (standings : List Precondition) (wanted : List Bool)
     (states : List State) : Type 0 where
   pub each : (run : Run) (opening : List Entry) → run.graph ≡ graph
-      → AreStandings run.system opening graph.nodes standings → AreWanted run opening wanted
+      → AreStandings (terms_of run) opening graph.nodes standings → AreWanted run opening wanted
       → states ≡ states_by (built_table (rows_of run opening [])) (length states)
 
 pub none_first : (graph : Graph) (standings : List Precondition) (wanted : List Bool)
@@ -283,7 +283,7 @@ module _ (run : Run) (opening : List Entry) (sound : IsSound run.graph) (wanted 
 
   -- what the table of foretold states says of the next derivation
   pub table_here : (standing : Precondition)
-      → standing ≡ standing_at run.system opening (slice_get nodes here)
+      → standing ≡ standing_at (terms_of run) opening (slice_get nodes here)
       → built_table (rows_of run opening []) (state_at states) here
       ≡ built_if_ready (by_validity standing
       (if slice_index_or built (first_twin_of nodes here) false then Reused
@@ -318,12 +318,12 @@ first_more graph standings wanted states built s standing marked inputs sound lo
     used is are_built closed are = record {
       each = λ run opening same stand want.
           by run opening same (subst IsSound (sym same) sound)
-          (subst (λ (g : Graph). AreStandings run.system opening g.nodes standings) (sym same)
+          (subst (λ (g : Graph). AreStandings (terms_of run) opening g.nodes standings) (sym same)
           stand) want (are.each run opening same stand want);
     }
   where
     by : (run : Run) (opening : List Entry) → run.graph ≡ graph → IsSound run.graph
-        → AreStandings run.system opening run.graph.nodes standings → AreWanted run opening wanted
+        → AreStandings (terms_of run) opening run.graph.nodes standings → AreWanted run opening wanted
         → states ≡ states_by (built_table (rows_of run opening [])) (length states)
         → states ++ s ∷ []
         ≡ states_by (built_table (rows_of run opening [])) (length (states ++ s ∷ []))
@@ -397,6 +397,6 @@ pub all_first : (graph : Graph) (standings : List Precondition) (wanted : List B
     (states : List State) → length states ≡ length graph.nodes
     → AreFirst graph standings wanted states
     → (run : Run) (opening : List Entry) → run.graph ≡ graph
-    → AreStandings run.system opening graph.nodes standings → AreWanted run opening wanted
+    → AreStandings (terms_of run) opening graph.nodes standings → AreWanted run opening wanted
     → AreForetold run opening states
 all_first graph standings wanted states count are run opening same stand want = search rules

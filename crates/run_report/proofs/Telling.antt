@@ -7,16 +7,16 @@ use Rattle.std.proofs.lemmas.List.Folds.{flat_map-map}
 use Rattle.nix_names.proofs.Lists.{Contains-first, Contains-later}
 use Rattle.drv_graph.specs.Nodes.{Node}
 use Rattle.drv_graph.specs.PlanNodes.{output_paths_of}
-use Rattle.run_report.specs.Reports.{IsTold, lines_if_some, line_of, outputs_at, path_line, told_at}
-use Rattle.run_states.specs.Runs.{History, IsWanted, Run, state_in, wanted_root}
+use Rattle.run_report.specs.Reports.{lines_if_some, line_of, outputs_at, path_line, told_at}
+use Rattle.run_states.specs.Runs.{IsWanted, state_in, wanted_root}
 use Rattle.run_states.specs.States.{is_good}
 use Rattle.run_report.specs.Words.{refusal_words}
 use Rattle.run_states.specs.declared.state.State.{State}
-use Rattle.run_states.specs.declared.state.State.TheVariants.{Blocked, Building, Done, Failed, Ready, Refused, Reused}
+use Rattle.run_states.specs.declared.state.State.TheVariants.{Done, Refused, Reused}
 use Rattle.run_report.proofs.OneReport.{one_report}
 use Rattle.run_states.proofs.StateLaws.{all_same}
 use Rattle.run_report.specs.Forecasts.{foretold}
-use Rattle.run_report.specs.Truths.{Build, HasEnded, ForecastLine, NoneFailed, Output, Refuse, ReportsComeTrue, Reuse, WholeComesTrue, telling}
+use Rattle.run_report.specs.Truths.{Build, ForecastLine, Output, Refuse, ReportsComeTrue, Reuse, WholeComesTrue, telling}
 use Rattle.run_report.specs.declared.tense.Tense.{Tense}
 use Rattle.run_report.specs.declared.tense.Tense.TheVariants.{Future, Past}
 use Rattle.run_report.proofs.Foretelling.{IsClosed, forecasts_are_closed}

@@ -9,8 +9,9 @@ use Rattle.drv_graph.specs.Nodes.{Node, paths_of}
 use Rattle.drv_graph.specs.PlanNodes.{output_paths_of}
 use Rattle.build_outcome.specs.declared.reason.Reason.{Reason}
 use Rattle.build_outcome.specs.declared.reason.Reason.TheVariants.{ExitStatus, NoStart, MissingOutput, NotFlatFile, HashMismatch, OutputCycle, TooLarge, ReadFault, OutOfMemory, Killed}
+use Rattle.run_states.specs.Systems.{required_features}
 use Rattle.run_states.specs.declared.state.Refusal.{Refusal}
-use Rattle.run_states.specs.declared.state.Refusal.TheVariants.{WrongSystem, Unsupported, MissingSource, InputNotRealised, PartlyValid}
+use Rattle.run_states.specs.declared.state.Refusal.TheVariants.{WrongSystem, Unsupported, MissingFeature, MissingSource, InputNotRealised, PartlyValid}
 
 -- a name and its value
 abbrev pub with_value : (name value : Bytes) → Bytes
@@ -28,6 +29,11 @@ with_text name texts number = with_value name (text_or_number (slice_get texts n
 -- the names of a derivation's outputs, as its text spells them, with their quotes
 abbrev pub spelled_names : Drv → List Bytes
 spelled_names drv = map (λ (o : Output). string_text o.name) drv.outputs
+
+-- the features that a derivation asks for, as the derivations' language spells them, with their
+-- quotes
+abbrev pub spelled_features : Drv → List Bytes
+spelled_features drv = map string_text (required_features drv)
 
 -- why the building of a derivation failed
 abbrev pub reason_words : Drv → Reason → Bytes
@@ -47,6 +53,8 @@ reason_words drv Killed = codes "Killed"
 abbrev pub refusal_words : List Node → Drv → Refusal → Bytes
 refusal_words nodes drv WrongSystem = codes "WrongSystem"
 refusal_words nodes drv Unsupported = codes "Unsupported"
+refusal_words nodes drv (MissingFeature feature) =
+    with_text (codes "MissingFeature") (spelled_features drv) feature
 refusal_words nodes drv (MissingSource source) =
     with_text (codes "MissingSource") drv.sources source
 refusal_words nodes drv (InputNotRealised input) =

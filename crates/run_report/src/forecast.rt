@@ -8,7 +8,7 @@ use crate::picture::picture_of;
 use crate::report::{States, told};
 use crate::tense::Tense;
 use drv_graph::Plan;
-use run_states::{State, standings_of, wanted_of};
+use run_states::{State, System, standings_of, wanted_of};
 use std::alloc::{AllocError, Global};
 use std::marker::Model;
 use valid_table::Journal;
@@ -19,7 +19,7 @@ use valid_table::Journal;
 pub struct Forecast {
     plan: Plan,
     journal: Journal,
-    system: Vec<u8>,
+    system: System,
     wanted: Vec<bool>,
     states: Vec<State>,
 }
@@ -31,11 +31,11 @@ impl Model for Forecast {
     ghost Value = { Opening };
 
     ghost view = { λ f. record {
-      run = record { graph = f.plan; system = f.system.items };
+      run = record { graph = f.plan; system = f.system };
       entries = f.journal.entries;
     } };
 
-    ghost invariant = { λ f. IsHeld (record { graph = f.plan; system = f.system.items })
+    ghost invariant = { λ f. IsHeld (record { graph = f.plan; system = f.system })
         f.journal.entries f.wanted.items f.states.items };
 }
 
@@ -62,9 +62,9 @@ impl Forecast {
         alloc: Global,
         plan: Plan,
         journal: Journal,
-        system: Vec<u8>,
+        system: System,
     ) -> Result<Forecast, AllocError>
-        ensures run { IfOk result (λ f. f.run ≡ record { graph = plan; system = system.items }) }
+        ensures run { IfOk result (λ f. f.run ≡ record { graph = plan; system = system }) }
         ensures entries { IfOk result (λ f. f.entries ≡ journal.entries) }
     {
         let standings = standings_of(alloc, &plan, &journal, &system)?;

@@ -2,7 +2,7 @@
 ghost use Rattle.std.specs.Prelude.{◌≡◌, ◌<◌, All, IfOk, List, false, if◌then◌else◌, length, slice_get, vec_capacity};
 ghost use Rattle.valid_table.specs.declared.entry.Entry.{Entry};
 ghost use Rattle.run_states.specs.StateTables.{AreStandings, AreWanted};
-ghost use Rattle.run_states.specs.Runs.{Run, inputs_at};
+ghost use Rattle.run_states.specs.Runs.{Run, inputs_at, terms_of};
 ghost use Rattle.run_states.specs.States.{by_hindrance, by_inputs, by_validity, is_done, is_good, is_open};
 ghost use Rattle.run_states.specs.declared.state.State.TheVariants.{Reused};
 ghost use Rattle.run_report.specs.Forecasts.{built_if_ready};
@@ -23,7 +23,7 @@ pub(crate) fn foretold(
     requires standings { length standings.now ≡ length plan.now.nodes }
     requires wanted { length wanted.now ≡ length plan.now.nodes }
     ensures ok { IfOk result (λ states. (run : Run) (opening : List Entry) → run.graph ≡ plan.now
-        → AreStandings run.system opening plan.now.nodes standings.now
+        → AreStandings (terms_of run) opening plan.now.nodes standings.now
         → AreWanted run opening wanted.now → AreForetold run opening states.items) }
     ensures room { IfOk result (λ states. vec_capacity states ≡ length plan.now.nodes) }
 {

@@ -2,14 +2,14 @@
 ghost use Rattle.std.specs.Prelude.{◌≡◌, ◌++◌, OnOk, codes};
 ghost use Rattle.drv_graph.specs.Nodes.{paths_of};
 ghost use Rattle.drv_graph.specs.PlanNodes.{output_paths_of};
-ghost use Rattle.run_report.specs.Words.{reason_words, refusal_words, spelled_names, with_text};
+ghost use Rattle.run_report.specs.Words.{reason_words, refusal_words, spelled_features, spelled_names, with_text};
 
 use crate::named::{write_name, write_with_number, write_with_string, write_with_value};
 use build_outcome::Reason;
 use drv_graph::Plan;
 use itoa::Buffer;
 use nix_drv::Derivation;
-use run_states::Refusal;
+use run_states::{Refusal, required_feature};
 use std::alloc::AllocError;
 
 // Adds why the building of a derivation failed.
@@ -50,6 +50,7 @@ pub fn write_refusal(
     match cause {
         Refusal::WrongSystem => write_name(b"WrongSystem", out),
         Refusal::Unsupported => write_name(b"Unsupported", out),
+        Refusal::MissingFeature(feature) => write_missing_feature(drv, feature, out),
         Refusal::MissingSource(source) => write_missing_source(drv, source, out),
         Refusal::InputNotRealised(input) => write_failed_input(plan, input, out),
         Refusal::PartlyValid(output) => write_valid_output(drv, output, out),
@@ -68,6 +69,21 @@ fn write_missing_output(
     match drv.outputs().get(output) {
         Some(found) => write_with_string(b"MissingOutput", &found.name, out),
         None => write_with_number(b"MissingOutput", output, out),
+    }
+}
+
+// Adds that a feature is missing: the feature as the derivations' language spells it.
+fn write_missing_feature(
+    drv: &Derivation,
+    feature: usize,
+    out: &mut Vec<u8>,
+) -> Result<(), AllocError>
+    ensures { OnOk result (out.new.items ≡ out.old.items
+        ++ with_text (codes "MissingFeature") (spelled_features drv.now) feature) }
+{
+    match required_feature(drv, feature) {
+        Some(found) => write_with_string(b"MissingFeature", found, out),
+        None => write_with_number(b"MissingFeature", feature, out),
     }
 }
 

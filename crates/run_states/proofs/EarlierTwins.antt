@@ -8,7 +8,7 @@ use Rattle.nix_names.proofs.Lists.{either_side}
 use Rattle.drv_graph.specs.Nodes.{Node}
 use Rattle.drv_graph.specs.PlanNodes.{output_paths_of}
 use Rattle.valid_table.specs.declared.entry.Entry.{Entry}
-use Rattle.run_states.specs.Runs.{Run, by_cause, earlier_twins, is_valid, is_wanted, own_cause, rows_of, standing_at}
+use Rattle.run_states.specs.Runs.{Run, Terms, by_cause, earlier_twins, is_valid, is_wanted, own_cause, rows_of, standing_at, terms_of}
 use Rattle.run_states.specs.States.{Rows}
 use Rattle.drv_graph.specs.Twins.{are_twins_at}
 use Rattle.run_states.specs.declared.state.Event.{Event}
@@ -29,10 +29,10 @@ same_twins : (a b c : Option Node) → are_twins_at b c ≡ true
 same_twins a b c are = search (rules, same_test, through, turned)
 
 -- where all outputs of one were valid, those of its twin were
-valid_twin : (system : List ℕ) (opening : List Entry) (a b : Option Node)
-    → are_twins_at a b ≡ true → standing_at system opening a ≡ AllValid
-    → standing_at system opening b ≡ AllValid
-valid_twin system opening (Some a) (Some b) are valid =
+valid_twin : (terms : Terms) (opening : List Entry) (a b : Option Node)
+    → are_twins_at a b ≡ true → standing_at terms opening a ≡ AllValid
+    → standing_at terms opening b ≡ AllValid
+valid_twin terms opening (Some a) (Some b) are valid =
     let x = output_paths_of a.drv in
     let y = output_paths_of b.drv in
     let one : list_all (is_valid opening) x ≡ true =
@@ -41,9 +41,9 @@ valid_twin system opening (Some a) (Some b) are valid =
     all_pass (is_valid opening) y (λ path has.
     list_all_has (is_valid opening) x _ one
     (twins_path b.drv a.drv _ (turned (Some a) (Some b) are) has)) in
-    ap (λ all. cond all AllValid (by_cause (own_cause system opening b.drv))) two
-valid_twin system opening (Some a) None are valid = absurd (false≢true are)
-valid_twin system opening None b are valid = absurd (false≢true are)
+    ap (λ all. cond all AllValid (by_cause (own_cause terms opening b.drv))) two
+valid_twin terms opening (Some a) None are valid = absurd (false≢true are)
+valid_twin terms opening None b are valid = absurd (false≢true are)
 
 -- ---- the numbers below a bound that pass a test
 
@@ -180,8 +180,8 @@ module _ (run : Run) (opening : List Entry) where
       )
 
   twins_valid : (d t : ℕ) → Contains (earlier_twins run opening d) t
-      → standing_at run.system opening (node t) ≡ AllValid
-      → standing_at run.system opening (node d) ≡ AllValid
+      → standing_at (terms_of run) opening (node t) ≡ AllValid
+      → standing_at (terms_of run) opening (node d) ≡ AllValid
   twins_valid d t has = search (rules, valid_twin, node, has_twin)
 
   -- whatever happened in a run

@@ -15,6 +15,7 @@ pub mod OneStates
 pub mod OtherEvents
 pub mod OwnStandings
 pub mod PlanInputs
+pub mod Platforms
 pub mod Registering
 pub mod Seeds
 pub mod StateLaws

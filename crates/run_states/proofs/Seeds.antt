@@ -25,12 +25,12 @@ use Rattle.nix_names.proofs.RisingLists.{equal_from_eq}
 use Rattle.run_states.specs.Headline.{PermittedStays, SeedsAreValid}
 use Rattle.build_outcome.specs.Jobs.{named_outputs, paths_of_found, seeds_of}
 use Rattle.run_states.specs.Legal.{IsLegal, legal_opening, legal_begin, legal_done, legal_fail, begins}
-use Rattle.run_states.specs.Runs.{History, Run, by_cause, cause_at, input_numbers, inputs_at, is_unsupported, is_valid, or_else, rows_of, standing_at, standing_of, state_in}
+use Rattle.run_states.specs.Runs.{History, Run, by_cause, cause_at, input_numbers, inputs_at, is_for, is_unsupported, is_valid, missing_of, or_else, rows_of, standing_at, standing_of, state_in, terms_of}
 use Rattle.run_states.specs.States.{Phase, Idle, Begun, Ended, Broken, Rows, by_first, by_hindrance, by_phase, by_validity, is_done, is_good, later, phase_by, phase_of, state, states_by, table}
 use Rattle.run_states.specs.declared.state.Event.{Event}
 use Rattle.run_states.specs.declared.state.Event.TheVariants.{Begin, Done as Finish, Fail}
 use Rattle.run_states.specs.declared.state.Refusal.{Refusal}
-use Rattle.run_states.specs.declared.state.Refusal.TheVariants.{MissingSource, PartlyValid, Unsupported, WrongSystem}
+use Rattle.run_states.specs.declared.state.Refusal.TheVariants.{MissingFeature, MissingSource, PartlyValid, Unsupported, WrongSystem}
 use Rattle.run_states.specs.declared.state.State.{State}
 use Rattle.run_states.specs.declared.state.State.TheVariants.{Blocked, Ready, Reused}
 use Rattle.run_states.proofs.Dones.{output_registered, part_with, records_for_paths}
@@ -285,8 +285,8 @@ at_number run history legal i good node is_node path has =
     (λ ended. ended_is_valid _ _ legal i _ is_node ended _ has)
     (λ other. ⊎_elim
     (λ all.
-    let own : standing_of run.system history.opening node.drv ≡ AllValid =
-    sym (ap (standing_at run.system history.opening) is_node) ∙ all in
+    let own : standing_of (terms_of run) history.opening node.drv ≡ AllValid =
+    sym (ap (standing_at (terms_of run) history.opening) is_node) ∙ all in
     let there = standing_all _
     _ own in
     opening_stays_valid _ _ legal _
@@ -375,17 +375,18 @@ seeds_at run history legal d ready node is_node path has =
     let facts = ready_by _ _
     _ _
     _ ready in
-    let free : standing_of run.system history.opening node.drv
-    ≡ Free = sym (ap (standing_at run.system history.opening) is_node) ∙ facts.free in
+    let free : standing_of (terms_of run) history.opening node.drv
+    ≡ Free = sym (ap (standing_at (terms_of run) history.opening) is_node) ∙ facts.free in
     let no_cause = standing_free _
     _ free in
     let none_missing = cause_none MissingSource
     _
     (or_else_none
     (cause_at PartlyValid (position (is_valid history.opening) (output_paths_of node.drv))) _
-    (or_else_none (if is_unsupported node.drv then Some Unsupported else None) _
-    (or_else_none (if same_bytes node.drv.system run.system then None else Some WrongSystem) _
-    no_cause))) in
+    (or_else_none (cause_at MissingFeature (missing_of (terms_of run) node.drv)) _
+    (or_else_none (if is_unsupported (terms_of run) node.drv then Some Unsupported else None) _
+    (or_else_none (if is_for (terms_of run) node.drv then None else Some WrongSystem) _
+    no_cause)))) in
     let good = all_good _
     _ facts.open_is in
     ⊎_elim

@@ -13,7 +13,7 @@ use Rattle.drv_graph.specs.SoundGraphs.{IsSound}
 use Rattle.valid_table.specs.declared.entry.Entry.{Entry}
 use Rattle.run_states.specs.StateTables.{AreStandings, AreWanted}
 use Rattle.run_states.specs.PlanLaws.{WantedIsTold}
-use Rattle.run_states.specs.Runs.{IsWanted, Run, inputs_at, is_free, is_one_of, is_used_by, is_wanted_over, standing_at, wanted_input, wanted_root}
+use Rattle.run_states.specs.Runs.{IsWanted, Run, inputs_at, is_free, is_one_of, is_used_by, is_wanted_over, standing_at, wanted_input, wanted_root, terms_of}
 use Rattle.run_states.specs.declared.precondition.Precondition.{Precondition}
 use Rattle.run_states.specs.declared.precondition.Precondition.TheVariants.{AllValid, Free, Hindered}
 use Rattle.run_states.proofs.PlanInputs.{inputs_first, numbers_at}
@@ -56,7 +56,7 @@ wanted_if_told (suc users) run opening d is =
     let user = found.0 in
     let parts = and_parts (is_used_by run opening d user)
     (is_wanted_over users run opening user) found.2 in
-    let stands = standing_at run.system opening (slice_get run.graph.nodes user) in
+    let stands = standing_at (terms_of run) opening (slice_get run.graph.nodes user) in
     let inputs = inputs_at run.graph.nodes (slice_get run.graph.nodes user) in
     let used = and_parts (is_free stands) (is_one_of inputs d) parts.0 in
     wanted_input user d (wanted_if_told users run opening user parts.1)
@@ -129,7 +129,7 @@ pub record AreMarked (graph : Graph) (standings : List Precondition) (wanted : L
   pub count : length wanted ≡ length graph.nodes
   pub roots : (d : ℕ) → Contains graph.roots d → IsMarked wanted d
   pub sound : (run : Run) (opening : List Entry) → run.graph ≡ graph
-      → AreStandings run.system opening graph.nodes standings
+      → AreStandings (terms_of run) opening graph.nodes standings
       → (d : ℕ) → IsMarked wanted d → IsWanted run opening d
   pub closed : (user d : ℕ) → rest ≤ user → IsMarked wanted user
       → slice_index_or standings user Free ≡ Free
@@ -204,11 +204,11 @@ inputs_marked graph standings old new numbers rest d is_sound low next are marke
     same_numbers = numbers_at _ d _ low is_sound are
 
     by_user : (run : Run) (opening : List Entry) → run.graph ≡ graph
-        → AreStandings run.system opening graph.nodes standings → (e : ℕ) → Contains numbers e
+        → AreStandings (terms_of run) opening graph.nodes standings → (e : ℕ) → Contains numbers e
         → IsWanted run opening e
     by_user run opening same standing e has =
         wanted_input d e (before.sound run opening same standing d marked)
-        (subst (λ (g : Graph). standing_at run.system opening (slice_get g.nodes d) ≡ Free)
+        (subst (λ (g : Graph). standing_at (terms_of run) opening (slice_get g.nodes d) ≡ Free)
         (sym same) (sym (standing.each d low) ∙ stands))
         (subst (λ (g : Graph). Contains (inputs_at g.nodes (slice_get g.nodes d)) e) (sym same)
         (subst (λ l. Contains l e) same_numbers has))
@@ -244,7 +244,7 @@ written new rest n size = search (rules, take-append_seam)
 
 -- all are marked that are wanted
 all_wanted : (run : Run) (opening : List Entry) (standings : List Precondition) (wanted : List Bool)
-    → AreStandings run.system opening run.graph.nodes standings
+    → AreStandings (terms_of run) opening run.graph.nodes standings
     → AreMarked run.graph standings wanted 0 → (d : ℕ) → IsWanted run opening d → IsMarked wanted d
 all_wanted run opening standings wanted standing marked d (wanted_root _ has) = marked.roots d has
 all_wanted run opening standings wanted standing marked d (wanted_input user _ by_user free has) =
@@ -253,12 +253,12 @@ all_wanted run opening standings wanted standing marked d (wanted_input user _ b
 pub wanted_are : (graph : Graph) (standings : List Precondition) (wanted : List Bool)
     → AreMarked graph standings wanted 0
     → (run : Run) (opening : List Entry) → run.graph ≡ graph
-    → AreStandings run.system opening graph.nodes standings → AreWanted run opening wanted
+    → AreStandings (terms_of run) opening graph.nodes standings → AreWanted run opening wanted
 wanted_are graph standings wanted marked run opening same standing =
     let marked_here : AreMarked run.graph standings wanted 0 =
     subst (λ g. AreMarked g standings wanted 0) (sym same) marked in
-    let standing_here : AreStandings run.system opening run.graph.nodes standings =
-    subst (λ (g : Graph). AreStandings run.system opening g.nodes standings) (sym same) standing
+    let standing_here : AreStandings (terms_of run) opening run.graph.nodes standings =
+    subst (λ (g : Graph). AreStandings (terms_of run) opening g.nodes standings) (sym same) standing
     in
     record {
       count = marked_here.count;

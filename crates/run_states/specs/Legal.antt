@@ -10,7 +10,7 @@ use Rattle.drv_graph.specs.Nodes.{Node}
 use Rattle.drv_graph.specs.PlanNodes.{output_paths_of}
 use Rattle.drv_graph.specs.Plans.{Graph}
 use Rattle.drv_graph.specs.declared.kinds.Kind.TheVariants.{Fixed}
-use Rattle.drv_graph.specs.declared.kinds.Method.{Method}
+use Rattle.nix_names.specs.declared.method.Method.{Method}
 use Rattle.valid_table.specs.Closure.{Reaches}
 use Rattle.valid_table.specs.Entries.{paths_registered, registered}
 use Rattle.valid_table.specs.PathInfos.{PathInfo}
@@ -89,12 +89,13 @@ ArePermittedTo graph entries node infos = (info : PathInfo) (path : Path) → Co
     → Contains info.references path
     → MayRefer (registered entries) (seeds_of graph.nodes node.drv) (output_paths_of node.drv) path
 
--- Records of a derivation's outputs: one for each, with the declared digest, under the declared
--- algorithm, where it is fixed.
+-- Records of a derivation's outputs: one for each, with the declared digest by the declared method
+-- where it is fixed.
 pub record AreOutputRecords (drv : Drv) (infos : List PathInfo) : Type 0 where
   pub count : length infos ≡ length drv.outputs
   pub fixed : (method : Method) (digest : Digest) → HasKind drv (Fixed method digest)
-      → (info : PathInfo) → Contains infos info → info.digest ≡ Some digest
+      → (info : PathInfo) → Contains infos info
+      → info.digest ≡ Some (record { method = method; digest = digest })
 
 -- Records of a derivation's outputs by which no two different outputs lead to each other.
 pub record AreAcyclicRecords (drv : Drv) (infos : List PathInfo) : Type 0 where

@@ -13,5 +13,6 @@ pub mod PlanLaws
 pub mod Runs
 pub mod States
 pub mod Steps
+pub mod Systems
 pub mod UserSpans
 pub mod Users

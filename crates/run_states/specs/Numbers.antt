@@ -3,7 +3,7 @@ use Rattle.std.specs.Prelude.{ℕ}
 use Rattle.run_states.specs.declared.fault.BookFault.{BookFault}
 use Rattle.run_states.specs.declared.fault.BookFault.TheVariants.{NoMemory, NoView, ForeignLease, NotLawful}
 use Rattle.run_states.specs.declared.state.Refusal.{Refusal}
-use Rattle.run_states.specs.declared.state.Refusal.TheVariants.{WrongSystem, Unsupported, MissingSource, InputNotRealised, PartlyValid}
+use Rattle.run_states.specs.declared.state.Refusal.TheVariants.{WrongSystem, Unsupported, MissingFeature, MissingSource, InputNotRealised, PartlyValid}
 use Rattle.valid_table.specs.declared.fault.OutletFault.TheVariants as outlet
 use Rattle.valid_table.specs.declared.fault.OutletFault.{OutletFault}
 
@@ -14,6 +14,7 @@ refusal_number_of Unsupported = 61
 refusal_number_of (MissingSource source) = 62
 refusal_number_of (InputNotRealised input) = 63
 refusal_number_of (PartlyValid output) = 64
+refusal_number_of (MissingFeature feature) = 78
 
 -- a fault's number
 abbrev pub fault_number_of : BookFault → ℕ

@@ -1,20 +1,23 @@
 -- A run over a plan for one system, its history, and which derivations of it are wanted (this
 -- product's own; Nix manual, "Building").
-use Rattle.std.specs.Prelude.{◌≡◌, ◌||◌, ◌&&◌, ◌==◌, not, Bool, true, false, ℕ, zero, suc, Option, Some, None, List, [], ◌∷◌, length, filter, map, codes, nat_eq, slice_get, Contains, if◌then◌else◌}
-use Rattle.std.specs.List.{list_any, list_all, position, position_or_len, range_with_len, starts_with}
-use Rattle.nix_names.specs.Bytes.{Bytes, Path, Name}
+use Rattle.std.specs.Prelude.{◌≡◌, ◌||◌, ◌&&◌, ◌==◌, not, Bool, true, false, ℕ, zero, suc, Option, Some, None, List, [], ◌∷◌, length, filter, map, codes, slice_get, Contains, if◌then◌else◌}
+use Rattle.std.specs.List.{list_any, list_all, position, position_or_len, range_with_len}
+use Rattle.nix_names.specs.Bytes.{Path, Name}
 use Rattle.nix_names.specs.Names.{same_bytes}
 use Rattle.nix_drv.specs.Derivation.{Drv, EnvEntry, Output}
+use Rattle.drv_graph.specs.declared.profile.Profile.{Profile}
+use Rattle.drv_graph.specs.declared.profile.Profile.TheVariants.{Plain, Nix}
 use Rattle.drv_graph.specs.Nodes.{Node, inputs_of, paths_of}
 use Rattle.drv_graph.specs.PlanNodes.{output_paths_of}
 use Rattle.drv_graph.specs.Plans.{Graph}
 use Rattle.valid_table.specs.Entries.{registered, paths_registered as registered_paths}
 use Rattle.valid_table.specs.declared.entry.Entry.{Entry}
+use Rattle.run_states.specs.Systems.{Platform, has_program, is_builtin, missing_feature}
 use Rattle.run_states.specs.States.{Rows, phase_of, state}
 use Rattle.drv_graph.specs.Twins.{are_twins_at}
 use Rattle.run_states.specs.declared.state.Event.{Event}
 use Rattle.run_states.specs.declared.state.Refusal.{Refusal}
-use Rattle.run_states.specs.declared.state.Refusal.TheVariants.{WrongSystem, Unsupported, MissingSource, PartlyValid}
+use Rattle.run_states.specs.declared.state.Refusal.TheVariants.{WrongSystem, Unsupported, MissingFeature, MissingSource, PartlyValid}
 use Rattle.run_states.specs.declared.state.State.{State}
 use Rattle.run_states.specs.declared.precondition.Precondition.{Precondition}
 use Rattle.run_states.specs.declared.precondition.Precondition.TheVariants.{AllValid, Hindered, Free}
@@ -22,7 +25,16 @@ use Rattle.run_states.specs.declared.precondition.Precondition.TheVariants.{AllV
 -- What a run is over: the plan, and the system for which it builds.
 pub record Run : Type 0 where
   pub graph : Graph
-  pub system : Bytes
+  pub system : Platform
+
+-- What a run builds by: the profile of its plan, and the system for which it builds.
+pub record Terms : Type 0 where
+  pub profile : Profile
+  pub system : Platform
+
+-- what a run builds by
+abbrev pub terms_of : Run → Terms
+terms_of run = record { profile = run.graph.profile; system = run.system }
 
 -- What has happened: the entries that the journal opened with, all its entries now, and the events
 -- since.
@@ -35,20 +47,59 @@ pub record History : Type 0 where
 abbrev pub is_valid : List Entry → Path → Bool
 is_valid entries path = list_any (same_bytes path) (registered_paths (registered entries))
 
--- keys of the environment that ask for what is left out
-abbrev pub left_out : List Name
-left_out =
-    codes "__json" ∷ codes "passAsFile" ∷ codes "exportReferencesGraph" ∷ codes "allowedReferences"
+-- keys of the environment that ask for what is left out under both profiles
+abbrev pub left_out_of_both : List Name
+left_out_of_both =
+    codes "__json" ∷ codes "exportReferencesGraph" ∷ codes "allowedReferences"
     ∷ codes "allowedRequisites"
     ∷ codes "disallowedReferences" ∷ codes "disallowedRequisites" ∷ []
 
--- whether a derivation asks for what is left out: a builtin builder, one of those keys, or a fixed
--- output that is a whole tree
-abbrev pub is_unsupported : Drv → Bool
-is_unsupported drv =
-    starts_with nat_eq drv.builder (codes "builtin:")
-    || list_any (λ (e : EnvEntry). list_any (same_bytes e.key) left_out) drv.env
-    || list_any (λ (o : Output). same_bytes o.algo (codes "r:sha256")) drv.outputs
+-- keys of the environment that ask for what is left out: under `plain` also `passAsFile`
+abbrev pub left_out_of : Profile → List Name
+left_out_of Plain = codes "passAsFile" ∷ left_out_of_both
+left_out_of Nix = left_out_of_both
+
+-- whether a derivation has one of those keys
+abbrev pub has_left_out : Profile → Drv → Bool
+has_left_out profile drv =
+    list_any (λ (e : EnvEntry). list_any (same_bytes e.key) (left_out_of profile)) drv.env
+
+-- whether a declared hash of a derivation is that of a whole tree
+abbrev pub has_tree : Drv → Bool
+has_tree drv = list_any (λ (o : Output). same_bytes o.algo (codes "r:sha256")) drv.outputs
+
+-- whether a derivation is for a system: under `plain` its system is of this name; under `nix` it
+-- has a builtin builder, for any system, or its system is of this name and isn't `builtin`
+abbrev pub is_for_under : Profile → Platform → Drv → Bool
+is_for_under Plain system drv = same_bytes drv.system system.name
+is_for_under Nix system drv = is_builtin drv
+    || (same_bytes drv.system system.name && not (same_bytes drv.system (codes "builtin")))
+
+-- whether a derivation is for the run's system
+abbrev pub is_for : Terms → Drv → Bool
+is_for terms drv = is_for_under terms.profile terms.system drv
+
+-- whether a derivation asks for what is left out: under `plain` a builtin builder, one of those
+-- keys, or the hash of a whole tree; under `nix` a builtin builder for which there is no program,
+-- or one of those keys
+abbrev pub is_unsupported_under : Profile → Platform → Drv → Bool
+is_unsupported_under Plain system drv = is_builtin drv || has_left_out Plain drv || has_tree drv
+is_unsupported_under Nix system drv = (is_builtin drv && not (has_program system drv))
+    || has_left_out Nix drv
+
+-- whether a derivation asks a run for what is left out
+abbrev pub is_unsupported : Terms → Drv → Bool
+is_unsupported terms drv = is_unsupported_under terms.profile terms.system drv
+
+-- the number of the first feature that a derivation asks for and a system doesn't offer; none under
+-- `plain`
+abbrev pub missing_feature_under : Profile → Platform → Drv → Option ℕ
+missing_feature_under Plain system drv = None
+missing_feature_under Nix system drv = missing_feature system drv
+
+-- the number of the first feature that a derivation asks for and the run's system doesn't offer
+abbrev pub missing_of : Terms → Drv → Option ℕ
+missing_of terms drv = missing_feature_under terms.profile terms.system drv
 
 -- the first of two causes
 abbrev pub or_else : Option Refusal → Option Refusal → Option Refusal
@@ -61,13 +112,15 @@ cause_at cause (Some n) = Some (cause n)
 cause_at cause None = None
 
 -- the first cause for which a derivation can't be begun, after these entries: another system,
--- something left out, an output that is valid while another isn't, a source that isn't valid
-abbrev pub own_cause : (system : Bytes) → (opening : List Entry) → Drv → Option Refusal
-own_cause system opening drv =
-    or_else (if same_bytes drv.system system then None else Some WrongSystem)
-    (or_else (if is_unsupported drv then Some Unsupported else None)
+-- something left out, a feature that the system doesn't offer, an output that is valid while
+-- another isn't, a source that isn't valid
+abbrev pub own_cause : Terms → (opening : List Entry) → Drv → Option Refusal
+own_cause terms opening drv =
+    or_else (if is_for terms drv then None else Some WrongSystem)
+    (or_else (if is_unsupported terms drv then Some Unsupported else None)
+    (or_else (cause_at MissingFeature (missing_of terms drv))
     (or_else (cause_at PartlyValid (position (is_valid opening) (output_paths_of drv)))
-    (cause_at MissingSource (position (λ path. not (is_valid opening path)) drv.sources))))
+    (cause_at MissingSource (position (λ path. not (is_valid opening path)) drv.sources)))))
 
 -- the standing of a derivation with this cause, if it has one
 abbrev pub by_cause : Option Refusal → Precondition
@@ -76,10 +129,10 @@ by_cause None = Free
 
 -- a derivation's standing after these entries: all its outputs are valid, else it has a cause for
 -- which it can't be begun, else neither
-abbrev pub standing_of : (system : Bytes) → (opening : List Entry) → Drv → Precondition
-standing_of system opening drv =
+abbrev pub standing_of : Terms → (opening : List Entry) → Drv → Precondition
+standing_of terms opening drv =
     if list_all (is_valid opening) (output_paths_of drv) then AllValid
-    else by_cause (own_cause system opening drv)
+    else by_cause (own_cause terms opening drv)
 
 -- the numbers of a derivation's inputs, in its text's order
 abbrev pub input_numbers : List Node → Drv → List ℕ
@@ -92,16 +145,16 @@ inputs_at nodes (Some node) = input_numbers nodes node.drv
 inputs_at nodes None = []
 
 -- a node's standing; Free where there is no node
-abbrev pub standing_at : (system : Bytes) → (opening : List Entry) → Option Node → Precondition
-standing_at system opening (Some node) = standing_of system opening node.drv
-standing_at system opening None = Free
+abbrev pub standing_at : Terms → (opening : List Entry) → Option Node → Precondition
+standing_at terms opening (Some node) = standing_of terms opening node.drv
+standing_at terms opening None = Free
 
 -- A derivation is wanted: it is a root, or an input of a wanted user whose outputs aren't all valid
 -- and that has no own cause.
 pub data IsWanted (run : Run) (opening : List Entry) : ℕ → Type 0 where
   wanted_root : (d : ℕ) → Contains run.graph.roots d → IsWanted run opening d
   wanted_input : (user d : ℕ) → IsWanted run opening user
-      → standing_at run.system opening (slice_get run.graph.nodes user) ≡ Free
+      → standing_at (terms_of run) opening (slice_get run.graph.nodes user) ≡ Free
       → Contains (inputs_at run.graph.nodes (slice_get run.graph.nodes user)) d
       → IsWanted run opening d
 
@@ -118,7 +171,7 @@ is_one_of numbers n = list_any (λ m. m == n) numbers
 -- of its own
 abbrev pub is_used_by : Run → (opening : List Entry) → (input user : ℕ) → Bool
 is_used_by run opening input user =
-    is_free (standing_at run.system opening (slice_get run.graph.nodes user))
+    is_free (standing_at (terms_of run) opening (slice_get run.graph.nodes user))
     && is_one_of (inputs_at run.graph.nodes (slice_get run.graph.nodes user)) input
 
 -- whether a derivation is wanted over at most `users` users: it is a root, or an input of a Free
@@ -145,7 +198,7 @@ abbrev pub rows_of : Run → (opening : List Entry) → List Event → Rows
 rows_of run opening events = record {
   inputs = λ d. inputs_at run.graph.nodes (slice_get run.graph.nodes d);
   twins = earlier_twins run opening;
-  standing = λ d. standing_at run.system opening (slice_get run.graph.nodes d);
+  standing = λ d. standing_at (terms_of run) opening (slice_get run.graph.nodes d);
   phase = phase_of events;
 }
 

@@ -2,12 +2,11 @@
 -- own).
 use Rattle.std.specs.Prelude.{◌≡◌, ◌<◌, ◌⊎◌, Bool, true, false, ℕ, Option, Some, None, List, [], ◌∷◌, ◌++◌, length, slice_get}
 use Rattle.std.specs.List.{slice_index_or}
-use Rattle.nix_names.specs.Bytes.{Bytes}
 use Rattle.drv_graph.specs.Nodes.{Node}
 use Rattle.drv_graph.specs.Plans.{Graph}
 use Rattle.valid_table.specs.declared.entry.Entry.{Entry}
 use Rattle.run_states.specs.Nearest.{last_alone, near_state}
-use Rattle.run_states.specs.Runs.{IsWanted, Run, earlier_twins, inputs_at, standing_at}
+use Rattle.run_states.specs.Runs.{IsWanted, Run, Terms, earlier_twins, inputs_at, standing_at}
 use Rattle.run_states.specs.States.{Phase, Idle, Begun, Rows}
 use Rattle.run_states.specs.declared.state.State.{State}
 use Rattle.run_states.specs.declared.state.State.TheVariants.{Building, Ready, Blocked}
@@ -84,12 +83,12 @@ abbrev pub IsSettled : StateTable → Type 0
 IsSettled course = (d : ℕ) → d < length course.graph.nodes → slice_index_or course.wanted d false
     ≡ true → IsOpen (course_state course d) → ⊥
 
--- the standing of each derivation after these entries, in a run for the system
-pub record AreStandings (system : Bytes) (entries : List Entry) (nodes : List Node)
+-- the standing of each derivation after these entries, in a run by these terms
+pub record AreStandings (terms : Terms) (entries : List Entry) (nodes : List Node)
     (standings : List Precondition) : Type 0 where
   pub count : length standings ≡ length nodes
   pub each : (d : ℕ) → d < length nodes → slice_index_or standings d Free
-      ≡ standing_at system entries (slice_get nodes d)
+      ≡ standing_at terms entries (slice_get nodes d)
 
 -- of each derivation, whether it is wanted
 pub record AreWanted (run : Run) (opening : List Entry) (wanted : List Bool) : Type 0 where

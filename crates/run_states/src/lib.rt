@@ -2,6 +2,7 @@
 //!
 //! | Module | What is in it |
 //! |---|---|
+//! | `system`, `features` | what a run builds for, and the features that a derivation asks for |
 //! | `state` | why a derivation is not begun, its state, and events |
 //! | `precondition` | what is known of a derivation before anything is begun |
 //! | `state_table` | the state of each derivation of a plan |
@@ -15,6 +16,7 @@
 #![tactic(auto)]
 
 mod fault;
+mod features;
 mod node_states;
 mod precondition;
 mod preconditions;
@@ -22,15 +24,18 @@ mod propagate;
 mod state;
 mod state_table;
 mod states;
+mod system;
 mod twins;
 mod users;
 mod wanted;
 mod work_queues;
 
 pub use fault::BookFault;
+pub use features::required_feature;
 pub use precondition::Precondition;
 pub use preconditions::standings_of;
 pub use state::{Event, Refusal, State};
 pub use state_table::StateTable;
+pub use system::System;
 pub use twins::nearest_twins;
 pub use wanted::{mark, wanted_of};

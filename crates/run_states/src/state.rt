@@ -9,9 +9,13 @@ use build_outcome::Reason;
 pub enum Refusal {
     /// It is for another system than the run's.
     WrongSystem,
-    /// Its builder or one of its environment's keys asks for what is left out, or its output is a
-    /// whole tree with a declared hash.
+    /// Its builder or one of its environment's keys asks for what is left out, or, but under the
+    /// profile `nix`, its output is a whole tree with a declared hash. Under `nix` a builtin
+    /// builder for which the run has a program is none of these.
     Unsupported,
+    /// Under the profile `nix`: the system doesn't offer the feature with this number, counted from
+    /// 0, among those that it asks for.
+    MissingFeature(usize),
     /// The source with this number, counted from 0, isn't valid.
     MissingSource(usize),
     /// The input derivation with this number in the plan failed or is refused.
@@ -31,6 +35,7 @@ impl Refusal {
             Refusal::MissingSource(_) => 62,
             Refusal::InputNotRealised(_) => 63,
             Refusal::PartlyValid(_) => 64,
+            Refusal::MissingFeature(_) => 78,
         }
     }
 }

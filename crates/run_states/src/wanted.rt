@@ -3,7 +3,7 @@ ghost use Rattle.std.specs.Prelude.{◌≡◌, ◌<◌, ◌↔◌, ◌⊎◌, Al
 ghost use Rattle.std.specs.List.{slice_index_or};
 ghost use Rattle.valid_table.specs.declared.entry.Entry.{Entry};
 ghost use Rattle.run_states.specs.StateTables.{AreStandings, AreWanted};
-ghost use Rattle.run_states.specs.Runs.{Run};
+ghost use Rattle.run_states.specs.Runs.{Run, terms_of};
 
 use crate::precondition::Precondition;
 use drv_graph::Plan;
@@ -18,7 +18,7 @@ pub fn wanted_of(
 ) -> Result<Vec<bool>, AllocError>
     requires { length standings.now ≡ length plan.now.nodes }
     ensures ok { IfOk result (λ wanted. (run : Run) (opening : List Entry) → run.graph ≡ plan.now
-        → AreStandings run.system opening plan.now.nodes standings.now
+        → AreStandings (terms_of run) opening plan.now.nodes standings.now
         → AreWanted run opening wanted.items) }
     ensures count { IfOk result (λ wanted. length wanted.items ≡ length plan.now.nodes) }
 {

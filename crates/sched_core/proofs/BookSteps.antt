@@ -1,5 +1,5 @@
 -- What holds in a book still holds after each event.
-use Rattle.std.proofs.Common.{◌≡◌, ℕ, ◌+◌, ◌≤◌, List, [], ◌∷◌, ◌++◌, length, refl, sym, subst, ap, ◌∙◌, take, arith}
+use Rattle.std.proofs.Common.{◌≡◌, ℕ, ◌+◌, ◌≤◌, List, [], ◌∷◌, ◌++◌, length, refl, sym, subst, ap, ◌∙◌, arith}
 use Rattle.std.specs.Prelude.{slice_set}
 use Rattle.std.proofs.lemmas.List.{length_push, take-append-le}
 use Rattle.valid_table.specs.PathInfos.{PathInfo}
@@ -10,6 +10,7 @@ use Rattle.build_outcome.specs.Jobs.{IsJob}
 use Rattle.build_outcome.specs.declared.job.Job.{Job}
 use Rattle.sched_core.specs.private.Booking.{IsBook, history_of, run_over}
 use Rattle.run_states.specs.StateTables.{CanBegin, StateTable}
+use Rattle.run_states.specs.Systems.{Platform}
 use Rattle.run_states.specs.Legal.{begun, ended}
 use Rattle.run_states.specs.Runs.{History, Run}
 use Rattle.run_states.specs.States.{Begun, Broken, Ended, phase_of}
@@ -22,7 +23,7 @@ use Rattle.sched_core.proofs.Keeping.{begin_kept, fail_kept, finish_kept}
 
 -- ---- the history after an event
 
-pub history_begun : (states : StateTable) (system : List ℕ) (opening given room d : ℕ)
+pub history_begun : (states : StateTable) (system : Platform) (opening given room d : ℕ)
     (entries shown pending : List Entry) (events after : List Event)
     → IsBook states system opening entries events given room shown pending
     → after ≡ events ++ Begin d given ∷ []
@@ -45,7 +46,7 @@ history_ended opening d lease entries more events after entry opened added pushe
 
 -- ---- the book after a publication, and after an event
 
-pub book_published : (states : StateTable) (system : List ℕ) (opening given room : ℕ)
+pub book_published : (states : StateTable) (system : Platform) (opening given room : ℕ)
     (entries shown pending after_shown after_pending : List Entry) (events : List Event)
     → IsBook states system opening entries events given room shown pending
     → after_shown ≡ shown ++ pending → after_pending ≡ []
@@ -64,7 +65,7 @@ book_published states system opening given room entries shown pending after_show
           refl refl published.0;
     }
 
-pub book_begun : (states later : StateTable) (system : List ℕ)
+pub book_begun : (states later : StateTable) (system : Platform)
     (opening given room later_room d : ℕ)
     (entries shown pending after_shown after_pending : List Entry) (events after : List Event)
     → IsBook states system opening entries events given room shown pending
@@ -89,7 +90,7 @@ book_begun states later system opening given room later_room d entries shown pen
           (history_begun _ _ _ _ _ _ _ _ _ _ _ book pushed) published.0;
     }
 
-pub book_failed : (states later : StateTable) (system : List ℕ)
+pub book_failed : (states later : StateTable) (system : Platform)
     (opening given room later_room d lease : ℕ) (reason : Reason)
     (entries shown pending : List Entry) (events after : List Event)
     → IsBook states system opening entries events given room shown pending
@@ -109,7 +110,7 @@ book_failed states later system opening given room later_room d lease reason ent
           book.builds (ap (λ s. run_over s system) set_) (ap (history_of opening entries) pushed);
     }
 
-pub book_ended : (states later : StateTable) (system : List ℕ)
+pub book_ended : (states later : StateTable) (system : Platform)
     (opening given room later_room d lease : ℕ) (infos : List PathInfo) (entry copy : Entry)
     (entries more shown pending after_shown after_pending : List Entry)
     (events after : List Event)
@@ -136,7 +137,7 @@ book_ended states later system opening given room later_room d lease infos entry
     }
 
 -- what beginning a derivation comes to
-pub beginning : (before : Ledger) (states later : StateTable) (system : List ℕ)
+pub beginning : (before : Ledger) (states later : StateTable) (system : Platform)
     (opening given room d n : ℕ) (entries shown pending after_shown after_pending : List Entry)
     (events after : List Event) (job made : Job)
     → record {
@@ -183,7 +184,7 @@ beginning before states later system opening given room d n entries shown pendin
     rw (← view, is_made, is_n) own
 
 -- and it gives a lease
-pub lease_begun : (states later : StateTable) (system : List ℕ) (opening given room d n : ℕ)
+pub lease_begun : (states later : StateTable) (system : Platform) (opening given room d n : ℕ)
     (entries shown pending : List Entry) (events after : List Event) (job made : Job)
     → IsBook states system opening entries events given room shown pending
     → IsJob states.graph d job → made ≡ job → n ≡ given

@@ -106,14 +106,15 @@ pub job_by_parts : (graph : Graph) (d : ℕ) (job : Job) (drv : Drv) (kind : Kin
     (lent : List OutputStruct) (paths : List (List ℕ)) (told : Bool) → d < length graph.nodes
     → slice_get (drvs_of graph.nodes) d ≡ Some drv → job.derivation ≡ d
     → IfSome (slice_get graph.nodes d) (λ (n : Node). HasKind n.drv kind) → job.kind ≡ kind
+    → job.profile ≡ graph.profile
     → HasRecipe drv job
     → map output_of lent ≡ drv.outputs → IfSome (slice_get graph.nodes d)
     (λ (n : Node). paths ≡ output_paths_of n.drv) → MakesAt lent paths job.outputs.items
     → IfSome (slice_get graph.nodes d) (λ (n : Node). IsTrue told
     ↔ (job.seeds.items ≡ seeds_of graph.nodes n.drv))
     → IsTrue told ↔ IsJob graph d job
-job_by_parts graph d job drv kind lent paths told low at number kinds kind_is recipe view path makes
-    seeds =
+job_by_parts graph d job drv kind lent paths told low at number kinds kind_is profile recipe view
+    path makes seeds =
     let own = element_at _ d low in
     let node : Node = own.0 in
     let same : drv ≡ node.drv = drv_is _ d _ _ own.1 at in
@@ -132,6 +133,7 @@ job_by_parts graph d job drv kind lent paths told low at number kinds kind_is re
         paths = makes.paths_are
             ∙ subst (λ o. IfSome o (λ (n : Node). paths ≡ output_paths_of n.drv)) own.1 path;
         kind = rw kind_is (subst (λ o. IfSome o (λ (n : Node). HasKind n.drv kind)) own.1 kinds);
+        profile = profile;
         seeds = both.0 yes;
       },
       λ is.

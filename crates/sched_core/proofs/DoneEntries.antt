@@ -75,7 +75,8 @@ fitting_own entries drv kind infos has_kind fitting = (
     count = fitting.count ∙ length-map drv.outputs (λ (o : Output). o.path);
     fixed = λ method digest is_fixed info has.
         let same = one_kind drv _ (Fixed method digest) has_kind is_fixed in
-        All-contains (λ (i : PathInfo). i.digest ≡ Some digest) _ _
+        All-contains (λ (i : PathInfo). i.digest
+        ≡ Some (record { method = method; digest = digest })) _ _
         (subst (λ (k : Kind). HaveDigest k infos) same fitting.digests)
         has;
   },
@@ -94,7 +95,8 @@ own_fitting entries drv kind infos has_kind own new = record {
   where
     digests : (k : Kind) → HasKind drv k → HaveDigest k infos
     digests Addressed has = tt
-    digests (Fixed method digest) has = All-from_contains (λ (i : PathInfo). i.digest ≡ Some digest)
+    digests (Fixed method digest) has = All-from_contains (λ (i : PathInfo). i.digest
+        ≡ Some (record { method = method; digest = digest }))
         _ (own.fixed method digest has)
 
 -- ---- the entry

@@ -86,12 +86,12 @@ pub job_is : (graph : Graph) (d : ℕ) (drv : Drv) (lent : List OutputStruct) (p
     → named_texts job.outputs.items ≡ output_texts lent
     → map (λ (o : JobOutput). o.path) job.outputs.items ≡ paths
     → drv_of copy ≡ drv → job.derivation ≡ d → job.builder ≡ copy.builder → job.args ≡ copy.args
-    → job.env ≡ copy.env
+    → job.env ≡ copy.env → job.profile ≡ graph.profile
     → IfSome (slice_get graph.nodes d) (λ node. HasKind node.drv job.kind)
     → IfSome (slice_get graph.nodes d) (λ node. job.seeds.items ≡ seeds_of graph.nodes node.drv)
     → IsJob graph d job
 job_is graph d drv lent paths copy job low is_drv view are names made same number builder args env
-    kind seeds =
+    profile kind seeds =
     let there = element_at _ d low in
     let is_node : drv_of copy ≡ there.0.drv = same ∙ drv_is _ d _ _ there.1 is_drv
     in
@@ -110,6 +110,7 @@ job_is graph d drv lent paths copy job low is_drv view are names made same numbe
           IfSome o (λ (n : Node). paths ≡ output_paths_of n.drv)) there.1 are;
       kind = subst (λ (o : Option Node). IfSome o (λ (n : Node). HasKind n.drv job.kind)) there.1
           kind;
+      profile = profile;
       seeds = subst (λ (o : Option Node). IfSome o
           (λ (n : Node). job.seeds.items ≡ seeds_of graph.nodes n.drv)) there.1 seeds;
     }

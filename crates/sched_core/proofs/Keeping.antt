@@ -16,10 +16,11 @@ use Rattle.valid_table.specs.Valid.{IsJournal}
 use Rattle.valid_table.specs.declared.entry.Entry.{Entry}
 use Rattle.sched_core.specs.private.Booking.{IsRunKept, events_left, history_of, run_over}
 use Rattle.run_states.specs.StateTables.{CanBegin}
+use Rattle.run_states.specs.Systems.{Platform}
 use Rattle.sched_core.specs.Books.{IsDone}
 use Rattle.run_states.specs.StateTables.{AreNearest, AreStandings, AreWanted, StateTable, HasBegun}
 use Rattle.run_states.specs.Legal.{IsLegal, legal_begin, legal_opening, legal_done, legal_fail, begins, is_begin}
-use Rattle.run_states.specs.Runs.{History, Run}
+use Rattle.run_states.specs.Runs.{History, Run, terms_of}
 use Rattle.run_states.specs.States.{Phase, Idle, Begun, Ended, Broken, later, phase_by, phase_of}
 use Rattle.run_states.specs.declared.state.Event.{Event}
 use Rattle.run_states.specs.declared.state.Event.TheVariants.{Begin, Done as Finish, Fail}
@@ -30,7 +31,7 @@ use Rattle.run_states.proofs.Seeds.{phase_push}
 
 -- ---- what has begun
 
-pub has_begun : (system : List ℕ) (history : History) (course : StateTable) (given room : ℕ)
+pub has_begun : (system : Platform) (history : History) (course : StateTable) (given room : ℕ)
     → IsRunKept system history course given room
     → (d lease : ℕ) → phase_of history.events d ≡ Begun lease → HasBegun course d
 has_begun system history course given room kept d lease is = search (rules, get_or_past, cases_lt)
@@ -59,7 +60,7 @@ room_set : (phases : List Phase) (events : List Event) (d room : ℕ) (event : E
 room_set phases events d room event p within less fits = search (rules, sum_by-set, length_push)
 
 -- what is kept after one event more
-behind_event : (system : List ℕ) (before after : History) (course : StateTable) (given more room d : ℕ)
+behind_event : (system : Platform) (before after : History) (course : StateTable) (given more room d : ℕ)
     (event : Event) (p : Phase)
     → IsRunKept system before course given room → IsLegal (run_over course system) after
     → after.opening ≡ before.opening → after.events ≡ before.events ++ event ∷ [] → more
@@ -71,7 +72,7 @@ behind_event system before after course given more room d event p kept legal ope
     own last within less =
     record {
       legal = legal;
-      standings = subst (λ es. AreStandings system es course.graph.nodes course.standings)
+      standings = subst (λ es. AreStandings (terms_of (run_over course system)) es course.graph.nodes course.standings)
           (sym opening) kept.standings;
       wanted = subst (λ es. AreWanted (run_over course system) es course.wanted) (sym opening)
           kept.wanted;
@@ -94,7 +95,7 @@ begins_by : (events : List Event) (event : Event) → begins (events ++ event �
     + (if is_begin event then 1 else 0)
 begins_by events event = search (rules, sum_by_push)
 
-pub begin_kept : (system : List ℕ) (opening : ℕ) (entries : List Entry) (events after : List Event)
+pub begin_kept : (system : Platform) (opening : ℕ) (entries : List Entry) (events after : List Event)
     (course later_course : StateTable) (given room later_room d : ℕ)
     → IsRunKept system (history_of opening entries events) course given room
     → CanBegin (run_over course system) (history_of opening entries events) d
@@ -119,7 +120,7 @@ begin_kept system opening entries events after course later_course given room la
     refl pushed counted (λ e. refl) (λ q. refl) (omega (arith, can.within, kept.count))
     (rw idle (omega arith)))
 
-pub fail_kept : (system : List ℕ) (opening : ℕ) (entries : List Entry) (events after : List Event)
+pub fail_kept : (system : Platform) (opening : ℕ) (entries : List Entry) (events after : List Event)
     (course later_course : StateTable) (given room later_room d lease : ℕ) (reason : Reason)
     → IsRunKept system (history_of opening entries events) course given room → phase_of events d
     ≡ Begun lease
@@ -142,7 +143,7 @@ fail_kept system opening entries events after course later_course given room lat
     refl pushed counted (λ e. refl) (λ q. refl) (omega (arith, within, kept.count))
     (rw is (omega arith)))
 
-pub finish_kept : (system : List ℕ) (opening : ℕ) (entries more : List Entry)
+pub finish_kept : (system : Platform) (opening : ℕ) (entries more : List Entry)
     (events after : List Event) (course later_course : StateTable) (given room later_room d lease : ℕ)
     (infos : List PathInfo) (entry : Entry)
     → IsRunKept system (history_of opening entries events) course given room
@@ -179,7 +180,7 @@ finish_kept system opening entries more events after course later_course given r
     (omega (arith, within, kept.count)) (rw is (omega arith)))
 
 -- there is room for the event of a derivation that can still have one
-room_for : (system : List ℕ) (history : History) (course : StateTable) (given room : ℕ)
+room_for : (system : Platform) (history : History) (course : StateTable) (given room : ℕ)
     → IsRunKept system history course given room
     → (d : ℕ) → d < length course.graph.nodes → 0 < events_left (phase_of history.events d)
     → length history.events < room
@@ -195,14 +196,14 @@ room_for system history course given room kept d within some =
           (omega (arith, kept.count)),
     )
 
-pub room_to_begin : (system : List ℕ) (history : History) (course : StateTable) (given room : ℕ)
+pub room_to_begin : (system : Platform) (history : History) (course : StateTable) (given room : ℕ)
     → IsRunKept system history course given room
     → (d : ℕ) → CanBegin (run_over course system) history d → length history.events < room
 room_to_begin system history course given room kept d can =
     let idle = ready_is_idle (run_over course system) history d can.ready in
     room_for _ _ _ _ _ kept d can.within (rw idle (omega arith))
 
-pub room_to_end : (system : List ℕ) (history : History) (course : StateTable) (given room : ℕ)
+pub room_to_end : (system : Platform) (history : History) (course : StateTable) (given room : ℕ)
     → IsRunKept system history course given room
     → (d lease : ℕ) → phase_of history.events d ≡ Begun lease → length history.events < room
 room_to_end system history course given room kept d lease is =
@@ -219,12 +220,12 @@ room_of_idle (p ∷ ps) idle =
     let own : events_left p ≡ 2 = ap events_left (idle 0) in
     omega (arith, rest, own, sum_by-cons events_left p ps)
 
-pub opening_kept : (system : List ℕ) (opening room : ℕ) (entries : List Entry) (events : List Event)
+pub opening_kept : (system : Platform) (opening room : ℕ) (entries : List Entry) (events : List Event)
     (course : StateTable) (graph : Graph) (standings : List Precondition) (wanted : List Bool)
     (twins : List (Option ℕ)) → IsJournal entries → opening ≡ length entries → events ≡ []
-    → AreStandings system entries graph.nodes standings
+    → AreStandings (record { profile = graph.profile; system = system }) entries graph.nodes standings
     → ((run : Run) (first : List Entry) → run.graph ≡ graph
-    → AreStandings run.system first graph.nodes standings → AreWanted run first wanted)
+    → AreStandings (terms_of run) first graph.nodes standings → AreWanted run first wanted)
     → ((run : Run) (first : List Entry) → run.graph ≡ graph → AreWanted run first wanted
     → AreNearest run first twins)
     → course.graph ≡ graph → course.standings ≡ standings → course.wanted ≡ wanted
@@ -240,12 +241,15 @@ opening_kept system opening room entries events course graph standings wanted tw
     let start : IsLegal run (history_of opening entries []) =
     subst (λ first. IsLegal run (record { opening = first; entries = entries; events = [] }))
     (sym all) (legal_opening entries journal) in
+    let own = subst
+    (λ (g : Graph). AreStandings (record { profile = g.profile; system = system }) entries
+    graph.nodes standings) (sym is_graph) stand in
     rw none
     (record {
       legal = start;
       standings = rw (all, is_graph, is_standings) stand;
-      wanted = rw (all, is_wanted) (want run entries is_graph stand);
-      twins = rw (all, is_twins) (near run entries is_graph (want run entries is_graph stand));
+      wanted = rw (all, is_wanted) (want run entries is_graph own);
+      twins = rw (all, is_twins) (near run entries is_graph (want run entries is_graph own));
       count = rw is_graph count;
       phases = idle;
       given_is = refl;

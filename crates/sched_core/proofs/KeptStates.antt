@@ -1,22 +1,20 @@
 -- What a course that is kept tells of its run.
 use Rattle.std.proofs.Common.{◌≡◌, ℕ, ◌<◌, ◌-◌, Bool, true, false, List, [], ◌++◌, length, Option, Some, None, refl, sym, ap, ◌∙◌, subst, ⊎_elim, arith, rules}
-use Rattle.std.specs.Prelude.{IsTrue, MatchOption, ◌↔◌, if◌then◌else◌, slice_get}
+use Rattle.std.specs.Prelude.{MatchOption, ◌↔◌, if◌then◌else◌, slice_get}
 use Rattle.std.specs.List.{slice_index_or}
-use Rattle.std.proofs.Math.Dec.{T, eqb}
-use Rattle.std.proofs.Math.Facts.{eqb_yes}
 use Rattle.std.proofs.lemmas.Bool.{cases_lt}
 use Rattle.std.proofs.lemmas.List.{get_or_past}
 use Rattle.std.proofs.lemmas.Option.{slice_get_past}
-use Rattle.nix_drv.proofs.Fixed.{eqb_same}
 use Rattle.sched_core.specs.private.Booking.{IsRunKept, run_over}
 use Rattle.sched_core.proofs.Keeping.{has_begun}
 use Rattle.run_states.specs.StateTables.{CanBegin, IsRunSettled, IsUnsettled}
+use Rattle.run_states.specs.Systems.{Platform}
 use Rattle.run_states.specs.Runs.{opened}
 use Rattle.run_states.specs.Counts.{HasCount}
 use Rattle.run_states.specs.StateTables.{StateTable, IsNext, IsOpen, IsSettled, IsUnsettledIn, all_of, awaited_at, course_rows, course_state, listed}
 use Rattle.run_states.specs.Nearest.{last_alone, nearest}
 use Rattle.run_report.specs.Reports.{IsReportIn, IsReportOf}
-use Rattle.run_states.specs.Runs.{History, Run, earlier_twins, inputs_at, rows_of, standing_at, state_in}
+use Rattle.run_states.specs.Runs.{History, Run, earlier_twins, inputs_at, rows_of, standing_at, state_in, terms_of}
 use Rattle.run_states.specs.States.{Phase, Idle, Begun, Ended, Broken, by_first, by_hindrance, by_validity, is_done, is_open, phase_of}
 use Rattle.run_states.specs.Steps.{awaited_by, edges_ahead, edges_ahead_in, followed_in}
 use Rattle.run_states.specs.FollowedEdges.{course_ahead, course_followed, rested}
@@ -33,14 +31,14 @@ use Rattle.run_states.proofs.StateLaws.{AreSame, near_same}
 
 -- ---- states follow from rows that are the same
 
-twins_same : (system : List ℕ) (history : History) (course : StateTable) (given room : ℕ)
+twins_same : (system : Platform) (history : History) (course : StateTable) (given room : ℕ)
     → IsRunKept system history course given room
     → (d : ℕ) → listed (slice_index_or course.twins d None)
     ≡ last_alone (earlier_twins (run_over course system) history.opening d)
 twins_same system history course given room kept d =
     search (rules, get_or_past, twins_past, slice_get_past, cases_lt)
 
-rows_same : (system : List ℕ) (history : History) (course : StateTable) (given room : ℕ)
+rows_same : (system : Platform) (history : History) (course : StateTable) (given room : ℕ)
     → IsRunKept system history course given room
     → AreSame (course_rows course)
     (nearest (rows_of (run_over course system) history.opening history.events))
@@ -52,14 +50,14 @@ rows_same system history course given room kept =
           (λ below. kept.standings.each d below)
           (λ past.
           get_or_past _ d _ (omega (arith, kept.standings.count))
-          ∙ sym (ap (standing_at system history.opening)
+          ∙ sym (ap (standing_at (terms_of (run_over course system)) history.opening)
           (slice_get_past _ d past)))
           (cases_lt d (length course.graph.nodes));
       phase = kept.phases;
     }
 
 -- a course tells the states
-pub states_told : (system : List ℕ) (history : History) (course : StateTable) (given room : ℕ)
+pub states_told : (system : Platform) (history : History) (course : StateTable) (given room : ℕ)
     → IsRunKept system history course given room
     → (d : ℕ) → course_state course d ≡ state_in (run_over course system) history d
 states_told system history course given room kept d =
@@ -67,7 +65,7 @@ states_told system history course given room kept d =
 
 -- ---- what can be begun
 
-pub can_begin : (system : List ℕ) (history : History) (course : StateTable) (given room : ℕ)
+pub can_begin : (system : Platform) (history : History) (course : StateTable) (given room : ℕ)
     → IsRunKept system history course given room
     → (d : ℕ) → IsNext course d → CanBegin (run_over course system) history d
 can_begin system history course given room kept d next =
@@ -77,7 +75,7 @@ can_begin system history course given room kept d next =
       ready = sym (states_told _ _ _ _ _ kept d) ∙ next.2;
     }
 
-pub is_next : (system : List ℕ) (history : History) (course : StateTable) (given room : ℕ)
+pub is_next : (system : Platform) (history : History) (course : StateTable) (given room : ℕ)
     → IsRunKept system history course given room
     → (d : ℕ) → CanBegin (run_over course system) history d → IsNext course d
 is_next system history course given room kept d can = (
@@ -87,7 +85,7 @@ is_next system history course given room kept d can = (
       ∙ can.ready,
 )
 
-pub unsettled_told : (system : List ℕ) (history : History) (course : StateTable) (given room : ℕ)
+pub unsettled_told : (system : Platform) (history : History) (course : StateTable) (given room : ℕ)
     → IsRunKept system history course given room
     → (count : ℕ) → HasCount (IsUnsettledIn course) count
     → HasCount (IsUnsettled (run_over course system) history) count
@@ -104,7 +102,7 @@ unsettled_told system history course given room kept count =
       subst IsOpen (sym (states_told _ _ _ _ _ kept d)) still.2,
     ))
 
-pub settled_told : (system : List ℕ) (history : History) (course : StateTable) (given room : ℕ)
+pub settled_told : (system : Platform) (history : History) (course : StateTable) (given room : ℕ)
     → IsRunKept system history course given room
     → IsSettled course ↔ IsRunSettled (run_over course system) history
 settled_told system history course given room kept = (
@@ -160,7 +158,7 @@ begun_from_building run history d lease is =
 
 -- ---- whether a lease is out
 
-pub begun_told : (system : List ℕ) (history : History) (course : StateTable) (given room : ℕ)
+pub begun_told : (system : Platform) (history : History) (course : StateTable) (given room : ℕ)
     → IsRunKept system history course given room
     → (d number : ℕ) → ((d < length course.graph.nodes) × (course_state course d ≡ Building number))
     ↔ (phase_of history.events d ≡ Begun number)
@@ -176,7 +174,7 @@ begun_told system history course given room kept d number = (
 
 -- ---- the report
 
-pub report_told : (system : List ℕ) (history : History) (course : StateTable) (given room : ℕ)
+pub report_told : (system : Platform) (history : History) (course : StateTable) (given room : ℕ)
     → IsRunKept system history course given room
     → (text : List ℕ) → IsReportOf course text → IsReportIn (run_over course system) history text
 report_told system history course given room kept text report =
@@ -184,7 +182,7 @@ report_told system history course given room kept text report =
 
 -- ---- along how many edges users were told
 
-pub followed_kept : (system : List ℕ) (history : History) (course : StateTable) (given room : ℕ)
+pub followed_kept : (system : Platform) (history : History) (course : StateTable) (given room : ℕ)
     → IsRunKept system history course given room
     → course_followed course ≡ followed_in (run_over course system) history
 followed_kept system history course given room kept =

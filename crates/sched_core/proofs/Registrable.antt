@@ -1,27 +1,15 @@
 -- What a verdict on a derivation's job gives.
-use Rattle.std.proofs.Common.{◌≡◌, ◌∙◌, ℕ, Bool, true, false, List, length, nat_eq, Option, Some, None, refl, sym, ap, subst, arith, rules}
-use Rattle.std.specs.Cmp.Lexicographic.{pointwise}
+use Rattle.std.proofs.Common.{◌≡◌, ◌∙◌, ℕ, List, length, sym, ap, subst, arith}
 use Rattle.std.proofs.lemmas.List.{length-map}
 use Rattle.std.proofs.lemmas.Option.{slice_get_within}
-use Rattle.nix_names.specs.Digests.{algorithm_of, bytes_of}
-use Rattle.nix_names.specs.declared.digest.Algorithm.{Algorithm}
-use Rattle.nix_names.specs.declared.digest.Algorithm.TheVariants.{Md5, Sha1, Sha256, Sha512}
-use Rattle.nix_names.specs.declared.digest.Digest.{Digest}
 use Rattle.drv_graph.proofs.KindAnswers.{one_kind}
 use Rattle.nix_drv.specs.Derivation.{Output}
-use Rattle.nix_names.proofs.RisingLists.{equal_from_eq, unequal_from_eq}
 use Rattle.drv_graph.specs.Nodes.{Node}
-use Rattle.drv_graph.specs.declared.kinds.Kind.{Kind}
-use Rattle.drv_graph.specs.declared.kinds.Kind.TheVariants.{Fixed}
-use Rattle.drv_graph.specs.declared.kinds.Method.{Method}
-use Rattle.ref_scan.specs.declared.tree.Tree.{Tree, File, Pieces, Dir'}
 use Rattle.sched_core.specs.VerdictLaws.{AreRegistrable, VerdictsAreRegistrable}
-use Rattle.build_outcome.specs.Verdicts.{IsCyclic, IsTreeFault, algorithm_for, digest_by, digest_of}
+use Rattle.build_outcome.specs.Verdicts.{IsCyclic, IsTreeFault}
 use Rattle.build_outcome.specs.declared.job.JobOutput.{JobOutput}
 use Rattle.build_outcome.specs.declared.reason.Reason.{Reason}
-use Rattle.build_outcome.specs.declared.reason.Reason.TheVariants.{HashMismatch, NotFlatFile, TooLarge}
 use Rattle.nix_names.proofs.Lists.{get_from_contains, same_element}
-use Rattle.nix_names.proofs.DigestTexts.{made_again}
 use Rattle.build_outcome.proofs.FixedDigests.{taken_fixed}
 
 -- ---- a fixed output's digest
@@ -43,9 +31,9 @@ verdicts_are_registrable graph d job node permitted answer infos of at (taken, r
               let is_record = records.each place.0 info place.1 in
               let below = slice_get_within infos place.0 info place.1 in
               let fixed = one_kind of.node.drv _ _ of.kind kind in
-              let fault = λ (why : Reason) (h : IsTreeFault job.kind is_record.0 why).
+              let fault = λ (why : Reason) (h : IsTreeFault job.profile job.kind is_record.0 why).
               taken.1 place.0 why (omega (arith, records.count)) (is_record.0, is_record.1, h) in
-              is_record.2.digest ∙ taken_fixed _ _ _ _ fixed fault;
+              taken_fixed _ _ is_record.0 _ _ _ fixed fault is_record.2.digest;
         };
         acyclic = λ cyclic.
             acyclic (subst (λ (paths : List (List ℕ)). IsCyclic paths infos) (sym of.paths) cyclic);

@@ -1,5 +1,5 @@
 -- *Book*: what a run keeps, and what each call on it does (this product's own).
-use Rattle.std.specs.Prelude.{◌≡◌, ◌<◌, ◌++◌, ◌⊎◌, ℕ, Option, Some, List, [], ◌∷◌, length, slice_get, All, Contains}
+use Rattle.std.specs.Prelude.{◌≡◌, ◌++◌, ◌⊎◌, ℕ, Option, Some, List, [], ◌∷◌, slice_get, All, Contains}
 use Rattle.nix_names.specs.Bytes.{Path}
 use Rattle.drv_graph.specs.Nodes.{Node}
 use Rattle.drv_graph.specs.Plans.{Graph}
@@ -7,19 +7,15 @@ use Rattle.valid_table.specs.Entries.{registered}
 use Rattle.valid_table.specs.PathInfos.{PathInfo}
 use Rattle.valid_table.specs.Valid.{IsValid}
 use Rattle.valid_table.specs.declared.entry.Entry.{Entry}
-use Rattle.valid_table.specs.declared.fault.OutletFault.{OutletFault}
-use Rattle.valid_table.specs.declared.fault.OutletFault.TheVariants as outlet
-use Rattle.run_states.specs.StateTables.{IsOpen}
 use Rattle.build_outcome.specs.Jobs.{IsJob}
 use Rattle.run_states.specs.Legal.{AreNewOutputs, AreOutputRecords, ArePermitted, IsAllowed, IsEntryOf, MayRefer, begins, begun, ended, failed}
-use Rattle.run_states.specs.Runs.{History, IsWanted, Run, state_in}
+use Rattle.run_states.specs.Runs.{History, Run}
 use Rattle.run_states.specs.States.{Begun, phase_of}
 use Rattle.build_outcome.specs.Verdicts.{outputs_of}
 use Rattle.run_states.specs.declared.fault.BookFault.{BookFault}
 use Rattle.run_states.specs.declared.fault.BookFault.TheVariants.{NoMemory, NoView, ForeignLease, NotLawful}
 use Rattle.build_outcome.specs.declared.job.Job.{Job}
 use Rattle.build_outcome.specs.declared.reason.Reason.{Reason}
-use Rattle.run_states.specs.declared.state.State.TheVariants.{Ready}
 use Rattle.run_states.specs.StateTables.{CanBegin}
 
 -- A book, as contracts see it: a run, its history, the entries that the outlet shows, and those

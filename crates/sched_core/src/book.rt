@@ -23,7 +23,7 @@ use build_outcome::{Checked, Job, Reason};
 use drv_graph::Plan;
 use nix_names::StorePath;
 use run_report::report_of;
-use run_states::{BookFault, Event, State, StateTable};
+use run_states::{BookFault, Event, State, StateTable, System};
 use std::alloc::Global;
 use std::marker::Model;
 use valid_table::{Journal, Outlet};
@@ -37,7 +37,7 @@ use valid_table::{Journal, Outlet};
 #[derive(Debug)]
 pub struct Book<O: Outlet> {
     states: StateTable,
-    system: Vec<u8>,
+    system: System,
     journal: Journal,
     // How many entries the journal opened with.
     opening: usize,
@@ -56,13 +56,13 @@ impl<O: Outlet> Model for Book<O> {
     ghost Value = { Ledger };
 
     ghost view = { λ b. record {
-      run = run_over b.states b.system.items;
+      run = run_over b.states b.system;
       history = history_of b.opening b.journal.entries b.events.items;
       shown = O.shown b.outlet;
       pending = O.pending b.outlet;
     } };
 
-    ghost invariant = { λ b. IsBook b.states b.system.items b.opening b.journal.entries
+    ghost invariant = { λ b. IsBook b.states b.system b.opening b.journal.entries
         b.events.items b.given (vec_capacity b.events) (O.shown b.outlet)
         (O.pending b.outlet) };
 }
@@ -76,12 +76,12 @@ impl<O: Outlet> Book<O> {
         alloc: Global,
         plan: Plan,
         journal: Journal,
-        system: Vec<u8>,
+        system: System,
         outlet: O,
     ) -> Result<Book<O>, BookFault>
         requires { O.shown outlet ++ O.pending outlet ≡ journal.entries }
         ensures run { IfOk result (λ book. book.run
-            ≡ record { graph = plan; system = system.items }) }
+            ≡ record { graph = plan; system = system }) }
         ensures history { IfOk result (λ book. book.history ≡ opened journal.entries) }
         ensures shown { IfOk result (λ book. book.shown ≡ O.shown outlet) }
         ensures pending { IfOk result (λ book. book.pending ≡ O.pending outlet) }
@@ -308,7 +308,7 @@ impl<O: Outlet> Book<O> {
     }
 
     /// The system for which the run builds.
-    pub fn system(&self) -> &[u8]
+    pub fn system(&self) -> &System
         ensures { result.now ≡ self.now.run.system }
     {
         &self.system

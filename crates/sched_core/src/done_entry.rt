@@ -8,7 +8,7 @@ ghost use Rattle.sched_core.specs.private.Dones.{AreFitting, HaveDigest, IsDoneE
 
 use build_outcome::{Checked, is_cyclic};
 use drv_graph::{Kind, Plan};
-use nix_names::StorePath;
+use nix_names::{MethodDigest, StorePath};
 use run_states::BookFault;
 use std::alloc::{AllocError, Global};
 use valid_table::{Entry, Journal, Outputs, Record, Registration};
@@ -76,7 +76,10 @@ fn have_digest(kind: Kind, records: &[Record]) -> bool
 {
     match kind {
         Kind::Addressed => true,
-        Kind::Fixed(_, digest) => records.iter().all(|record| record.digest() == Some(digest)),
+        Kind::Fixed(method, digest) => {
+            let declared = Some(MethodDigest { method, digest });
+            records.iter().all(|record| record.digest() == declared)
+        }
     }
 }
 

@@ -6,7 +6,7 @@ ghost use Rattle.sched_core.specs.private.SameJobs.{HasRecipe, MakesAt};
 
 use crate::has_seeds::has_seeds;
 use build_outcome::{Job, JobOutput};
-use drv_graph::{Kind, Plan};
+use drv_graph::{Kind, Plan, Profile};
 use nix_drv::{Derivation, EnvEntry, Output};
 use nix_names::StorePath;
 
@@ -20,6 +20,9 @@ pub(crate) fn is_job(plan: &Plan, d: usize, job: &Job) -> bool
         return false;
     }
     if !same_kind(job.kind, plan.kind(d)) {
+        return false;
+    }
+    if !same_profile(job.profile, plan.profile()) {
         return false;
     }
     let drv = plan.drv(d);
@@ -96,6 +99,13 @@ fn is_made(made: &JobOutput, output: &Output, path: &StorePath) -> bool
         ↔ ((made.now.name.items ≡ output.now.name.items) × (made.now.path ≡ path.now)) }
 {
     made.name == output.name && made.path == *path
+}
+
+// Whether two profiles are the same.
+fn same_profile(left: Profile, right: Profile) -> bool
+    ensures { IsTrue result ↔ (left ≡ right) }
+{
+    left == right
 }
 
 // Whether two kinds are the same.

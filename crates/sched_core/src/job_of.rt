@@ -35,6 +35,7 @@ pub(crate) fn job_of(alloc: Global, plan: &Plan, d: usize) -> Result<Job, BookFa
         env,
         outputs,
         kind: plan.kind(d),
+        profile: plan.profile(),
         seeds,
     })
 }

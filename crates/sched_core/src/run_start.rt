@@ -4,7 +4,7 @@ ghost use Rattle.sched_core.specs.private.Booking.{IsRunKept, history_of};
 ghost use Rattle.run_states.specs.declared.fault.BookFault.TheVariants.{NoMemory};
 
 use drv_graph::Plan;
-use run_states::{BookFault, Event, StateTable, nearest_twins, standings_of, wanted_of};
+use run_states::{BookFault, Event, StateTable, System, nearest_twins, standings_of, wanted_of};
 use std::alloc::Global;
 use valid_table::Journal;
 
@@ -22,7 +22,7 @@ impl RunStart {
         alloc: Global,
         plan: Plan,
         journal: &Journal,
-        system: &[u8],
+        system: &System,
     ) -> Result<RunStart, BookFault>
         ensures graph { IfOk result (λ start. start.states.graph ≡ plan) }
         ensures events { IfOk result (λ start. start.events.items ≡ []) }

@@ -22,7 +22,7 @@ use Rattle.valid_table.proofs.JournalLists.{registered-append}
 use Rattle.run_states.specs.StateTables.{IsRunSettled}
 use Rattle.build_outcome.specs.Jobs.{named_outputs, seeds_of}
 use Rattle.run_states.specs.Legal.{IsEntryOf}
-use Rattle.run_states.specs.Runs.{History, IsWanted, Run, earlier_twins, input_numbers, inputs_at, is_valid, standing_at, state_in}
+use Rattle.run_states.specs.Runs.{History, IsWanted, Run, earlier_twins, input_numbers, inputs_at, is_valid, standing_at, state_in, terms_of}
 use Rattle.run_states.specs.States.{Phase, Idle, Begun, Ended, Broken, is_bad, is_good, phase_of}
 use Rattle.build_outcome.specs.declared.job.Answer.{Answer}
 use Rattle.build_outcome.specs.declared.job.Job.{Job}
@@ -124,7 +124,7 @@ module _ (may : Job → Result Answer Reason → Type 0) (run : Run) (sound : Is
         by (good_reused rests stands) =
             opening_carried _
             (output_of_reused _ history.opening node.drv
-            (sym (ap (standing_at run.system history.opening) at) ∙ stands) _ has)
+            (sym (ap (standing_at (terms_of run) history.opening) at) ∙ stands) _ has)
         by (good_twin t rests twin ends) =
             let nodes = run.graph.nodes in
             let is = is_earlier_twin _ _ d t twin in
@@ -136,7 +136,7 @@ module _ (may : Job → Result Answer Reason → Type 0) (run : Run) (sound : Is
 
     pub unhindered_there : IsUnhindered run history d → IsUnhindered run other d
     unhindered_there un = record {
-      free = ap (λ (opens : List Entry). standing_at run.system opens
+      free = ap (λ (opens : List Entry). standing_at (terms_of run) opens
           (slice_get run.graph.nodes d)) opening ∙ un.free;
       spent = λ t has.
           let here = subst (λ (opens : List Entry). Contains (earlier_twins run opens d) t) opening
@@ -155,8 +155,8 @@ module _ (may : Job → Result Answer Reason → Type 0) (run : Run) (sound : Is
         let nodes = run.graph.nodes in
         ⊎_elim
         (λ source. opening_carried seed
-        (source_of_free run.system history.opening node.drv
-        (sym (ap (standing_at run.system history.opening) at) ∙ un.free) seed source))
+        (source_of_free (terms_of run) history.opening node.drv
+        (sym (ap (standing_at (terms_of run) history.opening) at) ∙ un.free) seed source))
         (λ named.
         let part = part_with (named_outputs nodes) node.drv.inputs seed named in
         let input = part.0 in

@@ -12,7 +12,7 @@ use Rattle.nix_names.proofs.PathTexts.{hash_part_len, name_of_path}
 use Rattle.nix_drv.specs.Derivation.{Drv, EnvEntry, Output}
 use Rattle.nix_drv.specs.OwnPath.{text_path}
 use Rattle.drv_graph.specs.Expected.{IsExpected}
-use Rattle.drv_graph.specs.Kinds.{HasKind}
+use Rattle.drv_graph.specs.Kinds.{HasKind, Takes}
 use Rattle.drv_graph.specs.Loading.{AreDistinct}
 use Rattle.drv_graph.specs.Modulo.{IsModuloText}
 use Rattle.drv_graph.specs.Nodes.{Node, no_hashes}
@@ -22,6 +22,7 @@ use Rattle.drv_graph.specs.Plans.{AreLawful, AreTwins, IsLawful, ShareOutput}
 use Rattle.drv_graph.specs.SoundGraphs.{IsSound}
 use Rattle.drv_graph.specs.declared.kinds.Kind.{Kind}
 use Rattle.drv_graph.specs.declared.kinds.Kind.TheVariants.{Addressed}
+use Rattle.drv_graph.specs.declared.profile.Profile.TheVariants.{Plain}
 use Rattle.drv_graph.proofs.OneText.{one_path}
 use Rattle.drv_graph.proofs.PathLists.{other_path}
 use Rattle.store_run.specs.ScheduleExample.{Recipe, both, drv_alone, failing, left, making, node_alone, out_alone, right, text_of}
@@ -86,8 +87,8 @@ module _ (recipe : Recipe) (out algo hash : List ℕ) where
   unfolding is_name is_name_char is_dotted
   out_is_name = refl
 
-  -- where the output's path is the expected one
-  module _ (kind : Kind) (has_kind : HasKind drv_with kind)
+  -- where the output is of a kind that is taken, and its path is the expected one
+  module _ (kind : Kind) (has_kind : HasKind drv_with kind) (taken : Takes Plain kind)
       (expected : IsExpected store recipe.name kind drv_with [] output out) where
     abbrev Expected : Output → List ℕ → Type 0
     Expected = IsExpected store recipe.name kind drv_with []
@@ -101,7 +102,7 @@ module _ (recipe : Recipe) (out algo hash : List ℕ) where
         search (rules, one_of, output, env_value, one_path, store, drv_with, expected_at)
 
     check_with : is_name recipe.name ≡ true
-        → IsOutputsCheck IsThePath store recipe.name drv_with [] [] (Ok kind)
+        → IsOutputsCheck IsThePath Plain store recipe.name drv_with [] [] (Ok kind)
     check_with named =
         let fit : PathsFit IsThePath Expected drv_with =
         All-from_contains (λ (o : Output). (path : List ℕ) × Expected o path × (o.path ≡ path))
@@ -110,8 +111,9 @@ module _ (recipe : Recipe) (out algo hash : List ℕ) where
           expected_at o has,
           sym (ap (λ (p : Output). p.path) (one_of _ o has)),
         )) in
-        let sound : AreSound recipe.name drv_with [] kind = record {
+        let sound : AreSound Plain recipe.name drv_with [] kind = record {
           has_kind = has_kind;
+          taken = taken;
           named = all_one (IsWellNamed recipe.name) output (out_is_name, named);
           known = All-nil IsKnownUse;
         } in (
@@ -127,7 +129,7 @@ module _ (recipe : Recipe) (out algo hash : List ℕ) where
         ≡ recipe.name
         → ((earlier : Node) → Contains before earlier
         → (ShareOutput earlier.drv drv_with → ⊥) ⊎ AreTwins earlier.drv drv_with)
-        → IsLawful store before node_with
+        → IsLawful Plain store before node_with
     lawful_with before filed named cut apart = record {
       kind = kind;
       right = record {
@@ -136,7 +138,7 @@ module _ (recipe : Recipe) (out algo hash : List ℕ) where
         are_used = tt;
         are_hashes = no_hashes;
         check = subst
-            (λ (n : List ℕ). IsOutputsCheck IsThePath store n drv_with [] [] (Ok kind))
+            (λ (n : List ℕ). IsOutputsCheck IsThePath Plain store n drv_with [] [] (Ok kind))
             (sym (ap (λ (n : List ℕ). take (length n - 4) n)
             (text_named _ _ filed) ∙ cut))
             (check_with named);
@@ -170,9 +172,9 @@ module _ (recipe : Recipe) where
       → take (length (recipe.name ++ codes ".drv") - 4) (recipe.name ++ codes ".drv")
       ≡ recipe.name
       → ((earlier : Node) → Contains before earlier → ShareOutput earlier.drv drv → ⊥)
-      → IsLawful store before (node_alone recipe)
+      → IsLawful Plain store before (node_alone recipe)
   lawful_alone before filed named cut alone =
-      lawful_with _ (out_alone recipe) [] [] Addressed kind_alone expected_alone before filed
+      lawful_with _ (out_alone recipe) [] [] Addressed kind_alone tt expected_alone before filed
       named cut (λ earlier has. inl (alone earlier has))
 
 -- ---- the two
@@ -214,16 +216,16 @@ files_differ same =
     sym (node_name failing left_filed) ∙ ap name_of same ∙ node_name making right_filed in
     cc
 
-lawful_left : IsLawful store [] left
+lawful_left : IsLawful Plain store [] left
 lawful_left = search (rules, lawful_alone, left_filed, left_named, Contains-nothing)
 
-lawful_right : IsLawful store (left ∷ []) right
+lawful_right : IsLawful Plain store (left ∷ []) right
 lawful_right =
     lawful_alone _ (left ∷ []) right_filed right_named refl
     (λ earlier has share. outputs_differ
     (subst (λ (n : Node). ShareOutput n.drv right.drv) (sym (one_of _ _ has)) share))
 
-pub lawful_both : AreLawful store both.graph.nodes
+pub lawful_both : AreLawful Plain store both.graph.nodes
 lawful_both [] after node parts = search (rules, store, lawful_left)
 lawful_both (x ∷ []) after node parts = search (rules, store, lawful_right)
 lawful_both (x ∷ y ∷ []) after node parts = absurd cc

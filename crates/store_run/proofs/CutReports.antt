@@ -9,6 +9,7 @@ use Rattle.nix_names.proofs.Lists.{All-from_contains, Contains-cons_cases, Conta
 use Rattle.nix_names.proofs.RisingLists.{IsBelow, first_below, rising_later}
 use Rattle.drv_graph.specs.Nodes.{Node}
 use Rattle.drv_graph.specs.Plans.{Graph}
+use Rattle.drv_graph.specs.declared.profile.Profile.TheVariants.{Plain}
 use Rattle.run_report.specs.Reports.{AreByPath, line_at, path_at}
 use Rattle.run_report.proofs.OneReport.{one_report}
 use Rattle.run_states.specs.States.{is_bad}
@@ -85,7 +86,7 @@ lines_agree f g (x ∷ xs) same =
 -- two lists by path, of the same derivations, have the same lines
 module _ (nodes : List Node) (state : ℕ → State) where
   abbrev plan : Graph
-  plan = record { nodes = nodes; roots = [] }
+  plan = record { profile = Plain; nodes = nodes; roots = [] }
 
   abbrev lines : List ℕ → List ℕ
   lines numbers = flat_map (line_at nodes state) numbers

@@ -12,7 +12,7 @@ use Rattle.build_outcome.specs.declared.reason.Reason.TheVariants.{OutOfMemory}
 use Rattle.drv_graph.specs.SoundGraphs.{IsSound}
 use Rattle.run_states.specs.StateTables.{IsOpen, IsRunSettled}
 use Rattle.run_states.specs.Legal.{IsLegal}
-use Rattle.run_states.specs.Runs.{History, IsWanted, Run, standing_at, state_in, wanted_input, wanted_root}
+use Rattle.run_states.specs.Runs.{History, IsWanted, Run, standing_at, state_in, terms_of, wanted_input, wanted_root}
 use Rattle.run_states.specs.States.{Phase, Rows, Idle, Begun, Ended, Broken, by_hindrance, by_inputs, by_twins, by_validity, is_bad, is_good, is_open, phase_of}
 use Rattle.run_states.specs.declared.state.State.{State}
 use Rattle.run_states.specs.declared.state.State.TheVariants.{Blocked, Building, Done, Failed, Ready, Refused, Reused}
@@ -194,7 +194,7 @@ module _ (may gives : Job → Result Answer Reason → Type 0) (run : Run) (cut 
   pub built_reused : (d : ℕ) → phase_of cut.events d ≡ Ended → state_in run next d ≡ Reused
   built_reused d ends =
       let stands : standing_in run next d ≡ AllValid =
-      ap (λ (opens : List Entry). standing_at run.system opens (slice_get run.graph.nodes d))
+      ap (λ (opens : List Entry). standing_at (terms_of run) opens (slice_get run.graph.nodes d))
       opening
       ∙ built_stands may run cut is_cut d ends in
       state_by run next is_cut.plan d Idle
@@ -268,7 +268,7 @@ module _ (may gives : Job → Result Answer Reason → Type 0) (run : Run) (cut 
       let first = inputs_first run.graph is_cut.plan d i has in
       seen_below bound i (omega (arith, low, first))
       (wanted_input d i wanted
-      (subst (λ (opens : List Entry). standing_at run.system opens
+      (subst (λ (opens : List Entry). standing_at (terms_of run) opens
       (slice_get run.graph.nodes d) ≡ Free) opening free) has)))
       (ended_or_not (phase_of cut.events d))
 
@@ -282,7 +282,7 @@ module _ (may gives : Job → Result Answer Reason → Type 0) (run : Run) (cut 
   -- a derivation was built before the cut, or all its outputs were valid at first
   abbrev IsSpared : ℕ → Type 0
   IsSpared d = (phase_of cut.events d ≡ Ended)
-      ⊎ (standing_at run.system cut.opening (slice_get run.graph.nodes d) ≡ AllValid)
+      ⊎ (standing_at (terms_of run) cut.opening (slice_get run.graph.nodes d) ≡ AllValid)
 
   -- the inputs of what was built are spared
   input_spared : (d : ℕ) → phase_of cut.events d ≡ Ended → (i : ℕ) → Contains (inputs_in run d) i

@@ -12,7 +12,7 @@ use Rattle.build_outcome.specs.declared.job.Job.{Job}
 use Rattle.build_outcome.specs.declared.reason.Reason.{Reason}
 use Rattle.build_outcome.specs.declared.reason.Reason.TheVariants.{OutOfMemory}
 use Rattle.run_states.specs.Legal.{IsAllowed, IsEntryOf, IsLegal, begins, begun, ended, failed, legal_begin, legal_done, legal_fail, legal_opening}
-use Rattle.run_states.specs.Runs.{History, IsWanted, Run, standing_at, state_in}
+use Rattle.run_states.specs.Runs.{History, IsWanted, Run, standing_at, state_in, terms_of}
 use Rattle.run_states.specs.States.{Phase, Idle, Begun, Ended, Broken, is_good, phase_of}
 use Rattle.run_states.specs.declared.state.Event.{Event}
 use Rattle.run_states.specs.declared.state.Event.TheVariants.{Begin, Done as Finish, Fail}
@@ -261,15 +261,15 @@ module _ (may gives : Job → Result Answer Reason → Type 0) (run : Run) (cut 
     pub unbuilt_by : (d : ℕ) → standing_in run next d ≡ Free → phase_of cut.events d ≡ Ended → ⊥
     unbuilt_by d free =
         free_unbuilt may run cut is_cut d
-        (subst (λ (opens : List Entry). standing_at run.system opens
+        (subst (λ (opens : List Entry). standing_at (terms_of run) opens
         (slice_get run.graph.nodes d) ≡ Free) opening free)
 
     -- one that was not built stands as it did
     pub stands_as : (d : ℕ) → (phase_of cut.events d ≡ Ended → ⊥)
         → standing_in run next d
-        ≡ standing_at run.system cut.opening (slice_get run.graph.nodes d)
+        ≡ standing_at (terms_of run) cut.opening (slice_get run.graph.nodes d)
     stands_as d unbuilt =
-        ap (λ (opens : List Entry). standing_at run.system opens (slice_get run.graph.nodes d))
+        ap (λ (opens : List Entry). standing_at (terms_of run) opens (slice_get run.graph.nodes d))
         opening
         ∙ stands_same may run cut is_cut d unbuilt
 

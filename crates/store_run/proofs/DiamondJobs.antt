@@ -5,15 +5,13 @@ use Rattle.std.proofs.lemmas.List.{length-map}
 use Rattle.std.proofs.lemmas.List.Elements.{All-contains}
 use Rattle.nix_names.specs.Rising.{IsRising}
 use Rattle.nix_names.specs.StorePaths.{hash_part_of}
-use Rattle.nix_names.specs.declared.digest.Algorithm.TheVariants.{Sha256}
 use Rattle.nix_names.proofs.Lists.{Contains-cons_cases, Contains-first, Contains-from_map, Contains-later, Contains-map, Contains-nothing, same_element}
 use Rattle.nix_drv.specs.Derivation.{Input}
 use Rattle.drv_graph.specs.Kinds.{HasKind}
 use Rattle.drv_graph.specs.Nodes.{Node}
 use Rattle.drv_graph.specs.PlanNodes.{output_paths_of}
-use Rattle.drv_graph.specs.declared.kinds.Kind.{Kind}
 use Rattle.drv_graph.proofs.KindAnswers.{one_kind}
-use Rattle.ref_scan.specs.Scan.{IsFoundIn}
+use Rattle.ref_scan.specs.Scan.{IsFound, IsFoundIn}
 use Rattle.ref_scan.specs.declared.tree.Tree.{Tree}
 use Rattle.valid_table.specs.Closure.{LeadsByReferences}
 use Rattle.valid_table.specs.Entries.{registered}
@@ -23,7 +21,7 @@ use Rattle.valid_table.specs.declared.entry.Entry.{Entry}
 use Rattle.valid_table.specs.declared.entry.Registration.{Registration}
 use Rattle.sched_core.specs.Books.{ArePermittedPaths}
 use Rattle.build_outcome.specs.Jobs.{IsJob, seeds_of}
-use Rattle.build_outcome.specs.Verdicts.{IsRecordOf, IsTreeFault, IsVerdict, algorithm_for, outputs_of}
+use Rattle.build_outcome.specs.Verdicts.{IsVerdict, outputs_of}
 use Rattle.build_outcome.specs.declared.job.Answer.{Answer}
 use Rattle.build_outcome.specs.declared.job.Job.{Job}
 use Rattle.build_outcome.specs.declared.reason.Reason.TheVariants.{ExitStatus}
@@ -33,9 +31,9 @@ use Rattle.store_run.specs.DiamondExample.{base, base_out, diamond, drv_of, file
 use Rattle.store_run.specs.TwinExample.{IsEmptyFile, LeavesWith}
 use Rattle.store_run.proofs.AlonePlans.{all_one, all_two, one_of}
 use Rattle.store_run.proofs.DiamondPlan.{kind_of, recipe_of}
-use Rattle.store_run.proofs.ExampleJobs.{is_job_of, job_of, left_answer, left_leaves, left_verdict, one_verdict}
+use Rattle.store_run.proofs.ExampleJobs.{is_job_of, job_of, left_answer, left_leaves, left_verdict}
 use Rattle.store_run.proofs.OneOutcome.{job_outputs, job_seeds}
-use Rattle.store_run.proofs.TwinJobs.{file_in, no_file_fault, none_occurs, script_args, second_answer, second_leaves}
+use Rattle.store_run.proofs.TwinJobs.{file_in, file_verdict, none_occurs, script_args, second_answer, second_leaves}
 use Rattle.store_run.proofs.TwinPlans.{all_three, empty_kind}
 
 -- ---- what is permitted where nothing refers to anything
@@ -117,20 +115,18 @@ permitted_for entries d job node permitted is at are =
 abbrev HasLongPart : List ℕ → Type 0
 HasLongPart path = length (hash_part_of path) ≡ 32
 
-record_of : (permitted : List (List ℕ)) → All HasLongPart permitted → (tree : Tree)
-    → IsEmptyFile tree → IsRecordOf Sha256 permitted tree file_in
-record_of permitted long tree is = record {
-  found = subst (λ (lists : List (List ℕ)). IsFoundIn lists permitted []) (sym is.1) (record {
-    rising = tt;
-    each = λ path. (
-      λ none. absurd (Contains-nothing path none),
-      λ some. absurd
-          (none_occurs (hash_part_of path) (All-contains HasLongPart permitted path long some.0)
-          some.1),
-    );
-  });
-  digest = sym is.0;
-}
+found_in : (permitted : List (List ℕ)) → All HasLongPart permitted → (tree : Tree)
+    → IsEmptyFile tree → IsFound tree permitted []
+found_in permitted long tree is =
+    subst (λ (lists : List (List ℕ)). IsFoundIn lists permitted []) (sym is.1) (record {
+      rising = tt;
+      each = λ path. (
+        λ none. absurd (Contains-nothing path none),
+        λ some. absurd
+            (none_occurs (hash_part_of path) (All-contains HasLongPart permitted path long some.0)
+            some.1),
+      );
+    })
 
 module _ (d : ℕ) (name out : List ℕ) (inputs : List Input) (path : List ℕ)
     (at : slice_get diamond.graph.nodes d
@@ -153,13 +149,8 @@ module _ (d : ℕ) (name out : List ℕ) (inputs : List Input) (path : List ℕ)
   makes : (permitted : List (List ℕ)) → All HasLongPart permitted → (answer : Answer)
       → LeavesWith true false answer → IsVerdict job permitted answer (Ok (file_in ∷ []))
   makes permitted long answer behind =
-      let file = behind.1.0 in
-      one_verdict job one_output answer file behind.0 behind.1.2
-      (λ why fault. no_file_fault file behind.1.1 why
-      (subst (λ (k : Kind). IsTreeFault k file why) kind_is fault))
-      permitted file_in refl
-      (subst (λ (k : Kind). IsRecordOf (algorithm_for k) permitted file file_in) (sym kind_is)
-      (record_of permitted long file behind.1.1))
+      file_verdict job is_job.profile kind_is one_output permitted (found_in permitted long) answer
+      behind
 
 -- ---- jobs
 
@@ -177,7 +168,7 @@ module _ (name out : List ℕ) (short : length name < 256) (out_few : length out
   unfolding job_for
   is_job_for inputs path at are =
       is_job_of (recipe_of name) short (omega arith) script_args (omega arith) out out_few
-      empty_kind d seeds few diamond.graph (record { path = path; drv = drv_of name out inputs }) at
+      empty_kind d seeds few diamond.graph (record { path = path; drv = drv_of name out inputs }) refl at
       refl refl refl refl refl (kind_of name out inputs) are
 
   comes : (entries : List Entry) (inputs : List Input) (path : List ℕ)

@@ -20,6 +20,7 @@ use Rattle.drv_graph.specs.Outputs.{HasOtherEntry, IsKnownUse, IsOutputsCheck, I
 use Rattle.drv_graph.specs.PlanNodes.{output_paths_of}
 use Rattle.drv_graph.specs.Plans.{AreDrvsOf, AreLawful, IsLawful, ShareOutput}
 use Rattle.drv_graph.specs.SoundGraphs.{IsSound}
+use Rattle.drv_graph.specs.declared.profile.Profile.TheVariants.{Plain}
 use Rattle.store_run.specs.DiamondExample.{base, base_out, diamond, drv_of, left, left_out, right, right_out, top, top_out}
 use Rattle.store_run.specs.Interruptions.{HasForeignSources, HasNoTwins}
 use Rattle.store_run.specs.ScheduleExample.{Recipe}
@@ -114,7 +115,7 @@ file_at out = record {
 
 pub kind_of : (name out : List ℕ) (inputs : List Input)
     → HasKind (drv_of name out inputs) empty_kind
-kind_of name out inputs = (file_at out, (refl, refl), (refl, refl, is_digest, tt))
+kind_of name out inputs = (file_at out, (refl, refl), (refl, refl, is_digest))
 
 module _ (name out : List ℕ) (inputs : List Input) (expected : out_empty name ≡ out) where
   abbrev drv : Drv
@@ -129,10 +130,11 @@ module _ (name out : List ℕ) (inputs : List Input) (expected : out_empty name 
 
   check_of : (used : List Drv) (hashes : List (List ℕ)) → is_name name ≡ true
       → All IsKnownUse (uses inputs used)
-      → IsOutputsCheck IsThePath store name drv used hashes (Ok empty_kind)
+      → IsOutputsCheck IsThePath Plain store name drv used hashes (Ok empty_kind)
   check_of used hashes named known = (
     record {
       has_kind = kind_of name out inputs;
+      taken = tt;
       named = all_one (IsWellNamed name) (file_at out) (out_named, named);
       known = known;
     },
@@ -147,7 +149,7 @@ module _ (name out : List ℕ) (inputs : List Input) (expected : out_empty name 
       → is_name name ≡ true → drv_name_of path ≡ name → AreDrvsOf before (inputs_of drv) used
       → AreHashes before (inputs_of drv) hashes → All IsKnownUse (uses inputs used)
       → ((earlier : Node) → Contains before earlier → ShareOutput earlier.drv drv → ⊥)
-      → IsLawful store before (record { path = path; drv = drv })
+      → IsLawful Plain store before (record { path = path; drv = drv })
   lawful_of path before used hashes named filed are_used are_hashes known alone = record {
     kind = empty_kind;
     right = record {
@@ -155,7 +157,7 @@ module _ (name out : List ℕ) (inputs : List Input) (expected : out_empty name 
       hashes = hashes;
       are_used = are_used;
       are_hashes = are_hashes;
-      check = subst (λ (n : List ℕ). IsOutputsCheck IsThePath store n drv used hashes
+      check = subst (λ (n : List ℕ). IsOutputsCheck IsThePath Plain store n drv used hashes
           (Ok empty_kind)) (sym filed) (check_of used hashes named known);
     };
     apart = λ earlier has. inl (alone earlier has);
@@ -181,12 +183,12 @@ base_hash before has =
     one_more_hash base empty_kind [] (hash_of base_out) [] [] has
     (kind_of (codes "base") base_out []) no_hashes (file_at base_out, refl, refl) no_hashes
 
-lawful_base : IsLawful store [] base
+lawful_base : IsLawful Plain store [] base
 lawful_base =
     lawful_of (codes "base") base_out [] base_is base.path [] [] [] base_named refl tt no_hashes
     (All-nil IsKnownUse) (λ earlier has share. Contains-nothing earlier has)
 
-lawful_left : IsLawful store (base ∷ []) left
+lawful_left : IsLawful Plain store (base ∷ []) left
 lawful_left =
     lawful_of (codes "left") left_out left.drv.inputs left_is left.path (base ∷ []) (base.drv ∷ [])
     (hash_of base_out ∷ []) left_named refl (Contains-first base [], tt)
@@ -196,7 +198,7 @@ lawful_left =
     left.drv.inputs base_left
     (subst (λ (n : Node). ShareOutput n.drv left.drv) (sym (one_of base earlier has)) share))
 
-lawful_right : IsLawful store (base ∷ left ∷ []) right
+lawful_right : IsLawful Plain store (base ∷ left ∷ []) right
 lawful_right =
     lawful_of (codes "right") right_out right.drv.inputs right_is right.path (base ∷ left ∷ [])
     (base.drv ∷ []) (hash_of base_out ∷ []) right_named refl (Contains-first base (left ∷ []), tt)
@@ -242,7 +244,7 @@ top_apart earlier has share =
     (Contains-cons_cases left (right ∷ []) earlier rest))
     (Contains-cons_cases base (left ∷ right ∷ []) earlier has)
 
-lawful_top : IsLawful store (base ∷ left ∷ right ∷ []) top
+lawful_top : IsLawful Plain store (base ∷ left ∷ right ∷ []) top
 lawful_top =
     lawful_of (codes "top") top_out top.drv.inputs top_is top.path (base ∷ left ∷ right ∷ [])
     (left.drv ∷ right.drv ∷ []) (hash_of left_out ∷ hash_of right_out ∷ []) top_named refl (
@@ -257,7 +259,7 @@ lawful_top =
     (all_two IsKnownUse _ _ (Contains-first (codes "out") []) (Contains-first (codes "out") []))
     top_apart
 
-lawful_four : AreLawful store diamond.graph.nodes
+lawful_four : AreLawful Plain store diamond.graph.nodes
 lawful_four [] after node parts = search (rules, store, lawful_base)
 lawful_four (x ∷ []) after node parts = search (rules, store, lawful_left)
 lawful_four (x ∷ y ∷ []) after node parts = search (rules, store, lawful_right)

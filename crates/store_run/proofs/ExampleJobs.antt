@@ -1,5 +1,5 @@
 -- What the jobs of the two derivations come to.
-use Rattle.std.proofs.Common.{◌≡◌, ◌∙◌, ◌<◌, ◌^◌, ℕ, zero, suc, true, false, List, [], ◌∷◌, length, map, Some, None, Result, Ok, Err, refl, sym, subst, arith, rules}
+use Rattle.std.proofs.Common.{◌≡◌, ◌∙◌, ◌<◌, ◌^◌, ℕ, zero, suc, true, false, List, [], ◌∷◌, length, map, Some, None, Result, Ok, Err, ap, refl, sym, subst, arith, rules}
 use Rattle.std.specs.Prelude.{codes, pos, slice_get}
 use Rattle.std.specs.declared.alloc.Global.{Global}
 use Rattle.std.specs.declared.vec.Vec.{Vec}
@@ -18,12 +18,15 @@ use Rattle.drv_graph.specs.PlanNodes.{output_paths_of}
 use Rattle.drv_graph.specs.Plans.{Graph, LeadsBy}
 use Rattle.drv_graph.specs.declared.kinds.Kind.{Kind}
 use Rattle.drv_graph.specs.declared.kinds.Kind.TheVariants.{Addressed}
+use Rattle.drv_graph.specs.declared.profile.Profile.{Profile}
+use Rattle.drv_graph.specs.declared.profile.Profile.TheVariants.{Plain}
 use Rattle.drv_graph.proofs.KindAnswers.{one_kind}
-use Rattle.ref_scan.specs.Trees.{Fits, depth_among, entry_count_among, file_bytes_among, pieces, pieces_among}
-use Rattle.ref_scan.specs.declared.tree.Tree.{Tree, File, Pieces, Link, Dir', Row_of-Member, end_of-Member, more_of-Member}
+use Rattle.ref_scan.specs.Scan.{IsFound}
+use Rattle.ref_scan.specs.Trees.{Fits, depth_among, entry_count_among, file_bytes_among, pieces_among}
+use Rattle.ref_scan.specs.declared.tree.Tree.{Tree, File, Pieces, Executable, Link, Dir', Row_of-Member, end_of-Member, more_of-Member}
 use Rattle.valid_table.specs.PathInfos.{PathInfo}
 use Rattle.build_outcome.specs.Jobs.{IsJob, seeds_of}
-use Rattle.build_outcome.specs.Verdicts.{IsCyclic, IsRecordAt, IsRecordOf, IsTreeFault, IsVerdict, OutputRefersTo, algorithm_for, digest_of, outputs_of, tree_at}
+use Rattle.build_outcome.specs.Verdicts.{IsCyclic, IsRecordAt, IsRecordDigest, IsRecordNar, IsRecordOf, IsTreeFault, IsUnread, IsVerdict, NeedsArchive, OutputRefersTo, file_digest_of, flat_digest, outputs_of, tree_at}
 use Rattle.build_outcome.specs.declared.job.Answer.{Answer}
 use Rattle.build_outcome.specs.declared.job.Job.{Job}
 use Rattle.build_outcome.specs.declared.job.JobOutput.{JobOutput}
@@ -34,6 +37,7 @@ use Rattle.store_run.specs.Builders.{IsVerdictOn}
 use Rattle.store_run.specs.Scheduling.{HasOneOutcome}
 use Rattle.store_run.specs.ScheduleExample.{IsEmptyFolder, Leaves, Recipe, both, drv_alone, failing, left, making, may_leave, out_alone, right}
 use Rattle.store_run.proofs.AlonePlans.{kind_alone, out_short}
+use Rattle.store_run.proofs.SameVerdicts.{said_of}
 use denote.RawPtr.{null_ptr}
 
 -- ---- an empty folder
@@ -53,26 +57,40 @@ no_bytes (more_of-Member name tree rest) none = absurd cc
 pub empty_fits : (tree : Tree) → IsEmptyFolder tree → Fits tree
 empty_fits (File bytes) is = absurd cc
 empty_fits (Pieces parts) is = absurd cc
+empty_fits (Executable parts) is = absurd cc
 empty_fits (Link target) is = absurd cc
 empty_fits (Dir' shape entries) is = search (rules, no_depth, no_entries, no_bytes)
 
 -- it has no digest by any algorithm
 pub empty_digest_of : (algorithm : Algorithm) (tree : Tree) → IsEmptyFolder tree
-    → digest_of algorithm tree ≡ None
+    → file_digest_of algorithm tree ≡ None
 empty_digest_of algorithm (File bytes) is = absurd cc
 empty_digest_of algorithm (Pieces parts) is = absurd cc
+empty_digest_of algorithm (Executable parts) is = absurd cc
 empty_digest_of algorithm (Link target) is = absurd cc
 empty_digest_of algorithm (Dir' shape entries) is = refl
 
 -- its record
 abbrev pub nothing_in : PathInfo
-nothing_in = record { references = []; digest = None }
+nothing_in = record { references = []; digest = None; nar = None }
 
-record_of_empty : (permitted : List (List ℕ)) (tree : Tree) → IsEmptyFolder tree
-    → IsRecordOf Sha256 permitted tree nothing_in
-record_of_empty permitted tree is = search (rules, is, empty_digest_of, Contains-nothing)
+found_in_empty : (permitted : List (List ℕ)) (tree : Tree) → IsEmptyFolder tree
+    → IsFound tree permitted []
+found_in_empty permitted tree is = search (rules, is, Contains-nothing)
 
-no_fault : (tree : Tree) → IsEmptyFolder tree → (why : Reason) → IsTreeFault Addressed tree why → ⊥
+record_of_empty : (job : Job) → job.profile ≡ Plain → job.kind ≡ Addressed
+    → (permitted : List (List ℕ)) (tree : Tree) → IsEmptyFolder tree
+    → IsRecordOf job permitted tree nothing_in
+record_of_empty job plain addressed permitted tree is = record {
+  found = found_in_empty permitted tree is;
+  digest = said_of (λ (p : Profile) (k : Kind). IsRecordDigest p k tree None) Plain job.profile
+      Addressed job.kind (sym plain) (sym addressed)
+      (sym (ap flat_digest (empty_digest_of Sha256 tree is)));
+  nar = subst (λ (p : Profile). IsRecordNar p tree None) (sym plain) refl;
+}
+
+no_fault : (tree : Tree) → IsEmptyFolder tree → (why : Reason)
+    → IsTreeFault Plain Addressed tree why → ⊥
 no_fault tree is TooLarge unfit = unfit (empty_fits _ is)
 no_fault tree is (ExitStatus n) none = none
 no_fault tree is NoStart none = none
@@ -105,30 +123,37 @@ pub tree_first : (answer : Answer) (tree : Tree) → answer.trees.items ≡ Some
     → tree_at answer 0 ≡ Some tree
 tree_first answer tree trees = rw trees refl
 
--- on one tree, that is taken, at the one output of a job
+-- on one tree, that is read and taken, at the one output of a job
 module _ (job : Job) (one_output : length job.outputs.items ≡ 1) (answer : Answer) (tree : Tree)
     (status : answer.status ≡ Some (pos 0)) (trees : answer.trees.items ≡ Some tree ∷ [])
-    (sound : (why : Reason) → IsTreeFault job.kind tree why → ⊥) where
+    (sound : (why : Reason) → IsTreeFault job.profile job.kind tree why → ⊥)
+    (read : IsUnread job tree → ⊥) where
   taken_at : (n : ℕ) → n < length job.outputs.items → tree_at answer n ≡ Some tree
   taken_at zero low = tree_first answer tree trees
   taken_at (suc n) low = search rules
 
   pub one_verdict : (permitted : List (List ℕ)) (info : PathInfo) → info.references ≡ []
-      → IsRecordOf (algorithm_for job.kind) permitted tree info
+      → IsRecordOf job permitted tree info
       → IsVerdict job permitted answer (Ok (info ∷ []))
   one_verdict permitted info none is_record = (
     (
-      (status, λ n low nothing. let clash = sym nothing ∙ taken_at n low in cc),
+      (
+        status,
+        λ n low nothing. let clash = sym nothing ∙ taken_at n low in cc,
+        λ n low unread.
+            let same : unread.0 ≡ tree = let both_at = sym unread.1 ∙ taken_at n low in cc in
+            read (subst (IsUnread job) same unread.2),
+      ),
       λ n why low fault.
           let same : fault.0 ≡ tree = let both_at = sym fault.1 ∙ taken_at n low in cc in
-          sound why (subst (λ (t : Tree). IsTreeFault job.kind t why) same fault.2),
+          sound why (subst (λ (t : Tree). IsTreeFault job.profile job.kind t why) same fault.2),
     ),
     record { count = sym one_output; each = records },
     no_cycle _ none (outputs_of job),
   )
     where
       records : (n : ℕ) (other : PathInfo) → slice_get (info ∷ []) n ≡ Some other
-          → IsRecordAt (algorithm_for job.kind) permitted answer n other
+          → IsRecordAt job permitted answer n other
       records zero other at = search (rules, tree_first, info_is)
       records (suc n) other at = absurd cc
 
@@ -147,16 +172,19 @@ module _ (graph : Graph) (d : ℕ) (at : slice_get graph.nodes d ≡ Some right)
   pub right_builder : job.builder.items ≡ codes "/bin/sh"
   right_builder = search (rules, right_node)
 
-  pub right_verdict : (answer : Answer) → Leaves false answer → (permitted : List (List ℕ))
-      → IsVerdict job permitted answer (Ok (nothing_in ∷ []))
-  right_verdict answer left_behind permitted =
+  pub right_verdict : graph.profile ≡ Plain → (answer : Answer) → Leaves false answer
+      → (permitted : List (List ℕ)) → IsVerdict job permitted answer (Ok (nothing_in ∷ []))
+  right_verdict plain answer left_behind permitted =
       let folder = left_behind.1.0 in
-      one_verdict _ right_one_output answer folder left_behind.0 left_behind.1.2
-      (λ why fault. no_fault _ left_behind.1.1 _
-      (subst (λ (k : Kind). IsTreeFault k folder why) right_kind fault))
+      let profile : job.profile ≡ Plain = is_job.profile ∙ plain in
+      one_verdict job right_one_output answer folder left_behind.0 left_behind.1.2
+      (λ why fault. no_fault folder left_behind.1.1 why
+      (said_of (λ (p : Profile) (k : Kind). IsTreeFault p k folder why) job.profile Plain job.kind
+      Addressed profile right_kind fault))
+      (λ unread. said_of (λ (p : Profile) (k : Kind). NeedsArchive p k) job.profile Plain job.kind
+      Addressed profile right_kind unread.0)
       permitted nothing_in refl
-      (subst (λ (k : Kind). IsRecordOf (algorithm_for k) permitted folder nothing_in)
-      (sym right_kind) (record_of_empty _ _ left_behind.1.1))
+      (record_of_empty job profile right_kind permitted folder left_behind.1.1)
 
 pub left_verdict : (job : Job) (permitted : List (List ℕ)) (answer : Answer)
     → Leaves true answer → IsVerdict job permitted answer (Err (ExitStatus (pos 1)))
@@ -178,7 +206,7 @@ comes zero job permitted (Ok answer) a is may on =
     search (rules, has_one_verdict, comes_to, left_verdict, left_builder)
 comes (suc zero) job permitted (Ok answer) a is may on =
     has_one_verdict job permitted answer a (comes_to 1) on
-    (right_verdict _ 1 refl job is answer
+    (right_verdict _ 1 refl job is refl answer
     (subst (λ (b : List ℕ). Leaves (same_bytes b (codes "/bin/false")) answer)
     (right_builder both.graph 1 refl job is) may) permitted)
 comes (suc (suc d)) job permitted (Ok answer) a is may on = search rules
@@ -237,17 +265,19 @@ module _ (recipe : Recipe) (short : length recipe.name < 256)
     env = vec_of env_entries (omega arith);
     outputs = vec_of (job_output ∷ []) (omega arith);
     kind = kind;
+    profile = Plain;
     seeds = vec_of seeds few_seeds;
   }
 
-  pub is_job_of : (graph : Graph) (node : Node) → slice_get graph.nodes d ≡ Some node
+  pub is_job_of : (graph : Graph) (node : Node) → Plain ≡ graph.profile
+      → slice_get graph.nodes d ≡ Some node
       → recipe.builder ≡ node.drv.builder → map bytes_of args ≡ node.drv.args
       → (drv_alone recipe out).env ≡ node.drv.env
       → codes "out" ∷ [] ≡ map (λ (o : Output). o.name) node.drv.outputs
       → out ∷ [] ≡ output_paths_of node.drv → HasKind node.drv kind
       → seeds ≡ seeds_of graph.nodes node.drv → IsJob graph d job_of
   unfolding job_of env_entries env_of job_output
-  is_job_of graph node at builder same env names paths has_kind are = record {
+  is_job_of graph node plain at builder same env names paths has_kind are = record {
     node = node;
     is_node = at;
     derivation = refl;
@@ -257,6 +287,7 @@ module _ (recipe : Recipe) (short : length recipe.name < 256)
     names = names;
     paths = paths;
     kind = has_kind;
+    profile = plain;
     seeds = are;
   }
 
@@ -266,9 +297,9 @@ job_of_right d = job_of making (omega arith) (omega arith) making_args (omega ar
     (out_alone making) (out_short _ (omega arith)) Addressed d [] (omega arith)
 
 pub is_job_of_right : (graph : Graph) (d : ℕ) → slice_get graph.nodes d ≡ Some right
-    → IsJob graph d (job_of_right d)
+    → Plain ≡ graph.profile → IsJob graph d (job_of_right d)
 unfolding job_of_right
-is_job_of_right graph d at = search (rules, is_job_of, making_args, out_short, kind_alone)
+is_job_of_right graph d at plain = search (rules, is_job_of, making_args, out_short, kind_alone)
 
 -- ---- of the two
 
@@ -281,7 +312,7 @@ unfolding left_job
 left_is_job =
     is_job_of _ _ (omega arith) [] (omega arith) (out_alone failing)
     (out_short _ (omega arith)) Addressed 0 [] (omega arith) both.graph left refl refl refl refl
-    refl refl (kind_alone _) refl
+    refl refl refl (kind_alone _) refl
 
 pub left_answer : Answer
 left_answer = record { status = Some (pos 1); trees = vec_of [] (omega arith) }
@@ -308,5 +339,5 @@ left_may = search (rules, left_answer, left_builder, left_job, left_is_job, left
 
 pub right_may : may_leave (job_of_right 1) (Ok right_answer)
 right_may = subst (λ (b : List ℕ). Leaves (same_bytes b (codes "/bin/false")) right_answer)
-    (sym (right_builder both.graph 1 refl (job_of_right 1) (is_job_of_right _ 1 refl)))
+    (sym (right_builder both.graph 1 refl (job_of_right 1) (is_job_of_right _ 1 refl refl)))
     right_leaves

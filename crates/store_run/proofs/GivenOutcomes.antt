@@ -15,13 +15,12 @@ use Rattle.run_states.specs.declared.state.Event.TheVariants.{Begin, Done as Fin
 use Rattle.build_outcome.specs.declared.reason.Reason.{Reason}
 use Rattle.build_outcome.specs.declared.reason.Reason.TheVariants.{OutOfMemory}
 use Rattle.run_states.proofs.Histories.{ready_is_idle}
-use Rattle.build_outcome.proofs.OneVerdict.{has_one_verdict}
 use Rattle.run_states.proofs.Seeds.{same_number}
 use Rattle.store_run.specs.Builders.{IsAnswered, IsVerdictBehind, IsVerdictOn, answered_begin, answered_done, answered_fail, answered_opening}
 use Rattle.store_run.specs.GivenOutcomes.{EqualOutcomesAreAlike, GivesEach, OutcomesDecide}
 use Rattle.store_run.specs.Scheduling.{HasOneOutcome, IsEndedRun, IsWholeRun}
 use Rattle.store_run.proofs.OneThreads.{has_one_thread}
-use Rattle.store_run.proofs.SameVerdicts.{same_kind, same_outputs, verdict_too}
+use Rattle.store_run.proofs.SameVerdicts.{one_for_both}
 use Rattle.store_run.proofs.Schedules.{any_schedule, one_report_of, whole_runs_are_alike}
 use Rattle.store_run.proofs.Telling.{phase_broken, phase_ended}
 use Rattle.store_run.proofs.ToldRuns.{IsTold, told_begin, told_done, told_fail, told_from, told_opening}
@@ -169,7 +168,7 @@ one_outcome may outcomes graph d job again permitted x y a b is is' gives gives'
 
     by : (outcome : Result Answer Reason) → IsVerdictOn job permitted outcome a
         → IsVerdictOn again permitted outcome b → a ≡ b
-    by (Ok answer) on on' = search (rules, has_one_verdict, verdict_too, same_outputs, same_kind)
+    by (Ok answer) on on' = one_for_both graph d job again is is' permitted answer a b on on'
     by (Err reason) on on' = on ∙ sym on'
 
 -- such a run is a whole one

@@ -4,38 +4,42 @@ use Rattle.std.proofs.Math.Seq.{take-length}
 use Rattle.std.specs.Prelude.{IfSome, None, Option, Some}
 use Rattle.std.specs.Result.{is_ok}
 use Rattle.nix_names.specs.Bytes.{Bytes}
-use Rattle.valid_table.specs.Written.{written_text}
+use Rattle.valid_table.specs.Texts.{text}
 use Rattle.valid_table.specs.declared.entry.Entry.{Entry}
+use Rattle.valid_table.specs.declared.path_table.version.Version.{Version}
 use Rattle.valid_table.proofs.WrittenTexts.{text_goes_on}
 use Rattle.build_outcome.specs.declared.job.Answer.{Answer}
 use Rattle.build_outcome.specs.declared.job.Job.{Job}
 use Rattle.build_outcome.specs.declared.reason.Reason.{Reason}
 use Rattle.run_states.specs.Runs.{History, Run}
+use Rattle.run_states.specs.Systems.{Platform}
 use Rattle.drv_graph.specs.Plans.{Graph}
 use Rattle.sched_core.specs.Books.{BuildsOver, Ledger}
-use Rattle.store_run.specs.Keeping.{IsInterimJournal, TakesEachInterimJournal}
+use Rattle.store_run.specs.Keeping.{IsInterimJournal, TakesEachInterimJournal, interim_version}
 use Rattle.store_run.specs.Realising.{IsOverLent}
-use Rattle.store_run.specs.private.Looking.{IsLook, IsNews, Looked}
+use Rattle.store_run.specs.private.Looking.{AreKeptIn, IsLook, IsNews, Looked}
 
 -- the fresh lines after the text of what was shown are the text of what is shown
-pub shown_goes_on : (known entries : List Entry) (looked : Looked) (before after : Bytes)
-    → IsNews known entries looked → before ≡ written_text known
-    → after ≡ before ++ looked.fresh → after ≡ written_text looked.shown
-shown_goes_on known entries looked before after news is more =
+pub shown_goes_on : (version : Version) (known entries : List Entry) (looked : Looked)
+    (before after : Bytes)
+    → IsNews version known entries looked → before ≡ text version known
+    → after ≡ before ++ looked.fresh → after ≡ text version looked.shown
+shown_goes_on version known entries looked before after news is more =
     more
     ∙ (ap (λ b. b ++ looked.fresh) is
-    ∙ (ap (λ l. written_text known ++ l) news.fresh_lines
-    ∙ (sym (text_goes_on known news.fresh) ∙ sym (ap written_text news.goes_on))))
+    ∙ (ap (λ l. text version known ++ l) news.fresh_lines
+    ∙ (sym (text_goes_on version known news.fresh) ∙ sym (ap (text version) news.goes_on))))
 
 -- the lines of what waits after that are the text of all entries
-pub all_goes_on : (known entries : List Entry) (looked : Looked) (before after : Bytes)
-    → IsNews known entries looked → before ≡ written_text looked.shown
-    → after ≡ before ++ looked.waiting → after ≡ written_text entries
-all_goes_on known entries looked before after news is more =
+pub all_goes_on : (version : Version) (known entries : List Entry) (looked : Looked)
+    (before after : Bytes)
+    → IsNews version known entries looked → before ≡ text version looked.shown
+    → after ≡ before ++ looked.waiting → after ≡ text version entries
+all_goes_on version known entries looked before after news is more =
     more
     ∙ (ap (λ b. b ++ looked.waiting) is
-    ∙ (ap (λ l. written_text looked.shown ++ l) news.waiting_lines
-    ∙ (sym (text_goes_on looked.shown news.waiting) ∙ sym (ap written_text news.all))))
+    ∙ (ap (λ l. text version looked.shown ++ l) news.waiting_lines
+    ∙ (sym (text_goes_on version looked.shown news.waiting) ∙ sym (ap (text version) news.all))))
 
 -- a list to which something may have been added begins with what it was
 pub still_begins : {T E : Type 0} (r : Result T E) (n : ℕ) (before more after : Bytes)
@@ -50,16 +54,22 @@ pub added : {T E P : Type 0} (r : Result T E) (before more after : Bytes)
 added (Ok x) before more after is holds = holds is
 added (Err e) before more after is holds = tt
 
+-- what holds in any case holds where a call succeeds
+pub at_ok : {T E P : Type 0} (r : Result T E) → P → OnOk r P
+at_ok (Ok x) holds = holds
+at_ok (Err e) holds = tt
+
 -- the text of the entries that a look found may be handed over
 pub may_be_kept : (may : Job → Result Answer Reason → Type 0) (was_shown : List Entry → Type 0)
     (is_this_run : Run → List Entry → Type 0) (may_keep : List Entry → Bytes → Type 0)
-    (known shown : List Entry) (looked : Looked) (text bytes : Bytes)
+    (version : Version) (known shown : List Entry) (looked : Looked) (kept bytes : Bytes)
     → TakesEachInterimJournal may was_shown is_this_run may_keep
-    → IsLook may was_shown is_this_run known looked
-    → ((entries : List Entry) → IsNews known entries looked → text ≡ written_text entries)
-    → bytes ≡ text → shown ≡ looked.shown → may_keep shown bytes
-may_be_kept may was_shown is_this_run may_keep known shown looked text bytes each look is same
-    is_looked =
+    → AreKeptIn is_this_run version
+    → IsLook may was_shown is_this_run version known looked
+    → ((entries : List Entry) → IsNews version known entries looked → kept ≡ text version entries)
+    → bytes ≡ kept → shown ≡ looked.shown → may_keep shown bytes
+may_be_kept may was_shown is_this_run may_keep version known shown looked kept bytes each kept_in
+    look is same is_looked =
     subst (λ (s : List Entry). may_keep s bytes) (sym is_looked)
     (each look.run look.history.opening looked.shown bytes look.over (record {
       history = look.history;
@@ -69,7 +79,9 @@ may_be_kept may was_shown is_this_run may_keep known shown looked text bytes eac
       is_shown = look.is_shown;
       goes_on = (look.news.waiting, sym look.news.all);
       seeds = look.seeds;
-      text_is = same ∙ is look.history.entries look.news;
+      text_is = same ∙ is look.history.entries look.news
+          ∙ ap (λ (v : Version). text v look.history.entries)
+          (sym (kept_in look.run look.history.opening look.over));
     }))
 
 -- what follows where there is something
@@ -86,21 +98,28 @@ builds_over_look run history shown told looked builds is same =
     subst (BuildsOver run history) (sym (same ∙ is)) builds
 
 -- the run over a plan, for a system
-abbrev run_of : Graph → Bytes → Run
+abbrev run_of : Graph → Platform → Run
 run_of graph system = record { graph = graph; system = system }
 
 -- what is kept of the run of a book over what was lent, is kept of the run over that
 pub kept_of_lent : (may : Job → Result Answer Reason → Type 0) (was_shown : List Entry → Type 0)
-    (plan : Graph) (system : Bytes) (entries : List Entry) (book : Ledger) (run : Run)
-    (opening shown : List Entry) (text : Bytes)
+    (plan : Graph) (system : Platform) (entries : List Entry) (book : Ledger) (run : Run)
+    (opening shown : List Entry) (bytes : Bytes)
     → IsOverLent plan system entries book
     → (run ≡ book.run) × (opening ≡ book.history.opening)
-    → IsInterimJournal may was_shown run opening shown text
-    → IsInterimJournal may was_shown (record { graph = plan; system = system }) entries shown text
-kept_of_lent may was_shown plan system entries book run opening shown text over is kept =
+    → IsInterimJournal may was_shown run opening shown bytes
+    → IsInterimJournal may was_shown (record { graph = plan; system = system }) entries shown bytes
+kept_of_lent may was_shown plan system entries book run opening shown bytes over is kept =
     let lent : Run = record { graph = plan; system = system } in
     let same : book.run ≡ lent =
-    ap₂ (λ (g : Graph) (s : Bytes). run_of g s) over.plan_is over.system_is in
-    subst (λ (r : Run). IsInterimJournal may was_shown r entries shown text) (is.0 ∙ same)
-    (subst (λ (o : List Entry). IsInterimJournal may was_shown run o shown text)
+    ap₂ (λ (g : Graph) (s : Platform). run_of g s) over.plan_is over.system_is in
+    subst (λ (r : Run). IsInterimJournal may was_shown r entries shown bytes) (is.0 ∙ same)
+    (subst (λ (o : List Entry). IsInterimJournal may was_shown run o shown bytes)
     (is.1 ∙ over.opening_is) kept)
+
+-- the texts that are kept of the run of a book are in the version of that run
+pub version_of_book : (run its_run : Run) (opening its_opening lent : List Entry)
+    → (run ≡ its_run) × (opening ≡ its_opening) → its_opening ≡ lent
+    → interim_version run.graph.profile opening ≡ interim_version its_run.graph.profile lent
+version_of_book run its_run opening its_opening lent is same =
+    ap₂ (λ (r : Run) (o : List Entry). interim_version r.graph.profile o) is.0 (is.1 ∙ same)

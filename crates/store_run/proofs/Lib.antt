@@ -13,6 +13,7 @@ pub mod DiamondPlan
 pub mod DiamondRuns
 pub mod ExampleJobs
 pub mod Examined
+pub mod FlatRecords
 pub mod GivenOutcomes
 pub mod KeptTexts
 pub mod Interruptions
@@ -39,4 +40,3 @@ pub mod TwinExample
 pub mod TwinJobs
 pub mod TwinLoads
 pub mod TwinPlans
-pub mod WrittenVersions

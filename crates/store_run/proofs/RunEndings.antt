@@ -7,6 +7,7 @@ use Rattle.drv_graph.specs.Plans.{Graph}
 use Rattle.valid_table.specs.declared.entry.Entry.{Entry}
 use Rattle.sched_core.specs.Books.{Ledger}
 use Rattle.run_states.specs.Legal.{IsLegal}
+use Rattle.run_states.specs.Systems.{Platform}
 use Rattle.run_states.specs.declared.fault.BookFault.{BookFault}
 use Rattle.run_states.specs.declared.fault.BookFault.TheVariants as book_fault
 use Rattle.build_outcome.specs.declared.job.Answer.{Answer}
@@ -31,7 +32,7 @@ handed_shown fact fault.ThreadFault book holds = holds
 handed_shown fact fault.NoMemory book holds = holds
 
 -- what holds of the list that the workers' book shows
-pub shown_at_end : (fact : List Entry → Type 0) (plan : Graph) (system : List ℕ)
+pub shown_at_end : (fact : List Entry → Type 0) (plan : Graph) (system : Platform)
     (opening : List Entry) (share : Share) (ended : Result Ledger (RunFault × Ledger))
     (result : Result Ledger (RunFault × Option Ledger)) → fact share.book.shown
     → IsRunEnd plan system opening share ended → IsHandedOut ended result
@@ -48,7 +49,7 @@ shown_at_end fact plan system opening share (Err e) result holds end out =
 pub are_workers : (count : ℕ) → (count == 0) ≡ false → count ≤ 64 → AreWorkers count
 are_workers count some few = (grind (arith, nat_tests), few)
 
-module _ (may : Job → Result Answer Reason → Type 0) (plan : Graph) (system : List ℕ)
+module _ (may : Job → Result Answer Reason → Type 0) (plan : Graph) (system : Platform)
     (opening : List Entry) (count : ℕ) (workers : AreWorkers count) (share : Share)
     (legal : IsLegal share.book.run share.book.history)
     (answered : IsAnswered may share.book.run share.book.history) where

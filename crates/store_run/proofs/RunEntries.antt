@@ -1,10 +1,10 @@
 -- The entries of a legal history go on from those that it opened with.
-use Rattle.std.proofs.Common.{◌≡◌, ◌∙◌, ℕ, List, [], ◌∷◌, ◌++◌, ap, append-nil, append_assoc, subst, sym}
+use Rattle.std.proofs.Common.{◌∙◌, ℕ, List, [], ◌∷◌, ◌++◌, ap, append-nil, append_assoc, subst, sym}
 use Rattle.valid_table.specs.PathInfos.{PathInfo}
 use Rattle.valid_table.specs.declared.entry.Entry.{Entry}
 use Rattle.build_outcome.specs.declared.reason.Reason.{Reason}
-use Rattle.run_states.specs.Legal.{IsLegal, begins, legal_begin, legal_done, legal_fail, legal_opening}
-use Rattle.run_states.specs.Runs.{History, Run}
+use Rattle.run_states.specs.Legal.{begins, legal_begin, legal_done, legal_fail, legal_opening}
+use Rattle.run_states.specs.Runs.{Run}
 use Rattle.run_states.specs.declared.state.Event.{Event}
 use Rattle.run_states.specs.declared.state.Event.TheVariants.{Begin, Done as Finish, Fail}
 use Rattle.sched_core.specs.Books.{IsDone}

@@ -1,61 +1,116 @@
 -- Verdicts on answers that are the same, trees of the same bytes counting as one.
-use Rattle.std.proofs.Common.{◌≡◌, ◌∙◌, ℕ, List, All, Option, Some, None, Result, Ok, Err, refl, sym, rules}
+use Rattle.std.proofs.Common.{◌≡◌, ◌∙◌, ℕ, List, Option, Some, None, Result, Ok, Err, ap, refl, subst, sym, rules}
+use Rattle.nix_names.specs.Digests.{algorithm_of}
 use Rattle.nix_names.specs.declared.digest.Algorithm.{Algorithm}
+use Rattle.nix_names.specs.declared.digest.Algorithm.TheVariants.{Sha256}
+use Rattle.nix_names.specs.declared.digest.Digest.{Digest}
+use Rattle.nix_names.specs.declared.method.Method.{Method}
+use Rattle.nix_names.specs.declared.method.Method.TheVariants.{Flat, Recursive}
+use Rattle.nix_names.specs.declared.method.MethodDigest.{MethodDigest}
 use Rattle.drv_graph.specs.declared.kinds.Kind.{Kind}
 use Rattle.drv_graph.specs.declared.kinds.Kind.TheVariants.{Addressed, Fixed}
+use Rattle.drv_graph.specs.declared.profile.Profile.{Profile}
+use Rattle.drv_graph.specs.declared.profile.Profile.TheVariants.{Plain, Nix}
+use Rattle.ref_scan.specs.Scan.{IsFoundIn}
 use Rattle.ref_scan.specs.declared.tree.Tree.{Tree}
-use Rattle.valid_table.specs.PathInfos.{PathInfo}
-use Rattle.build_outcome.specs.Verdicts.{AreRecords, IsFaulty, IsFirstFault, IsFirstNumber, IsRecordOf, IsTaken, AreOutputsThere, IsTreeFault, IsVerdict, tree_at}
+use Rattle.valid_table.specs.PathInfos.{NarInfo, PathInfo}
+use Rattle.build_outcome.specs.Verdicts.{AreOutputsThere, AreRead, AreRecords, HasForm, IsDigestBy, IsFaulty, IsFirstFault, IsRecordDigest, IsRecordNar, IsRecordOf, IsTaken, IsTreeFault, IsUnread, IsUnreadAt, IsVerdict, MayBeTaken, flat_digest, tree_at}
 use Rattle.build_outcome.specs.declared.job.Answer.{Answer}
 use Rattle.build_outcome.specs.declared.job.Job.{Job}
 use Rattle.build_outcome.specs.declared.reason.Reason.{Reason}
 use Rattle.build_outcome.specs.declared.reason.Reason.TheVariants.{ExitStatus, NoStart, MissingOutput, NotFlatFile, HashMismatch, OutputCycle, TooLarge, ReadFault, OutOfMemory, Killed}
-use Rattle.build_outcome.proofs.OneVerdict.{has_one_verdict}
 use Rattle.store_run.specs.Builders.{IsVerdictOn}
 use Rattle.store_run.specs.SameOutcomes.{AllowedIsOne, AreSameAnswers, AreSameOutcomes, AreSameTrees, HaveSameBytes}
-use Rattle.store_run.proofs.SameVerdicts.{same_kind, same_outputs, verdict_too}
+use Rattle.store_run.proofs.SameVerdicts.{first_same, one_for_both}
 
 -- ---- trees
 
 same_back : (tree other : Tree) → HaveSameBytes tree other → HaveSameBytes other tree
-same_back tree other same = search rules
+same_back tree other same = record {
+  bytes = sym same.bytes;
+  digest = λ algorithm. sym (same.digest algorithm);
+  archive = λ text. ((same.archive text).1, (same.archive text).0);
+  fits = (same.fits.1, same.fits.0);
+  flat = λ profile. ((same.flat profile).1, (same.flat profile).0);
+}
 
-fault_there : (kind : Kind) (tree other : Tree) → HaveSameBytes tree other → (why : Reason)
-    → IsTreeFault kind tree why → IsTreeFault kind other why
-fault_there kind tree other same TooLarge fault = search rules
-fault_there (Fixed method digest) tree other same NotFlatFile fault = search rules
-fault_there (Fixed method digest) tree other same HashMismatch fault = search rules
-fault_there Addressed tree other same NotFlatFile fault = absurd fault
-fault_there Addressed tree other same HashMismatch fault = absurd fault
-fault_there Addressed tree other same (ExitStatus n) fault = absurd fault
-fault_there Addressed tree other same NoStart fault = absurd fault
-fault_there Addressed tree other same (MissingOutput n) fault = absurd fault
-fault_there Addressed tree other same OutputCycle fault = absurd fault
-fault_there Addressed tree other same ReadFault fault = absurd fault
-fault_there Addressed tree other same OutOfMemory fault = absurd fault
-fault_there Addressed tree other same Killed fault = absurd fault
-fault_there (Fixed method digest) tree other same (ExitStatus n) fault = absurd fault
-fault_there (Fixed method digest) tree other same NoStart fault = absurd fault
-fault_there (Fixed method digest) tree other same (MissingOutput n) fault = absurd fault
-fault_there (Fixed method digest) tree other same OutputCycle fault = absurd fault
-fault_there (Fixed method digest) tree other same ReadFault fault = absurd fault
-fault_there (Fixed method digest) tree other same OutOfMemory fault = absurd fault
-fault_there (Fixed method digest) tree other same Killed fault = absurd fault
+taken_there : (profile : Profile) (tree other : Tree) → HaveSameBytes tree other
+    → MayBeTaken profile tree → MayBeTaken profile other
+taken_there Plain tree other same fits = same.fits.0 fits
+taken_there Nix tree other same taken = tt
 
-record_there : (algorithm : Algorithm) (permitted : List (List ℕ)) (tree other : Tree)
-    → HaveSameBytes tree other → (info : PathInfo) → IsRecordOf algorithm permitted tree info
-    → IsRecordOf algorithm permitted other info
-record_there algorithm permitted tree other same info is = search rules
+form_there : (profile : Profile) (method : Method) (tree other : Tree) → HaveSameBytes tree other
+    → HasForm profile method tree → HasForm profile method other
+form_there profile Flat tree other same flat = (same.flat profile).0 flat
+form_there profile Recursive tree other same is = tt
 
--- ---- firsts
+digest_there : (method : Method) (algorithm : Algorithm) (tree other : Tree)
+    → HaveSameBytes tree other → (found : Digest) → IsDigestBy method algorithm tree found
+    → IsDigestBy method algorithm other found
+digest_there Flat algorithm tree other same found is = sym (same.digest algorithm) ∙ is
+digest_there Recursive algorithm tree other same found (bytes, has, is) =
+    (bytes, (same.archive bytes).0 has, is)
 
-all_weaker : {X : Type 0} (P Q : X → Type 0) → ((x : X) → P x → Q x) → (xs : List X) → All P xs
-    → All Q xs
-all_weaker P Q goes xs all = search rules
+fault_there : (profile : Profile) (kind : Kind) (tree other : Tree) → HaveSameBytes tree other
+    → (why : Reason) → IsTreeFault profile kind tree why → IsTreeFault profile kind other why
+fault_there profile kind tree other same TooLarge fault =
+    λ taken. fault (taken_there profile other tree (same_back tree other same) taken)
+fault_there profile (Fixed method declared) tree other same NotFlatFile (taken, formless) = (
+  taken_there profile tree other same taken,
+  λ form. formless (form_there profile method other tree (same_back tree other same) form),
+)
+fault_there profile (Fixed method declared) tree other same HashMismatch
+    (taken, form, (found, is, apart)) = (
+      taken_there profile tree other same taken,
+      form_there profile method tree other same form,
+      (found, digest_there method (algorithm_of declared) tree other same found is, apart),
+    )
+fault_there profile Addressed tree other same NotFlatFile fault = absurd fault
+fault_there profile Addressed tree other same HashMismatch fault = absurd fault
+fault_there profile Addressed tree other same (ExitStatus n) fault = absurd fault
+fault_there profile Addressed tree other same NoStart fault = absurd fault
+fault_there profile Addressed tree other same (MissingOutput n) fault = absurd fault
+fault_there profile Addressed tree other same OutputCycle fault = absurd fault
+fault_there profile Addressed tree other same ReadFault fault = absurd fault
+fault_there profile Addressed tree other same OutOfMemory fault = absurd fault
+fault_there profile Addressed tree other same Killed fault = absurd fault
+fault_there profile (Fixed method digest) tree other same (ExitStatus n) fault = absurd fault
+fault_there profile (Fixed method digest) tree other same NoStart fault = absurd fault
+fault_there profile (Fixed method digest) tree other same (MissingOutput n) fault = absurd fault
+fault_there profile (Fixed method digest) tree other same OutputCycle fault = absurd fault
+fault_there profile (Fixed method digest) tree other same ReadFault fault = absurd fault
+fault_there profile (Fixed method digest) tree other same OutOfMemory fault = absurd fault
+fault_there profile (Fixed method digest) tree other same Killed fault = absurd fault
 
-first_same : (P Q : ℕ → Type 0) → ((n : ℕ) → P n → Q n) → ((n : ℕ) → Q n → P n) → (count n : ℕ)
-    → IsFirstNumber P count n → IsFirstNumber Q count n
-first_same P Q there back count n first = search (rules, all_weaker, back)
+unread_there : (job : Job) (tree other : Tree) → HaveSameBytes tree other → IsUnread job tree
+    → IsUnread job other
+unread_there job tree other same (needs, none) =
+    (needs, λ bytes has. none bytes ((same.archive bytes).1 has))
+
+record_digest_there : (profile : Profile) (kind : Kind) (tree other : Tree)
+    → HaveSameBytes tree other → (digest : Option MethodDigest)
+    → IsRecordDigest profile kind tree digest → IsRecordDigest profile kind other digest
+record_digest_there profile (Fixed method declared) tree other same digest (found, is, by) =
+    (found, is, digest_there method (algorithm_of declared) tree other same found by)
+record_digest_there Plain Addressed tree other same digest is =
+    is ∙ ap flat_digest (same.digest Sha256)
+record_digest_there Nix Addressed tree other same digest is = is
+
+record_nar_there : (profile : Profile) (tree other : Tree) → HaveSameBytes tree other
+    → (nar : Option NarInfo) → IsRecordNar profile tree nar → IsRecordNar profile other nar
+record_nar_there Plain tree other same nar is = is
+record_nar_there Nix tree other same nar (sum, is, (bytes, has, hash, size)) =
+    (sum, is, (bytes, (same.archive bytes).0 has, hash, size))
+
+record_there : (job : Job) (permitted : List (List ℕ)) (tree other : Tree)
+    → HaveSameBytes tree other → (info : PathInfo) → IsRecordOf job permitted tree info
+    → IsRecordOf job permitted other info
+record_there job permitted tree other same info is = record {
+  found = subst (λ (lists : List (List ℕ)). IsFoundIn lists permitted info.references) same.bytes
+      is.found;
+  digest = record_digest_there job.profile job.kind tree other same info.digest is.digest;
+  nar = record_nar_there job.profile tree other same info.nar is.nar;
+}
 
 -- ---- answers
 
@@ -83,19 +138,44 @@ module _ (job : Job) (answer other : Answer) (same : AreSameAnswers answer other
   missing_there : (n : ℕ) → tree_at answer n ≡ None → tree_at other n ≡ None
   missing_there n none = search (rules, none_same)
 
+  -- the tree at the same output of the other answer
+  its_tree : (n : ℕ) (tree : Tree) → tree_at answer n ≡ Some tree
+      → (its : Tree) × (tree_at other n ≡ Some its) × HaveSameBytes tree its
+  its_tree n tree at = some_same tree (tree_at answer n) (tree_at other n) at (same.trees n)
+
   faulty_there : (n : ℕ) (why : Reason) → IsFaulty job answer why n → IsFaulty job other why n
-  faulty_there n why is = search (rules, some_same, fault_there)
+  faulty_there n why (tree, at, fault) =
+      let its = its_tree n tree at in
+      (its.0, its.1, fault_there job.profile job.kind tree its.0 its.2 why fault)
+
+  unread_at_there : (n : ℕ) → IsUnreadAt job answer n → IsUnreadAt job other n
+  unread_at_there n (tree, at, unread) =
+      let its = its_tree n tree at in
+      (its.0, its.1, unread_there job tree its.0 its.2 unread)
 
   records_there : (permitted : List (List ℕ)) (infos : List PathInfo)
       → AreRecords job permitted answer infos → AreRecords job permitted other infos
-  records_there permitted infos are = search (rules, some_same, record_there)
+  records_there permitted infos are = record {
+    count = are.count;
+    each = λ n info place.
+        let (tree, at, is) = are.each n info place in
+        let its = its_tree n tree at in
+        (its.0, its.1, record_there job permitted tree its.0 its.2 info is);
+  }
 
 module _ (job : Job) (answer other : Answer) (same : AreSameAnswers answer other) where
   back : AreSameAnswers other answer
   back = answers_back _ _ same
 
+  read_too : AreRead job answer → AreRead job other
+  read_too read n low unread = read n low (unread_at_there job other answer back n unread)
+
   there_too : AreOutputsThere job answer → AreOutputsThere job other
-  there_too there = search (rules, missing_there, back)
+  there_too (status, there, read) = (
+    sym same.status ∙ status,
+    λ n low none. there n low (missing_there job other answer back n none),
+    read_too read,
+  )
 
   first_too : (reason : Reason) → IsFirstFault job answer reason → IsFirstFault job other reason
   first_too reason first = (
@@ -116,17 +196,24 @@ module _ (job : Job) (answer other : Answer) (same : AreSameAnswers answer other
 
   verdict_there : (permitted : List (List ℕ)) (verdict : Result (List PathInfo) Reason)
       → IsVerdict job permitted answer verdict → IsVerdict job permitted other verdict
-  verdict_there permitted (Ok infos) is = search (rules, taken_too, records_there)
+  verdict_there permitted (Ok infos) is =
+      (taken_too is.0, records_there job answer other same permitted infos is.1, is.2)
   verdict_there permitted (Err Killed) is = sym same.status ∙ is
   verdict_there permitted (Err (ExitStatus n)) is = (sym same.status ∙ is.0, is.1)
-  verdict_there permitted (Err (MissingOutput n)) is =
-      search (rules, first_same, missing_there, back)
+  verdict_there permitted (Err ReadFault) (status, (n, low, unread)) =
+      (sym same.status ∙ status, (n, low, unread_at_there job answer other same n unread))
+  verdict_there permitted (Err (MissingOutput n)) (status, read, first) = (
+    sym same.status ∙ status,
+    read_too read,
+    first_same (λ m. tree_at answer m ≡ None) (λ m. tree_at other m ≡ None)
+        (missing_there job answer other same) (missing_there job other answer back) _ n first,
+  )
   verdict_there permitted (Err TooLarge) is = (there_too is.0, first_too TooLarge is.1)
   verdict_there permitted (Err NotFlatFile) is = (there_too is.0, first_too NotFlatFile is.1)
   verdict_there permitted (Err HashMismatch) is = (there_too is.0, first_too HashMismatch is.1)
-  verdict_there permitted (Err OutputCycle) is = search (rules, taken_too, records_there)
+  verdict_there permitted (Err OutputCycle) (taken, (infos, records, round)) =
+      (taken_too taken, (infos, records_there job answer other same permitted infos records, round))
   verdict_there permitted (Err NoStart) is = absurd is
-  verdict_there permitted (Err ReadFault) is = absurd is
   verdict_there permitted (Err OutOfMemory) is = absurd is
 
 pub allowed_is_one : (may : Job → Result Answer Reason → Type 0) → AllowedIsOne may
@@ -136,7 +223,8 @@ allowed_is_one may graph allows d job again permitted x y a b is is' gives gives
     by : (u w : Result Answer Reason) → AreSameOutcomes u w → IsVerdictOn job permitted u a
         → IsVerdictOn again permitted w b → a ≡ b
     by (Ok u) (Ok w) same on on' =
-        search (rules, has_one_verdict, verdict_there, verdict_too, same_outputs, same_kind)
+        one_for_both graph d job again is is' permitted w a b
+        (verdict_there job u w same permitted a on) on'
     by (Err u) (Err w) same on on' = search rules
     by (Ok u) (Err w) same on on' = absurd same
     by (Err u) (Ok w) same on on' = absurd same

@@ -1,66 +1,134 @@
 -- The verdict on an answer is one for all jobs of a derivation.
-use Rattle.std.proofs.Common.{◌≡◌, ◌<◌, ℕ, List, length, Some, Result, Ok, Err, subst, rules}
+use Rattle.std.proofs.Common.{◌≡◌, ◌∙◌, ◌<◌, ℕ, List, All, length, None, Result, Ok, Err, subst, sym, rules}
 use Rattle.std.proofs.lemmas.List.{length-map}
 use Rattle.nix_names.proofs.Lists.{same_element}
 use Rattle.drv_graph.specs.Plans.{Graph}
 use Rattle.drv_graph.specs.declared.kinds.Kind.{Kind}
+use Rattle.drv_graph.specs.declared.profile.Profile.{Profile}
 use Rattle.drv_graph.proofs.KindAnswers.{one_kind}
 use Rattle.ref_scan.specs.declared.tree.Tree.{Tree}
 use Rattle.valid_table.specs.PathInfos.{PathInfo}
 use Rattle.build_outcome.specs.Jobs.{IsJob}
-use Rattle.build_outcome.specs.Verdicts.{AreRecords, IsCyclic, IsFirstFault, IsFirstNumber, IsTaken, AreOutputsThere, IsTreeFault, IsVerdict, outputs_of, tree_at}
+use Rattle.build_outcome.specs.Verdicts.{AreOutputsThere, AreRead, AreRecords, IsCyclic, IsFaulty, IsFirstFault, IsFirstNumber, IsRecordDigest, IsRecordNar, IsRecordOf, IsTaken, IsTreeFault, IsUnreadAt, IsVerdict, NeedsArchive, outputs_of, tree_at}
 use Rattle.build_outcome.specs.declared.job.Answer.{Answer}
 use Rattle.build_outcome.specs.declared.job.Job.{Job}
 use Rattle.build_outcome.specs.declared.reason.Reason.{Reason}
 use Rattle.build_outcome.specs.declared.reason.Reason.TheVariants.{ExitStatus, NoStart, MissingOutput, NotFlatFile, HashMismatch, OutputCycle, TooLarge, ReadFault, OutOfMemory, Killed}
+use Rattle.build_outcome.proofs.OneVerdict.{has_one_verdict}
 
--- what lies at the output with this number isn't taken for a job of this kind
-abbrev FaultyFor : Kind → Answer → Reason → ℕ → Type 0
-FaultyFor kind answer reason n = (tree : Tree) × (tree_at answer n ≡ Some tree)
-    × IsTreeFault kind tree reason
+-- ---- firsts
 
-abbrev FirstFaultFor : Kind → ℕ → Answer → Reason → Type 0
-FirstFaultFor kind count answer reason =
-    (n : ℕ) × IsFirstNumber (λ m. (why : Reason) × FaultyFor kind answer why m) count n
-    × FaultyFor kind answer reason n
+all_weaker : {X : Type 0} (P Q : X → Type 0) → ((x : X) → P x → Q x) → (xs : List X) → All P xs
+    → All Q xs
+all_weaker P Q goes xs all = search rules
+
+pub first_same : (P Q : ℕ → Type 0) → ((n : ℕ) → P n → Q n) → ((n : ℕ) → Q n → P n)
+    → (count n : ℕ) → IsFirstNumber P count n → IsFirstNumber Q count n
+first_same P Q there back count n first = search (rules, all_weaker, back)
+
+-- ---- what a profile and a kind decide
+
+pub said_of : (Says : Profile → Kind → Type 0) (p q : Profile) (a b : Kind) → p ≡ q → a ≡ b
+    → Says p a → Says q b
+said_of Says p q a b profiles kinds is =
+    subst (λ (r : Profile). Says r b) profiles (subst (λ (k : Kind). Says p k) kinds is)
+
+module _ (job again : Job) (kinds : job.kind ≡ again.kind)
+    (profiles : job.profile ≡ again.profile) where
+  said_too : (Says : Profile → Kind → Type 0) → Says job.profile job.kind
+      → Says again.profile again.kind
+  said_too Says is =
+      said_of Says job.profile again.profile job.kind again.kind profiles kinds is
+
+  faulty_too : (answer : Answer) (why : Reason) (n : ℕ) → IsFaulty job answer why n
+      → IsFaulty again answer why n
+  faulty_too answer why n (tree, at, fault) =
+      (tree, at, said_too (λ (p : Profile) (k : Kind). IsTreeFault p k tree why) fault)
+
+  unread_too : (answer : Answer) (n : ℕ) → IsUnreadAt job answer n → IsUnreadAt again answer n
+  unread_too answer n (tree, at, (needs, none)) =
+      (tree, at, (said_too (λ (p : Profile) (k : Kind). NeedsArchive p k) needs, none))
+
+  record_too : (permitted : List (List ℕ)) (tree : Tree) (info : PathInfo)
+      → IsRecordOf job permitted tree info → IsRecordOf again permitted tree info
+  record_too permitted tree info is = record {
+    found = is.found;
+    digest = said_too (λ (p : Profile) (k : Kind). IsRecordDigest p k tree info.digest) is.digest;
+    nar = said_too (λ (p : Profile) (k : Kind). IsRecordNar p tree info.nar) is.nar;
+  }
+
+-- ---- verdicts
 
 module _ (job again : Job) (outputs : outputs_of job ≡ outputs_of again)
-    (kinds : job.kind ≡ again.kind) (answer : Answer) where
+    (kinds : job.kind ≡ again.kind) (profiles : job.profile ≡ again.profile) (answer : Answer) where
   counts : length job.outputs.items ≡ length again.outputs.items
   counts = search (rules, length-map)
 
+  within : (n : ℕ) → n < length again.outputs.items → n < length job.outputs.items
+  within n low = subst (λ count. n < count) (sym counts) low
+
+  faulty_back : (why : Reason) (n : ℕ) → IsFaulty again answer why n → IsFaulty job answer why n
+  faulty_back = faulty_too again job (sym kinds) (sym profiles) answer
+
+  read_too : AreRead job answer → AreRead again answer
+  read_too read n low unread =
+      read n (within n low) (unread_too again job (sym kinds) (sym profiles) answer n unread)
+
   there_too : AreOutputsThere job answer → AreOutputsThere again answer
-  there_too there = search (rules, counts)
+  there_too (status, there, read) =
+      (status, λ n low none. there n (within n low) none, read_too read)
 
   first_too : (reason : Reason) → IsFirstFault job answer reason
       → IsFirstFault again answer reason
-  first_too reason first =
-      subst (λ (kind : Kind). FirstFaultFor kind (length again.outputs.items) answer reason) kinds
-      (subst (λ (count : ℕ). FirstFaultFor job.kind count answer reason) counts first)
+  first_too reason (n, first, faulty) = (
+    n,
+    subst (λ count. IsFirstNumber (λ m. (why : Reason) × IsFaulty again answer why m) count n)
+        counts
+        (first_same (λ m. (why : Reason) × IsFaulty job answer why m)
+        (λ m. (why : Reason) × IsFaulty again answer why m)
+        (λ m is. (is.0, faulty_too job again kinds profiles answer is.0 m is.1))
+        (λ m is. (is.0, faulty_back is.0 m is.1))
+        (length job.outputs.items) n first),
+    faulty_too job again kinds profiles answer reason n faulty,
+  )
 
   taken_too : IsTaken job answer → IsTaken again answer
-  taken_too taken = (
-    there_too taken.0,
-    subst (λ (kind : Kind). (n : ℕ) (why : Reason) → n < length again.outputs.items
-        → FaultyFor kind answer why n → ⊥) kinds
-        (subst (λ (count : ℕ). (n : ℕ) (why : Reason) → n < count
-        → FaultyFor job.kind answer why n → ⊥) counts taken.1),
+  taken_too (there, sound) = (
+    there_too there,
+    λ n why low faulty. sound n why (within n low) (faulty_back why n faulty),
   )
 
   records_too : (permitted : List (List ℕ)) (infos : List PathInfo)
       → AreRecords job permitted answer infos → AreRecords again permitted answer infos
-  records_too permitted infos are = search (rules, counts)
+  records_too permitted infos are = record {
+    count = are.count ∙ counts;
+    each = λ n info at.
+        let is = are.each n info at in
+        (is.0, is.1, record_too job again kinds profiles permitted is.0 info is.2);
+  }
 
-  pub verdict_too : (permitted : List (List ℕ)) (verdict : Result (List PathInfo) Reason)
+  verdict_too : (permitted : List (List ℕ)) (verdict : Result (List PathInfo) Reason)
       → IsVerdict job permitted answer verdict → IsVerdict again permitted answer verdict
   verdict_too permitted (Ok infos) is = (
     taken_too is.0,
-    records_too _ _ is.1,
+    records_too permitted infos is.1,
     subst (λ (paths : List (List ℕ)). IsCyclic paths infos → ⊥) outputs is.2,
   )
   verdict_too permitted (Err Killed) is = is
   verdict_too permitted (Err (ExitStatus n)) is = is
-  verdict_too permitted (Err (MissingOutput n)) is = search (rules, counts)
+  verdict_too permitted (Err ReadFault) (status, (n, low, unread)) = (
+    status,
+    (
+      n,
+      subst (λ count. n < count) counts low,
+      unread_too job again kinds profiles answer n unread,
+    ),
+  )
+  verdict_too permitted (Err (MissingOutput n)) (status, read, first) = (
+    status,
+    read_too read,
+    subst (λ count. IsFirstNumber (λ m. tree_at answer m ≡ None) count n) counts first,
+  )
   verdict_too permitted (Err TooLarge) is = (there_too is.0, first_too TooLarge is.1)
   verdict_too permitted (Err NotFlatFile) is = (there_too is.0, first_too NotFlatFile is.1)
   verdict_too permitted (Err HashMismatch) is = (there_too is.0, first_too HashMismatch is.1)
@@ -68,22 +136,32 @@ module _ (job again : Job) (outputs : outputs_of job ≡ outputs_of again)
     taken_too is.0,
     (
       is.1.0,
-      records_too _ _ is.1.1,
+      records_too permitted is.1.0 is.1.1,
       subst (λ (paths : List (List ℕ)). IsCyclic paths is.1.0) outputs is.1.2,
     ),
   )
   verdict_too permitted (Err NoStart) is = absurd is
-  verdict_too permitted (Err ReadFault) is = absurd is
   verdict_too permitted (Err OutOfMemory) is = absurd is
 
--- two jobs of a derivation have the same outputs, and are of one kind
+-- two jobs of a derivation have the same outputs, and are of one kind and under one profile, so an
+-- answer has one verdict for both
 module _ (graph : Graph) (d : ℕ) (job again : Job) (is : IsJob graph d job)
     (is' : IsJob graph d again) where
   same_node : is.node ≡ is'.node
   same_node = search (rules, same_element)
 
-  pub same_outputs : outputs_of job ≡ outputs_of again
+  same_outputs : outputs_of job ≡ outputs_of again
   same_outputs = search (rules, same_node)
 
-  pub same_kind : job.kind ≡ again.kind
+  same_kind : job.kind ≡ again.kind
   same_kind = search (rules, one_kind, same_node)
+
+  same_profile : job.profile ≡ again.profile
+  same_profile = is.profile ∙ sym is'.profile
+
+  pub one_for_both : (permitted : List (List ℕ)) (answer : Answer)
+      (a b : Result (List PathInfo) Reason) → IsVerdict job permitted answer a
+      → IsVerdict again permitted answer b → a ≡ b
+  one_for_both permitted answer a b of of' =
+      has_one_verdict again permitted answer a b
+      (verdict_too job again same_outputs same_kind same_profile answer permitted a of) of'

@@ -72,15 +72,15 @@ right_behind : (entries : List Entry)
     → IsVerdictBehind may_leave both entries 1 (Ok (nothing_in ∷ []))
 right_behind entries = record {
   job = job_of_right 1;
-  is_job = is_job_of_right _ 1 refl;
+  is_job = is_job_of_right _ 1 refl refl;
   comes_to = (
     Ok right_answer,
     right_may,
     (
       output_paths_of right.drv,
-      permitted_own _ entries 1 _ _ (is_job_of_right both.graph 1 refl)
+      permitted_own _ entries 1 _ _ (is_job_of_right both.graph 1 refl refl)
           refl refl _ refl,
-      right_verdict both.graph 1 refl _ (is_job_of_right both.graph 1 refl)
+      right_verdict both.graph 1 refl _ (is_job_of_right both.graph 1 refl refl) refl
           _ right_leaves _,
     ),
   );

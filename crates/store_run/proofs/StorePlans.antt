@@ -1,5 +1,5 @@
 -- The paths that a plan of a store folder names are paths of that folder.
-use Rattle.std.proofs.Common.{◌≡◌, ◌∙◌, ℕ, suc, true, List, [], ◌∷◌, ◌++◌, All, drop, take, Ok, ap, subst, sym, ⊎_elim}
+use Rattle.std.proofs.Common.{◌≡◌, ◌∙◌, ℕ, suc, true, List, [], ◌∷◌, All, drop, take, ap, subst, sym, ⊎_elim}
 use Rattle.std.specs.Prelude.{Contains, Some, slice_get}
 use Rattle.std.proofs.lemmas.List.Elements.{All-contains, Contains-append_cases}
 use Rattle.sha2.specs.Sha256.{sha256}
@@ -11,12 +11,13 @@ use Rattle.nix_names.proofs.PathTexts.{name_is, name_of_is}
 use Rattle.nix_drv.specs.Derivation.{Drv}
 use Rattle.nix_drv.specs.OwnPath.{text_kind, text_path}
 use Rattle.nix_drv.specs.Sources.{Answer as SourceAnswer}
-use Rattle.drv_graph.specs.Kinds.{HasKind}
+use Rattle.drv_graph.specs.Kinds.{HasKind, Takes}
 use Rattle.drv_graph.specs.Nodes.{Node, inputs_of}
 use Rattle.drv_graph.specs.PlanNodes.{output_paths_of}
 use Rattle.drv_graph.specs.Plans.{Graph, IsLawful, IsPlan, LeadsBy, MayBeAt, Uses}
 use Rattle.drv_graph.specs.declared.kinds.Kind.{Kind}
 use Rattle.drv_graph.specs.declared.kinds.Kind.TheVariants.{Addressed, Fixed}
+use Rattle.drv_graph.proofs.KindAnswers.{one_kind}
 use Rattle.drv_graph.proofs.InStore.{inputs_in_store, outputs_in_store, sources_in_store}
 use Rattle.build_outcome.specs.Jobs.{named_outputs, seeds_of}
 use Rattle.run_states.proofs.Dones.{part_with}
@@ -80,7 +81,7 @@ module _ (dir : List ℕ) (gives : List ℕ → SourceAnswer → Type 0) (roots 
   -- ---- the paths of its outputs
 
   lawful : (node : Node) (n : ℕ) → slice_get graph.nodes n ≡ Some node
-      → IsLawful dir (take n graph.nodes) node
+      → IsLawful graph.profile dir (take n graph.nodes) node
   lawful node n at =
       plan.lawful (take n graph.nodes) (drop (suc n) graph.nodes) node
       (split_get graph.nodes n node at)
@@ -97,6 +98,16 @@ module _ (dir : List ℕ) (gives : List ℕ → SourceAnswer → Type 0) (roots 
       let (n, at) = get_from_contains graph.nodes node has in
       let is = lawful node n at in
       has_outputs node.drv is.kind is.right.check.0.has_kind
+
+  -- the profile takes the kind of its outputs
+  pub kind_taken : (node : Node) → Contains graph.nodes node → (kind : Kind) → HasKind node.drv kind
+      → Takes graph.profile kind
+  kind_taken node has kind has_kind =
+      let (n, at) = get_from_contains graph.nodes node has in
+      let is = lawful node n at in
+      subst (Takes graph.profile)
+      (one_kind node.drv is.kind kind is.right.check.0.has_kind has_kind)
+      is.right.check.0.taken
 
   -- ---- what it is built from
 

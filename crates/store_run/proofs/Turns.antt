@@ -18,7 +18,7 @@ use Rattle.valid_table.proofs.ClosureLaws.{registers_from_valid}
 use Rattle.run_states.specs.StateTables.{CanBegin, IsRunSettled}
 use Rattle.run_states.specs.StateTables.{IsOpen}
 use Rattle.run_states.specs.Legal.{IsAllowed, IsLegal, legal_begin, legal_done, legal_fail, legal_opening, begins, begun, ended, failed}
-use Rattle.run_states.specs.Runs.{History, IsWanted, Run, is_valid, is_wanted, standing_at, state_in, wanted_input}
+use Rattle.run_states.specs.Runs.{History, IsWanted, Run, is_valid, is_wanted, standing_at, state_in, terms_of, wanted_input}
 use Rattle.run_states.specs.States.{Idle, Ended, Broken, by_first, by_hindrance, by_phase, by_validity, is_bad, is_done, is_good, is_open, phase_of}
 use Rattle.drv_graph.specs.Twins.{are_twins_at}
 use Rattle.build_outcome.specs.declared.job.Answer.{Answer}
@@ -212,7 +212,7 @@ module _ (may : Job → Result Answer Reason → Type 0) (run : Run) (sound : Is
               let un = ready_unhindered _ history sound d can.ready in
               let none : is_valid history.opening path ≡ false =
               output_of_free _ history.opening node.drv
-              (sym (ap (standing_at run.system history.opening) at) ∙ un.free) _ own in
+              (sym (ap (standing_at (terms_of run) history.opening) at) ∙ un.free) _ own in
               let some : is_valid history.opening path ≡ true =
               list_any-from_Contains nat_list_eq_equiv _
               _
@@ -266,7 +266,7 @@ module _ (may : Job → Result Answer Reason → Type 0) (run : Run) (sound : Is
           not_open (state_in run history i)
           (turned.closed i less (omega arith)
           (wanted_input d i wanted
-          (subst (λ (opens : List Entry). standing_at run.system opens
+          (subst (λ (opens : List Entry). standing_at (terms_of run) opens
           (slice_get run.graph.nodes d) ≡ Free) turned.opening_is free) has))
 
       closed_twin : d < length run.graph.nodes → (t : ℕ) → Contains (twins_in run history d) t

@@ -1,14 +1,15 @@
 -- A derivation that is built after its twin failed, beside a third, is part of a whole run.
-use Rattle.std.proofs.Common.{◌≡◌, ◌∙◌, ◌<◌, inr, ℕ, zero, suc, true, false, List, [], ◌∷◌, Some, Ok, Err, refl, sym, ap, subst, arith, rules}
+use Rattle.std.proofs.Common.{◌≡◌, ◌∙◌, ◌<◌, inr, ℕ, zero, suc, true, false, List, [], ◌∷◌, Some, Ok, Err, refl, sym, ap, ap₂, subst, arith, rules}
 use Rattle.std.specs.Prelude.{Contains, pos, slice_get}
 use Rattle.std.proofs.lemmas.Bool.{and_from}
 use Rattle.nix_names.specs.declared.digest.Digest.{Digest}
+use Rattle.nix_names.specs.declared.method.Method.{Method}
+use Rattle.nix_names.specs.declared.method.MethodDigest.{MethodDigest}
 use Rattle.nix_names.proofs.Lists.{Contains-first, Contains-later, Contains-nothing}
 use Rattle.drv_graph.specs.Nodes.{Node}
 use Rattle.drv_graph.specs.PlanNodes.{output_paths_of}
 use Rattle.drv_graph.specs.Twins.{are_twins_at}
 use Rattle.drv_graph.specs.declared.kinds.Kind.TheVariants.{Fixed}
-use Rattle.drv_graph.specs.declared.kinds.Method.{Method}
 use Rattle.drv_graph.proofs.FirstTwins.{twins_are_told}
 use Rattle.drv_graph.proofs.KindAnswers.{one_kind}
 use Rattle.valid_table.specs.PathInfos.{PathInfo}
@@ -78,15 +79,15 @@ third_behind : (entries : List Entry)
     → IsVerdictBehind may_leave_file three entries 2 (Ok (nothing_in ∷ []))
 third_behind entries = record {
   job = job_of_right 2;
-  is_job = is_job_of_right _ 2 refl;
+  is_job = is_job_of_right _ 2 refl refl;
   comes_to = (
     Ok right_answer,
     third_may,
     (
       output_paths_of right.drv,
       permitted_own _ entries 2 _ right
-          (is_job_of_right three.graph 2 refl) refl refl _ refl,
-      right_verdict three.graph 2 refl _ (is_job_of_right three.graph 2 refl)
+          (is_job_of_right three.graph 2 refl refl) refl refl _ refl,
+      right_verdict three.graph 2 refl _ (is_job_of_right three.graph 2 refl refl) refl
           _ right_leaves _,
     ),
   );
@@ -94,8 +95,15 @@ third_behind entries = record {
 
 -- ---- what is registered
 
-pub same_digest : (method other : Method) (a b : Digest) → Fixed method a ≡ Fixed other b → a ≡ b
-same_digest method other a b same = cc
+abbrev pub digest_by_method : Method → Digest → MethodDigest
+digest_by_method method digest = record { method = method; digest = digest }
+
+pub same_digest : (method other : Method) (a b : Digest) → Fixed method a ≡ Fixed other b
+    → digest_by_method method a ≡ digest_by_method other b
+same_digest method other a b same =
+    let methods : method ≡ other = cc in
+    let digests : a ≡ b = cc in
+    ap₂ (λ (m : Method) (d : Digest). digest_by_method m d) methods digests
 
 second_allowed : IsAllowed three.graph [] second_twin (file_in ∷ [])
 second_allowed =

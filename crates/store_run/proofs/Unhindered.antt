@@ -3,7 +3,7 @@ use Rattle.std.proofs.Common.{◌≡◌, ◌∙◌, ℕ, Bool, true, false, List
 use Rattle.std.specs.Prelude.{Contains, slice_get}
 use Rattle.std.specs.List.{list_any}
 use Rattle.drv_graph.specs.SoundGraphs.{IsSound}
-use Rattle.run_states.specs.Runs.{History, Run, earlier_twins, inputs_at, rows_of, standing_at, state_in}
+use Rattle.run_states.specs.Runs.{History, Run, earlier_twins, inputs_at, rows_of, standing_at, state_in, terms_of}
 use Rattle.run_states.specs.States.{Phase, Rows, Idle, Begun, Ended, Broken, by_first, by_hindrance, by_inputs, by_phase, by_validity, is_done, is_good, is_open, phase_of}
 use Rattle.run_states.specs.declared.state.State.{State}
 use Rattle.run_states.specs.declared.state.State.TheVariants.{Blocked, Ready, Reused}
@@ -28,7 +28,7 @@ inputs_in run d = inputs_at run.graph.nodes (slice_get run.graph.nodes d)
 -- where it stands by itself
 abbrev pub standing_in : Run → History → ℕ → Precondition
 standing_in run history d =
-    standing_at run.system history.opening (slice_get run.graph.nodes d)
+    standing_at (terms_of run) history.opening (slice_get run.graph.nodes d)
 
 -- the numbers of its earlier twins
 abbrev pub twins_in : Run → History → ℕ → List ℕ

@@ -1,11 +1,12 @@
 -- An example of a run that was cut and taken up (this product's own): a diamond, cut when base and
 -- left are built and right has failed. The builder of right answers otherwise the second time. So
 -- the conditions of *Any interruption* can be met.
-use Rattle.std.specs.Prelude.{◌⊎◌, true, false, pos, Some, [], List, ◌∷◌, codes, Result, Ok, Err}
+use Rattle.std.specs.Prelude.{◌⊎◌, true, false, pos, Some, None, [], List, ◌∷◌, codes, Result, Ok, Err}
 use Rattle.nix_names.specs.Bytes.{Name, Path}
 use Rattle.nix_names.specs.Digests.{digits_of}
 use Rattle.nix_drv.specs.Derivation.{Drv, Input}
 use Rattle.drv_graph.specs.Nodes.{Node}
+use Rattle.drv_graph.specs.declared.profile.Profile.TheVariants.{Plain}
 use Rattle.valid_table.specs.declared.entry.Entry.{Entry}
 use Rattle.valid_table.specs.declared.entry.Entry.TheVariants.{Done}
 use Rattle.run_states.specs.Runs.{History, Run}
@@ -15,7 +16,7 @@ use Rattle.run_states.specs.declared.state.Event.TheVariants.{Begin, Done as Fin
 use Rattle.build_outcome.specs.declared.reason.Reason.{Reason}
 use Rattle.build_outcome.specs.declared.reason.Reason.TheVariants.{ExitStatus}
 use Rattle.store_run.specs.ScheduleExample.{Leaves, drv_alone}
-use Rattle.store_run.specs.TwinExample.{LeavesWith, empty_digest, script}
+use Rattle.store_run.specs.TwinExample.{LeavesWith, empty_digest, of_empty, script}
 
 -- a derivation of an empty file at this path, with these inputs
 abbrev pub drv_of : Name → (out : Path) → List Input → Drv
@@ -78,8 +79,8 @@ top = record {
 -- the plan of the diamond, whose root is top
 abbrev pub diamond : Run
 diamond = record {
-  graph = record { nodes = base ∷ left ∷ right ∷ top ∷ []; roots = 3 ∷ [] };
-  system = codes "x86_64-linux";
+  graph = record { profile = Plain; nodes = base ∷ left ∷ right ∷ top ∷ []; roots = 3 ∷ [] };
+  system = record { name = codes "x86_64-linux"; features = []; builtins = [] };
 }
 
 -- the outcomes of any job: it fails, or makes an empty file
@@ -91,7 +92,7 @@ may_make job (Err reason) = ⊥
 abbrev pub file_of : Node → (out : Path) → Entry
 file_of node out = Done node.path (record {
   path = out;
-  info = record { references = []; digest = Some empty_digest };
+  info = record { references = []; digest = Some of_empty; nar = None };
 } ∷ [])
 
 -- what the first run left: base and left are built, right failed, top waits

@@ -1,11 +1,11 @@
 -- *Realise*: how a run ends (this product's own).
 use Rattle.std.specs.Prelude.{◌≡◌, ℕ, Option, Some, None, List, Result}
-use Rattle.nix_names.specs.Bytes.{Bytes}
 use Rattle.drv_graph.specs.Plans.{Graph}
 use Rattle.valid_table.specs.declared.entry.Entry.{Entry}
 use Rattle.valid_view.specs.declared.refusal.OpenFault.{OpenFault}
 use Rattle.valid_view.specs.declared.refusal.OpenFault.TheVariants as refused
 use Rattle.run_states.specs.StateTables.{IsRunSettled}
+use Rattle.run_states.specs.Systems.{Platform}
 use Rattle.sched_core.specs.Books.{Ledger}
 use Rattle.run_states.specs.Legal.{IsLegal}
 use Rattle.build_outcome.specs.declared.job.Answer.{Answer}
@@ -17,7 +17,7 @@ use Rattle.store_run.specs.declared.fault.RunFault.{RunFault}
 use Rattle.store_run.specs.declared.fault.RunFault.TheVariants.{NoWorkers, NoView, ThreadFault, NoMemory, ForeignPlan}
 
 -- A book is over a plan, for a system, and opened with these entries.
-pub record IsOverLent (plan : Graph) (system : Bytes) (opening : List Entry) (book : Ledger)
+pub record IsOverLent (plan : Graph) (system : Platform) (opening : List Entry) (book : Ledger)
     : Type 0 where
   pub plan_is : book.run.graph ≡ plan
   pub system_is : book.run.system ≡ system
@@ -25,7 +25,7 @@ pub record IsOverLent (plan : Graph) (system : Bytes) (opening : List Entry) (bo
 
 -- What a run leaves behind: a book over the lent plan, system and entries. Its history is legal,
 -- and what became of each derivation is a verdict on what a builder may give.
-pub record IsLeft (may : Job → Result Answer Reason → Type 0) (plan : Graph) (system : Bytes)
+pub record IsLeft (may : Job → Result Answer Reason → Type 0) (plan : Graph) (system : Platform)
     (opening : List Entry) (book : Ledger)
     : Type 0 where
   pub over : IsOverLent plan system opening book
@@ -33,7 +33,7 @@ pub record IsLeft (may : Job → Result Answer Reason → Type 0) (plan : Graph)
   pub answered : IsAnswered may book.run book.history
 
 -- What a run by `count` workers leaves behind at its end: every wanted derivation is settled.
-pub record IsRealised (may : Job → Result Answer Reason → Type 0) (plan : Graph) (system : Bytes)
+pub record IsRealised (may : Job → Result Answer Reason → Type 0) (plan : Graph) (system : Platform)
     (opening : List Entry) (count : ℕ) (book : Ledger)
     : Type 0 where
   pub workers : AreWorkers count
@@ -41,7 +41,7 @@ pub record IsRealised (may : Job → Result Answer Reason → Type 0) (plan : Gr
   pub settled : IsRunSettled book.run book.history
 
 -- What a run by `count` workers leaves behind that ended early: its book isn't settled.
-pub record IsCutOff (may : Job → Result Answer Reason → Type 0) (plan : Graph) (system : Bytes)
+pub record IsCutOff (may : Job → Result Answer Reason → Type 0) (plan : Graph) (system : Platform)
     (opening : List Entry) (count : ℕ) (book : Ledger)
     : Type 0 where
   pub workers : AreWorkers count
@@ -55,7 +55,7 @@ fault_of_opening (refused.NoView why) = NoView
 
 -- What a run by `count` workers leaves behind whose book is not over the lent plan, system and
 -- entries.
-pub record IsForeign (may : Job → Result Answer Reason → Type 0) (plan : Graph) (system : Bytes)
+pub record IsForeign (may : Job → Result Answer Reason → Type 0) (plan : Graph) (system : Platform)
     (opening : List Entry) (count : ℕ) (book : Ledger)
     : Type 0 where
   pub workers : AreWorkers count
@@ -65,7 +65,7 @@ pub record IsForeign (may : Job → Result Answer Reason → Type 0) (plan : Gra
 
 -- Why a run by `count` workers gives no settled book, and which book it leaves behind. By
 -- `ForeignPlan` it gives none: the one that the workers left was compared with what was lent.
-abbrev pub IsRunFault : (may : Job → Result Answer Reason → Type 0) → Graph → (system : Bytes)
+abbrev pub IsRunFault : (may : Job → Result Answer Reason → Type 0) → Graph → (system : Platform)
     → (opening : List Entry) → (count : ℕ) → RunFault → Option Ledger → Type 0
 IsRunFault may plan system opening count NoWorkers None = AreWorkers count → ⊥
 IsRunFault may plan system opening count NoWorkers (Some book) = ⊥

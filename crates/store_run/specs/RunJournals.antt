@@ -17,6 +17,7 @@ use Rattle.build_outcome.specs.declared.job.Answer.{Answer}
 use Rattle.build_outcome.specs.declared.job.Job.{Job}
 use Rattle.build_outcome.specs.declared.reason.Reason.{Reason}
 use Rattle.run_states.specs.Legal.{IsLegal}
+use Rattle.run_states.specs.Systems.{Platform}
 use Rattle.run_states.specs.Runs.{History, Run}
 use Rattle.run_states.specs.declared.state.Event.{Event}
 use Rattle.run_states.specs.declared.state.Event.TheVariants.{Begin, Done as Finish, Fail}
@@ -84,7 +85,7 @@ KeptTextsAreRead {S} may was_shown gives =
 abbrev pub LeftJournalsAreRead : {S : Type 0} → (may : Job → Result Answer Reason → Type 0)
     → (gives : S → Path → SourceAnswer → Type 0) → Type 0
 LeftJournalsAreRead {S} may gives =
-    (source : S) (dir : Dir) (roots : List Path) (plan : Graph) (system : Bytes)
+    (source : S) (dir : Dir) (roots : List Path) (plan : Graph) (system : Platform)
     (opening : List Entry) (book : Ledger) → IsOverStore dir (gives source) roots plan opening
     → IsLeft may plan system opening book
     → AreReadAs dir (written_text book.history.entries) book.history.entries

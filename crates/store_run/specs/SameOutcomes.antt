@@ -1,23 +1,29 @@
 -- *Same outcomes*: where builders may give one outcome to each derivation, trees of the same bytes
 -- counting as one, the verdicts are one (this product's own).
 use Rattle.std.specs.Prelude.{◌≡◌, ◌↔◌, ℕ, Option, Some, None, Result, Ok, Err}
+use Rattle.nix_names.specs.Bytes.{Bytes}
 use Rattle.nix_names.specs.declared.digest.Algorithm.{Algorithm}
 use Rattle.drv_graph.specs.Plans.{Graph}
+use Rattle.drv_graph.specs.declared.profile.Profile.{Profile}
 use Rattle.ref_scan.specs.Trees.{Fits, pieces}
 use Rattle.ref_scan.specs.declared.tree.Tree.{Tree}
 use Rattle.build_outcome.specs.Jobs.{IsJob}
-use Rattle.build_outcome.specs.Verdicts.{digest_of, tree_at}
+use Rattle.build_outcome.specs.Verdicts.{HasArchive, IsFlatFile, file_digest_of, tree_at}
 use Rattle.build_outcome.specs.declared.job.Answer.{Answer}
 use Rattle.build_outcome.specs.declared.job.Job.{Job}
 use Rattle.build_outcome.specs.declared.reason.Reason.{Reason}
 use Rattle.store_run.specs.Scheduling.{HasOneOutcome}
 
--- Two trees have the same bytes in their files and names, and the same digest by each algorithm.
--- Both keep the limits, or neither does.
+-- Two trees have the same bytes in their files and names, the same digest by each algorithm, and
+-- the same archive (NAR), or neither has one. Both keep the limits, or neither does; and under each
+-- profile both may be an output that is fixed by a file's digest, or neither may.
 pub record HaveSameBytes (tree other : Tree) : Type 0 where
   pub bytes : pieces tree ≡ pieces other
-  pub digest : (algorithm : Algorithm) → digest_of algorithm tree ≡ digest_of algorithm other
+  pub digest : (algorithm : Algorithm)
+      → file_digest_of algorithm tree ≡ file_digest_of algorithm other
+  pub archive : (text : Bytes) → HasArchive tree text ↔ HasArchive other text
   pub fits : Fits tree ↔ Fits other
+  pub flat : (profile : Profile) → IsFlatFile profile tree ↔ IsFlatFile profile other
 
 -- what lies at an output twice: two trees with the same bytes, or no tree either time
 abbrev pub AreSameTrees : Option Tree → Option Tree → Type 0

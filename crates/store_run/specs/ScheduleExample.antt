@@ -10,6 +10,7 @@ use Rattle.nix_drv.specs.Grammar.{text}
 use Rattle.nix_drv.specs.OwnPath.{text_path}
 use Rattle.nix_drv.specs.Sources.{Listing}
 use Rattle.drv_graph.specs.Nodes.{Node}
+use Rattle.drv_graph.specs.declared.profile.Profile.TheVariants.{Plain}
 use Rattle.ref_scan.specs.Trees.{pieces}
 use Rattle.ref_scan.specs.declared.tree.Tree.{Tree}
 use Rattle.valid_table.specs.declared.entry.Entry.{Entry}
@@ -84,8 +85,8 @@ right = node_alone making
 -- the plan of both derivations, for their system
 abbrev pub both : Run
 both = record {
-  graph = record { nodes = left ∷ right ∷ []; roots = 0 ∷ 1 ∷ [] };
-  system = codes "x86_64-linux";
+  graph = record { profile = Plain; nodes = left ∷ right ∷ []; roots = 0 ∷ 1 ∷ [] };
+  system = record { name = codes "x86_64-linux"; features = []; builtins = [] };
 }
 
 -- a source with the two derivations' files and no other
@@ -116,7 +117,10 @@ may_leave job (Err reason) = ⊥
 -- the journal entry of the folder that `right` made
 abbrev pub made : Entry
 made = Done right.path
-    (record { path = out_alone making; info = record { references = []; digest = None } } ∷ [])
+    (record {
+      path = out_alone making;
+      info = record { references = []; digest = None; nar = None };
+    } ∷ [])
 
 -- the history of two workers: `right` begins and ends while `left` is being built
 abbrev pub side_by_side : History

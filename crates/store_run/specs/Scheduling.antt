@@ -9,6 +9,7 @@ use Rattle.valid_table.specs.PathInfos.{PathInfo}
 use Rattle.valid_table.specs.Valid.{Registers}
 use Rattle.valid_table.specs.declared.entry.Entry.{Entry}
 use Rattle.run_states.specs.StateTables.{IsRunSettled}
+use Rattle.run_states.specs.Systems.{Platform}
 use Rattle.sched_core.specs.Books.{Ledger}
 use Rattle.build_outcome.specs.Jobs.{IsJob}
 use Rattle.run_states.specs.Legal.{IsLegal}
@@ -63,13 +64,13 @@ pub record IsWholeRun (may : Job → Result Answer Reason → Type 0) (run : Run
 -- what `realise` leaves behind at `Ok` is an ended run, over a loaded plan, where memory was not
 -- refused
 abbrev pub RealisedIsEnded : (may : Job → Result Answer Reason → Type 0) → Type 0
-RealisedIsEnded may = (plan : Graph) (system : Bytes) (opening : List Entry) (count : ℕ)
+RealisedIsEnded may = (plan : Graph) (system : Platform) (opening : List Entry) (count : ℕ)
     (book : Ledger) → IsSound plan → IsRealised may plan system opening count book
     → HasMemory book.run book.history → IsEndedRun may book.run book.history
 
 -- and it is a whole run, where the builders may give one outcome to each derivation
 abbrev pub RealisedIsWhole : (may : Job → Result Answer Reason → Type 0) → Type 0
-RealisedIsWhole may = (plan : Graph) (system : Bytes) (opening : List Entry) (count : ℕ)
+RealisedIsWhole may = (plan : Graph) (system : Platform) (opening : List Entry) (count : ℕ)
     (book : Ledger) → IsSound plan → HasOneOutcome may plan
     → IsRealised may plan system opening count book → HasMemory book.run book.history
     → IsWholeRun may book.run book.history

@@ -1,7 +1,7 @@
 -- An example of a whole run with twins (this product's own). Two derivations have one output path.
 -- The first one fails, and the second one is built then, while a third derivation is under way. So
 -- the conditions of *Any schedule* can be met where there are twins.
-use Rattle.std.specs.Prelude.{◌≡◌, ◌++◌, Bool, true, false, pos, Some, [], ◌∷◌, codes, map, Result, Ok, Err}
+use Rattle.std.specs.Prelude.{◌≡◌, ◌++◌, Bool, true, false, pos, Some, None, [], ◌∷◌, codes, map, Result, Ok, Err}
 use Rattle.std.specs.List.{list_any}
 use Rattle.sha2.specs.Sha256.{sha256}
 use Rattle.nix_names.specs.Bytes.{Bytes, Path, Name}
@@ -10,18 +10,21 @@ use Rattle.nix_names.specs.Names.{same_bytes}
 use Rattle.nix_names.specs.StorePaths.{store_path}
 use Rattle.nix_names.specs.declared.digest.Algorithm.TheVariants.{Sha256}
 use Rattle.nix_names.specs.declared.digest.Digest.{Digest}
+use Rattle.nix_names.specs.declared.method.Method.TheVariants.{Flat}
+use Rattle.nix_names.specs.declared.method.MethodDigest.{MethodDigest}
 use Rattle.nix_drv.specs.Derivation.{Drv}
 use Rattle.nix_drv.specs.OwnPath.{text_path}
 use Rattle.nix_drv.specs.Parts.{bytes_of}
 use Rattle.nix_drv.specs.Sources.{Listing}
-use Rattle.drv_graph.specs.Expected.{flat_text}
+use Rattle.drv_graph.specs.Expected.{fixed_inner_text}
 use Rattle.drv_graph.specs.Nodes.{Node}
+use Rattle.drv_graph.specs.declared.profile.Profile.TheVariants.{Plain, Nix}
 use Rattle.ref_scan.specs.Trees.{pieces}
 use Rattle.ref_scan.specs.declared.tree.Tree.{Tree}
 use Rattle.valid_table.specs.declared.entry.Entry.{Entry}
 use Rattle.valid_table.specs.declared.entry.Entry.TheVariants.{Done}
 use Rattle.run_states.specs.Runs.{History, Run}
-use Rattle.build_outcome.specs.Verdicts.{digest_by, digest_of}
+use Rattle.build_outcome.specs.Verdicts.{IsFlatFile, digest_by}
 use Rattle.build_outcome.specs.declared.job.Answer.{Answer}
 use Rattle.build_outcome.specs.declared.job.Job.{Job}
 use Rattle.run_states.specs.declared.state.Event.TheVariants.{Begin, Done as Finish, Fail}
@@ -33,9 +36,13 @@ use Rattle.store_run.specs.ScheduleExample.{Leaves, Recipe, drv_alone, made, rig
 abbrev pub empty_digest : Digest
 empty_digest = digest_by Sha256 []
 
+-- that digest, as one of a file's bytes
+abbrev pub of_empty : MethodDigest
+of_empty = record { method = Flat; digest = empty_digest }
+
 -- the store path of an empty file with a name
 abbrev pub out_empty : (name : Name) → Path
-out_empty name = store_path (codes "output:out") (sha256 (flat_text empty_digest))
+out_empty name = store_path (codes "output:out") (sha256 (fixed_inner_text Flat empty_digest))
     (codes "/nix/store") name
 
 -- a derivation without inputs and sources, whose one output is an empty file
@@ -85,10 +92,11 @@ second_twin = node_empty making_twin
 abbrev pub three : Run
 three = record {
   graph = record {
+    profile = Plain;
     nodes = first_twin ∷ second_twin ∷ right ∷ [];
     roots = 0 ∷ 1 ∷ 2 ∷ [];
   };
-  system = codes "x86_64-linux";
+  system = record { name = codes "x86_64-linux"; features = []; builtins = [] };
 }
 
 -- a source with the three derivations' files and no other
@@ -101,9 +109,9 @@ three_files = record {
   failures = 0;
 }
 
--- a tree is an empty file
+-- a tree is an empty file that its owner may not execute
 abbrev pub IsEmptyFile : Tree → Type 0
-IsEmptyFile tree = (digest_of Sha256 tree ≡ Some empty_digest) × (pieces tree ≡ [] ∷ [])
+IsEmptyFile tree = IsFlatFile Nix tree × (pieces tree ≡ [] ∷ [])
 
 -- what a job leaves behind: where that script is an argument, it ends with status 0 and leaves an
 -- empty file at one output; else what its program leaves
@@ -124,7 +132,7 @@ abbrev pub made_file : Entry
 made_file = Done second_twin.path
     (record {
       path = out_empty making_twin.name;
-      info = record { references = []; digest = Some empty_digest };
+      info = record { references = []; digest = Some of_empty; nar = None };
     } ∷ [])
 
 -- the first twin and the third derivation are being built, and the second twin waits

@@ -64,7 +64,7 @@ pub(crate) fn keep_on<R, J, O, B, S, K>(
     rt: &R,
     alloc: Global,
     locked: &Locked<O, B, S>,
-    mut text: KeptText<J>,
+    mut text: KeptText<J, S>,
     mut place: KeepPlace<J, B, S, K>,
 )
 where
@@ -92,7 +92,7 @@ fn keep_new<R, J, O, B, S, K>(
     rt: &R,
     alloc: Global,
     locked: &Locked<O, B, S>,
-    text: &mut KeptText<J>,
+    text: &mut KeptText<J, S>,
     place: &mut KeepPlace<J, B, S, K>,
 ) -> Option<Duration>
 where

@@ -5,6 +5,7 @@ ghost use Rattle.store_run.specs.Realising.{IsOverLent};
 
 use drv_graph::Plan;
 use drv_graph::laws::equal_plans_are_same;
+use run_states::System;
 use sched_core::Book;
 use valid_table::laws::equal_entries_are_same;
 use valid_table::{Journal, Outlet};
@@ -14,7 +15,7 @@ use valid_table::{Journal, Outlet};
 pub(crate) fn is_this_run<O: Outlet>(
     book: &Book<O>,
     plan: &Plan,
-    system: &[u8],
+    system: &System,
     journal: &Journal,
 ) -> bool
     ensures over { IsTrue result ↔ IsOverLent plan.now system.now journal.now.entries book.now }

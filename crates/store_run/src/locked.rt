@@ -99,12 +99,12 @@ impl<O: Outlet, B: Build, S: Basis> Locked<O, B, S> {
         &self,
         rt: &R,
         alloc: Global,
-        text: &KeptText<J>,
+        text: &KeptText<J, S>,
     ) -> Option<NewLines<J>>
     where
         O: Tells<J>,
         ensures { IfSome result (IsLook B.may (J.Showing.shown J.book) S.is_this_run
-            text.now.shown) }
+            text.now.version text.now.shown) }
     {
         let mut held = self.shared.lock(rt);
         let news = held.value().look(alloc, text);

@@ -15,6 +15,7 @@ use crate::locked::Locked;
 use crate::shared::Shared;
 use crate::worker::work;
 use drv_graph::{GraphFault, Plan};
+use run_states::System;
 use sched_core::{Book, BookFault, Build, LeaseObserver};
 use std::alloc::Global;
 use std::sync::Wait;
@@ -55,7 +56,7 @@ pub fn realise<
     name: Name,
     plan: &Plan,
     journal: &Journal,
-    system: &[u8],
+    system: &System,
     builders: Vec<B>,
 ) -> RunResult<'a, J, R>
     requires { name ≡ J.book }
@@ -84,7 +85,7 @@ pub(crate) fn open_over<'a, J: ListId + Send, R: Wait>(
     name: Name,
     plan: &Plan,
     journal: &Journal,
-    system: &[u8],
+    system: &System,
     count: usize,
 ) -> Result<(Book<ViewWriter<J, &'a R>>, Vec<ViewReader<J>>), RunFault>
     requires name { name ≡ J.book }
@@ -107,12 +108,12 @@ pub(crate) fn open_over<'a, J: ListId + Send, R: Wait>(
 // the view gave. Where the view was opened memory alone can be refused.
 fn book_over<O: Outlet, J: ListId>(
     alloc: Global,
-    copies: (Plan, Journal, Vec<u8>),
+    copies: (Plan, Journal, System),
     view: Result<(O, Vec<ViewReader<J>>), OpenFault>,
 ) -> Result<(Book<O>, Vec<ViewReader<J>>), RunFault>
     requires { IfOk view (λ pair. O.shown pair.0 ++ O.pending pair.0 ≡ copies.1.entries) }
     ensures over { IfOk result
-        (λ pair. IsOverLent copies.0 copies.2.items copies.1.entries pair.0) }
+        (λ pair. IsOverLent copies.0 copies.2 copies.1.entries pair.0) }
     ensures opened { IfOk result (λ pair. pair.0.history ≡ opened copies.1.entries) }
     ensures shown { IfOk view (λ seen. IfOk result (λ pair. pair.0.shown ≡ O.shown seen.0)) }
     ensures err { MatchResult view (λ pair. IfErr result (λ fault. fault ≡ NoMemory))
@@ -133,11 +134,11 @@ fn copies_of(
     alloc: Global,
     plan: &Plan,
     journal: &Journal,
-    system: &[u8],
-) -> Result<(Plan, Journal, Vec<u8>), RunFault>
+    system: &System,
+) -> Result<(Plan, Journal, System), RunFault>
     ensures plan { IfOk result (λ copy. copy.0 ≡ plan.now) }
     ensures journal { IfOk result (λ copy. copy.1.entries ≡ journal.now.entries) }
-    ensures system { IfOk result (λ copy. copy.2.items ≡ system.now) }
+    ensures system { IfOk result (λ copy. copy.2 ≡ system.now) }
     ensures err { IfErr result (λ fault. fault ≡ NoMemory) }
 {
     let plan = match plan.copy(alloc) {
@@ -150,7 +151,7 @@ fn copies_of(
         Err(TableFault::NoMemory) => return Err(RunFault::NoMemory),
         Err(_) => unreachable!(),
     };
-    Ok((plan, journal, Vec::from_slice(alloc, system)?))
+    Ok((plan, journal, system.copy(alloc)?))
 }
 
 // Lets the builders work over a book until all workers have ended. Gives what they shared: the book
@@ -203,7 +204,7 @@ where
 pub(crate) fn ending<O: Outlet, B: Build>(
     shared: Shared<O, B>,
     plan: &Plan,
-    system: &[u8],
+    system: &System,
     journal: &Journal,
 ) -> Result<Book<O>, (RunFault, Book<O>)>
     ensures end { IsRunEnd plan.now system.now journal.now.entries shared result }

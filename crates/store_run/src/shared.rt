@@ -133,11 +133,15 @@ impl<O: Outlet, B: Build, S: Basis> Shared<O, B, S> {
     }
 
     // What the book has that a keeper's text has not, in one look.
-    pub(crate) fn look<J: ListId>(&self, alloc: Global, text: &KeptText<J>) -> Option<NewLines<J>>
+    pub(crate) fn look<J: ListId>(
+        &self,
+        alloc: Global,
+        text: &KeptText<J, S>,
+    ) -> Option<NewLines<J>>
     where
         O: Tells<J>,
         ensures { IfSome result (IsLook B.may (J.Showing.shown J.book) S.is_this_run
-            text.now.shown) }
+            text.now.version text.now.shown) }
     {
         // Its contract says that the history is legal.
         let _ = self.book.events();

@@ -1,13 +1,13 @@
 -- How a book keeps its run.
 use Rattle.std.specs.Prelude.{◌≡◌, ◌≤◌, ◌+◌, ◌++◌, ℕ, List, length, sum_by, take}
 use Rattle.std.specs.List.{slice_index_or}
-use Rattle.nix_names.specs.Bytes.{Bytes}
 use Rattle.valid_table.specs.Valid.{IsJournal}
 use Rattle.valid_table.specs.declared.entry.Entry.{Entry}
 use Rattle.sched_core.specs.Books.{BuildsOver}
 use Rattle.run_states.specs.StateTables.{AreNearest, AreStandings, AreWanted, StateTable}
+use Rattle.run_states.specs.Systems.{Platform}
 use Rattle.run_states.specs.Legal.{IsLegal, begins}
-use Rattle.run_states.specs.Runs.{History, Run}
+use Rattle.run_states.specs.Runs.{History, Run, terms_of}
 use Rattle.run_states.specs.States.{Phase, Idle, Begun, Ended, Broken, phase_of}
 use Rattle.run_states.specs.declared.state.Event.{Event}
 
@@ -19,7 +19,7 @@ events_left Ended = 0
 events_left (Broken reason) = 0
 
 -- the run over a course's plan, for a system
-abbrev pub run_over : StateTable → (system : Bytes) → Run
+abbrev pub run_over : StateTable → (system : Platform) → Run
 run_over states system = record { graph = states.graph; system = system }
 
 -- the history with these entries and events, which opened with the first `opening` entries
@@ -32,10 +32,11 @@ history_of opening entries events = record {
 
 -- What is kept of a run: a legal history, the course of its derivations, how many have begun, and
 -- room for exactly the events that may come.
-pub record IsRunKept (system : Bytes) (history : History) (course : StateTable) (given room : ℕ)
+pub record IsRunKept (system : Platform) (history : History) (course : StateTable) (given room : ℕ)
     : Type 0 where
   pub legal : IsLegal (run_over course system) history
-  pub standings : AreStandings system history.opening course.graph.nodes course.standings
+  pub standings : AreStandings (terms_of (run_over course system)) history.opening
+      course.graph.nodes course.standings
   pub wanted : AreWanted (run_over course system) history.opening course.wanted
   pub twins : AreNearest (run_over course system) history.opening course.twins
   pub count : length course.phases ≡ length course.graph.nodes
@@ -46,7 +47,7 @@ pub record IsRunKept (system : Bytes) (history : History) (course : StateTable) 
 -- What holds in a book: its run is kept, its entries are a journal that begins with the opening
 -- ones, the outlet holds just the entries, and what is building is built from what is valid by the
 -- shown ones.
-pub record IsBook (states : StateTable) (system : Bytes) (opening : ℕ) (entries : List Entry)
+pub record IsBook (states : StateTable) (system : Platform) (opening : ℕ) (entries : List Entry)
     (events : List Event) (given room : ℕ) (shown pending : List Entry) : Type 0 where
   pub kept : IsRunKept system (history_of opening entries events) states given room
   pub opened : opening ≤ length entries

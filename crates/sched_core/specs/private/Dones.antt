@@ -17,7 +17,8 @@ use Rattle.run_states.specs.declared.fault.BookFault.TheVariants.{NoMemory, NotL
 -- if outputs of this kind declare a digest, each record has it
 abbrev pub HaveDigest : Kind → List PathInfo → Type 0
 HaveDigest Addressed infos = ⊤
-HaveDigest (Fixed method digest) infos = All (λ (info : PathInfo). info.digest ≡ Some digest) infos
+HaveDigest (Fixed method digest) infos =
+    All (λ (info : PathInfo). info.digest ≡ Some (record { method = method; digest = digest })) infos
 
 -- The tests of records that take no memory: there is one record for each path, no path is valid,
 -- and the records have the digest that outputs of this kind declare.

@@ -1,9 +1,9 @@
 -- How a run ends whose workers have ended (this product's own).
 use Rattle.std.specs.Prelude.{◌≡◌, ◌⊎◌, Option, Some, None, List, Result, Ok, Err}
-use Rattle.nix_names.specs.Bytes.{Bytes}
 use Rattle.drv_graph.specs.Plans.{Graph}
 use Rattle.valid_table.specs.declared.entry.Entry.{Entry}
 use Rattle.run_states.specs.StateTables.{IsRunSettled}
+use Rattle.run_states.specs.Systems.{Platform}
 use Rattle.sched_core.specs.Books.{Ledger}
 use Rattle.run_states.specs.declared.fault.BookFault.{BookFault}
 use Rattle.run_states.specs.declared.fault.BookFault.TheVariants.{NoMemory as RefusedMemory}
@@ -13,7 +13,7 @@ use Rattle.store_run.specs.declared.fault.RunFault.{RunFault}
 use Rattle.store_run.specs.declared.fault.RunFault.TheVariants.{ThreadFault, NoMemory, ForeignPlan}
 
 -- A book is over the lent plan, system and entries, and isn't settled.
-pub record IsUnfinished (plan : Graph) (system : Bytes) (opening : List Entry) (book : Ledger)
+pub record IsUnfinished (plan : Graph) (system : Platform) (opening : List Entry) (book : Ledger)
     : Type 0 where
   pub over : IsOverLent plan system opening book
   pub unsettled : IsRunSettled book.run book.history → ⊥
@@ -26,7 +26,7 @@ fault_of_stop other = ThreadFault
 
 -- by which fault a run ends whose workers have ended, by what they shared: by `ForeignPlan` where
 -- the book isn't over what was lent, and else by what stopped the run, where it isn't settled
-abbrev pub IsRunEndFault : Graph → (system : Bytes) → (opening : List Entry) → Share → RunFault
+abbrev pub IsRunEndFault : Graph → (system : Platform) → (opening : List Entry) → Share → RunFault
     → Type 0
 IsRunEndFault plan system opening share fault =
     ((fault ≡ ForeignPlan) × (IsOverLent plan system opening share.book → ⊥))
@@ -34,7 +34,7 @@ IsRunEndFault plan system opening share fault =
 
 -- How a run ends whose workers have ended, by what they shared. The book is given in any case. It
 -- ends well where the book is over what was lent and settled.
-abbrev pub IsRunEnd : Graph → (system : Bytes) → (opening : List Entry) → Share
+abbrev pub IsRunEnd : Graph → (system : Platform) → (opening : List Entry) → Share
     → Result Ledger (RunFault × Ledger) → Type 0
 IsRunEnd plan system opening share (Ok book) = (book ≡ share.book)
     × IsOverLent plan system opening book × IsRunSettled book.run book.history

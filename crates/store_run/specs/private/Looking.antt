@@ -2,8 +2,9 @@
 use Rattle.std.specs.Prelude.{◌≡◌, ◌++◌, ◌*◌, ℕ, Option, Some, None, List, Result, length, max, min}
 use Rattle.std.specs.Duration.{max_nanos}
 use Rattle.nix_names.specs.Bytes.{Bytes}
-use Rattle.valid_table.specs.Written.{written_lines}
+use Rattle.valid_table.specs.Written.{lines_in}
 use Rattle.valid_table.specs.declared.entry.Entry.{Entry}
+use Rattle.valid_table.specs.declared.path_table.version.Version.{Version}
 use Rattle.build_outcome.specs.declared.job.Answer.{Answer}
 use Rattle.build_outcome.specs.declared.job.Job.{Job}
 use Rattle.build_outcome.specs.declared.reason.Reason.{Reason}
@@ -11,10 +12,17 @@ use Rattle.run_states.specs.Legal.{IsLegal}
 use Rattle.run_states.specs.Runs.{History, Run}
 use Rattle.sched_core.specs.Books.{BuildsOver}
 use Rattle.store_run.specs.Builders.{IsAnswered}
+use Rattle.store_run.specs.Keeping.{interim_version}
 
--- What a keeper knows: entries that were shown, a text, and how many entries the text had that was
--- kept last.
+-- the texts that are kept of each run that is over something are in this version
+abbrev pub AreKeptIn : (is_this_run : Run → List Entry → Type 0) → Version → Type 0
+AreKeptIn is_this_run version = (run : Run) (opening : List Entry) → is_this_run run opening
+    → interim_version run.graph.profile opening ≡ version
+
+-- What a keeper knows: the version of a text, entries that were shown, the text, and how many
+-- entries the text had that was kept last.
 pub record Keeping : Type 0 where
+  pub version : Version
   pub shown : List Entry
   pub text : Bytes
   pub kept : ℕ
@@ -27,21 +35,24 @@ pub record Looked : Type 0 where
   pub waiting : Bytes
   pub count : ℕ
 
--- What a look at some entries gives to a keeper that knows others. What is shown goes on from these.
-pub record IsNews (known entries : List Entry) (looked : Looked) : Type 0 where
+-- What a look at some entries gives to a keeper that knows others, in lines of a version. What is
+-- shown goes on from these.
+pub record IsNews (version : Version) (known entries : List Entry)
+    (looked : Looked) : Type 0 where
   pub fresh : List Entry
   pub waiting : List Entry
   pub goes_on : looked.shown ≡ known ++ fresh
   pub all : entries ≡ looked.shown ++ waiting
-  pub fresh_lines : looked.fresh ≡ written_lines fresh
-  pub waiting_lines : looked.waiting ≡ written_lines waiting
+  pub fresh_lines : looked.fresh ≡ lines_in version fresh
+  pub waiting_lines : looked.waiting ≡ lines_in version waiting
   pub count_is : looked.count ≡ length entries
 
 -- What a look at a book behind a lock gives, of which this is known alone: the history is legal,
--- what became of each derivation is a verdict on what a builder may give, the run is over something,
--- and what is shown was shown, in which all is valid that is built from.
+-- what became of each derivation is a verdict on what a builder may give, the run is over
+-- something, and what is shown was shown, in which all is valid that is built from.
 pub record IsLook (may : Job → Result Answer Reason → Type 0) (was_shown : List Entry → Type 0)
-    (is_this_run : Run → List Entry → Type 0) (known : List Entry) (looked : Looked)
+    (is_this_run : Run → List Entry → Type 0) (version : Version) (known : List Entry)
+    (looked : Looked)
     : Type 0 where
   pub run : Run
   pub history : History
@@ -50,7 +61,7 @@ pub record IsLook (may : Job → Result Answer Reason → Type 0) (was_shown : L
   pub over : is_this_run run history.opening
   pub is_shown : was_shown looked.shown
   pub seeds : BuildsOver run history looked.shown
-  pub news : IsNews known history.entries looked
+  pub news : IsNews version known history.entries looked
 
 -- the nanoseconds of a keeper's pause after looking and writing that took so many: eight times as
 -- many, and at least half a second; half a second where it isn't known how many

@@ -3,10 +3,10 @@ use Rattle.std.proofs.lemmas.Result.{err_from_is_err_and}
 use Rattle.build_outcome.proofs.Verdicts.{cycle_found}
 use Rattle.build_outcome.proofs.verdict.examine.Goals as goal
 
-pub returns-in_err-check_complete : goal.returns-in_err-check_complete
-returns-in_err-check_complete c =
+pub returns-in_err-sums : goal.returns-in_err-sums
+returns-in_err-sums c =
     let p = err_from_is_err_and c.from_residual.result c.from_residual.ensures.1 in
-    rw (p.1, p.2) (inr (c.in_err-check_complete.ensures.err c.args.permitted.now))
+    rw (p.1, p.2) (c.in_err-sums.ensures.err c.args.permitted.now)
 
 pub returns-in_err-check_trees : goal.returns-in_err-check_trees
 returns-in_err-check_trees c =
@@ -16,6 +16,6 @@ returns-in_err-check_trees c =
 
 pub returns-then-branch : goal.returns-then-branch
 returns-then-branch c =
-    let told = rw c.deref.ensures.value at c.in_ok-refer_in_cycle.ensures in
+    let told = rw c.deref-3.ensures.value at c.in_ok-refer_in_cycle.ensures in
     cycle_found _ _ _ _
     c.in_ok-check_trees.ensures.taken c.in_ok-records.ensures.records (told.0 c.if-branch.true)

@@ -1,5 +1,4 @@
 use Rattle.std.proofs.Common.{◌∙◌, arith}
-use Rattle.build_outcome.specs.Verdicts.{algorithm_for}
 use Rattle.build_outcome.proofs.Verdicts.{are_records, records_more, taken_at}
 use Rattle.build_outcome.proofs.verdict.records_of.Goals as goal
 
@@ -15,7 +14,7 @@ record_of-requires-clause-taken c = taken_at c.args.job.now c.args.answer.now c.
 pub loop-n-preserved : goal.loop-n-preserved
 loop-n-preserved c =
     record {
-      records = records_more (algorithm_for c.args.job.now.kind) c.args.permitted.now c.args.answer.now
+      records = records_more c.args.job.now c.args.permitted.now c.args.answer.now
           c.loop-n.records.items
           c.push_reserved.new.self.items c.loop-n.n c.in-Some.tree.now _
           c.loop-n.invariant.records c.in-Some.ensures c.in_ok-record_of.ensures

@@ -4,6 +4,6 @@ use Rattle.run_states.proofs.preconditions.standings_of.Given as goal
 
 abbrev pub invariant-loop-d : goal.invariant-loop-d
 invariant-loop-d l = record {
-  first : AreFirst l.system l.journal.entries l.plan.nodes l.standings.items l.d;
+  first : AreFirst (record { profile = l.plan.profile; system = l.system }) l.journal.entries l.plan.nodes l.standings.items l.d;
   room : vec_capacity l.standings ≡ length l.plan.nodes;
 }

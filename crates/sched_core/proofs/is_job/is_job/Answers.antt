@@ -12,6 +12,13 @@ returns-then-not-same_kind c = (
       (kind_of_job _ _ _ _ c.kind.ensures is))),
 )
 
+pub returns-then-not-same_profile : goal.returns-then-not-same_profile
+returns-then-not-same_profile c = (
+  λ told. absurd (false≢true told),
+  λ is. absurd (false≢true (sym c.if-not-same_profile.true
+      ∙ c.same_profile.ensures.1 (is.profile ∙ sym c.profile.ensures))),
+)
+
 pub returns-then-not-has_recipe : goal.returns-then-not-has_recipe
 returns-then-not-has_recipe c = search (rules, recipe_of)
 
@@ -36,6 +43,7 @@ returns c =
     job_by_parts _ _ _ _ _ _ _ _ c.requires
     c.drv-drv.ensures c.if-job-d.false c.kind.ensures
     (c.same_kind.ensures.0 c.if-not-same_kind.false)
+    (c.same_profile.ensures.0 c.if-not-same_profile.false ∙ c.profile.ensures)
     (c.has_recipe.ensures.0 c.if-not-has_recipe.false) c.outputs.ensures
     c.output_paths.ensures.value
     (subst (MakesAt c.outputs.result.now c.output_paths.result.now) c.deref.ensures.value

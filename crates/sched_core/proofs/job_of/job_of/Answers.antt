@@ -14,5 +14,5 @@ returns-clause-ok c =
     c.output_paths.result.now c.in_ok-builder.field-0 _
     c.requires c.drv-drv.ensures c.outputs.ensures c.output_paths.ensures.value
     c.in_ok-outputs.ensures.names c.in_ok-outputs.ensures.paths
-    (c.in_ok-builder.ensures ∙ c.parts.ensures.parts) refl refl refl refl c.kind.ensures
+    (c.in_ok-builder.ensures ∙ c.parts.ensures.parts) refl refl refl refl c.profile.ensures c.kind.ensures
     c.in_ok-seeds.ensures

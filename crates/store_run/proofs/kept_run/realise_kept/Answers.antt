@@ -1,7 +1,7 @@
 use Rattle.std.proofs.Common.{◌∙◌, ◌≤◌, subst, sym, vec_len}
 use Rattle.store_run.specs.Builders.{answered_opening}
 use Rattle.store_run.specs.Workers.{AreWorkers}
-use Rattle.store_run.proofs.KeptTexts.{kept_of_lent}
+use Rattle.store_run.proofs.KeptTexts.{kept_of_lent, version_of_book}
 use Rattle.store_run.proofs.RunEndings.{are_workers, at_err, at_ok, shown_at_end}
 use Rattle.store_run.proofs.kept_run.realise_kept.Given.{Over}
 use Rattle.store_run.proofs.kept_run.realise_kept.Goals as goal
@@ -10,11 +10,16 @@ pub run_kept-shared-requires-clause-answered : goal.run_kept-shared-requires-cla
 run_kept-shared-requires-clause-answered g c κs within =
     rw c.in-Ok.ensures.opened (answered_opening c.args.journal.now.entries)
 
+pub run_kept-shared-requires-clause-version : goal.run_kept-shared-requires-clause-version
+run_kept-shared-requires-clause-version g c κs within = λ run opening is.
+    version_of_book run c.in-Ok.opened.0.run opening c.in-Ok.opened.0.history.opening
+    c.args.journal.now.entries is c.in-Ok.ensures.over.opening_is
+
 pub run_kept-shared-requires-clause-each : goal.run_kept-shared-requires-clause-each
-run_kept-shared-requires-clause-each g c κs within = λ run opening shown text is kept.
-    c.requires.each shown text
+run_kept-shared-requires-clause-each g c κs within = λ run opening shown bytes is kept.
+    c.requires.each shown bytes
     (kept_of_lent g.B.Build.may (g.J.Showing.shown g.J.ListId.book) _ _ _ c.in-Ok.opened.0 run
-    opening shown text c.in-Ok.ensures.over is kept)
+    opening shown bytes c.in-Ok.ensures.over is kept)
 
 -- there is a right number of workers
 workers : (g : Over) (c : goal.After-hand_out g) → AreWorkers (vec_len c.args.builders)

@@ -1,5 +1,6 @@
 use Rattle.std.proofs.Common.{◌≡◌, ◌↔◌, ◌∙◌, IsTrue, sym, take, true≢false, rules}
-use Rattle.std.specs.Cmp.Lexicographic.{bytes_decides, pointwise_decides}
+use Rattle.std.specs.Cmp.Lexicographic.{pointwise_decides}
+use Rattle.run_states.proofs.Platforms.{platforms_decide}
 use Rattle.store_run.proofs.Openings.{opening_is_taken}
 use Rattle.store_run.proofs.lent.is_this_run.Goals as goal
 use Rattle.store_run.proofs.lent.is_this_run.Goals.{then-eq, else-eq}
@@ -26,7 +27,7 @@ returns-then-eq-2-clause-over g c =
           (c.equal_plans_are_same.ensures c.plan.result.now c.args.plan.now).0
           (sym c.eq.ensures ∙ w.if-eq.true) in
           let system : w.system.result.now ≡ c.args.system.now =
-          (bytes_decides w.system.result.now c.args.system.now).0
+          (platforms_decide w.system.result.now c.args.system.now).0
           (sym w.eq-then-eq.ensures ∙ (sym w.value-is ∙ c.if-eq-2.true)) in (
             λ same. record {
               plan_is = sym c.plan.ensures ∙ plan;
@@ -38,3 +39,18 @@ returns-then-eq-2-clause-over g c =
       | else-eq w ↦
           absurd (true≢false (sym c.if-eq-2.true ∙ (w.value-is ∙ w.if-eq.false)))
     ]
+
+pub returns-else-eq-2-clause-over : goal.returns-else-eq-2-clause-over
+returns-else-eq-2-clause-over g c = (
+  λ same. absurd (true≢false (sym same ∙ c.if-eq-2.false)),
+  λ over. elim c.if-eq.branch [
+    | then-eq w ↦
+        w.value-is ∙ (w.eq-then-eq.ensures
+        ∙ (platforms_decide w.system.result.now c.args.system.now).1
+        (w.system.ensures ∙ over.system_is))
+    | else-eq w ↦
+        w.value-is ∙ (c.eq.ensures
+        ∙ (c.equal_plans_are_same.ensures c.plan.result.now c.args.plan.now).1
+        (c.plan.ensures ∙ over.plan_is))
+  ],
+)

@@ -2,6 +2,13 @@ use Rattle.std.proofs.Common.{◌∙◌, ap, inr, subst, sym, true≢false}
 use Rattle.store_run.specs.private.Ending.{IsUnfinished, fault_of_stop}
 use Rattle.store_run.proofs.run.ending.Goals as goal
 
+pub returns-then-settled-clause-end : goal.returns-then-settled-clause-end
+returns-then-settled-clause-end g c = (
+  c.into_parts-book.ensures.book,
+  c.is_this_run.ensures.over.0 c.if-not-is_this_run.false,
+  c.settled.ensures.0 c.if-settled.true,
+)
+
 pub returns-clause-end : goal.returns-clause-end
 returns-clause-end g c =
     let plan = c.args.plan.now in

@@ -1,4 +1,4 @@
-use Rattle.std.proofs.Common.{◌≡◌, ◌∙◌, ◌<◌, ap, arith, length}
+use Rattle.std.proofs.Common.{◌∙◌, ◌<◌, ap, arith, length}
 use Rattle.run_states.specs.declared.state.State.TheVariants.{Blocked}
 use Rattle.run_states.proofs.Wanting.{any_default}
 use Rattle.run_report.specs.Forecasts.{Opening}

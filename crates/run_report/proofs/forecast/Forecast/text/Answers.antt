@@ -1,7 +1,5 @@
 use Rattle.std.proofs.Common.{◌∙◌, ap, length, refl}
 use Rattle.std.proofs.lemmas.Result.{IfOk-weaker}
-use Rattle.run_states.specs.StateTables.{AreWanted}
-use Rattle.run_report.specs.Forecasts.{foretold}
 use Rattle.run_report.proofs.RunReports.{marks_told, told_moved}
 use Rattle.run_report.proofs.forecast.Forecast.text.Goals as goal
 

@@ -1,5 +1,4 @@
-use Rattle.std.proofs.Common.{◌∙◌, subst, sym, true≢false}
-use Rattle.sched_core.specs.Books.{IsBooksLease, Ledger}
+use Rattle.std.proofs.Common.{◌∙◌, sym, true≢false}
 use Rattle.sched_core.proofs.KeptStates.{begun_told}
 use Rattle.sched_core.proofs.book.Book.has_given.Goals as goal
 

@@ -1,4 +1,4 @@
-use Rattle.std.proofs.Common.{◌≡◌, ◌∙◌, ◌++◌, ◌∷◌, [], ℕ, List, ap, refl, subst, sym, rules}
+use Rattle.std.proofs.Common.{◌≡◌, ◌∙◌, ◌++◌, ◌∷◌, [], ℕ, List, ap, arith, refl, subst, sym, rules}
 use Rattle.std.proofs.lemmas.Result.{err_from_is_err_and}
 use Rattle.valid_table.specs.PathInfos.{PathInfo}
 use Rattle.valid_table.specs.declared.entry.Entry.{Entry}
@@ -11,6 +11,7 @@ use Rattle.run_states.specs.StateTables.{StateTable}
 use Rattle.build_outcome.specs.declared.job.Job.{Job}
 use Rattle.sched_core.proofs.BookSteps.{book_ended, history_ended, lease_seen}
 use Rattle.sched_core.proofs.Ending.{append_fault, done_under_lease, entry_fault, finishing, may_append}
+use Rattle.sched_core.proofs.Keeping.{room_to_end}
 use Rattle.sched_core.proofs.book.Book.register.Goals as goal
 
 -- a lease whose job and number were read is the book's
@@ -70,6 +71,11 @@ push_reserved-requires-clause-closed g c =
     c.job-job.ensures (rw c.plan.ensures at c.in_ok-prepared.ensures.entry) in
     (may_append _ _ _ _ _ _ _ done c.in_ok-prepared.ensures.same refl).1
 
+pub push_reserved-requires-2 : goal.push_reserved-requires-2
+push_reserved-requires-2 g c =
+    let lease = lease_seen c.self.view_is (c.has_given.ensures.0 c.if-not-has_given.false) in
+    omega (arith, room_to_end _ _ _ _ _ c.self.invariant.kept _ _ lease.building)
+
 pub returns-in_err-prepared-clause-fault : goal.returns-in_err-prepared-clause-fault
 returns-in_err-prepared-clause-fault g c =
     let lease = owned
@@ -106,7 +112,7 @@ returns-clause-ok g c =
     ∙ ap (λ (es : List Entry). es ++ c.in_ok-prepared.prepared.entry ∷ [])
     c.in_ok-prepared.ensures.same in
     finishing _ _ _ _ _ _ _ _ _ _ _ _ _ _ _ _ _ c.self.view_is lease done
-    (ap (λ (s : StateTable). run_over s c.self.inside.system.items) c.finish.ensures) refl
+    (ap (λ (s : StateTable). run_over s c.self.inside.system) c.finish.ensures) refl
     (ap (λ (j : Job). j.derivation) c.job-job.ensures) c.number-number.ensures
     (history_ended _ _ _ _ _ _ _ _ c.self.invariant.opened added c.push_reserved-2.ensures.items)
     c.in_ok-append.ensures.same c.in_ok-append.ensures.ok c.in_ok-prepared.ensures.shown
@@ -136,7 +142,7 @@ invariant_of-self-2 g c =
     let building =
     (lease_seen c.self.view_is (c.has_given.ensures.0 c.if-not-has_given.false)).building in
     let its_done = subst (λ (j : Job). IsDone (run_over c.self.inside.states
-    c.self.inside.system.items) c.self.inside.journal.entries j.derivation c.args.checked.now
+    c.self.inside.system) c.self.inside.journal.entries j.derivation c.args.checked.now
     c.in_ok-prepared.prepared.entry) (sym c.job-job.ensures) done in
     book_ended _ _ _ _ _ _ _ _ _ _ _ _ _ _ _ _ _ _ _ _ c.self.invariant building its_done
     c.in_ok-prepared.ensures.derived added c.push_reserved-2.ensures.items c.finish.ensures

@@ -7,7 +7,7 @@ use Rattle.sched_core.proofs.book.Book.steps.Goals as goal
 
 pub returns : goal.returns
 returns g c =
-    let run = run_over c.self.inside.states c.self.inside.system.items in
+    let run = run_over c.self.inside.states c.self.inside.system in
     let history = history_of c.self.inside.opening c.self.inside.journal.entries
     c.self.inside.events.items in
     let followed_is : c.followed_edges-followed.result ≡ followed_in run history =

@@ -1,6 +1,9 @@
-use Rattle.std.proofs.Common.{◌≡◌, ◌⊎◌, Bool, false, inr, refl, subst, Option, None, Some, rules}
+use Rattle.std.proofs.Common.{◌≡◌, ◌∙◌, ◌⊎◌, Bool, false, inr, refl, subst, sym, Option, None, Some, rules}
+use Rattle.std.proofs.lemmas.Bool.{false≢true}
 use Rattle.std.specs.Option.{is_some}
-use Rattle.store_run.specs.private.Sharing.{IsOver, IsRefused, Share}
+use Rattle.std.specs.Prelude.{MatchOption}
+use Rattle.sched_core.specs.Books.{IsBeginning}
+use Rattle.store_run.specs.private.Sharing.{IsOver, IsRefused, IsWaiting, Share}
 use Rattle.store_run.proofs.Answered.{after_beginning, told_at}
 use Rattle.store_run.proofs.Bases.{over_beginning}
 use Rattle.store_run.proofs.shared.Shared.step.Goals as goal
@@ -29,3 +32,21 @@ returns-in-Err-clause-step g c =
       is_fault = c.in-Err.ensures.err;
       stops = refl;
     }))
+
+-- what holds where an option has no value
+where_none : {T A : Type 0} (o : Option T) (B : T → Type 0) → o ≡ None → MatchOption o A B → A
+where_none None B none holds = holds
+where_none (Some x) B none holds = absurd cc
+
+pub returns-in-Ok-None-clause-step : goal.returns-in-Ok-None-clause-step
+returns-in-Ok-None-clause-step g c =
+    let after : Share = record { book = c.next.new.book; stop = c.self.inside.stop } in
+    let next = where_none c.in-Ok-None.field-0
+    (λ lease. IsBeginning c.self.inside.book c.next.new.book lease.job lease.number)
+    c.in-Ok-None.field-0-is c.in-Ok-None.ensures.none in
+    subst (λ (s : Share). IsWaiting s after) c.self.view_is (record {
+      runs = none_where _ c.is_some.result c.is_some.ensures c.if-is_some.false;
+      unsettled = λ is. false≢true (sym c.if-settled.false ∙ c.settled.ensures.1 is);
+      none = next.1;
+      same = λ i. record { book = next.0 i; stop = c.self.inside.stop };
+    })

@@ -1,0 +1,94 @@
+-- What look-ups tell of a system, and of what a derivation asks of it.
+use Rattle.std.proofs.Common.{◌≡◌, ◌∙◌, ℕ, Bool, true, false, Decides, List, [], ◌∷◌, ◌++◌, ◌||◌, ◌&&◌, Option, Some, ap, codes, cond, drop, length, map, refl, sym, take, rules}
+use Rattle.std.specs.Prelude.{Vec, find}
+use Rattle.std.specs.declared.alloc.Global.{Global}
+use Rattle.std.specs.Cmp.Lexicographic.{bytes_decides, pointwise_decides}
+use Rattle.std.specs.List.{list_any}
+use Rattle.std.specs.Option.{option_map}
+use Rattle.nix_names.specs.Names.{same_bytes}
+use Rattle.nix_names.proofs.Tests.{both_parts}
+use Rattle.nix_drv.specs.Derivation.{Drv}
+use Rattle.nix_drv.specs.Parts.{bytes_of, entry_of}
+use Rattle.nix_drv.specs.declared.derivation.EnvEntry.{EnvEntry as EnvEntryStruct}
+use Rattle.run_states.specs.Systems.{Platform, features_text, has_program, offers, same_platform, value_or_empty}
+
+-- a test of some made elements
+pub any_mapped : {X Y : Type 0} (p : Y → Bool) (h : X → Y) (xs : List X) → list_any p (map h xs)
+    ≡ list_any (λ x. p (h x)) xs
+any_mapped p h [] = refl
+any_mapped p h (x ∷ xs) = ap (λ b. p (h x) || b) (any_mapped p h xs)
+
+-- the first of some made elements
+find_step : {X Y : Type 0} (h : X → Y) (b : Bool) (x : X) (found : Option Y) (other : Option X)
+    → found ≡ option_map h other
+    → cond b (Some (h x)) found ≡ option_map h (cond b (Some x) other)
+find_step h true x found other is = refl
+find_step h false x found other is = is
+
+pub find_mapped : {X Y : Type 0} (p : Y → Bool) (h : X → Y) (xs : List X) → find p (map h xs)
+    ≡ option_map h (find (λ x. p (h x)) xs)
+find_mapped p h [] = refl
+find_mapped p h (x ∷ xs) = find_step h (p (h x)) x _ _ (find_mapped p h xs)
+
+-- the text in which a derivation asks for features, by the environment as it is lent
+pub text_told : (drv : Drv) (env : List EnvEntryStruct) (found : Option EnvEntryStruct)
+    → map entry_of env ≡ drv.env
+    → found
+    ≡ find (λ (e : EnvEntryStruct). same_bytes e.key.items (codes "requiredSystemFeatures")) env
+    → value_or_empty (option_map entry_of found) ≡ features_text drv
+text_told drv env found lent is = search (rules, find_mapped)
+
+-- whether a system offers a feature, by its features as they are lent
+pub offer_told : (system : Platform) (feature : List ℕ) (features : List (Vec ℕ Global))
+    (told : Bool) → map bytes_of features ≡ system.features
+    → told ≡ list_any (λ (v : Vec ℕ Global). same_bytes feature v.items) features
+    → told ≡ offers system feature
+offer_told system feature features told lent is =
+    is ∙ sym (any_mapped (same_bytes feature) bytes_of features)
+    ∙ ap (list_any (same_bytes feature)) lent
+
+-- whether a text is another one behind a mark
+same_behind : (mark text rest : List ℕ) → same_bytes text (mark ++ rest)
+    ≡ (same_bytes (take (length mark) text) mark && same_bytes (drop (length mark) text) rest)
+same_behind [] text rest = search rules
+same_behind (m ∷ mark) [] rest = search rules
+same_behind (m ∷ mark) (t ∷ text) rest = search (rules, same_behind mark text rest)
+
+any_none : (texts : List (List ℕ)) → list_any (λ name. false) texts ≡ false
+any_none [] = refl
+any_none (text ∷ texts) = any_none texts
+
+-- a builtin builder has a program where its name is one of those
+pub program_told : (system : Platform) (drv : Drv) (name : List ℕ)
+    (builtins : List (Vec ℕ Global)) (told : Bool) → map bytes_of builtins ≡ system.builtins
+    → same_bytes (take 8 drv.builder) (codes "builtin:") ≡ true → name ≡ drop 8 drv.builder
+    → told ≡ list_any (λ (v : Vec ℕ Global). same_bytes name v.items) builtins
+    → told ≡ has_program system drv
+program_told system drv name builtins told lent begins is_name is =
+    simp (same_behind (codes "builtin:") drv.builder, begins)
+    (is ∙ sym (any_mapped (same_bytes name) bytes_of builtins)
+    ∙ ap (λ (n : List ℕ). list_any (same_bytes n) (map bytes_of builtins)) is_name
+    ∙ ap (list_any (same_bytes (drop 8 drv.builder))) lent)
+
+-- any other builder has none
+pub no_program : (system : Platform) (drv : Drv)
+    → same_bytes (take 8 drv.builder) (codes "builtin:") ≡ false → false ≡ has_program system drv
+no_program system drv begins =
+    simp (same_behind (codes "builtin:") drv.builder, begins) (sym (any_none system.builtins))
+
+-- the name and the features of a system
+abbrev offer_of : Platform → List ℕ × List (List ℕ)
+offer_of system = (system.name, system.features)
+
+-- systems that are equal by `==` are the same
+pub platforms_decide : (a b : Platform) → Decides (same_platform a b) (a ≡ b)
+platforms_decide a b =
+    both_parts _ _
+    (both_parts {R = offer_of a ≡ offer_of b} _ _
+    (bytes_decides a.name b.name) (pointwise_decides bytes_decides a.features b.features)
+    (λ p q j. (p j, q j)) (λ e. ap (λ (r : List ℕ × List (List ℕ)). r.0) e)
+    (λ e. ap (λ (r : List ℕ × List (List ℕ)). r.1) e))
+    (pointwise_decides bytes_decides a.builtins b.builtins)
+    (λ p q j. record { name = (p j).0; features = (p j).1; builtins = q j })
+    (λ e. ap offer_of e)
+    (λ e. ap (λ (s : Platform). s.builtins) e)
