@@ -12,8 +12,8 @@ use Rattle.std.specs.Str.{bytes_eq}
 use Rattle.std.specs.declared.alloc.Global.{Global}
 use Rattle.std.specs.declared.process.command.Command.{Command}
 use Rattle.nix_drv.specs.Derivation.{EnvEntry}
-use Rattle.process_build.specs.private.BuilderCalls.{entry_of_setting, value_of}
-use Rattle.process_build.specs.declared.process.call.EnvVar.{EnvVar}
+use Rattle.process_build.specs.Setups.{entry_of_var, value_of}
+use Rattle.process_build.specs.declared.process.setup.SetupVar.{SetupVar}
 
 -- what an entry makes of the value of a key
 after : List ℕ → Option (List ℕ) → EnvEntry → Option (List ℕ)
@@ -34,20 +34,21 @@ set_one old new key value k before true d set others was =
 set_one old new key value k before false d set others was =
     others k (λ same. false≢true (d.1 (sym same))) ∙ was
 
--- what a command says of each variable after one more of some settings is set
-pub set_more : (old new : Command Global) (settings : List EnvVar) (i : ℕ) (d : EnvVar)
-    → i < length settings
-    → command_var new (get_or settings i d).key.now ≡ Some (Some (get_or settings i d).value.now)
-    → SameOtherVars old new (get_or settings i d).key.now
+-- what a command says of each variable after one more of some variables is set
+pub set_more : (old new : Command Global) (vars : List SetupVar) (i : ℕ) (var : SetupVar)
+    → i < length vars → var ≡ get_or vars i var
+    → command_var new (entry_of_var var).key ≡ Some (Some (entry_of_var var).value)
+    → SameOtherVars old new (entry_of_var var).key
     → ((k : List ℕ) → command_var old k
-    ≡ option_map Some (value_of k (map entry_of_setting (take i settings))))
+    ≡ option_map Some (value_of k (map entry_of_var (take i vars))))
     → (k : List ℕ) → command_var new k
-    ≡ option_map Some (value_of k (map entry_of_setting (take (i + 1) settings)))
+    ≡ option_map Some (value_of k (map entry_of_var (take (i + 1) vars)))
 unfolding after
-set_more old new settings i d below set others was k =
-    let s : EnvVar = get_or settings i d in
-    let before : List EnvEntry = map entry_of_setting (take i settings) in
-    set_one old new s.key.now s.value.now k (value_of k before) (bytes_eq s.key.now k)
-    (bytes_eq-Decides s.key.now k) set others (was k)
-    ∙ ap (option_map Some) (sym (value_push k before (entry_of_setting s))
-    ∙ ap (value_of k) (sym (map_more entry_of_setting settings i d below)))
+set_more old new vars i var below is set others was k =
+    let e : EnvEntry = entry_of_var var in
+    let before : List EnvEntry = map entry_of_var (take i vars) in
+    set_one old new e.key e.value k (value_of k before) (bytes_eq e.key k)
+    (bytes_eq-Decides e.key k) set others (was k)
+    ∙ ap (option_map Some) (sym (value_push k before e)
+    ∙ ap (value_of k) (ap (λ v. before ++ entry_of_var v ∷ []) is
+    ∙ sym (map_more entry_of_var vars i var below)))

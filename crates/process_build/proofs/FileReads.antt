@@ -9,7 +9,7 @@ use Rattle.std.proofs.lemmas.List.Concat.{flat_map-append}
 use Rattle.std.specs.Io.KnownBytes.{Consumes, Keeps, ReadConsumes}
 use Rattle.std.specs.declared.alloc.Global.{Global}
 use Rattle.std.specs.declared.vec.Vec.{Vec}
-use Rattle.process_build.specs.private.Contents.{IsMoreThan}
+use Rattle.process_build.specs.Contents.{IsMoreThan}
 use Rattle.ref_scan.specs.Trees.{joined}
 
 -- a reading after readings that gave nothing

@@ -1,6 +1,13 @@
 pub mod AllowedLinks
 pub mod BuilderCalls
-pub mod Callable
 pub mod Counting
+pub mod EntryNames
 pub mod FileReads
+pub mod Filling
+pub mod MadeTrees
+pub mod Mapped
 pub mod PlainPaths
+pub mod PlainSetups
+pub mod ToldSteps
+pub mod Walking
+pub mod Zips

@@ -19,12 +19,12 @@ named_fields lease =
 -- the worker as the thread; when the lease began and how long it was, in microseconds
 unfoldable pub timed_fields : EndedLease → Bytes
 timed_fields lease =
-    codes ",\"tid\":" ++ decimal lease.worker ++ codes ",\"ts\":" ++ decimal lease.start
-    ++ codes ",\"dur\":" ++ decimal lease.length
+    codes ",\"tid\":" ++ decimal lease.times.worker ++ codes ",\"ts\":" ++ decimal lease.times.start
+    ++ codes ",\"dur\":" ++ decimal lease.times.length
 
 -- the first argument of an event, the number of the lease
 unfoldable pub number_field : EndedLease → Bytes
-number_field lease = codes "\"lease\":" ++ decimal lease.number
+number_field lease = codes "\"lease\":" ++ decimal lease.times.number
 
 -- the second argument, how it ended
 unfoldable pub end_field : EndedLease → Bytes

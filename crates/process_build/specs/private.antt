@@ -1,6 +1,9 @@
 -- What only private contracts and proofs cite.
 pub mod Answers
 pub mod BuilderCalls
-pub mod Contents
 pub mod Folders
+pub mod MakingLaws
+pub mod Placeholders
 pub mod Preparations
+pub mod RawVars
+pub mod Walking

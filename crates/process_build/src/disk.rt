@@ -3,6 +3,8 @@
 //! | Module | What is in it |
 //! |---|---|
 //! | `folders` | the store folder, the build folder of a lease, and what is cleared for it |
+//! | `fresh_folders` | build folders under `nix`, each of which is made where nothing lay |
+//! | `setup_files` | the files that lie in a builder's folder before it is started |
 //! | `cleanup` | what lies at a path of the store folder, taken away |
 //! | `left_paths` | what earlier runs moved aside and could not remove |
 //! | `outputs` | what lies at the outputs' paths, read within the limits of an output |
@@ -12,7 +14,9 @@
 
 pub mod cleanup;
 pub mod folders;
+pub mod fresh_folders;
 pub mod kept_folders;
 pub mod left_paths;
 pub mod logs;
 pub mod outputs;
+pub mod setup_files;

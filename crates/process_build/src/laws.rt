@@ -1,6 +1,9 @@
 //! Laws over the definitions that contracts cite, each on the contract of a function that does
 //! nothing.
+ghost use Rattle.process_build.specs.MadeTrees.{StepsTellTrees};
+ghost use Rattle.process_build.specs.Making.{MakesTrees};
 ghost use Rattle.process_build.specs.Progress.{AllNeverFalls, NumbersAddUp, OrderIsNoMatter, UnsettledNeverRises};
+ghost use Rattle.process_build.specs.Setups.{PlainSetupsArePlain};
 ghost use Rattle.process_build.specs.Traces.{PathsArePlain};
 
 /// If no more jobs ended than began, the jobs that run and those that ended are the jobs that
@@ -27,4 +30,19 @@ pub fn order_is_no_matter()
 /// Each byte of a store path stands for itself in a JSON string.
 pub fn paths_are_plain()
     ensures { PathsArePlain }
+{}
+
+/// A maker that hears a tree makes it by exactly its steps, at the maker's path.
+pub fn makers_make_trees()
+    ensures { MakesTrees }
+{}
+
+/// The steps that make a tree tell which tree it is, where it may stand in an archive.
+pub fn steps_tell_trees()
+    ensures { StepsTellTrees }
+{}
+
+/// Under `plain` a builder is started with the texts of its job as they stand.
+pub fn plain_setups_are_plain()
+    ensures { PlainSetupsArePlain }
 {}

@@ -6,26 +6,39 @@
 //! | `observe` | what is seen of leases: their trace, and the line of progress |
 //! | `process` | builders as processes |
 //! | `failures`, `reasons` | what an error of the system means at a path, and for a build |
+//! | `walk` | a tree on disk, told event by event |
+//! | `making` | a tree on disk, made of what is told of it |
 //! | `laws` | what holds of these numbers, over the definitions |
 #![tactic(auto)]
 
 mod disk;
 mod failures;
 pub mod laws;
+mod making;
 mod observe;
 mod process;
 mod reasons;
+mod walk;
 
 pub use disk::folders::BuildFolder;
 pub use disk::kept_folders::KeptFolders;
 pub use disk::left_paths::remove_left;
 pub use disk::logs::Logs;
 pub use failures::Failure;
+pub use making::disk_parts::DiskParts;
+pub use making::maker::TreeMaker;
+pub use making::maker_fault::MakerFault;
+pub use making::part::{MakeParts, Part};
 pub use observe::progress::ProgressLine;
-pub use observe::trace::{Trace, TraceText};
+pub use observe::trace::{NotedTimes, Trace};
+pub use observe::traces::trace_text;
 pub use observe::with_progress::WithProgress;
 pub use observe::with_trace::WithTrace;
 pub use process::builders::Builders;
+pub use process::builtins::BuiltinProgram;
 pub use process::drv_paths::DrvPaths;
+pub use process::lease::{EndedLease, LeaseTimes};
 pub use process::options::BuildOptions;
 pub use process::processes::{ProcessBuild, ProcessBuilders};
+pub use walk::fault::WalkFault;
+pub use walk::telling::tell_path;

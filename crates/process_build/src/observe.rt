@@ -7,7 +7,8 @@
 //! | `shown_numbers` | the numbers that the line's terminal was shown last |
 //! | `counts`, `line` | the numbers of that line; its text |
 //! | `with_progress` | builders whose builds the line tells |
-//! | `trace`, `traces` | the trace of a run, which its builders note; its text |
+//! | `trace` | the times of a run's leases, which its builders note |
+//! | `traces` | the text of a trace |
 //! | `with_trace` | builders whose leases a trace notes |
 //! | `longest` | the leases that run, and the one of them that runs longest |
 #![tactic(auto)]

@@ -1,14 +1,16 @@
 -- What is answered when a builder has ended, and what may be a part of its outputs.
-use Rattle.std.specs.Prelude.{◌≡◌, ◌≢◌, ◌⊎◌, Bool, IsTrue, true, false, ⊤, [], Option, Some, None, Result, Ok, Err, length, pos}
+use Rattle.std.specs.Prelude.{◌≡◌, ◌≢◌, ◌⊎◌, ℕ, Bool, true, false, ⊤, bit_and, [], Option, Some, None, Result, Ok, Err, length, pos}
 use Rattle.std.specs.Fs.{IsDir, IsFile, IsSymlink}
 use Rattle.std.specs.Process.{exit_code}
 use Rattle.std.specs.declared.fs.FileType.{FileType}
 use Rattle.std.specs.declared.io.Error.{Error}
+use Rattle.drv_graph.specs.declared.profile.Profile.{Profile}
+use Rattle.drv_graph.specs.declared.profile.Profile.TheVariants.{Nix}
 use Rattle.process_build.specs.Errors.{IsNoMemory, IsNotFound}
 use Rattle.process_build.specs.declared.process.ended.EndedBuild.{EndedBuild}
 use Rattle.process_build.specs.declared.disk.outputs.FileKind.{FileKind}
 use Rattle.process_build.specs.declared.disk.outputs.FileKind.TheVariants as kind
-use Rattle.ref_scan.specs.declared.tree.Tree.{Tree, Pieces, Link, Dir'}
+use Rattle.ref_scan.specs.declared.tree.Tree.{Tree, Pieces, Executable, Link, Dir'}
 use Rattle.build_outcome.specs.declared.job.Answer.{Answer}
 use Rattle.build_outcome.specs.declared.job.Job.{Job}
 use Rattle.build_outcome.specs.declared.reason.Reason.{Reason}
@@ -49,24 +51,38 @@ abbrev pub MayEnd : Job → Result Answer Reason → Type 0
 MayEnd job (Ok answer) = IsAnswerOf job answer
 MayEnd job (Err reason) = (reason ≡ NoStart) ⊎ (reason ≡ ReadFault) ⊎ (reason ≡ TooLarge)
 
--- the part of an output that lies at a path: a file, a folder, or a symbolic link where outputs may
--- have links; anything else is a read fault
-abbrev pub IsKindAt : (links : Bool) → FileType → Result FileKind Reason → Type 0
-IsKindAt links found (Ok kind.File) = IsFile found
-IsKindAt links found (Ok kind.Folder) = IsDir found
-IsKindAt links found (Ok kind.Link) = IsSymlink found × IsTrue links
-IsKindAt links found (Err reason) =
-    (reason ≡ ReadFault) × ¬ (IsFile found) × ¬ (IsDir found) × ¬ (IsSymlink found × IsTrue links)
+-- the kind of a file, by its mode
+abbrev pub type_in : (mode : ℕ) → FileType
+type_in mode = record { bits = bit_and mode 0o170000 }
+
+-- the owner of a file may execute it, by its mode
+abbrev pub IsExecutable : (mode : ℕ) → Type 0
+IsExecutable mode = bit_and mode 0o100 ≢ 0
+
+-- the part of an output that lies at a path, by its mode: a file, a folder, or under `nix` a
+-- symbolic link; anything else is a read fault. Under `nix` a file that its owner may execute is
+-- told from others.
+abbrev pub IsKindAt : Profile → (mode : ℕ) → Result FileKind Reason → Type 0
+IsKindAt profile mode (Ok kind.File) = IsFile (type_in mode)
+    × (profile ≡ Nix → ¬ (IsExecutable mode))
+IsKindAt profile mode (Ok kind.Executable) = IsFile (type_in mode) × (profile ≡ Nix)
+    × IsExecutable mode
+IsKindAt profile mode (Ok kind.Folder) = IsDir (type_in mode)
+IsKindAt profile mode (Ok kind.Link) = IsSymlink (type_in mode) × (profile ≡ Nix)
+IsKindAt profile mode (Err reason) =
+    (reason ≡ ReadFault) × ¬ (IsFile (type_in mode)) × ¬ (IsDir (type_in mode))
+    × ¬ (IsSymlink (type_in mode) × (profile ≡ Nix))
 
 -- the same, where the answer may also be that nothing lies there: here something does
-abbrev pub IsKindOf : (links : Bool) → FileType → Result (Option FileKind) Reason → Type 0
-IsKindOf links found (Ok (Some part)) = IsKindAt links found (Ok part)
-IsKindOf links found (Ok None) = ⊥
-IsKindOf links found (Err reason) = IsKindAt links found (Err reason)
+abbrev pub IsKindOf : Profile → (mode : ℕ) → Result (Option FileKind) Reason → Type 0
+IsKindOf profile mode (Ok (Some part)) = IsKindAt profile mode (Ok part)
+IsKindOf profile mode (Ok None) = ⊥
+IsKindOf profile mode (Err reason) = IsKindAt profile mode (Err reason)
 
 -- what is read of a part of an output: a file's pieces, a folder's members, a link's own target
 abbrev pub IsReadAs : FileKind → Tree → Type 0
 IsReadAs kind.File (Pieces parts) = ⊤
+IsReadAs kind.Executable (Executable parts) = ⊤
 IsReadAs kind.Folder (Dir' shape members) = ⊤
 IsReadAs kind.Link (Link target) = ⊤
 IsReadAs part tree = ⊥

@@ -6,6 +6,8 @@ use Rattle.std.specs.declared.alloc.Global.{Global}
 use Rattle.std.specs.declared.string.String.{String}
 use Rattle.std.specs.declared.io.Error.{Error}
 use Rattle.nix_names.specs.Bytes.{Bytes, Dir}
+use Rattle.drv_graph.specs.declared.profile.Profile.{Profile}
+use Rattle.drv_graph.specs.declared.profile.Profile.TheVariants.{Nix, Plain}
 use Rattle.process_build.specs.Errors.{IsFailure, IsNotFound}
 use Rattle.process_build.specs.declared.failures.Failure.{Failure}
 use Rattle.process_build.specs.declared.failures.Failure.TheVariants.{NoMemory, NotFound}
@@ -24,10 +26,19 @@ abbrev pub NotesAside : (store_dir : Dir) → (old new : List (String Global)) �
 NotesAside store_dir old new =
     (new ≡ old) ⊎ ((path : String Global) × IsAside store_dir path × (new ≡ old ++ path ∷ []))
 
+-- the paths of a job's outputs
+abbrev pub output_places_of : Job → List Bytes
+output_places_of job = map (λ output. output.path) job.outputs.items
+
+-- a build folder that may lie there already: only under `plain`, since under `nix` it is made anew
+abbrev pub old_folder_of : Profile → (folder : Bytes) → List Bytes
+old_folder_of Plain folder = folder ∷ []
+old_folder_of Nix folder = []
+
 -- the paths that are cleared before a job's builder runs, in this order: those of its outputs, and
--- its build folder
+-- its build folder where it may lie there already
 abbrev pub places_of : Job → (folder : Bytes) → List Bytes
-places_of job folder = map (λ output. output.path) job.outputs.items ++ folder ∷ []
+places_of job folder = output_places_of job ++ old_folder_of job.profile folder
 
 -- whether nothing is left at a path, by what its removal gave; want of memory stays a failure
 abbrev pub gone_after : Result (Unit {0}) Failure → Result Bool Failure

@@ -86,6 +86,15 @@ fn remove_empty<R: Files>(rt: &R, path: &str) -> io::Result<()> {
     fs::remove_dir(rt, path)
 }
 
+// Removes what lies at a path, with all that is in it if it is a folder. No link is followed.
+pub(crate) fn remove_whole<R: Files + AllocGlobal>(rt: &R, path: &str) -> io::Result<()> {
+    if fs::symlink_metadata(rt, path)?.is_dir() {
+        fs::remove_dir_all(rt, path)
+    } else {
+        fs::remove_file(rt, path)
+    }
+}
+
 // Moves what lies at a path to the first name for such things that is free, and tells that path.
 fn move_aside<R: Files + AllocGlobal>(
     rt: &R,

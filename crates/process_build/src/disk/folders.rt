@@ -1,15 +1,17 @@
 //! The store folder, the build folder of a lease, and what is cleared for it.
 ghost use Rattle.std.specs.Prelude.{◌≡◌, IfOk, map, string_bytes};
-ghost use Rattle.process_build.specs.Folders.{build_folder_of};
-ghost use Rattle.process_build.specs.private.Folders.{places_of};
+ghost use Rattle.process_build.specs.Folders.{build_folder_of, nix_folder_of};
+ghost use Rattle.process_build.specs.private.Folders.{output_places_of, places_of};
 
 use build_outcome::Job;
+use drv_graph::Profile;
 use std::alloc::{AllocError, Global};
 
 /// The folder in which one builder runs.
 #[derive(Drop)]
 pub struct BuildFolder {
     number: u64,
+    dir: String,
     path: String,
 }
 
@@ -17,11 +19,32 @@ impl BuildFolder {
     /// The build folder of the lease with this number, in a store folder.
     pub fn new(alloc: Global, store_dir: &str, number: u64) -> Result<BuildFolder, AllocError>
         ensures number { IfOk result (λ folder. folder.number ≡ number) }
+        ensures dir { IfOk result (λ folder. string_bytes folder.dir ≡ store_dir.now) }
         ensures path { IfOk result (λ folder.
             string_bytes folder.path ≡ build_folder_of store_dir.now number) }
     {
         let path = format!(in alloc; "{store_dir}/.build-{number}")?;
-        Ok(BuildFolder { number, path })
+        let dir = String::from_str(alloc, store_dir)?;
+        Ok(BuildFolder { number, dir, path })
+    }
+
+    // The build folder under `nix` of the lease with this number: that of a derivation with this
+    // name, at a number.
+    pub(crate) fn at(
+        alloc: Global,
+        build_dir: &str,
+        drv: &str,
+        number: u64,
+        at: u64,
+    ) -> Result<BuildFolder, AllocError>
+        ensures number { IfOk result (λ folder. folder.number ≡ number) }
+        ensures dir { IfOk result (λ folder. string_bytes folder.dir ≡ build_dir.now) }
+        ensures path { IfOk result (λ folder.
+            string_bytes folder.path ≡ nix_folder_of build_dir.now drv.now at) }
+    {
+        let path = format!(in alloc; "{build_dir}/nix-build-{drv}-{at}")?;
+        let dir = String::from_str(alloc, build_dir)?;
+        Ok(BuildFolder { number, dir, path })
     }
 
     /// The number of its lease.
@@ -31,6 +54,13 @@ impl BuildFolder {
         self.number
     }
 
+    /// The folder in which it is.
+    pub fn dir(&self) -> &str
+        ensures { result.now ≡ string_bytes self.now.dir }
+    {
+        self.dir.as_str()
+    }
+
     /// Its path.
     pub fn path(&self) -> &str
         ensures { result.now ≡ string_bytes self.now.path }
@@ -38,8 +68,8 @@ impl BuildFolder {
         self.path.as_str()
     }
 
-    // The paths that are cleared before the job's builder runs here: those of its outputs, and the
-    // folder's own.
+    // The paths that are cleared before the job's builder runs here: those of its outputs, and under
+    // `plain` the folder's own.
     pub(crate) fn places<'a>(
         &'a self,
         alloc: Global,
@@ -48,11 +78,24 @@ impl BuildFolder {
         ensures { IfOk result (λ places. map (λ p. p.now) places.items
             ≡ places_of job.entry.now (string_bytes self.entry.now.path)) }
     {
-        let mut places = Vec::new(alloc);
-        for output in &job.outputs {
-            places.push(output.path.as_str())?;
+        let mut places = output_places(alloc, job)?;
+        match job.profile {
+            Profile::Plain => {
+                places.push(self.path())?;
+                Ok(places)
+            }
+            Profile::Nix => Ok(places),
         }
-        places.push(self.path())?;
-        Ok(places)
     }
+}
+
+// The paths of a job's outputs.
+fn output_places(alloc: Global, job: &Job) -> Result<Vec<&str>, AllocError>
+    ensures { IfOk result (λ places. map (λ p. p.now) places.items ≡ output_places_of job.now) }
+{
+    let mut places = Vec::new(alloc);
+    for output in &job.outputs {
+        places.push(output.path.as_str())?;
+    }
+    Ok(places)
 }

@@ -2,12 +2,11 @@
 ghost use Rattle.std.specs.Prelude.{◌≡◌, IfOk, string_bytes};
 ghost use Rattle.process_build.specs.private.Folders.{aside_of};
 
-use crate::disk::cleanup::aside_path;
+use crate::disk::cleanup::{aside_path, remove_whole};
 use crate::disk::outputs::read_once;
 use crate::failures::Failure;
 use std::alloc::{AllocError, Global};
 use std::rt::Files;
-use std::{fs, io};
 
 // How many bytes of the store folder's names are read at once; there is room for any name.
 const NAMES_AT_ONCE: usize = 4_096;
@@ -30,16 +29,6 @@ impl LeftPath {
             path: aside_path(alloc, store_dir, number)?,
         })
     }
-
-    // Removes what lies there, with all that is in it if it is a folder. No link is followed.
-    fn remove<R: Files + AllocGlobal>(&self, rt: &R) -> io::Result<()> {
-        let path = self.path.as_str();
-        if fs::symlink_metadata(rt, path)?.is_dir() {
-            fs::remove_dir_all(rt, path)
-        } else {
-            fs::remove_file(rt, path)
-        }
-    }
 }
 
 /// Removes what earlier runs moved aside in a store folder and could not remove. What can't be
@@ -48,7 +37,7 @@ impl LeftPath {
 pub fn remove_left<R: Files + AllocGlobal>(rt: &R, store_dir: &str) {
     if let Ok(left) = left_paths(rt, store_dir) {
         for path in &left {
-            let _ = path.remove(rt);
+            let _ = remove_whole(rt, path.path.as_str());
         }
     }
 }

@@ -1,13 +1,14 @@
 //! What lies at the outputs' paths, read within the limits of an output.
-ghost use Rattle.std.specs.Prelude.{◌≡◌, ◌≤◌, ◌+◌, ◌⊎◌, [], All, Err, IfErr, IfOk, IfSome, IsTrue};
+ghost use Rattle.std.specs.Prelude.{◌≡◌, ◌≤◌, ◌+◌, ◌⊎◌, ◌↔◌, [], All, Err, IfErr, IfOk, IfSome, IsTrue};
 ghost use Rattle.std.specs.Prelude.{IsUtf8, length, string_bytes};
-ghost use Rattle.std.specs.Fs.{file_type};
+ghost use Rattle.std.specs.Fs.{metadata_mode};
 ghost use Rattle.std.specs.Io.KnownBytes.{Consumes, IsAtEnd, ReadConsumes};
-ghost use Rattle.process_build.specs.private.Answers.{IsKindAt, IsKindOf, IsNoKind, IsReadAs};
-ghost use Rattle.process_build.specs.private.Answers.{IsReadingFault};
-ghost use Rattle.process_build.specs.private.Contents.{IsAllowed};
+ghost use Rattle.drv_graph.specs.declared.profile.Profile.TheVariants.{Nix, Plain};
+ghost use Rattle.process_build.specs.private.Answers.{IsExecutable, IsKindAt, IsKindOf, IsNoKind};
+ghost use Rattle.process_build.specs.private.Answers.{IsReadAs, IsReadingFault};
+ghost use Rattle.process_build.specs.Contents.{IsAllowed};
 ghost use Rattle.ref_scan.specs.declared.tree.Member.{Member};
-ghost use Rattle.process_build.specs.private.Contents.{child_of, IsMoreThan, IsWhole};
+ghost use Rattle.process_build.specs.Contents.{child_of, IsMoreThan, IsWhole};
 ghost use Rattle.ref_scan.specs.Trees.{joined};
 ghost use Rattle.build_outcome.specs.declared.reason.Reason.TheVariants.{OutOfMemory, ReadFault};
 ghost use Rattle.build_outcome.specs.declared.reason.Reason.TheVariants.{TooLarge};
@@ -15,35 +16,38 @@ ghost use Rattle.build_outcome.specs.declared.reason.Reason.TheVariants.{TooLarg
 use crate::failures::is_made_again;
 use crate::reasons::read_fault;
 use build_outcome::{Job, Reason};
+use drv_graph::Profile;
 use ref_scan::{MAX_DEPTH, MAX_ENTRIES, MAX_FILE_BYTES, Member, Tree};
 use std::alloc::{AllocError, Global};
 use std::fs::Metadata;
 use std::io::{ErrorKind, Read};
+use std::os::unix::fs::PermissionsExt;
 use std::rt::Files;
 use std::{fs, io, str};
 
 // The most bytes of a piece of a file.
 const MAX_PIECE: usize = 65_536;
 
+// The bit of a mode by which the owner may execute a file.
+const OWNER_EXECUTES: u32 = 0o100;
+
 // How many bytes of a folder's names are read at once; there is room for any name.
 const NAMES_AT_ONCE: usize = 4_096;
 
 /// What lies at the path of each output of a job, in the job's order, `None` where nothing does; or
-/// the first fault. A folder's entries are read in the byte order of their names. Symbolic links
-/// are read where `links` says so, and are a `ReadFault` elsewhere; none is followed.
-pub fn read_outputs<R: Files + AllocGlobal>(
-    rt: &R,
-    job: &Job,
-    links: bool,
-) -> Result<Vec<Option<Tree>>, Reason>
+/// the first fault. A folder's entries are read in the byte order of their names. Under the profile
+/// `nix` outputs may have symbolic links, none of which is followed, files that their owner may
+/// execute are told from others, and nothing is limited. Under `plain` a link is a `ReadFault`, and
+/// what passes the limits of an output is `TooLarge`.
+pub fn read_outputs<R: Files + AllocGlobal>(rt: &R, job: &Job) -> Result<Vec<Option<Tree>>, Reason>
     ensures trees { IfOk result (λ trees. length trees.items ≡ length job.now.outputs.items) }
     ensures plain { IfOk result (λ trees.
-        All (λ tree. IfSome tree (IsAllowed links)) trees.items) }
+        All (λ tree. IfSome tree (IsAllowed job.now.profile)) trees.items) }
     ensures bad { IfErr result IsReadingFault }
 {
     let mut trees = Vec::new(rt.alloc());
     for output in &job.outputs {
-        trees.push(read_output(rt, output.path.as_str(), links)?)?;
+        trees.push(read_output(rt, output.path.as_str(), job.profile)?)?;
     }
     Ok(trees)
 }
@@ -52,13 +56,16 @@ pub fn read_outputs<R: Files + AllocGlobal>(
 fn read_output<R: Files + AllocGlobal>(
     rt: &R,
     path: &str,
-    links: bool,
+    profile: Profile,
 ) -> Result<Option<Tree>, Reason>
-    ensures plain { IfOk result (λ tree. IfSome tree (IsAllowed links)) }
+    ensures plain { IfOk result (λ tree. IfSome tree (IsAllowed profile)) }
     ensures bad { IfErr result IsReadingFault }
 {
-    match kind_of(fs::symlink_metadata(rt, path), links)? {
-        Some(kind) => Ok(Some(Reader::new(rt).tree(kind, path, MAX_DEPTH - 1, links)?)),
+    match kind_of(fs::symlink_metadata(rt, path), profile)? {
+        Some(kind) => {
+            let mut reader = Reader::new(rt, profile);
+            Ok(Some(reader.tree(kind, path, most_below(profile), profile)?))
+        }
         None => Ok(None),
     }
 }
@@ -68,6 +75,8 @@ fn read_output<R: Files + AllocGlobal>(
 pub enum FileKind {
     /// A regular file.
     File,
+    /// A regular file that its owner may execute, where that is told.
+    Executable,
     /// A folder.
     Folder,
     /// A symbolic link.
@@ -75,26 +84,44 @@ pub enum FileKind {
 }
 
 // What lies at a path, by the system's answer. A fault if outputs may not have it.
-fn kind_of(asked: io::Result<Metadata>, links: bool) -> Result<Option<FileKind>, Reason>
-    ensures found { IfOk asked (λ found. IsKindOf links (file_type found) result) }
+fn kind_of(asked: io::Result<Metadata>, profile: Profile) -> Result<Option<FileKind>, Reason>
+    ensures found { IfOk asked (λ found. IsKindOf profile (metadata_mode found) result) }
     ensures fault { IfErr asked (λ error. IsNoKind error result) }
 {
     match asked {
-        Ok(found) => Ok(Some(kind_at(&found, links)?)),
+        Ok(found) => Ok(Some(kind_at(&found, profile)?)),
         Err(error) if error.kind() == ErrorKind::NotFound => Ok(None),
         Err(error) => Err(read_fault(error)),
     }
 }
 
-// What was found as a part of an output, which may have symbolic links or may not.
-fn kind_at(found: &Metadata, links: bool) -> Result<FileKind, Reason>
-    ensures { IsKindAt links (file_type found.now) result }
+// What was found as a part of an output, under a profile.
+fn kind_at(found: &Metadata, profile: Profile) -> Result<FileKind, Reason>
+    ensures { IsKindAt profile (metadata_mode found.now) result }
 {
-    match (found.is_file(), found.is_dir(), found.is_symlink()) {
-        (true, _, _) => Ok(FileKind::File),
-        (_, true, _) => Ok(FileKind::Folder),
-        (_, _, true) if links => Ok(FileKind::Link),
+    match (found.is_file(), found.is_dir(), found.is_symlink(), profile) {
+        (true, _, _, Profile::Nix) if is_executable(found) => Ok(FileKind::Executable),
+        (true, _, _, _) => Ok(FileKind::File),
+        (_, true, _, _) => Ok(FileKind::Folder),
+        (_, _, true, Profile::Nix) => Ok(FileKind::Link),
         _ => Err(Reason::ReadFault),
+    }
+}
+
+// Whether the owner of what was found may execute it.
+pub(crate) fn is_executable(found: &Metadata) -> bool
+    ensures { IsTrue result ↔ IsExecutable (metadata_mode found.now) }
+{
+    found.permissions().mode() & OWNER_EXECUTES != 0
+}
+
+// The most levels below the top of an output.
+fn most_below(profile: Profile) -> usize
+    ensures { profile ≡ Plain → result ≡ 31 }
+{
+    match profile {
+        Profile::Plain => MAX_DEPTH - 1,
+        Profile::Nix => usize::MAX,
     }
 }
 
@@ -110,48 +137,53 @@ struct Reader<'a, R> {
 
 impl<'a, R: Files + AllocGlobal> Reader<'a, R> {
     // Nothing is read yet.
-    fn new(rt: &'a R) -> Reader<'a, R> {
+    fn new(rt: &'a R, profile: Profile) -> Reader<'a, R> {
+        let (entries, bytes) = match profile {
+            Profile::Plain => (MAX_ENTRIES, MAX_FILE_BYTES),
+            Profile::Nix => (usize::MAX, usize::MAX),
+        };
         Reader {
             rt,
-            entries: MAX_ENTRIES,
-            bytes: MAX_FILE_BYTES,
+            entries,
+            bytes,
             buffer: [0; MAX_PIECE],
         }
     }
 
-    // What lies at a path, by what was found there, with at most `below` levels below its own, and
-    // with symbolic links if it may have some.
+    // What lies at a path, by what was found there under a profile, with at most `below` levels
+    // below its own.
     #[cycle(tree)]
     fn tree(
         &mut self,
         kind: FileKind,
         path: &str,
         below: usize,
-        links: bool,
+        profile: Profile,
     ) -> Result<Tree, Reason>
-        requires { kind ≡ FileKind.Link → IsTrue links }
+        requires { kind ≡ FileKind.Link → profile ≡ Nix }
         ensures tree { IfOk result (IsReadAs kind) }
-        ensures plain { IfOk result (IsAllowed links) }
+        ensures plain { IfOk result (IsAllowed profile) }
         ensures bad { IfErr result IsReadingFault }
     {
         match kind {
             FileKind::File => Ok(Tree::Pieces(self.pieces(path)?)),
-            FileKind::Folder => Ok(Tree::Dir(self.members(path, below, links)?)),
+            FileKind::Executable => Ok(Tree::Executable(self.pieces(path)?)),
+            FileKind::Folder => Ok(Tree::Dir(self.members(path, below, profile)?)),
             FileKind::Link => Ok(Tree::Link(self.target(path)?)),
         }
     }
 
     // The members of a folder, in the byte order of their names.
     #[cycle(tree)]
-    fn members(&mut self, path: &str, below: usize, links: bool) -> Result<Vec<Member>, Reason>
+    fn members(&mut self, path: &str, below: usize, profile: Profile) -> Result<Vec<Member>, Reason>
         ensures plain { IfOk result (λ members.
-            All (λ (m : Member). IsAllowed links m.tree) members.items) }
+            All (λ (m : Member). IsAllowed profile m.tree) members.items) }
         ensures bad { IfErr result IsReadingFault }
     {
         let alloc = self.rt.alloc();
         let mut members = Vec::new(alloc);
         for name in self.names(path)? {
-            members.push(self.member(path, name, below, links)?)?;
+            members.push(self.member(path, name, below, profile)?)?;
         }
         Ok(members)
     }
@@ -163,9 +195,9 @@ impl<'a, R: Files + AllocGlobal> Reader<'a, R> {
         path: &str,
         name: Vec<u8>,
         below: usize,
-        links: bool,
+        profile: Profile,
     ) -> Result<Member, Reason>
-        ensures plain { IfOk result (λ (m : Member). IsAllowed links m.tree) }
+        ensures plain { IfOk result (λ (m : Member). IsAllowed profile m.tree) }
         ensures bad { IfErr result IsReadingFault }
     {
         let Some(below) = below.checked_sub(1) else {
@@ -173,10 +205,10 @@ impl<'a, R: Files + AllocGlobal> Reader<'a, R> {
         };
         let path = child_path(self.rt.alloc(), path, &name)?;
         let found = fs::symlink_metadata(self.rt, path.as_str());
-        let Some(kind) = kind_of(found, links)? else {
+        let Some(kind) = kind_of(found, profile)? else {
             return Err(Reason::ReadFault);
         };
-        let tree = self.tree(kind, path.as_str(), below, links)?;
+        let tree = self.tree(kind, path.as_str(), below, profile)?;
         Ok(Member { name, tree })
     }
 
@@ -297,7 +329,7 @@ pub(crate) fn read_once<F: Read>(file: &mut F, buffer: &mut [u8]) -> io::Result<
 
 // Whether a name that was read in a folder is that of a member: it is not empty, and neither the
 // folder itself nor the one above.
-fn is_member(name: &[u8]) -> bool {
+pub(crate) fn is_member(name: &[u8]) -> bool {
     !name.is_empty() && name != b".".as_slice() && name != b"..".as_slice()
 }
 
@@ -314,7 +346,7 @@ fn child_path(alloc: Global, path: &str, name: &[u8]) -> Result<String, Reason>
 }
 
 // The path of a name in a folder.
-fn join_path(alloc: Global, path: &str, name: &str) -> Result<String, AllocError>
+pub(crate) fn join_path(alloc: Global, path: &str, name: &str) -> Result<String, AllocError>
     ensures { IfOk result (λ child. string_bytes child ≡ child_of path.now name.now) }
 {
     format!(in alloc; "{path}/{name}")

@@ -78,9 +78,9 @@ fn write_named(lease: &EndedLease, out: &mut Vec<u8>) -> Result<(), AllocError>
 fn write_timed(lease: &EndedLease, out: &mut Vec<u8>) -> Result<(), AllocError>
     ensures { OnOk result (out.new.items ≡ out.old.items ++ timed_fields lease.now) }
 {
-    write_number(b",\"tid\":", lease.worker as u64, out)?;
-    write_number(b",\"ts\":", lease.start, out)?;
-    write_number(b",\"dur\":", lease.length, out)
+    write_number(b",\"tid\":", lease.times.worker as u64, out)?;
+    write_number(b",\"ts\":", lease.times.start, out)?;
+    write_number(b",\"dur\":", lease.times.length, out)
 }
 
 // Adds the arguments of an event, and ends it.
@@ -99,7 +99,7 @@ fn write_args(lease: &EndedLease, out: &mut Vec<u8>) -> Result<(), AllocError>
 fn write_lease(lease: &EndedLease, out: &mut Vec<u8>) -> Result<(), AllocError>
     ensures { OnOk result (out.new.items ≡ out.old.items ++ number_field lease.now) }
 {
-    write_number(b"\"lease\":", lease.number, out)
+    write_number(b"\"lease\":", lease.times.number, out)
 }
 
 // Adds how a lease ended.

@@ -2,8 +2,7 @@
 
 use crate::observe::trace::Trace;
 use crate::process::builders::Builders;
-use crate::process::drv_paths::DrvPaths;
-use crate::process::lease::RunningLease;
+use crate::process::lease::LeaseTimes;
 use crate::process::options::BuildOptions;
 use build_outcome::{Answer, Build, Job, LeaseObserver, Reason};
 use std::alloc::{AllocError, Global};
@@ -17,28 +16,21 @@ pub struct Traced<'a, R, B> {
     rt: &'a R,
     builder: B,
     worker: usize,
-    drvs: DrvPaths,
     trace: Option<&'a Trace>,
-    running: Cell<Option<RunningLease>>,
-    // When the builder of the last job ended.
-    end: Cell<u64>,
 }
 
 impl<R: Wait + Clock + AllocGlobal, B: Build> Build for Traced<'_, R, B> {
     ghost may = { B.may };
 
-    /// Builds a job as the builder does.
+    /// Builds a job as the builder does, and notes when that was.
     fn run(&self, number: u64, job: &Job) -> Result<Answer, Reason> {
-        if let Some(trace) = self.trace {
-            let drv = self.drvs.get(job.derivation);
-            let start = trace.time(self.rt);
-            self.running
-                .set(RunningLease::of(self.rt.alloc(), drv, number, start));
-        }
+        let Some(trace) = self.trace else {
+            return self.builder.run(number, job);
+        };
+        let start = trace.time(self.rt);
         let outcome = self.builder.run(number, job);
-        if let Some(trace) = self.trace {
-            self.end.set(trace.time(self.rt));
-        }
+        let end = trace.time(self.rt);
+        trace.note(self.rt, LeaseTimes::of(number, self.worker, start, end));
         outcome
     }
 }
@@ -49,12 +41,8 @@ impl<R: Wait + Clock + AllocGlobal, B: LeaseObserver> LeaseObserver for Traced<'
         self.builder.begun(unsettled);
     }
 
-    /// Notes that a job's lease ended, and tells the builder.
+    /// Tells the builder that a job's lease ended.
     fn ended(&self, is_good: bool, unsettled: usize) {
-        if let Some(trace) = self.trace {
-            let running = self.running.take();
-            trace.note(self.rt, running, self.worker, self.end.get(), is_good);
-        }
         self.builder.ended(is_good, unsettled);
     }
 }
@@ -96,17 +84,13 @@ where
         options: &BuildOptions<'_>,
     ) -> Result<Traced<'a, R, M::Builder>, AllocError> {
         let builder = self.make.builder(alloc, options)?;
-        let drvs = options.drvs.copy()?;
         let worker = self.made.get().saturating_add(1);
         self.made.set(worker);
         Ok(Traced {
             rt: self.rt,
             builder,
             worker,
-            drvs,
             trace: self.trace,
-            running: Cell::new(None),
-            end: Cell::new(0),
         })
     }
 }

@@ -1,6 +1,6 @@
-//! The leases of a run: since when one runs, and how long one was.
-ghost use Rattle.std.specs.Prelude.{◌≡◌, IfSome, option_map};
-ghost use Rattle.process_build.specs.Leases.{IsRunning, drv_name, ended_lease_of};
+//! The leases of a run: since when one runs, and when the builder of one ran.
+ghost use Rattle.std.specs.Prelude.{◌≡◌, ◌-◌, IfSome, option_map};
+ghost use Rattle.process_build.specs.Leases.{IsRunning, drv_name};
 
 use nix_names::StorePath;
 use std::alloc::Global;
@@ -19,19 +19,26 @@ pub struct RunningLease {
     pub start: u64,
 }
 
+/// Which worker ran the builder of a lease, and when.
+#[derive(Clone, Copy, Debug, PartialEq, Eq)]
+pub struct LeaseTimes {
+    /// The number of the lease.
+    pub number: u64,
+    /// The number of the worker, from 1.
+    pub worker: usize,
+    /// When its builder was asked to run, in microseconds after its run began.
+    pub start: u64,
+    /// How many microseconds later its builder had answered.
+    pub length: u64,
+}
+
 /// A lease that has ended.
 #[derive(Drop)]
 pub struct EndedLease {
     /// The path of its derivation.
     pub path: StorePath,
-    /// The number of the lease.
-    pub number: u64,
-    /// The number of the worker that had it, from 1.
-    pub worker: usize,
-    /// When it began, in microseconds after its run.
-    pub start: u64,
-    /// How many microseconds later its builder ended.
-    pub length: u64,
+    /// When its builder ran.
+    pub times: LeaseTimes,
     /// Whether its outputs were registered.
     pub is_good: bool,
 }
@@ -55,24 +62,20 @@ impl RunningLease {
             start,
         })
     }
+}
 
-    /// The lease, which the worker with this number ended, well or not, after its builder ended at
-    /// this time. A clock that went back gives the length 0.
-    pub fn ended(self, worker: usize, at: u64, is_good: bool) -> EndedLease
-        ensures { result ≡ ended_lease_of self worker at is_good }
+impl LeaseTimes {
+    // Of the lease with this number, whose builder a worker asked at this time, and which had
+    // answered at that one. A clock that went back gives the length 0.
+    pub(crate) fn of(number: u64, worker: usize, start: u64, end: u64) -> LeaseTimes
+        ensures { result
+            ≡ record { number = number; worker = worker; start = start; length = end - start } }
     {
-        let RunningLease {
-            path,
-            number,
-            start,
-        } = self;
-        EndedLease {
-            path,
+        LeaseTimes {
             number,
             worker,
             start,
-            length: at.saturating_sub(start),
-            is_good,
+            length: end.saturating_sub(start),
         }
     }
 }

@@ -3,11 +3,11 @@ ghost use Rattle.std.specs.Prelude.{◌≡◌, IfOk, is_some, option_map, string
 ghost use Rattle.process_build.specs.Options.{AreOptionsOf};
 
 use crate::disk::kept_folders::KeptFolders;
+use crate::process::builtins::{BuiltinProgram, OwnBuiltin, copy_builtins};
 use crate::process::drv_paths::DrvPaths;
 use std::alloc::{AllocError, Global};
 
-/// How the builders of a run build: where, how they are started, what is kept of them, and what
-/// they may make.
+/// How the builders of a run build: where, how they are started, and what is kept of them.
 #[derive(Clone, Copy)]
 pub struct BuildOptions<'a> {
     /// The store folder.
@@ -19,10 +19,14 @@ pub struct BuildOptions<'a> {
     /// The list of the build folders that are kept, those of builders that failed. Without a list
     /// none is kept.
     pub kept: Option<&'a KeptFolders>,
-    /// Whether outputs may have symbolic links.
-    pub links: bool,
     /// The paths of the run's derivations.
     pub drvs: &'a DrvPaths,
+    /// The folder in which build folders are made under the profile `nix`.
+    pub build_dir: &'a str,
+    /// How many processors a builder under the profile `nix` is told to use.
+    pub cores: u16,
+    /// The builtins, for which programs are started under the profile `nix`.
+    pub builtins: &'a [BuiltinProgram<'a>],
 }
 
 /// The same, owned by a builder.
@@ -32,8 +36,10 @@ pub struct OwnOptions {
     runner: Option<String>,
     logs: Option<String>,
     kept: Option<KeptFolders>,
-    links: bool,
     drvs: DrvPaths,
+    build_dir: String,
+    cores: u16,
+    builtins: Vec<OwnBuiltin>,
 }
 
 impl OwnOptions {
@@ -46,8 +52,10 @@ impl OwnOptions {
             runner: copy_text(alloc, options.runner)?,
             logs: copy_text(alloc, options.logs)?,
             kept: share_list(options.kept)?,
-            links: options.links,
             drvs: options.drvs.copy()?,
+            build_dir: String::from_str(alloc, options.build_dir)?,
+            cores: options.cores,
+            builtins: copy_builtins(alloc, options.builtins)?,
         })
     }
 
@@ -79,18 +87,32 @@ impl OwnOptions {
         self.kept.as_ref()
     }
 
-    /// Whether outputs may have symbolic links.
-    pub fn links(&self) -> bool
-        ensures { result ≡ self.now.links }
-    {
-        self.links
-    }
-
     /// The paths of the run's derivations.
     pub fn drvs(&self) -> &DrvPaths
         ensures { result.now ≡ self.now.drvs }
     {
         &self.drvs
+    }
+
+    /// The folder in which build folders are made under the profile `nix`.
+    pub fn build_dir(&self) -> &str
+        ensures { result.now ≡ string_bytes self.now.build_dir }
+    {
+        self.build_dir.as_str()
+    }
+
+    /// How many processors a builder under the profile `nix` is told to use.
+    pub fn cores(&self) -> u16
+        ensures { result ≡ self.now.cores }
+    {
+        self.cores
+    }
+
+    /// The builtins, for which programs are started under the profile `nix`.
+    pub fn builtins(&self) -> &[OwnBuiltin]
+        ensures { result.now ≡ self.now.builtins.items }
+    {
+        self.builtins.as_slice()
     }
 }
 

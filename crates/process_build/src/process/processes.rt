@@ -1,33 +1,46 @@
 //! A builder that runs a job's program as a process.
-ghost use Rattle.std.specs.Prelude.{◌≡◌, ◌⊎◌, IfErr, IfOk, string_bytes};
+ghost use Rattle.std.specs.Prelude.{◌≡◌, ◌⊎◌, IfErr, IfOk, Some, map, option_map, slice_get, string_bytes};
+ghost use Rattle.nix_drv.specs.Parts.{entry_of};
 ghost use Rattle.process_build.specs.private.Answers.{answer_of, may_have_run, IsAnswerOf, IsReadingFault};
 ghost use Rattle.process_build.specs.private.Answers.{IsRoomFault, IsRunFault};
 ghost use Rattle.process_build.specs.Options.{AreOptionsOf};
-ghost use Rattle.process_build.specs.private.Preparations.{IsLogOf, IsPlaceOf, IsPreparationOf};
+ghost use Rattle.process_build.specs.private.Preparations.{AreAround, IsFolderOf, IsLogOf};
+ghost use Rattle.process_build.specs.private.Preparations.{IsPreparationOf};
+ghost use Rattle.process_build.specs.private.BuilderCalls.{Runs};
 
 use crate::disk::cleanup::Cleanup;
 use crate::disk::folders::BuildFolder;
+use crate::disk::fresh_folders::fresh_folder;
 use crate::disk::logs::{LogPath, Logs, OutputStreams};
 use crate::disk::outputs::read_outputs;
+use crate::disk::setup_files::write_files;
 use crate::process::builders::Builders;
-use crate::process::call::Call;
+use crate::process::caller::caller_entries;
 use crate::process::ended::EndedBuild;
 use crate::process::options::{BuildOptions, OwnOptions};
-use crate::process::start::{BuildSite, run_builder};
+use crate::process::setup::{Setup, SetupFile};
+use crate::process::start::{command, run_command};
+use crate::process::surroundings::Surroundings;
 use crate::reasons::{no_start, reason_before_start};
 use build_outcome::{Answer, Build, Job, LeaseObserver, Reason};
+use drv_graph::Profile;
+use nix_drv::EnvEntry;
+use nix_names::StorePath;
 use std::alloc::{AllocError, Global};
 use std::cell::Cell;
+use std::env::Env;
 use std::fs;
-use std::process::Processes;
+use std::process::{Command, Processes};
 use std::rt::Files;
 use std::sync::Wait;
 
-/// Builds each job by a process of its own, in a folder of its own within the store folder.
+/// Builds each job by a process of its own, in a folder of its own: under `plain` within the store
+/// folder, under `nix` within the folder for build folders, made with mode 0700 where nothing lay.
 ///
-/// The job's output paths and the build folder's are cleared first: a file, a link or an empty
-/// folder is removed, anything else is moved aside. The builder then runs in the build folder. Its
-/// standard input is empty, and what it prints goes to its log, or is not shown. If its exit status
+/// The job's output paths are cleared first, and under `plain` the build folder's: a file, a link or
+/// an empty folder is removed, anything else is moved aside. The builder then runs in the build
+/// folder, with the setup of the job's profile. Its standard input is empty, and what it prints goes
+/// to its log, or is not shown. If its exit status
 /// is 0, what it left at the output paths is read. At the end the build folder is cleared in the
 /// same way, and what was moved aside is removed. Where the folders of builders that failed are
 /// kept, that of a builder that ran waits for the end of the lease.
@@ -43,9 +56,8 @@ pub struct ProcessBuild<'a, R, P> {
 // What is made for a lease before anything is changed.
 #[derive(Drop)]
 struct Preparation<'a> {
-    call: Call<'a>,
+    setup: Setup<'a>,
     log: Option<LogPath>,
-    folder: BuildFolder,
 }
 
 impl<'a, R, P> ProcessBuild<'a, R, P> {
@@ -84,7 +96,7 @@ impl<'a, R, P> ProcessBuilders<'a, R, P> {
 
 impl<'a, R, P> Builders for ProcessBuilders<'a, R, P>
 where
-    R: Files + Logs + AllocGlobal + Wait + Sync,
+    R: Files + Logs + Env + AllocGlobal + Wait + Sync,
     P: Processes + Sync,
 {
     type Builder = ProcessBuild<'a, R, P>;
@@ -100,7 +112,7 @@ where
     }
 }
 
-impl<R: Files + Logs + AllocGlobal, P: Processes> Build for ProcessBuild<'_, R, P> {
+impl<R: Files + Logs + Env + AllocGlobal, P: Processes> Build for ProcessBuild<'_, R, P> {
     ghost use Rattle.process_build.specs.private.Answers.{MayEnd};
 
     // No more is promised of what a builder does.
@@ -111,10 +123,12 @@ impl<R: Files + Logs + AllocGlobal, P: Processes> Build for ProcessBuild<'_, R, 
     /// fails. `ReadFault` where its end can't be waited for. `ReadFault` and `TooLarge` where an
     /// output can't be read or passes a limit. `OutOfMemory` where memory was refused.
     fn run(&self, number: u64, job: &Job) -> Result<Answer, Reason> {
-        let preparation = self.prepare(number, job)?;
+        let caller = caller_entries(self.rt, job)?;
+        let folder = self.folder_of(number, job)?;
+        let preparation = self.prepare_or_remove(&folder, &caller, job)?;
         let mut clearing = Cleanup::new(self.rt, self.options.store_dir());
-        let left = self.build(&preparation, job, &mut clearing);
-        self.leave(preparation.folder, may_have_run(&left), &mut clearing);
+        let left = self.build(preparation, &folder, job, &mut clearing);
+        self.leave(folder, may_have_run(&left));
         clearing.finish();
         Ok(left?.answer())
     }
@@ -141,6 +155,15 @@ fn may_have_run(left: &Result<EndedBuild, Reason>) -> bool
     !matches!(left, Err(Reason::NoStart | Reason::OutOfMemory))
 }
 
+impl<R: Files + AllocGlobal, P> ProcessBuild<'_, R, P> {
+    // Clears a build folder, within the folder in which it is. It may be that it can't be removed.
+    fn clear(&self, left: &BuildFolder) {
+        let mut clearing = Cleanup::new(self.rt, left.dir());
+        let _ = clearing.clear(left.path());
+        clearing.finish();
+    }
+}
+
 impl<R: Files + AllocGlobal + Wait, P> ProcessBuild<'_, R, P> {
     // Adds a build folder to the list of those that are kept, unless nothing lies there. The list
     // has room for every derivation of the run.
@@ -152,16 +175,21 @@ impl<R: Files + AllocGlobal + Wait, P> ProcessBuild<'_, R, P> {
             let _ = kept.note(self.rt, left);
         }
     }
-
-    // Clears a build folder whose builder didn't fail.
-    fn clear(&self, left: &BuildFolder) {
-        let mut clearing = Cleanup::new(self.rt, self.options.store_dir());
-        let _ = clearing.clear(left.path());
-        clearing.finish();
-    }
 }
 
 impl<R: Files + Logs + AllocGlobal, P: Processes> ProcessBuild<'_, R, P> {
+    // The path of a job's derivation.
+    fn drv_of(&self, job: &Job) -> Result<&StorePath, Reason>
+        ensures ok { IfOk result (λ drv.
+            slice_get self.now.options.drvs job.now.derivation ≡ Some drv.now) }
+        ensures err { IfErr result IsRoomFault }
+    {
+        match self.options.drvs().get(job.derivation) {
+            Some(drv) => Ok(drv),
+            None => Err(Reason::NoStart),
+        }
+    }
+
     // The path of the log of a job's builder, if logs are kept.
     fn log_of(&self, job: &Job) -> Result<Option<LogPath>, Reason>
         ensures ok { IfOk result (IsLogOf self.now.options job.now.derivation) }
@@ -170,73 +198,144 @@ impl<R: Files + Logs + AllocGlobal, P: Processes> ProcessBuild<'_, R, P> {
         let Some(logs) = self.options.logs() else {
             return Ok(None);
         };
-        let Some(drv) = self.options.drvs().get(job.derivation) else {
-            return Err(Reason::NoStart);
-        };
+        let drv = self.drv_of(job)?;
         let log = LogPath::of(self.rt.alloc(), logs, self.options.store_dir(), drv)?;
         Ok(Some(log))
     }
 
-    // What is made for the lease with this number before anything is changed.
-    fn prepare<'j>(&self, number: u64, job: &'j Job) -> Result<Preparation<'j>, Reason>
-        ensures ok { IfOk result (IsPreparationOf self.now.options number job.now) }
+    // The build folder of the lease with this number. Under `nix` it is made.
+    fn folder_of(&self, number: u64, job: &Job) -> Result<BuildFolder, Reason>
+        ensures ok { IfOk result (IsFolderOf self.now.options number job.now job.now.profile) }
         ensures err { IfErr result IsRoomFault }
     {
-        let alloc = self.rt.alloc();
-        let call = Call::of(alloc, job)?;
+        match job.profile {
+            Profile::Plain => {
+                let store_dir = self.options.store_dir();
+                Ok(BuildFolder::new(self.rt.alloc(), store_dir, number)?)
+            }
+            Profile::Nix => {
+                let drv = self.drv_of(job)?;
+                fresh_folder(self.rt, self.options.build_dir(), drv, number)
+            }
+        }
+    }
+
+    // What is made before anything is changed for a builder that runs in a folder, where the caller's
+    // environment has these entries.
+    fn prepare<'j>(
+        &'j self,
+        folder: &'j BuildFolder,
+        caller: &'j [EnvEntry],
+        job: &'j Job,
+    ) -> Result<Preparation<'j>, Reason>
+        ensures ok { IfOk result
+            (IsPreparationOf self.now.options folder.now (map entry_of caller.now) job.now) }
+        ensures err { IfErr result IsRoomFault }
+    {
+        let around = self.around(folder, caller);
+        let setup = Setup::of(self.rt.alloc(), &around, job)?;
         let log = self.log_of(job)?;
-        let folder = BuildFolder::new(alloc, self.options.store_dir(), number)?;
-        Ok(Preparation { call, log, folder })
+        Ok(Preparation { setup, log })
+    }
+
+    // The same. Where that fails, the folder is removed that was made under `nix`.
+    fn prepare_or_remove<'j>(
+        &'j self,
+        folder: &'j BuildFolder,
+        caller: &'j [EnvEntry],
+        job: &'j Job,
+    ) -> Result<Preparation<'j>, Reason>
+        ensures ok { IfOk result
+            (IsPreparationOf self.now.options folder.now (map entry_of caller.now) job.now) }
+        ensures err { IfErr result IsRoomFault }
+    {
+        match self.prepare(folder, caller, job) {
+            Ok(preparation) => Ok(preparation),
+            Err(reason) => {
+                self.give_back(folder, job.profile);
+                Err(reason)
+            }
+        }
+    }
+
+    // Removes a folder that was made under `nix` and in which nothing lies yet.
+    fn give_back(&self, folder: &BuildFolder, profile: Profile) {
+        match profile {
+            Profile::Plain => {}
+            Profile::Nix => {
+                let _ = fs::remove_dir(self.rt, folder.path());
+            }
+        }
+    }
+
+    // What the setup of a builder depends on that runs in a folder.
+    fn around<'s>(&'s self, folder: &'s BuildFolder, caller: &'s [EnvEntry]) -> Surroundings<'s>
+        ensures { AreAround self.now.options folder.now (map entry_of caller.now) result }
+    {
+        Surroundings {
+            store_dir: self.options.store_dir(),
+            folder: folder.path(),
+            cores: self.options.cores(),
+            caller,
+            builtins: self.options.builtins(),
+        }
     }
 
     // Leaves the build folder of a builder that may have run until the end of the lease, if the
     // folders of builders that failed are kept, and else clears it. The answer stands, whether the
     // folder can be removed or not.
-    fn leave(&self, folder: BuildFolder, may_have_run: bool, clearing: &mut Cleanup<'_, R>) {
+    fn leave(&self, folder: BuildFolder, may_have_run: bool) {
         if may_have_run && self.options.kept().is_some() {
             self.left.set(Some(folder));
         } else {
-            let _ = clearing.clear(folder.path());
+            self.clear(&folder);
         }
     }
 
     // Makes room, runs the builder, and reads what it left, if its exit status is 0.
     fn build(
         &self,
-        preparation: &Preparation<'_>,
+        preparation: Preparation<'_>,
+        folder: &BuildFolder,
         job: &Job,
         clearing: &mut Cleanup<'_, R>,
     ) -> Result<EndedBuild, Reason>
         ensures good { IfOk result (λ left. IsAnswerOf job.now (answer_of left)) }
         ensures bad { IfErr result (λ reason. IsRunFault reason ⊎ IsReadingFault reason) }
     {
-        self.make_room(&preparation.folder, job, clearing)?;
+        self.make_room(folder, &preparation.setup.files, job, clearing)?;
         let alloc = self.rt.alloc();
         let outputs = OutputStreams::to(self.rt, self.rt, preparation.log.as_ref())?;
-        let place = self.place(&preparation.folder);
-        let ended = run_builder(alloc, self.processes, place, &preparation.call, outputs)?;
+        let mut command = self.command(&preparation.setup, folder, outputs)?;
+        let ended = run_command(self.processes, &mut command)?;
         let trees = match ended.code() {
-            Some(0) => read_outputs(self.rt, job, self.options.links())?,
+            Some(0) => read_outputs(self.rt, job)?,
             _ => Vec::new(alloc),
         };
         Ok(EndedBuild::by(ended, trees))
     }
 
-    // Where a builder runs in a folder, and what starts it.
-    fn place<'s>(&'s self, folder: &'s BuildFolder) -> BuildSite<'s>
-        ensures { IsPlaceOf self.now.options folder.now result }
+    // The command that runs a builder with its setup in a folder, with these outputs, by the runner of
+    // the options, where there is one.
+    fn command(
+        &self,
+        setup: &Setup<'_>,
+        folder: &BuildFolder,
+        outputs: OutputStreams<'_>,
+    ) -> Result<Command, AllocError>
+        ensures { IfOk result (Runs (option_map string_bytes self.now.options.runner) setup.now
+            (string_bytes folder.now.path)) }
     {
-        BuildSite {
-            store_dir: self.options.store_dir(),
-            folder,
-            runner: self.options.runner(),
-        }
+        let runner = self.options.runner();
+        command(self.rt.alloc(), runner, folder, setup, outputs)
     }
 
-    // Clears the places of the job's outputs and of the build folder, and makes the folder.
+    // Clears the places of the job's outputs, and what may lie at the build folder's; makes the folder
+    // under `plain`, and fills it under `nix`.
     fn make_room(
         &self,
         folder: &BuildFolder,
+        files: &[SetupFile<'_>],
         job: &Job,
         clearing: &mut Cleanup<'_, R>,
     ) -> Result<(), Reason>
@@ -245,6 +344,9 @@ impl<R: Files + Logs + AllocGlobal, P: Processes> ProcessBuild<'_, R, P> {
         for place in folder.places(self.rt.alloc(), job)? {
             clearing.clear(place).map_err(reason_before_start)?;
         }
-        fs::create_dir(self.rt, folder.path()).map_err(no_start)
+        match job.profile {
+            Profile::Plain => fs::create_dir(self.rt, folder.path()).map_err(no_start),
+            Profile::Nix => write_files(self.rt, folder, files),
+        }
     }
 }

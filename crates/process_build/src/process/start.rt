@@ -4,15 +4,16 @@ ghost use Rattle.std.specs.Prelude.{string_bytes};
 ghost use Rattle.std.specs.Process.{command_arg0, command_args, command_dir, command_program};
 ghost use Rattle.std.specs.Process.{SameDir, SameEnv, SameProgramAndArgs};
 ghost use Rattle.process_build.specs.private.Answers.{IsRunFault};
-ghost use Rattle.process_build.specs.private.BuilderCalls.{entries_in_order, entry_of_setting};
+ghost use Rattle.process_build.specs.Setups.{text_bytes};
 ghost use Rattle.process_build.specs.private.BuilderCalls.{args_by, name_by, program_by, program_of, Runs};
 
 use crate::disk::folders::BuildFolder;
 use crate::disk::logs::OutputStreams;
 use crate::failures::is_made_again;
-use crate::process::call::Call;
 use crate::process::ended::ProcessEnd;
-use crate::process::environment::{set_environment, settings};
+use crate::process::environment::set_environment;
+use crate::process::setup::Setup;
+use crate::process::texts::Text;
 use crate::reasons::{no_start, read_fault};
 use build_outcome::Reason;
 use std::alloc::{AllocError, Global};
@@ -21,31 +22,13 @@ use std::io::ErrorKind;
 use std::os::unix::process::CommandExt;
 use std::process::{Child, Command, Processes, Stdio};
 
-/// Where a builder runs, and the program that starts it, if one does.
-#[derive(Clone, Copy)]
-pub struct BuildSite<'a> {
-    /// The store folder.
-    pub store_dir: &'a str,
-    /// The folder in which it runs.
-    pub folder: &'a BuildFolder,
-    /// The path of the program that starts it, if one does.
-    pub runner: Option<&'a str>,
-}
-
-/// Runs a builder in its folder, with these outputs, and tells how it ended. It waits for the
-/// builder alone, and not for what that one has started. `NoStart` where it can't be started,
-/// `ReadFault` where it was and its end can't be waited for.
-pub fn run_builder<P: Processes>(
-    alloc: Global,
-    processes: &P,
-    place: BuildSite<'_>,
-    call: &Call<'_>,
-    outputs: OutputStreams<'_>,
-) -> Result<ProcessEnd, Reason>
+/// Starts a command and waits for its end. It waits for the builder alone, and not for what that one
+/// has started. `NoStart` where it can't be started, `ReadFault` where it was and its end can't be
+/// waited for.
+pub fn run_command<P: Processes>(processes: &P, command: &mut Command) -> Result<ProcessEnd, Reason>
     ensures { IfErr result IsRunFault }
 {
-    let mut command = command(alloc, place, call, outputs)?;
-    let mut builder = start(&mut command, processes).map_err(no_start)?;
+    let mut builder = start(command, processes).map_err(no_start)?;
     ProcessEnd::of(&mut builder).map_err(read_fault)
 }
 
@@ -61,25 +44,22 @@ fn start<P: Processes>(command: &mut Command, processes: &P) -> io::Result<Child
     Err(io::Error::from(ErrorKind::Interrupted))
 }
 
-// The command that runs a builder at its place.
-fn command(
+/// The command that runs a builder with its setup in a folder, with these outputs, by a runner where
+/// there is one.
+pub fn command(
     alloc: Global,
-    place: BuildSite<'_>,
-    call: &Call<'_>,
+    runner: Option<&str>,
+    folder: &BuildFolder,
+    setup: &Setup<'_>,
     outputs: OutputStreams<'_>,
 ) -> Result<Command, AllocError>
-    ensures { IfOk result (Runs (option_map (λ r. r.now) place.entry.runner) call.now.builder.now
-        (map (λ a. a.now) call.now.args.items)
-        (entries_in_order place.entry.store_dir.now (string_bytes place.entry.folder.now.path)
-        (map entry_of_setting call.now.env.items))
-        (string_bytes place.entry.folder.now.path)) }
+    ensures { IfOk result (Runs (option_map (λ r. r.now) runner.entry) setup.now
+        (string_bytes folder.now.path)) }
 {
-    let folder = place.folder.path();
-    let mut command = program_command(alloc, place.runner, call)?;
+    let mut command = program_command(alloc, runner, setup)?;
     set_streams(&mut command, outputs);
-    let settings = settings(alloc, place.store_dir, folder, &call.env)?;
-    set_environment(&mut command, &settings)?;
-    set_place(&mut command, folder, name(place.runner, call.builder))?;
+    set_environment(&mut command, &setup.env)?;
+    set_place(&mut command, folder.path(), name(runner, setup.name))?;
     Ok(command)
 }
 
@@ -88,20 +68,20 @@ fn command(
 fn program_command(
     alloc: Global,
     runner: Option<&str>,
-    call: &Call<'_>,
+    setup: &Setup<'_>,
 ) -> Result<Command, AllocError>
     ensures program { IfOk result (λ c. command_program c
-        ≡ program_by (option_map (λ r. r.now) runner.entry) call.now.builder.now) }
+        ≡ program_by (option_map (λ r. r.now) runner.entry) setup.now.builder.now) }
     ensures args { IfOk result (λ c. command_args c
-        ≡ args_by (option_map (λ r. r.now) runner.entry) call.now.builder.now
-        (map (λ a. a.now) call.now.args.items)) }
+        ≡ args_by (option_map (λ r. r.now) runner.entry) setup.now.builder.now
+        (map text_bytes setup.now.args.items)) }
 {
-    let program = program(alloc, call.builder)?;
+    let program = program(alloc, setup.builder)?;
     let mut command = match runner {
         Some(runner) => by_runner(alloc, runner, program.as_str())?,
         None => Command::new(alloc, program)?,
     };
-    set_args(&mut command, &call.args)?;
+    set_args(&mut command, &setup.args)?;
     Ok(command)
 }
 
@@ -116,12 +96,12 @@ fn by_runner(alloc: Global, runner: &str, program: &str) -> Result<Command, Allo
 }
 
 // The name that what is started is told as its own: the builder's, or the runner's path.
-fn name<'a>(runner: Option<&'a str>, builder: &'a str) -> &'a str
-    ensures { result.now ≡ name_by (option_map (λ r. r.now) runner.entry) builder.now }
+fn name<'a>(runner: Option<&'a str>, own: &'a str) -> &'a str
+    ensures { result.now ≡ name_by (option_map (λ r. r.now) runner.entry) own.now }
 {
     match runner {
         Some(runner) => runner,
-        None => builder,
+        None => own,
     }
 }
 
@@ -149,15 +129,15 @@ fn program(alloc: Global, builder: &str) -> Result<String, AllocError>
 }
 
 // Gives a command these arguments.
-fn set_args(command: &mut Command, args: &[&str]) -> Result<(), AllocError>
+fn set_args(command: &mut Command, args: &[Text<'_>]) -> Result<(), AllocError>
     ensures args { OnOk result (command_args command.new
-        ≡ command_args command.old ++ map (λ a. a.now) args.now) }
+        ≡ command_args command.old ++ map text_bytes args.now) }
     ensures program { OnOk result (command_program command.new ≡ command_program command.old) }
     ensures env { OnOk result (SameEnv command.old command.new) }
     ensures dir { OnOk result (SameDir command.old command.new) }
 {
     for arg in args {
-        command.arg(*arg)?;
+        command.arg(arg.as_str())?;
     }
     Ok(())
 }

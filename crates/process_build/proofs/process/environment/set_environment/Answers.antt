@@ -10,6 +10,6 @@ loop-setting-preserved c =
       clears = has.clears ∙ had.clears;
       call = (has.call.0 ∙ had.call.0, has.call.1 ∙ had.call.1);
       dir = has.dir ∙ had.dir;
-      vars = set_more c.loop-setting.command c.set.new.command c.args.settings.now
-          c.loop-setting.setting-index _ c.loop-setting-test.true has.set has.others had.vars;
+      vars = set_more c.loop-setting.command c.set.new.command c.args.settings.now c.loop-setting.setting-index
+          c.setting-item.result c.loop-setting-test.true c.setting-item.is has.set has.others had.vars;
     }

@@ -13,4 +13,4 @@ decreases-tree g l = 3 * l.below + 2
 
 -- the members so far have no symbolic links where outputs may have none
 abbrev pub invariant-members-loop-name : goal.invariant-members-loop-name
-invariant-members-loop-name g l = AreAllowed l.links l.members.items
+invariant-members-loop-name g l = AreAllowed l.profile l.members.items

@@ -1,0 +1,77 @@
+-- Names that are sorted, each once, and told from the first one on.
+use Rattle.std.proofs.Common.{◌≡◌, ◌∙◌, ◌↔◌, ℕ, Bool, List, [], ◌∷◌, map, refl, ap, sym, subst, All}
+use Rattle.std.specs.Prelude.{Contains, nat_eq, reverse}
+use Rattle.std.specs.Cmp.Lexicographic.{pointwise, slice_cmp}
+use Rattle.std.specs.List.{dedup}
+use Rattle.std.specs.List.Sorted.{IsPermutation, IsSorted}
+use Rattle.std.specs.Ordering.{nat_cmp}
+use Rattle.std.proofs.lemmas.List.{reverse-reverse}
+use Rattle.std.proofs.lemmas.List.Elements.{All-head, All-map, All-tail}
+use Rattle.std.proofs.lemmas.List.Filters.{All-dedup}
+use Rattle.std.proofs.lemmas.List.Sorted.{All-permutation, Contains-permutation, IsPermutation-map, IsPermutation-reverse, IsPermutation-sym}
+use Rattle.std.specs.declared.alloc.Global.{Global}
+use Rattle.std.specs.declared.vec.Vec.{Vec}
+use Rattle.nix_names.specs.Rising.{IsRising}
+use Rattle.drv_graph.proofs.Gathering.{names_sorted}
+use Rattle.nix_archive.specs.Trees.{Bytes, IsAfter, IsName}
+use Rattle.process_build.specs.private.Walking.{AreAhead, AreNames, HaveSameNames, first_first}
+
+abbrev bytes_in : Vec ℕ Global → Bytes
+bytes_in name = name.items
+
+abbrev same_bytes : Vec ℕ Global → Vec ℕ Global → Bool
+same_bytes x y = pointwise nat_eq x.items y.items
+
+after_none : (name : Bytes) → IsName name → IsAfter [] name
+after_none [] is = absurd (is.not_empty refl)
+after_none (byte ∷ bytes) is = refl
+
+later_ahead : (name : Bytes) (names : List Bytes) → IsRising (name ∷ names) → All IsName names
+    → AreAhead name names
+later_ahead name [] rises are = tt
+later_ahead name (x ∷ xs) rises are = (
+  All-head IsName x xs are,
+  rises.0,
+  later_ahead x xs rises.1 (All-tail IsName x xs are),
+)
+
+-- names that rise come one after another
+ahead : (names : List Bytes) → IsRising names → All IsName names → AreAhead [] names
+ahead [] rises are = tt
+ahead (x ∷ xs) rises are =
+    let is = All-head IsName x xs are in
+    (is, after_none x is, later_ahead x xs rises (All-tail IsName x xs are))
+
+-- a sort, each name once, and the last first
+pub sorted_ahead : (names sorted kept last_first : List (Vec ℕ Global)) → AreNames names
+    → IsPermutation names sorted
+    → IsSorted (λ (x y : Vec ℕ Global). slice_cmp nat_cmp x.items y.items) sorted
+    → kept ≡ dedup same_bytes sorted → last_first ≡ reverse kept
+    → AreAhead [] (first_first last_first)
+sorted_ahead names sorted kept last_first are moved ordered is turned =
+    let same : first_first last_first ≡ map bytes_in kept =
+    ap first_first turned ∙ ap (map bytes_in) (reverse-reverse kept) in
+    let each : AreNames kept = subst AreNames (sym is)
+    (All-dedup same_bytes (λ (n : Vec ℕ Global). IsName n.items) sorted
+    (All-permutation (λ (n : Vec ℕ Global). IsName n.items) names sorted moved are)) in
+    subst (AreAhead []) (sym same)
+    (ahead (map bytes_in kept) (names_sorted names sorted kept moved ordered is).0
+    (All-map IsName bytes_in kept each))
+
+-- the same names as before
+pub sorted_same : (names sorted kept last_first : List (Vec ℕ Global))
+    → IsPermutation names sorted
+    → IsSorted (λ (x y : Vec ℕ Global). slice_cmp nat_cmp x.items y.items) sorted
+    → kept ≡ dedup same_bytes sorted → last_first ≡ reverse kept
+    → HaveSameNames last_first names
+sorted_same names sorted kept last_first moved ordered is turned name =
+    let turns : IsPermutation (map bytes_in kept) (map bytes_in (reverse kept)) =
+    IsPermutation-map bytes_in kept (reverse kept) (IsPermutation-reverse kept) in
+    let both = (names_sorted names sorted kept moved ordered is).1 name in
+    subst (λ (l : List (Vec ℕ Global)). Contains (map bytes_in l) name
+    ↔ Contains (map bytes_in names) name) (sym turned) (
+      λ c. both.0 (Contains-permutation (map bytes_in (reverse kept)) (map bytes_in kept) name
+          (IsPermutation-sym _ _ turns) c),
+      λ c. Contains-permutation (map bytes_in kept) (map bytes_in (reverse kept)) name turns
+          (both.1 c),
+    )

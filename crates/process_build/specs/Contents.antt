@@ -1,0 +1,30 @@
+-- What is read of an output: the bytes of a file, and the members of a folder.
+use Rattle.std.specs.Prelude.{◌≡◌, ◌<◌, ◌≤◌, ℕ, List, [], ◌∷◌, ◌++◌, All, IfSome, Option, length}
+use Rattle.std.specs.Io.KnownBytes.{Consumes, IsAtEnd}
+use Rattle.std.specs.declared.alloc.Global.{Global}
+use Rattle.std.specs.declared.vec.Vec.{Vec}
+use Rattle.nix_names.specs.Bytes.{Bytes, Name}
+use Rattle.drv_graph.specs.declared.profile.Profile.{Profile}
+use Rattle.drv_graph.specs.declared.profile.Profile.TheVariants.{Plain}
+use Rattle.ref_scan.specs.Links.{targets}
+use Rattle.ref_scan.specs.Trees.{joined}
+use Rattle.ref_scan.specs.declared.tree.Tree.{Tree}
+
+-- The pieces are all bytes that a file had left, where those are known, and none is longer than
+-- 65,536 bytes.
+pub record IsWhole (old new : Option Bytes) (pieces : List (Vec ℕ Global)) : Type 0 where
+  pub is_read : Consumes old new (joined pieces)
+  pub is_ended : IsAtEnd new
+  pub are_short : All (λ piece. length piece.items ≤ 65536) pieces
+
+-- under `plain` a tree has no symbolic links
+abbrev pub IsAllowed : Profile → Tree → Type 0
+IsAllowed profile tree = profile ≡ Plain → targets tree ≡ []
+
+-- a file has more bytes left than this number, where they are known
+abbrev pub IsMoreThan : ℕ → (left : Option Bytes) → Type 0
+IsMoreThan limit left = IfSome left (λ bytes. limit < length bytes)
+
+-- the path of a member of the folder at a path
+abbrev pub child_of : (path : Bytes) → Name → Bytes
+child_of path name = path ++ 47 ∷ name
