@@ -1,6 +1,7 @@
 -- What `clap` found in the words of this command line, where it finds no fault in them.
-use Rattle.std.proofs.Common.{◌≡◌, ◌∙◌, ◌||◌, ◌&&◌, ◌⊎◌, ap, inl, inr, refl, sym, subst, ℕ, Bool, true, false, List, [], ◌∷◌, Option, Some, None, cond}
-use Rattle.std.specs.Prelude.{IfSome, codes, find, fold, is_some, option_map, pos, slice_get}
+use Rattle.std.proofs.Common.{◌≡◌, ◌∙◌, ◌||◌, ◌&&◌, ◌⊎◌, ap, inl, inr, refl, sym, subst, ℕ, zero, suc, Bool, true, false, List, [], ◌∷◌, Option, Some, None, cond, get_or}
+use Rattle.std.specs.Prelude.{IfSome, codes, drop, find, fold, is_some, not, option_map, pos, slice_get}
+use Rattle.std.specs.Prelude.{take}
 use Rattle.std.specs.List.{list_all}
 use Rattle.std.specs.Option.{option_map_or}
 use Rattle.std.specs.Str.{bytes_eq}
@@ -10,16 +11,19 @@ use Rattle.clap.specs.Lexer.{long_of, short_of}
 use Rattle.clap.specs.ValueTests.{accepts}
 use Rattle.clap.proofs.ValueTestLemmas.{accepts-Accepts}
 use Rattle.clap.proofs.WalkLemmas.{both}
-use Rattle.clap.specs.Words.{IsSignedIn}
+use Rattle.clap.specs.Values.{Accepts, reading_of}
 use Rattle.clap.specs.Kinds.{Kinds, or_else}
 use Rattle.clap.specs.Faults.{check_fault, defaults_fault, entered_fault, level_fault, other_fault, settle_fault, turn_fault, walk_fault, word_fault}
 use Rattle.clap.specs.Simple.{App, Shape, argument_words, built, entered, label_of, names_of, rows_at, subcommand_of}
-use Rattle.clap.specs.Walk.{Held, Names, Outcome, Row, Rule, Step, Text, Waiting, Walk, after_flag, after_step, answers_to, arg_by_index, done, finished, long_or_other, next, nothing_held, option, plain_word, settled, short_or_plain, subcommand, subcommand_met, subcommand_or_other, to_positional, trailing, value, waits, walk, walk_from, walked, walked_from, word_met}
-use Rattle.clap.specs.declared.builder.value_parser.ValueParser.TheVariants.{Signed}
+use Rattle.clap.specs.Walk.{Held, Names, Outcome, Row, Rule, Step, Text, Waiting, Walk, action_of, after_flag, after_step, answers_to, arg_by_index, done, finished, long_or_other, next, nothing_held, option, plain_word, settled, short_or_plain, subcommand, subcommand_met, subcommand_or_other, to_positional, trailing, value, waits, walk, walk_from, walked, walked_from, word_met}
+use Rattle.clap.specs.declared.builder.value_parser.ValueParser.{ValueParser}
+use Rattle.clap.specs.declared.builder.value_parser.ValueParser.TheVariants.{Signed, Unsigned}
 use Rattle.clap.specs.declared.error.kind.ErrorKind.{ErrorKind}
-use Rattle.command_line.proofs.Walks.{AtSome, Each, IsRead, Passes, at_found, level_passes, neither}
+use Rattle.command_line.proofs.CommandLines.{not_true}
+use Rattle.command_line.proofs.Walks.{AtSome, Each, IsRead, Passes, at_found, is_count, level_passes}
+use Rattle.command_line.proofs.Walks.{neither}
 use Rattle.command_line.specs.CommandLine.{command_line}
-use Rattle.command_line.specs.private.Found.{HasJobs, IsFound, IsJobsRow, IsSubcommand}
+use Rattle.command_line.specs.private.Found.{IsFound, IsSubcommand}
 use Rattle.command_line.specs.Usage.{faults_in}
 
 -- where a walk stopped is not at `help`
@@ -130,25 +134,25 @@ abbrev IsSub : Shape → Type 0
 IsSub s =
     (IsSubcommand s.name ⊎ ((s.name ≡ codes "help") × (s.aliases ≡ [])))
     × Each (IsRead (codes "jobs") (Signed (pos 1) (pos 64))) s.rules
+    × Each (IsRead (codes "cores") (Unsigned 0 65535)) s.rules
 
--- what was found among the rows of a subcommand
-jobs_row : (rows : List Row) → Each (Passes (codes "jobs") (Signed (pos 1) (pos 64))) rows
-    → HasJobs rows
-jobs_row rows each =
-    at_row (find (λ r. bytes_eq r.id (codes "jobs")) rows)
-    (at_found (Passes (codes "jobs") (Signed (pos 1) (pos 64))) (λ r. bytes_eq r.id (codes "jobs"))
-    rows each)
+-- what was found of an argument among the rows of a subcommand
+found_row : (id : Text) (p : ValueParser) (rows : List Row) → Each (Passes id p) rows
+    → IfSome (find (λ r. bytes_eq r.id id) rows)
+    (λ r. (r.reading ≡ reading_of p) × IfSome (slice_get r.values 0) (Accepts false p))
+found_row id p rows each =
+    at_row (find (λ r. bytes_eq r.id id) rows)
+    (at_found (Passes id p) (λ r. bytes_eq r.id id) rows each)
   where
-    first : (values : List Text)
-        → list_all (accepts false (Signed (pos 1) (pos 64))) values ≡ true
-        → IfSome (slice_get values 0) (IsSignedIn (pos 1) (pos 64))
+    first : (values : List Text) → list_all (accepts false p) values ≡ true
+        → IfSome (slice_get values 0) (Accepts false p)
     first [] e = tt
-    first (v ∷ vs) e = accepts-Accepts false (Signed (pos 1) (pos 64)) v (both _ _ e).0
+    first (v ∷ vs) e = accepts-Accepts false p v (both _ _ e).0
 
     at_row : (found : Option Row)
-        → AtSome (λ r. Passes (codes "jobs") (Signed (pos 1) (pos 64)) r
-        × (bytes_eq r.id (codes "jobs") ≡ true)) found
-        → IfSome found IsJobsRow
+        → AtSome (λ r. Passes id p r × (bytes_eq r.id id ≡ true)) found
+        → IfSome found
+        (λ r. (r.reading ≡ reading_of p) × IfSome (slice_get r.values 0) (Accepts false p))
     at_row None h = tt
     at_row (Some r) h =
         let is = h.0 h.1 in (is.0, first r.values is.1)
@@ -176,8 +180,10 @@ at_sub : (found : Option Shape) (word : Text) (words : List Text)
 at_sub None word words is other none has = absurd (false≢true has)
 at_sub (Some s) word words is other none has = (
   own_name s word is.0.0 is.1 other,
-  jobs_row (rows_at s words).1 (level_passes (codes "jobs") (Signed (pos 1) (pos 64)) s [] words
-      false [] is.0.1 none),
+  found_row (codes "jobs") (Signed (pos 1) (pos 64)) (rows_at s words).1
+      (level_passes (codes "jobs") (Signed (pos 1) (pos 64)) s [] words false [] is.0.1 none),
+  found_row (codes "cores") (Unsigned 0 65535) (rows_at s words).1
+      (level_passes (codes "cores") (Unsigned 0 65535) s [] words false [] is.0.2 none),
 )
 
 at_stop : (a : App) (stop : Option (Text × List Text)) → Each IsSub a.subs → NotHelp stop
@@ -209,8 +215,92 @@ at_level a words subs wanted helps stop is none =
     let other = walk_stop a.top (names_of a) helps words (walk_from nothing_held) first.0 tt in
     at_stop a stop subs (subst NotHelp (sym is) other) second.0 has
 
+-- an argument of another id, and no count
+abbrev is_other : (id : Text) → Rule → Bool
+is_other id a = not (is_count (action_of a)) && not (bytes_eq a.id id)
+
+module _ (id : Text) (p : ValueParser) where
+  other_read : (a : Rule) → is_other id a ≡ true → IsRead id p a
+  other_read a e =
+      let parts = both _ _ e in (
+        not_true _ parts.0,
+        λ own. absurd (false≢true (sym (not_true _ parts.1) ∙ own)),
+      )
+
+  others_read : (rules : List Rule) → list_all (is_other id) rules ≡ true
+      → Each (IsRead id p) rules
+  others_read [] e = tt
+  others_read (a ∷ rest) e =
+      let parts = both _ _ e in (other_read a parts.0, others_read rest parts.1)
+
+  -- all arguments, where the first ones are others
+  read_from : (n : ℕ) (rules : List Rule) → list_all (is_other id) (take n rules) ≡ true
+      → Each (IsRead id p) (drop n rules) → Each (IsRead id p) rules
+  read_from n [] e h = tt
+  read_from zero (a ∷ rest) e h = h
+  read_from (suc n) (a ∷ rest) e h =
+      let parts = both _ _ e in (other_read a parts.0, read_from n rest parts.1 h)
+
+-- a subcommand without numbers
+plain_sub : (s : Shape) → IsSubcommand s.name ⊎ ((s.name ≡ codes "help") × (s.aliases ≡ []))
+    → list_all (is_other (codes "jobs")) s.rules ≡ true
+    → list_all (is_other (codes "cores")) s.rules ≡ true → IsSub s
+plain_sub s own jobs cores = (own, others_read _ _ s.rules jobs, others_read _ _ s.rules cores)
+
+-- a subcommand with both, each behind so many other arguments
+numbers_sub : (s : Shape) → IsSubcommand s.name ⊎ ((s.name ≡ codes "help") × (s.aliases ≡ []))
+    → (j k : ℕ) → list_all (is_other (codes "jobs")) (take j s.rules) ≡ true
+    → Each (IsRead (codes "jobs") (Signed (pos 1) (pos 64))) (drop j s.rules)
+    → list_all (is_other (codes "cores")) (take k s.rules) ≡ true
+    → Each (IsRead (codes "cores") (Unsigned 0 65535)) (drop k s.rules) → IsSub s
+numbers_sub s own j k before jobs earlier cores = (
+  own,
+  read_from _ _ j s.rules before jobs,
+  read_from _ _ k s.rules earlier cores,
+)
+
+-- the subcommand with this number
+abbrev sub_at : ℕ → Shape
+sub_at number = get_or (built command_line).subs number (built command_line).top
+
 own_subs : Each IsSub (built command_line).subs
-own_subs = ((inl (inl refl), ((refl, λ e. absurd (false≢true e)), ((refl, λ e. absurd (false≢true e)), ((refl, λ e. absurd (false≢true e)), tt)))), ((inl (inr (inl refl)), ((refl, λ e. absurd (false≢true e)), ((refl, λ e. absurd (false≢true e)), ((refl, λ e. absurd (false≢true e)), ((refl, λ e. absurd (false≢true e)), ((refl, λ e. absurd (false≢true e)), ((refl, λ e. absurd (false≢true e)), tt))))))), ((inl (inr (inr (inl refl))), ((refl, λ e. absurd (false≢true e)), ((refl, λ e. absurd (false≢true e)), ((refl, λ e. absurd (false≢true e)), ((refl, λ e. absurd (false≢true e)), tt))))), ((inl (inr (inr (inr (inl refl)))), ((refl, λ e. absurd (false≢true e)), ((refl, λ e. absurd (false≢true e)), ((refl, λ e. absurd (false≢true e)), ((refl, λ e. absurd (false≢true e)), ((refl, λ e. absurd (false≢true e)), ((refl, λ e. absurd (false≢true e)), tt))))))), ((inl (inr (inr (inr (inr refl)))), ((refl, λ e. absurd (false≢true e)), ((refl, λ e. absurd (false≢true e)), ((refl, λ e. absurd (false≢true e)), ((refl, λ e. (refl, refl)), ((refl, λ e. absurd (false≢true e)), ((refl, λ e. absurd (false≢true e)), ((refl, λ e. absurd (false≢true e)), ((refl, λ e. absurd (false≢true e)), ((refl, λ e. absurd (false≢true e)), ((refl, λ e. absurd (false≢true e)), ((refl, λ e. absurd (false≢true e)), ((refl, λ e. absurd (false≢true e)), ((refl, λ e. absurd (false≢true e)), tt)))))))))))))), ((inr (refl, refl), ((refl, λ e. absurd (false≢true e)), tt)), tt))))))
+own_subs = (
+  plain_sub (sub_at 0) (inl (inl refl)) refl refl,
+  (
+    plain_sub (sub_at 1) (inl (inr (inl refl))) refl refl,
+    (
+      plain_sub (sub_at 2) (inl (inr (inr (inl refl)))) refl refl,
+      (
+        plain_sub (sub_at 3) (inl (inr (inr (inr (inl refl))))) refl refl,
+        (
+          numbers_sub (sub_at 4) (inl (inr (inr (inr (inr (inl refl)))))) 6 14 refl (
+            (refl, λ e. (refl, refl)),
+            others_read (codes "jobs") (Signed (pos 1) (pos 64)) (drop 7 (sub_at 4).rules) refl,
+          ) refl (
+            (refl, λ e. (refl, refl)),
+            others_read (codes "cores") (Unsigned 0 65535) (drop 15 (sub_at 4).rules) refl,
+          ),
+          (
+            plain_sub (sub_at 5) (inl (inr (inr (inr (inr (inr (inl refl))))))) refl refl,
+            (
+              plain_sub (sub_at 6) (inl (inr (inr (inr (inr (inr (inr (inl refl)))))))) refl refl,
+              (
+                plain_sub (sub_at 7) (inl (inr (inr (inr (inr (inr (inr (inr (inl refl))))))))) refl refl,
+                (
+                  plain_sub (sub_at 8) (inl (inr (inr (inr (inr (inr (inr (inr (inr refl))))))))) refl refl,
+                  (
+                    plain_sub (sub_at 9) (inr (refl, refl)) refl refl,
+                    tt,
+                  ),
+                ),
+              ),
+            ),
+          ),
+        ),
+      ),
+    ),
+  ),
+)
 
 -- what is found where there is no fault
 pub found_rows : (words : List Text) → faults_in words ≡ []

@@ -1,4 +1,6 @@
+pub mod BuiltinWords
 pub mod CommandLines
+pub mod Cores
 pub mod Found
 pub mod Jobs
 pub mod Rows

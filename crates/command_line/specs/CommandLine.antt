@@ -3,7 +3,7 @@
 use Rattle.std.specs.Prelude.{[], ◌∷◌, Some, pos, true, codes}
 use Rattle.clap.specs.Words.{App, Rule, new_app, new_rule, with_rule, with_subcommand}
 use Rattle.clap.specs.declared.builder.action.ArgAction.TheVariants.{Append, SetTrue}
-use Rattle.clap.specs.declared.builder.value_parser.ValueParser.TheVariants.{Signed}
+use Rattle.clap.specs.declared.builder.value_parser.ValueParser.TheVariants.{Signed, Unsigned}
 use Rattle.nix_names.specs.Bytes.{Bytes, Name}
 
 -- an option with one value
@@ -29,6 +29,14 @@ journal_option = option (codes "journal")
 -- the option with the system
 abbrev pub system_option : Rule
 system_option = option_or (codes "system") (codes "x86_64-linux")
+
+-- the option with the features of the system, as one text
+abbrev pub features_option : Rule
+features_option = option (codes "system-features")
+
+-- the option with a builtin builder and its program, as often as it is given
+abbrev pub builtin_option : Rule
+builtin_option = record (option (codes "builtin")) { action = Some Append }
 
 -- the option with the number of builders, a whole number from 1 to 64
 abbrev pub jobs_option : Rule
@@ -67,13 +75,25 @@ runner_option = option (codes "runner")
 abbrev pub trace_option : Rule
 trace_option = option (codes "trace")
 
--- the option with the kind of outputs
-abbrev pub outputs_option : Rule
-outputs_option = option_or (codes "outputs") (codes "plain")
+-- the option with the folder that gets the build folders
+abbrev pub build_dir_option : Rule
+build_dir_option = option (codes "build-dir")
+
+-- the option with the number of processors that a builder is told of, a whole number to 65,535
+abbrev pub cores_option : Rule
+cores_option = record (option (codes "cores")) { parser = Some (Unsigned 0 65535) }
+
+-- the option with the profile
+abbrev pub profile_option : Rule
+profile_option = option_or (codes "profile") (codes "plain")
 
 -- one or more words DRV
 abbrev pub drv_words : Rule
 drv_words = record (required_word (codes "DRV")) { action = Some Append }
+
+-- words PATH, as many as wanted
+abbrev pub path_words : Rule
+path_words = record (new_rule (codes "PATH")) { action = Some Append }
 
 -- the subcommand `check`
 abbrev pub check_line : App
@@ -85,33 +105,40 @@ add_text_line =
     with_rule
     (with_rule
     (with_rule
-    (with_rule (with_rule (new_app (codes "add-text")) store_dir_option) journal_option) wait_flag)
-    (required_word (codes "NAME"))) (required_word (codes "FILE"))
+    (with_rule
+    (with_rule (with_rule (new_app (codes "add-text")) store_dir_option) journal_option)
+    profile_option) wait_flag) (required_word (codes "NAME"))) (required_word (codes "FILE"))
 
 -- the subcommand `add-drv`
 abbrev pub add_drv_line : App
 add_drv_line =
     with_rule
-    (with_rule (with_rule (new_app (codes "add-drv")) store_dir_option)
+    (with_rule
+    (with_rule (with_rule (new_app (codes "add-drv")) store_dir_option) profile_option)
     (required_word (codes "NAME"))) (required_word (codes "FILE"))
 
 -- a subcommand that takes a plan and a journal, by its name, with the options that both have
 abbrev pub run_options : (name : Name) → App
 run_options name =
-    with_rule (with_rule (with_rule (new_app name) store_dir_option) journal_option) system_option
+    with_rule
+    (with_rule
+    (with_rule
+    (with_rule
+    (with_rule (with_rule (new_app name) store_dir_option) journal_option)
+    system_option) profile_option) features_option) builtin_option
 
 -- the subcommand `plan`
 abbrev pub plan_line : App
 plan_line = with_rule (with_rule (run_options (codes "plan")) dot_flag) drv_words
 
--- a subcommand with the options on how builders are started, on what is kept of their runs, and on
--- what they may make
+-- a subcommand with the options on how builders are started, and on what is kept of their runs
 abbrev pub with_builder_options : App → App
 with_builder_options line =
     with_rule
     (with_rule
+    (with_rule
     (with_rule (with_rule (with_rule line logs_option) keep_failed_flag) runner_option)
-    trace_option) outputs_option
+    trace_option) build_dir_option) cores_option
 
 -- the subcommand `realise`
 abbrev pub realise_line : App
@@ -121,6 +148,26 @@ realise_line =
     (with_rule
     (with_rule (with_rule (run_options (codes "realise")) jobs_option) wait_flag)
     in_nix_store_flag)) drv_words
+
+-- a subcommand with one word, the path of a file, a folder or a link
+abbrev pub path_line : (name : Name) → App
+path_line name = with_rule (new_app name) (required_word (codes "PATH"))
+
+-- the subcommand `verify`
+abbrev pub verify_line : App
+verify_line =
+    with_rule
+    (with_rule (with_rule (new_app (codes "verify")) store_dir_option) journal_option)
+    path_words
+
+-- a command with the subcommands that read and make archives, and the one that verifies by them
+abbrev pub with_archives : App → App
+with_archives line =
+    with_subcommand
+    (with_subcommand
+    (with_subcommand
+    (with_subcommand line (path_line (codes "dump")).top) (path_line (codes "restore")).top)
+    (path_line (codes "hash")).top) verify_line.top
 
 -- the program, which has a version and wants a subcommand
 abbrev pub top_line : App
@@ -134,8 +181,9 @@ top_line =
 -- the whole command line
 abbrev pub command_line : App
 command_line =
-    with_subcommand
+    with_archives
+    (with_subcommand
     (with_subcommand
     (with_subcommand
     (with_subcommand (with_subcommand top_line check_line.top) add_text_line.top)
-    add_drv_line.top) plan_line.top) realise_line.top
+    add_drv_line.top) plan_line.top) realise_line.top)

@@ -8,7 +8,7 @@ use Rattle.clap.specs.declared.error.kind.ErrorKind.{ErrorKind}
 use Rattle.clap.specs.declared.error.kind.ErrorKind.TheVariants.{OutOfMemory}
 use Rattle.nix_names.specs.Bytes.{Bytes}
 use Rattle.command_line.specs.CommandLine.{command_line}
-use Rattle.command_line.specs.Kinds.{IsKindFaultIn}
+use Rattle.command_line.specs.Profiles.{IsWordFaultIn}
 use Rattle.command_line.specs.Requests.{IsRequest}
 use Rattle.command_line.specs.declared.options.Request.{Request}
 use Rattle.command_line.specs.declared.options.Request.TheVariants.{Faults}
@@ -28,11 +28,11 @@ IsAsked words request =
     (AskForFaults words × (request ≡ Faults))
     ⊎ (¬ AskForFaults words × IsRequest words request × (faults_in words ≡ []))
 
--- Why `clap` does not take the words: it finds a fault in them; or it finds none, and they ask for
--- outputs of a kind that is none, or memory is refused.
+-- Why the words are not taken: `clap` finds a fault in them; or it finds none, and they name a
+-- profile that is none, or give programs in a way that isn't taken; or memory is refused.
 abbrev pub IsReadFault : (words : List Bytes) → ErrorKind → Type 0
 IsReadFault words kind = (kind ≡ OutOfMemory) ⊎ (IsAmong kind (faults_in words)
-    ⊎ (IsKindFaultIn (subcommand_of command_line words) kind × (faults_in words ≡ [])))
+    ⊎ (IsWordFaultIn (subcommand_of command_line words) kind × (faults_in words ≡ [])))
 
 -- why the words are not taken, which do not ask for the table of faults
 abbrev pub IsUsageFault : (words : List Bytes) → ErrorKind → Type 0

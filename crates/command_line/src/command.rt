@@ -1,52 +1,20 @@
 //! The command line that `clap` reads: its subcommands, and the words and options of each.
-ghost use Rattle.std.specs.Prelude.{◌≡◌, IfOk, false};
-ghost use Rattle.clap.specs.Words.{app_of, new_app, rule_of, with_subcommand};
+ghost use Rattle.std.specs.Prelude.{◌≡◌, IfOk};
+ghost use Rattle.clap.specs.Words.{app_of, new_app, with_subcommand};
 ghost use Rattle.command_line.specs.CommandLine.{add_drv_line, add_text_line, check_line};
-ghost use Rattle.command_line.specs.CommandLine.{command_line, dot_flag, drv_words};
-ghost use Rattle.command_line.specs.CommandLine.{in_nix_store_flag, jobs_option, keep_failed_flag};
-ghost use Rattle.command_line.specs.CommandLine.{logs_option, outputs_option, runner_option};
-ghost use Rattle.command_line.specs.CommandLine.{trace_option, wait_flag};
-ghost use Rattle.command_line.specs.CommandLine.{with_builder_options};
-ghost use Rattle.command_line.specs.CommandLine.{journal_option, plan_line, realise_line, run_options};
-ghost use Rattle.command_line.specs.CommandLine.{store_dir_option};
-ghost use Rattle.command_line.specs.CommandLine.{system_option, top_line};
-ghost use Rattle.command_line.specs.CommandLine.{required_word};
+ghost use Rattle.command_line.specs.CommandLine.{command_line, path_line, plan_line, realise_line};
+ghost use Rattle.command_line.specs.CommandLine.{run_options, top_line, verify_line};
+ghost use Rattle.command_line.specs.CommandLine.{with_archives, with_builder_options};
 
-use clap::{Arg, ArgAction, Command, value_parser};
+use crate::arguments::{
+    FILE, NAME, PATHS, build_dir, builtin, cores, dot, drvs, features, in_nix_store, jobs, journal,
+    keep_failed, logs, paths, profile, runner, store_dir, system, trace, wait, wanted_drvs, word,
+};
+use clap::Command;
 use std::alloc::{AllocError, Global};
 
 // The version of this crate.
 const VERSION: &str = "0.1.0";
-
-pub const STORE_DIR: &str = "store-dir";
-
-pub const JOURNAL: &str = "journal";
-
-pub const SYSTEM: &str = "system";
-
-pub const JOBS: &str = "jobs";
-
-pub const DOT: &str = "dot";
-
-pub const WAIT: &str = "wait";
-
-pub const IN_NIX_STORE: &str = "in-nix-store";
-
-pub const LOGS: &str = "logs";
-
-pub const KEEP_FAILED: &str = "keep-failed";
-
-pub const RUNNER: &str = "runner";
-
-pub const TRACE: &str = "trace";
-
-pub const OUTPUTS: &str = "outputs";
-
-pub const DRVS: &str = "DRV";
-
-pub const NAME: &str = "NAME";
-
-pub const FILE: &str = "FILE";
 
 pub const CHECK: &str = "check";
 
@@ -58,19 +26,13 @@ pub const PLAN: &str = "plan";
 
 pub const REALISE: &str = "realise";
 
-pub const DEFAULT_STORE_DIR: &str = "/nix/store";
+pub const DUMP: &str = "dump";
 
-pub const DEFAULT_SYSTEM: &str = "x86_64-linux";
+pub const RESTORE: &str = "restore";
 
-// The number of builders that run at a time, where none is given: as a word, and as a number.
-pub const DEFAULT_JOBS_WORD: &str = "1";
+pub const HASH: &str = "hash";
 
-pub const DEFAULT_JOBS: u8 = 1;
-
-// The kinds of outputs; plain ones where none is given.
-pub const PLAIN: &str = "plain";
-
-pub const NIX: &str = "nix";
+pub const VERIFY: &str = "verify";
 
 /// The program's command line.
 pub fn command<'a>(alloc: Global) -> Result<Command<'a>, AllocError>
@@ -78,7 +40,8 @@ pub fn command<'a>(alloc: Global) -> Result<Command<'a>, AllocError>
 {
     let command = top(alloc).subcommand(check_command(alloc)?)?;
     let command = with_adding(alloc, command)?;
-    with_running(alloc, command)
+    let command = with_running(alloc, command)?;
+    with_archives(alloc, command)
 }
 
 // The command line without its subcommands.
@@ -112,6 +75,17 @@ fn with_running<'a>(alloc: Global, command: Command<'a>) -> Result<Command<'a>, 
         .subcommand(realise_command(alloc)?)
 }
 
+// A command with the subcommands that read and make archives, and the one that verifies by them.
+fn with_archives<'a>(alloc: Global, command: Command<'a>) -> Result<Command<'a>, AllocError>
+    ensures { IfOk result (λ more. app_of more ≡ with_archives (app_of command.entry)) }
+{
+    command
+        .subcommand(dump_command(alloc)?)?
+        .subcommand(restore_command(alloc)?)?
+        .subcommand(hash_command(alloc)?)?
+        .subcommand(verify_command(alloc)?)
+}
+
 // The subcommand `check`.
 fn check_command<'a>(alloc: Global) -> Result<Command<'a>, AllocError>
     ensures { IfOk result (λ command. app_of command ≡ check_line) }
@@ -136,6 +110,7 @@ fn add_text_command<'a>(alloc: Global) -> Result<Command<'a>, AllocError>
     )
     .arg(store_dir(alloc))?
     .arg(journal(alloc))?
+    .arg(profile(alloc))?
     .arg(wait(alloc))?
     .arg(word(alloc, NAME, "The name that the text gets in the store"))?
     .arg(word(alloc, FILE, "The file whose bytes are the text"))
@@ -151,6 +126,7 @@ fn add_drv_command<'a>(alloc: Global) -> Result<Command<'a>, AllocError>
         "Fills the outputs of a draft, writes the derivation and prints its path",
     )
     .arg(store_dir(alloc))?
+    .arg(profile(alloc))?
     .arg(word(alloc, NAME, "The name of the derivation"))?
     .arg(word(alloc, FILE, "The file whose bytes are the draft"))
 }
@@ -183,8 +159,7 @@ fn realise_command<'a>(alloc: Global) -> Result<Command<'a>, AllocError>
     with_builder_options(alloc, command)?.arg(wanted_drvs(alloc))
 }
 
-// A command with the options on how builders are started, on what is kept of their runs, and on what
-// they may make.
+// A command with the options on how builders are started, and on what is kept of their runs.
 fn with_builder_options<'a>(alloc: Global, command: Command<'a>) -> Result<Command<'a>, AllocError>
     ensures { IfOk result (λ more. app_of more ≡ with_builder_options (app_of command.entry)) }
 {
@@ -193,7 +168,8 @@ fn with_builder_options<'a>(alloc: Global, command: Command<'a>) -> Result<Comma
         .arg(keep_failed(alloc))?
         .arg(runner(alloc))?
         .arg(trace(alloc))?
-        .arg(outputs(alloc))
+        .arg(build_dir(alloc))?
+        .arg(cores(alloc))
 }
 
 // A subcommand that takes a plan and a journal, with the options that both have.
@@ -203,7 +179,60 @@ fn run_command<'a>(alloc: Global, name: &'a str, about: &'a str) -> Result<Comma
     subcommand(alloc, name, about)
         .arg(store_dir(alloc))?
         .arg(journal(alloc))?
-        .arg(system(alloc))
+        .arg(system(alloc))?
+        .arg(profile(alloc))?
+        .arg(features(alloc))?
+        .arg(builtin(alloc))
+}
+
+// The subcommand `dump`.
+fn dump_command<'a>(alloc: Global) -> Result<Command<'a>, AllocError>
+    ensures { IfOk result (λ command. app_of command ≡ path_line DUMP.now) }
+{
+    subcommand(
+        alloc,
+        DUMP,
+        "Prints the archive, a NAR, of a file, a folder or a link",
+    )
+    .arg(word(alloc, PATHS, "What is archived"))
+}
+
+// The subcommand `restore`.
+fn restore_command<'a>(alloc: Global) -> Result<Command<'a>, AllocError>
+    ensures { IfOk result (λ command. app_of command ≡ path_line RESTORE.now) }
+{
+    subcommand(
+        alloc,
+        RESTORE,
+        "Makes a file, a folder or a link from the archive on standard input",
+    )
+    .arg(word(alloc, PATHS, "Where it is made, and nothing may lie yet"))
+}
+
+// The subcommand `hash`.
+fn hash_command<'a>(alloc: Global) -> Result<Command<'a>, AllocError>
+    ensures { IfOk result (λ command. app_of command ≡ path_line HASH.now) }
+{
+    subcommand(
+        alloc,
+        HASH,
+        "Prints the SHA-256 and the length of an archive",
+    )
+    .arg(word(alloc, PATHS, "What is archived to be measured"))
+}
+
+// The subcommand `verify`.
+fn verify_command<'a>(alloc: Global) -> Result<Command<'a>, AllocError>
+    ensures { IfOk result (λ command. app_of command ≡ verify_line) }
+{
+    subcommand(
+        alloc,
+        VERIFY,
+        "Reads valid paths again, and tells which are not what the journal says",
+    )
+    .arg(store_dir(alloc))?
+    .arg(journal(alloc))?
+    .arg(paths(alloc, "Valid paths to be read; without one, all are"))
 }
 
 // A subcommand without arguments.
@@ -211,165 +240,4 @@ fn subcommand<'a>(alloc: Global, name: &'a str, about: &'a str) -> Command<'a>
     ensures { app_of result ≡ new_app name.entry.now }
 {
     Command::new(alloc, name).about(about)
-}
-
-// The option that names the store folder.
-fn store_dir<'a>(alloc: Global) -> Arg<'a>
-    ensures rule { rule_of result ≡ store_dir_option }
-    ensures local { result.global ≡ false }
-{
-    Arg::new(alloc, STORE_DIR)
-        .long(STORE_DIR)
-        .value_name("D")
-        .help("The store folder, in paths and on disk")
-        .default_value(DEFAULT_STORE_DIR)
-}
-
-// The option that names the journal file.
-fn journal<'a>(alloc: Global) -> Arg<'a>
-    ensures rule { rule_of result ≡ journal_option }
-    ensures local { result.global ≡ false }
-{
-    Arg::new(alloc, JOURNAL).long(JOURNAL).value_name("F").help(
-        "The journal file [default: realiser-journal in the store folder]",
-    )
-}
-
-// The option that names the system for which derivations are built.
-fn system<'a>(alloc: Global) -> Arg<'a>
-    ensures rule { rule_of result ≡ system_option }
-    ensures local { result.global ≡ false }
-{
-    Arg::new(alloc, SYSTEM)
-        .long(SYSTEM)
-        .value_name("S")
-        .help("The system for which derivations are built")
-        .default_value(DEFAULT_SYSTEM)
-}
-
-// The option with the number of builders that run at a time.
-fn jobs<'a>(alloc: Global) -> Arg<'a>
-    ensures rule { rule_of result ≡ jobs_option }
-    ensures local { result.global ≡ false }
-{
-    Arg::new(alloc, JOBS)
-        .long(JOBS)
-        .value_name("N")
-        .help("How many builders run at a time, from 1 to 64")
-        .value_parser(value_parser!(u8).range(1..=64))
-        .default_value(DEFAULT_JOBS_WORD)
-}
-
-// The flag that asks for a graph.
-fn dot<'a>(alloc: Global) -> Arg<'a>
-    ensures rule { rule_of result ≡ dot_flag }
-    ensures local { result.global ≡ false }
-{
-    Arg::new(alloc, DOT)
-        .long(DOT)
-        .help("Print the same as a graph in Graphviz's language")
-        .action(ArgAction::SetTrue)
-}
-
-// The flag that asks to wait for another run.
-fn wait<'a>(alloc: Global) -> Arg<'a>
-    ensures rule { rule_of result ≡ wait_flag }
-    ensures local { result.global ≡ false }
-{
-    Arg::new(alloc, WAIT)
-        .long(WAIT)
-        .help("Wait while another run uses the store folder")
-        .action(ArgAction::SetTrue)
-}
-
-// The flag that asks to go on in a store that Nix manages.
-fn in_nix_store<'a>(alloc: Global) -> Arg<'a>
-    ensures rule { rule_of result ≡ in_nix_store_flag }
-    ensures local { result.global ≡ false }
-{
-    Arg::new(alloc, IN_NIX_STORE)
-        .long(IN_NIX_STORE)
-        .help("Go on in a store that Nix manages, and replace what Nix made")
-        .action(ArgAction::SetTrue)
-}
-
-// The option that names the folder of logs.
-fn logs<'a>(alloc: Global) -> Arg<'a>
-    ensures rule { rule_of result ≡ logs_option }
-    ensures local { result.global ≡ false }
-{
-    Arg::new(alloc, LOGS).long(LOGS).value_name("FOLDER").help(
-        "Write what each builder prints to a log of its own in this folder",
-    )
-}
-
-// The flag that asks to keep the build folders of builders that failed.
-fn keep_failed<'a>(alloc: Global) -> Arg<'a>
-    ensures rule { rule_of result ≡ keep_failed_flag }
-    ensures local { result.global ≡ false }
-{
-    Arg::new(alloc, KEEP_FAILED)
-        .long(KEEP_FAILED)
-        .help("Keep the build folders of builders that failed")
-        .action(ArgAction::SetTrue)
-}
-
-// The option that names the program that starts builders.
-fn runner<'a>(alloc: Global) -> Arg<'a>
-    ensures rule { rule_of result ≡ runner_option }
-    ensures local { result.global ≡ false }
-{
-    Arg::new(alloc, RUNNER)
-        .long(RUNNER)
-        .value_name("PROGRAM")
-        .help("Start each builder by this program, an absolute path")
-}
-
-// The option that names the file of trace events.
-fn trace<'a>(alloc: Global) -> Arg<'a>
-    ensures rule { rule_of result ≡ trace_option }
-    ensures local { result.global ≡ false }
-{
-    Arg::new(alloc, TRACE).long(TRACE).value_name("FILE").help(
-        "Write to this file when each builder ran, as trace events",
-    )
-}
-
-// The option with the kind of outputs.
-fn outputs<'a>(alloc: Global) -> Arg<'a>
-    ensures rule { rule_of result ≡ outputs_option }
-    ensures local { result.global ≡ false }
-{
-    Arg::new(alloc, OUTPUTS)
-        .long(OUTPUTS)
-        .value_name("KIND")
-        .help("What outputs may have: plain, files and folders, or nix, symbolic links too")
-        .default_value(PLAIN)
-}
-
-// One or more words, each the path of a derivation.
-fn drvs<'a>(alloc: Global, help: &'a str) -> Arg<'a>
-    ensures rule { rule_of result ≡ drv_words }
-    ensures local { result.global ≡ false }
-{
-    Arg::new(alloc, DRVS)
-        .help(help)
-        .required(true)
-        .action(ArgAction::Append)
-}
-
-// One or more words, each the path of a derivation whose outputs are wanted.
-fn wanted_drvs<'a>(alloc: Global) -> Arg<'a>
-    ensures rule { rule_of result ≡ drv_words }
-    ensures local { result.global ≡ false }
-{
-    drvs(alloc, "Paths of derivations whose outputs are wanted")
-}
-
-// A required word.
-fn word<'a>(alloc: Global, id: &'a str, help: &'a str) -> Arg<'a>
-    ensures rule { rule_of result ≡ required_word id.entry.now }
-    ensures local { result.global ≡ false }
-{
-    Arg::new(alloc, id).help(help).required(true)
 }

@@ -14,7 +14,7 @@ struct FaultHelp {
 }
 
 // The faults, by their names.
-const FAULTS: [FaultHelp; 29] = [
+const FAULTS: [FaultHelp; 32] = [
     FaultHelp {
         name: "BadHashPart",
         meaning: "DRV goes on after the store folder and a slash without 32 base-32 characters and a dash.",
@@ -31,6 +31,11 @@ const FAULTS: [FaultHelp; 29] = [
         remedy: "Choose a name of 1 to 211 letters, digits and +-._?= that does not begin with a dot and a dash.",
     },
     FaultHelp {
+        name: "BadNar(place)",
+        meaning: "The text on standard input is no archive: the byte at that place can't stand there.",
+        remedy: "Make the archive again, by dump or by nix-store --dump.",
+    },
+    FaultHelp {
         name: "BadReference(text)",
         meaning: "An input, or a source, is no path of the store folder.",
         remedy: "Give the --store-dir that the derivation is for. Without it that is /nix/store.",
@@ -41,6 +46,11 @@ const FAULTS: [FaultHelp; 29] = [
         remedy: "Give the store folder as an absolute path without a slash at its end.",
     },
     FaultHelp {
+        name: "Differs",
+        meaning: "What lies at a valid path has another digest or another archive than the journal says.",
+        remedy: "Remove its entry and what lies there, and build it again.",
+    },
+    FaultHelp {
         name: "EnvMismatch(output)",
         meaning: "The value under the output's name in the environment is not the output's path.",
         remedy: "Leave the paths of outputs empty in a draft, also those in its environment.",
@@ -49,6 +59,11 @@ const FAULTS: [FaultHelp; 29] = [
         name: "InUse",
         meaning: "Another run uses the store folder.",
         remedy: "Wait for the end of the other run, or give --wait.",
+    },
+    FaultHelp {
+        name: "MissingFeature(feature)",
+        meaning: "The derivation asks for a feature that this system does not offer.",
+        remedy: "Give the feature by --system-features, if this system has it.",
     },
     FaultHelp {
         name: "MixedOutputs",
@@ -137,8 +152,8 @@ const FAULTS: [FaultHelp; 29] = [
     },
     FaultHelp {
         name: "UnknownMethod(output)",
-        meaning: "The derivation has an output with a hash that is not known, such as r:sha1 or r:sha512.",
-        remedy: "All that reaches it is refused, even where Nix built it: leave that to Nix.",
+        meaning: "The derivation has an output with a hash that is not known. Without --profile nix that is r:sha1 or r:sha512, too.",
+        remedy: "Give --profile nix, which takes all hashes that Nix takes.",
     },
     FaultHelp {
         name: "UnknownOutput(path, output)",

@@ -4,11 +4,15 @@
 //! | Module | What is in it |
 //! |---|---|
 //! | `options` | what a command line asks for |
-//! | `command` | the command line that `clap` reads |
+//! | `arguments` | the words and options that `clap` reads |
+//! | `command` | the subcommands that `clap` reads |
+//! | `builtins` | the words that give builtin builders their programs |
 //! | `words` | the words of a command line, read by `clap` |
 //! | `faults` | what each fault means, and what to do |
 #![tactic(auto)]
 
+mod arguments;
+mod builtins;
 mod command;
 mod faults;
 mod options;
@@ -16,7 +20,7 @@ mod words;
 
 pub use faults::FaultTable;
 pub use options::{
-    AddDrvRequest, AddTextRequest, CheckRequest, OutputKind, PlanRequest, RealiseRequest, Request,
-    RunRequest,
+    AddDrvRequest, AddTextRequest, Builtin, CheckRequest, DumpRequest, HashRequest, PlanRequest,
+    RealiseRequest, Request, RestoreRequest, RunRequest, VerifyRequest,
 };
 pub use words::{not_text, request};

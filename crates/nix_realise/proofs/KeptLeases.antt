@@ -1,7 +1,7 @@
 -- The leases whose build folders were kept: a search in their numbers, and their order.
-use Rattle.std.proofs.Common.{◌≡◌, ◌∙◌, ◌++◌, ◌∷◌, ◌<◌, ℕ, [], ap, ap₂, arith, false, true, Bool, List, Result, Ok, Err, get_or, inl, inr, length, refl, sym}
+use Rattle.std.proofs.Common.{◌≡◌, ◌++◌, ◌∷◌, ℕ, [], ap, ap₂, arith, false, true, Bool, List, Result, Ok, Err, get_or, inl, inr, refl, sym}
 use Rattle.std.specs.Prelude.{◌==◌, if◌then◌else◌, is_ok}
-use Rattle.std.specs.List.{flat_map, list_any}
+use Rattle.std.specs.List.{flat_map}
 use Rattle.std.specs.List.Sorted.{IsBinarySearchResult, IsNonDecreasing, IsPermutation}
 use Rattle.std.specs.Ordering.{nat_cmp}
 use Rattle.std.proofs.lemmas.Bool.{cases_lt, eq-eqb, eqb-true}
@@ -14,7 +14,6 @@ use Rattle.run_states.specs.Runs.{is_one_of}
 use Rattle.run_states.specs.declared.state.Event.{Event}
 use Rattle.run_states.specs.declared.state.Event.TheVariants.{Begin, Done, Fail}
 use Rattle.nix_realise.specs.LastLines.{kept_lease}
-use Rattle.nix_realise.specs.declared.words.kept_lines.KeptLease.{KeptLease}
 
 -- another number
 apart : (a b : ℕ) → (a ≡ b → ⊥) → (a == b) ≡ false

@@ -44,13 +44,14 @@ fill_stop request (graph.At path fault) = BadDrv path fault
 fill_stop request (graph.Draft fault) = BadDraft request.file fault
 fill_stop request graph.Name = BadName request.name
 
--- The draft filled in a folder, by a source, with its path; or a fault.
+-- The draft filled under the request's profile in a folder, by a source, with its path; or a fault.
 abbrev pub IsFillingOf : (dir : Dir) → (gives : Path → Answer → Type 0) → AddDrvRequest → Drv
     → Result (Drv × Path) RunError → Type 0
-IsFillingOf dir gives request draft (Ok made) = IsFilling dir gives request.name.now draft (Ok made)
+IsFillingOf dir gives request draft (Ok made) =
+    IsFilling request.profile dir gives request.name.now draft (Ok made)
 IsFillingOf dir gives request draft (Err stop) =
     (fault : GraphFault) × (stop ≡ fill_stop request fault)
-    × IsFilling dir gives request.name.now draft (Err fault)
+    × IsFilling request.profile dir gives request.name.now draft (Err fault)
 
 -- The store folder is well-formed, and FILE gave the draft's text.
 abbrev pub HasDraft : AddDrvRequest → FileBytes → Drv → Type 0
@@ -64,7 +65,8 @@ abbrev pub IsAddingDrv : (gives : Path → Answer → Type 0) → AddDrvRequest 
     → Result AddedDrv RunError → Type 0
 IsAddingDrv gives request gave (Ok added) =
     (draft : Drv) × HasDraft request gave draft
-    × ((filled : Drv) × IsFilling request.store_dir.now gives request.name.now draft
+    × ((filled : Drv)
+    × IsFilling request.profile request.store_dir.now gives request.name.now draft
     (Ok (filled, added.path))
     × IsDrvText filled added.text.items)
 IsAddingDrv gives request gave (Err stop) =

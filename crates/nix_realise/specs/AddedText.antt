@@ -4,8 +4,7 @@ use Rattle.std.specs.Prelude.{◌≡◌, ◌≢◌, ◌≤◌, ◌<◌, [], ◌�
 use Rattle.std.specs.Prelude.{Result, Ok, Err, IsTrue, false, length}
 use Rattle.std.specs.Borrow.{Bor}
 use Rattle.std.specs.Global.{Vec}
-use Rattle.sha2.specs.Sha256.{sha256}
-use Rattle.nix_names.specs.Bytes.{Bytes, Dir, Path, Hash}
+use Rattle.nix_names.specs.Bytes.{Bytes, Dir, Path}
 use Rattle.nix_names.specs.Names.{IsStoreDir, is_name}
 use Rattle.nix_drv.specs.OwnPath.{text_path}
 use Rattle.valid_table.specs.Entries.{registered}
@@ -18,9 +17,10 @@ use Rattle.valid_table.specs.declared.fault.TableFault.{TableFault}
 use Rattle.valid_table.specs.declared.fault.TableFault.TheVariants as table
 use Rattle.command_line.specs.declared.options.AddTextRequest.{AddTextRequest}
 use Rattle.nix_realise.specs.Files.{FileBytes}
-use Rattle.nix_realise.specs.Registering.{text_entry}
+use Rattle.nix_realise.specs.Registering.{record_of_text, text_entry}
 use Rattle.nix_realise.specs.declared.adding.added_text.AddedText.{AddedText}
 use Rattle.nix_realise.specs.declared.adding.added_text.NamedText.{NamedText}
+use Rattle.nix_realise.specs.declared.adding.text_record.TextRecord.{TextRecord}
 use Rattle.nix_realise.specs.declared.io.files.FileFault.TheVariants as file
 use Rattle.nix_realise.specs.declared.cli.run_error.RunError.{RunError}
 use Rattle.nix_realise.specs.declared.cli.run_error.RunError.TheVariants.{BadStoreDir, Unreadable, TooLong}
@@ -40,22 +40,22 @@ IsTextOf path gave (Err (TooLong blamed)) =
 IsTextOf path gave (Err NoMemory) = gave ≡ Err file.NoMemory
 IsTextOf path gave (Err stop) = ⊥
 
--- The journal's new bytes: none where the path is valid by the journal's entries; else the text, in
--- version 2, of these entries with the path's entry after them.
-abbrev pub IsNewText : List Entry → (path : Path) → (digest : Hash) → Option (Vec ℕ) → Type 0
-IsNewText entries path digest None = IsValid (registered entries) path
-IsNewText entries path digest (Some bytes) =
+-- The journal's new bytes: none where the path is valid by the journal's entries; else the text of
+-- these entries with the path's entry after them.
+abbrev pub IsNewText : List Entry → (path : Path) → TextRecord → Option (Vec ℕ) → Type 0
+IsNewText entries path told None = IsValid (registered entries) path
+IsNewText entries path told (Some bytes) =
     ¬ (IsValid (registered entries) path)
-    × (bytes.items ≡ written_text (entries ++ text_entry path digest ∷ []))
+    × (bytes.items ≡ written_text (entries ++ text_entry path told ∷ []))
 
 -- The journal file gave the text of some entries, and these are the new bytes.
-pub record IsRenewed (dir : Dir) (gave : FileBytes) (path : Path) (digest : Hash)
+pub record IsRenewed (dir : Dir) (gave : FileBytes) (path : Path) (told : TextRecord)
     (new : Option (Vec ℕ)) : Type 0 where
   pub bytes : Bytes
   pub bytes_are : gave ≡ Ok bytes
   pub entries : List Entry
   pub reading : IsJournalReading dir bytes (Ok entries)
-  pub is_new : IsNewText entries path digest new
+  pub is_new : IsNewText entries path told new
 
 -- The journal file gave bytes that have this fault as a journal of the folder.
 abbrev pub IsBadJournal : (dir : Dir) → FileBytes → TableFault → Type 0
@@ -73,13 +73,13 @@ IsJournalOf dir gave (Err NoMemory) = Unit {0}
 IsJournalOf dir gave (Err stop) = ⊥
 
 -- The journal's new bytes by what its file gave, or a fault.
-abbrev pub IsRenewing : (dir : Dir) → FileBytes → (path : Path) → (digest : Hash)
+abbrev pub IsRenewing : (dir : Dir) → FileBytes → (path : Path) → TextRecord
     → Result (Option (Vec ℕ)) RunError → Type 0
-IsRenewing dir gave path digest (Ok new) = IsRenewed dir gave path digest new
-IsRenewing dir gave path digest (Err JournalUnreadable) = gave ≡ Err file.Unreadable
-IsRenewing dir gave path digest (Err (BadJournal fault)) = IsBadJournal dir gave fault
-IsRenewing dir gave path digest (Err NoMemory) = Unit {0}
-IsRenewing dir gave path digest (Err stop) = ⊥
+IsRenewing dir gave path told (Ok new) = IsRenewed dir gave path told new
+IsRenewing dir gave path told (Err JournalUnreadable) = gave ≡ Err file.Unreadable
+IsRenewing dir gave path told (Err (BadJournal fault)) = IsBadJournal dir gave fault
+IsRenewing dir gave path told (Err NoMemory) = Unit {0}
+IsRenewing dir gave path told (Err stop) = ⊥
 
 -- The store folder is well-formed, and FILE gave these bytes, which are not too long.
 abbrev pub HasText : AddTextRequest → FileBytes → (bytes : Bytes) → Type 0
@@ -96,7 +96,7 @@ abbrev pub IsNaming : AddTextRequest → (gave : FileBytes) → Result NamedText
 IsNaming request gave (Ok named) =
     HasNamedText request gave named.text.items
     × (named.path ≡ text_path request.store_dir.now request.name.now named.text.items [])
-    × (named.digest ≡ sha256 named.text.items)
+    × (named.told ≡ record_of_text request.profile named.text.items)
 IsNaming request gave (Err (Unreadable blamed)) =
     (blamed ≡ request.file) × (gave ≡ Err file.Unreadable)
 IsNaming request gave (Err (TooLong blamed)) =
@@ -113,9 +113,9 @@ abbrev pub IsAdding : (dir : Dir) → NamedText → (journal : FileBytes) → Re
     → Type 0
 IsAdding dir named journal (Ok added) =
     (added.path ≡ named.path) × (added.text ≡ named.text)
-    × IsRenewed dir journal named.path named.digest added.journal
+    × IsRenewed dir journal named.path named.told added.journal
 IsAdding dir named journal (Err stop) =
-    IsRenewing dir journal named.path named.digest (Err stop)
+    IsRenewing dir journal named.path named.told (Err stop)
 
 -- What `add-text` answers. The store folder is tested first, then FILE, the name and the journal.
 -- Each fault comes exactly where nothing is wrong with what is tested before it, so the cases
@@ -126,7 +126,8 @@ abbrev pub IsAddingText : AddTextRequest → (gave journal : FileBytes)
 IsAddingText request gave journal (Ok added) =
     HasNamedText request gave added.text.items
     × (added.path ≡ text_path request.store_dir.now request.name.now added.text.items [])
-    × IsRenewed request.store_dir.now journal added.path (sha256 added.text.items) added.journal
+    × IsRenewed request.store_dir.now journal added.path
+    (record_of_text request.profile added.text.items) added.journal
 IsAddingText request gave journal (Err (BadStoreDir blamed)) =
     (blamed ≡ request.store_dir) × ¬ (IsStoreDir request.store_dir.now)
 IsAddingText request gave journal (Err (Unreadable blamed)) =

@@ -1,6 +1,6 @@
 -- What a run makes of the system's answers on the program that starts its builders, and on the
 -- folder of logs; and how its builders build.
-use Rattle.std.specs.Prelude.{◌≡◌, ◌≢◌, ◌⊎◌, Bool, true, false, List, Option, Some, Result, Ok, Err, bit_and, is_some, slice_get}
+use Rattle.std.specs.Prelude.{◌≡◌, ◌≢◌, ◌⊎◌, IfSome, List, Option, Some, Result, Ok, Err, bit_and, is_some, slice_get}
 use Rattle.std.specs.Borrow.{Bor}
 use Rattle.std.specs.Fs.{IsFile, file_type, metadata_mode}
 use Rattle.std.specs.declared.fs.Metadata.{Metadata}
@@ -8,9 +8,8 @@ use Rattle.nix_names.specs.Bytes.{Bytes, Path}
 use Rattle.process_build.specs.declared.failures.Failure.{Failure}
 use Rattle.process_build.specs.declared.failures.Failure.TheVariants as failure
 use Rattle.process_build.specs.declared.process.options.BuildOptions.{BuildOptions}
-use Rattle.command_line.specs.declared.options.OutputKind.{OutputKind}
-use Rattle.command_line.specs.declared.options.OutputKind.TheVariants.{Plain, Nix}
 use Rattle.command_line.specs.declared.options.RealiseRequest.{RealiseRequest}
+use Rattle.nix_realise.specs.Tools.{ArePrograms}
 use Rattle.nix_realise.specs.declared.io.logs_folder.LogsFolder.{LogsFolder}
 use Rattle.nix_realise.specs.declared.io.runner.RunnerFinding.{RunnerFinding}
 use Rattle.nix_realise.specs.declared.io.runner.RunnerFinding.TheVariants.{Program, NoProgram}
@@ -59,11 +58,6 @@ IsNoFolder word (NoLogs blamed) = word ≡ Some blamed
 IsNoFolder word NoMemory = Unit {0}
 IsNoFolder word stop = ⊥
 
--- outputs of a kind may have symbolic links
-abbrev pub may_link : OutputKind → Bool
-may_link Plain = false
-may_link Nix = true
-
 -- The options are those that a request asks for, over a plan's derivations with these paths.
 pub record AreOptionsFor (request : RealiseRequest) (drvs : List Path) (options : BuildOptions)
     : Type 0 where
@@ -71,5 +65,7 @@ pub record AreOptionsFor (request : RealiseRequest) (drvs : List Path) (options 
   pub runner : options.runner ≡ request.runner
   pub logs : options.logs ≡ request.logs
   pub kept : is_some options.kept ≡ request.keep_failed
-  pub links : options.links ≡ may_link request.outputs
   pub drvs_are : options.drvs.now ≡ drvs
+  pub build_dir : IfSome request.build_dir (λ d. options.build_dir.now ≡ d.now)
+  pub cores : IfSome request.cores (λ n. options.cores ≡ n)
+  pub builtins : ArePrograms request.run.builtins.items options.builtins.now

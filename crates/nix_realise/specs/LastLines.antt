@@ -18,6 +18,7 @@ use Rattle.run_states.specs.declared.state.Event.TheVariants.{Fail}
 use Rattle.run_states.specs.declared.state.State.{State}
 use Rattle.run_states.specs.declared.state.State.TheVariants.{Failed}
 use Rattle.command_line.specs.declared.options.RealiseRequest.{RealiseRequest}
+use Rattle.nix_realise.specs.CauseLines.{IsCauseText}
 use Rattle.nix_realise.specs.RootsStatus.{roots_status}
 use Rattle.nix_realise.specs.declared.cli.exit.Status.{Status}
 use Rattle.nix_realise.specs.declared.cli.exit.Status.TheVariants.{Unrealised}
@@ -88,11 +89,14 @@ abbrev pub AreKeptFor : RealiseRequest → (kept : List ℕ) → Type 0
 AreKeptFor request kept = request.keep_failed ≡ false → kept ≡ []
 
 -- What standard error gets at the end of a run: the lines of the derivations that failed, then
--- those of the build folders that were kept.
+-- those of the build folders that were kept, and those of the derivations that are refused as
+-- `Unsupported`.
 pub record IsLastText (request : RealiseRequest) (run : RunOver) (history : History)
     (kept : List ℕ) (text : Bytes) : Type 0 where
   pub failed : Bytes
   pub folders : Bytes
+  pub causes : Bytes
   pub of_failed : IsFailedText request run history failed
   pub of_folders : AreKeptFolderLines request.run.store_dir.now run history kept folders
-  pub is_text : text ≡ failed ++ folders
+  pub of_causes : IsCauseText (roots_status run history) run history.opening causes
+  pub is_text : text ≡ failed ++ folders ++ causes

@@ -1,7 +1,9 @@
 -- What public contracts cite, and what that rests on.
 pub mod AddedDrv
 pub mod AddedText
+pub mod ArchiveEndings
 pub mod Building
+pub mod CauseLines
 pub mod CheckLines
 pub mod DrvEndings
 pub mod Endings
@@ -21,7 +23,11 @@ pub mod Registering
 pub mod RootsStatus
 pub mod Exits
 pub mod RunErrors
+pub mod RunSystems
+pub mod RunTraces
 pub mod StoreDirs
 pub mod Tasks
+pub mod Tools
 pub mod Tracing
+pub mod Verifying
 pub mod private

@@ -12,7 +12,9 @@ use Rattle.command_line.specs.declared.faults.FaultTable.{FaultTable}
 use Rattle.command_line.specs.declared.options.CheckRequest.{CheckRequest}
 use Rattle.command_line.specs.declared.options.Request.{Request}
 use Rattle.command_line.specs.declared.options.Request.TheVariants.{Check, AddText, AddDrv, Plan}
-use Rattle.command_line.specs.declared.options.Request.TheVariants.{Realise, Faults}
+use Rattle.command_line.specs.declared.options.Request.TheVariants.{Realise, Dump, Restore, Hash}
+use Rattle.command_line.specs.declared.options.Request.TheVariants.{Verify, Faults}
+use Rattle.nix_realise.specs.ArchiveEndings.{DumpEnds, HashEnds, RestoreEnds}
 use Rattle.nix_realise.specs.CheckLines.{IsCheckReport}
 use Rattle.nix_realise.specs.DrvEndings.{DrvEnds}
 use Rattle.nix_realise.specs.Endings.{Ends}
@@ -21,6 +23,8 @@ use Rattle.nix_realise.specs.Folders.{may_give}
 use Rattle.nix_realise.specs.Planning.{PlanEnds}
 use Rattle.nix_realise.specs.Realising.{May, RealiseEnds}
 use Rattle.nix_realise.specs.RunErrors.{IsStopOf, IsTold}
+use Rattle.nix_realise.specs.Tracing.{EndsTold}
+use Rattle.nix_realise.specs.Verifying.{VerifyEnds}
 use Rattle.nix_realise.specs.declared.cli.exit.Outcome.{Outcome}
 use Rattle.nix_realise.specs.declared.cli.exit.Exit.{Exit}
 use Rattle.nix_realise.specs.declared.cli.exit.Exit.TheVariants.{Printed, Unprinted}
@@ -65,7 +69,14 @@ SubcommandEnds may (AddText request) out outcome =
 SubcommandEnds may (AddDrv request) out outcome =
     EndsWritten (DrvEnds request out.0 out.1) outcome
 SubcommandEnds may (Plan request) out outcome = PlanEnds request out.0 out.1 outcome
-SubcommandEnds may (Realise request) out outcome = RealiseEnds may request out.0 out.1 outcome
+SubcommandEnds may (Realise request) out outcome =
+    EndsTold (RealiseEnds may request out.0 out.1) outcome
+SubcommandEnds may (Dump request) out outcome = EndsQuietly (DumpEnds request out.0 out.1) outcome
+SubcommandEnds may (Restore request) out outcome =
+    IsUntouched out × EndsQuietly (RestoreEnds request) outcome
+SubcommandEnds may (Hash request) out outcome = EndsQuietly (HashEnds request out.0 out.1) outcome
+SubcommandEnds may (Verify request) out outcome =
+    EndsQuietly (VerifyEnds request out.0 out.1) outcome
 SubcommandEnds may Faults out outcome = EndsQuietly (FaultsEnd out) outcome
 
 -- A subcommand that wasn't stopped ends with its status. Standard error gets its last lines, or

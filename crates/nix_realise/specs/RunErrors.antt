@@ -1,10 +1,11 @@
 -- What ends a run: its line, the number of the fault, and the status of the run.
-use Rattle.std.specs.Prelude.{◌≡◌, ℕ, [], ◌∷◌, ◌++◌, Option, codes}
+use Rattle.std.specs.Prelude.{◌≡◌, ℕ, [], ◌∷◌, ◌++◌, Option, codes, decimal, string_bytes}
 use Rattle.std.specs.Io.KnownBytes.{Appends}
 use Rattle.nix_names.specs.Bytes.{Bytes}
 use Rattle.drv_graph.specs.Faults.{node_number_of}
 use Rattle.nix_names.specs.Faults.{number_of as name_number_of}
 use Rattle.nix_names.specs.Names.{IsStoreDir}
+use Rattle.run_report.specs.Words.{with_value}
 use Rattle.store_run.specs.Numbers.{fault_number_of as run_number_of}
 use Rattle.valid_table.specs.Faults.{number_of as table_number_of}
 use Rattle.valid_table.specs.declared.fault.TableFault.{TableFault}
@@ -16,8 +17,8 @@ use Rattle.nix_realise.specs.declared.cli.exit.Exit.TheVariants as ending
 use Rattle.nix_realise.specs.declared.cli.exit.Status.{Status}
 use Rattle.nix_realise.specs.declared.cli.exit.Status.TheVariants.{Refused, CutShort}
 use Rattle.nix_realise.specs.declared.cli.run_error.FaultName.{FaultName}
-use Rattle.nix_realise.specs.declared.cli.run_error.FaultName.TheVariants.{OfJournal, OfName, OfNode}
-use Rattle.nix_realise.specs.declared.cli.run_error.FaultName.TheVariants.{OfRun, Word}
+use Rattle.nix_realise.specs.declared.cli.run_error.FaultName.TheVariants.{OfArchive, OfJournal, OfName}
+use Rattle.nix_realise.specs.declared.cli.run_error.FaultName.TheVariants.{OfNode, OfRun, Word}
 use Rattle.nix_realise.specs.declared.cli.run_error.RunError.{RunError}
 use Rattle.nix_realise.specs.declared.cli.run_error.RunError.TheVariants.{BadStoreDir, Unreadable, TooLong}
 use Rattle.nix_realise.specs.declared.cli.run_error.RunError.TheVariants.{BadDraft, BadDrv}
@@ -25,6 +26,8 @@ use Rattle.nix_realise.specs.declared.cli.run_error.RunError.TheVariants.{BadNam
 use Rattle.nix_realise.specs.declared.cli.run_error.RunError.TheVariants.{InUse, NixStore, NotLocked}
 use Rattle.nix_realise.specs.declared.cli.run_error.RunError.TheVariants.{NotWritten, JournalNotWritten}
 use Rattle.nix_realise.specs.declared.cli.run_error.RunError.TheVariants.{JournalTooLong}
+use Rattle.nix_realise.specs.declared.cli.run_error.RunError.TheVariants.{BadArchive, NoBuildDir, NotRestored}
+use Rattle.nix_realise.specs.declared.cli.run_error.RunError.TheVariants.{InputUnreadable, NotValid}
 use Rattle.nix_realise.specs.declared.cli.run_error.RunError.TheVariants.{NoLogs, NoPath, NoRunner, NoTrace, Run}
 use Rattle.nix_realise.specs.declared.cli.run_error.RunError.TheVariants.{NoMemory, Unwritable}
 
@@ -58,6 +61,8 @@ row_of (BadStoreDir dir) = refused 7 dir.now (codes "BadStoreDir")
 row_of NoMemory = cut_short 9 (codes "run") (codes "NoMemory")
 row_of (TooLong file) = refused 12 file.now (codes "TooLong")
 row_of (Unreadable file) = refused 20 file.now (codes "Unreadable")
+row_of InputUnreadable = refused 20 (codes "input") (codes "Unreadable")
+row_of (NotValid word) = refused 34 word.now (codes "NotValid")
 row_of JournalUnreadable = cut_short 20 (codes "journal") (codes "Unreadable")
 row_of JournalTooLong = cut_short 35 (codes "journal") (codes "TooLong")
 row_of (NotWritten path) = cut_short 74 path (codes "Unwritable")
@@ -66,9 +71,13 @@ row_of Unwritable = cut_short 74 (codes "run") (codes "Unwritable")
 row_of (NotLocked dir) = cut_short 74 dir.now (codes "Unwritable")
 row_of (NoLogs folder) = cut_short 74 folder.now (codes "Unwritable")
 row_of (NoTrace file) = cut_short 74 file.now (codes "Unwritable")
+row_of (NoBuildDir folder) = cut_short 74 (string_bytes folder) (codes "Unwritable")
+row_of (NotRestored path) = cut_short 74 path.now (codes "Unwritable")
 row_of (InUse dir) = cut_short 75 dir.now (codes "InUse")
 row_of (NixStore dir) = cut_short 76 dir.now (codes "NixStore")
 row_of (NoRunner program) = refused 77 program.now (codes "NoRunner")
+row_of (BadArchive path place) =
+    refused 87 path.now (with_value (codes "BadNar") (decimal place))
 row_of (NoPath word fault) = refused (name_number_of fault) word.now (name_fault_words fault)
 row_of (BadDraft file fault) = refused (node_number_of fault) file.now (node_fault_words fault)
 row_of (BadDrv path fault) = refused (node_number_of fault) path (node_fault_words fault)
@@ -83,6 +92,7 @@ words_of (OfName fault) = name_fault_words fault
 words_of (OfNode fault) = node_fault_words fault.now
 words_of (OfJournal fault) = table_fault_words fault.now
 words_of (OfRun fault) = run_fault_words fault
+words_of (OfArchive place) = with_value (codes "BadNar") (decimal place)
 
 -- the line of the fault on standard error
 abbrev pub stop_line : RunError → Bytes

@@ -10,8 +10,9 @@ use Rattle.nix_names.specs.StorePaths.{path_fault}
 use Rattle.nix_names.specs.declared.fault.NameFault.{NameFault}
 use Rattle.nix_drv.specs.Sources.{Answer}
 use Rattle.drv_graph.specs.Loading.{IsLoading}
-use Rattle.drv_graph.specs.Plans.{Graph, IsPlan}
+use Rattle.drv_graph.specs.Plans.{Graph}
 use Rattle.drv_graph.specs.declared.fault.GraphFault.TheVariants as graph
+use Rattle.drv_graph.specs.declared.profile.Profile.{Profile}
 use Rattle.command_line.specs.declared.options.RunRequest.{RunRequest}
 use Rattle.nix_realise.specs.AddedText.{IsJournalOf}
 use Rattle.nix_realise.specs.Files.{FileBytes}
@@ -46,14 +47,14 @@ ArePathsOf dir words (Err (NoPath blamed fault)) = IsFirstBadWord dir words blam
 ArePathsOf dir words (Err NoMemory) = Unit {0}
 ArePathsOf dir words (Err stop) = ⊥
 
--- The plan of some roots, or a fault.
-abbrev pub IsPlanOf : (dir : Dir) → (gives : Path → Answer → Type 0) → (roots : List Path)
-    → Result Graph RunError → Type 0
-IsPlanOf dir gives roots (Ok plan) = IsPlan dir gives roots plan
-IsPlanOf dir gives roots (Err (BadDrv path fault)) =
-    IsLoading dir gives roots (Err (graph.At path fault))
-IsPlanOf dir gives roots (Err NoMemory) = Unit {0}
-IsPlanOf dir gives roots (Err stop) = ⊥
+-- The plan of some roots under a profile, or a fault.
+abbrev pub IsPlanOf : Profile → (dir : Dir) → (gives : Path → Answer → Type 0)
+    → (roots : List Path) → Result Graph RunError → Type 0
+IsPlanOf profile dir gives roots (Ok plan) = IsLoading profile dir gives roots (Ok plan)
+IsPlanOf profile dir gives roots (Err (BadDrv path fault)) =
+    IsLoading profile dir gives roots (Err (graph.At path fault))
+IsPlanOf profile dir gives roots (Err NoMemory) = Unit {0}
+IsPlanOf profile dir gives roots (Err stop) = ⊥
 
 -- the words DRV of a request
 abbrev pub words_of : RunRequest → List Bytes
@@ -64,10 +65,11 @@ abbrev pub HasRoots : RunRequest → Type 0
 HasRoots request =
     IsStoreDir request.store_dir.now × ArePaths request.store_dir.now (words_of request)
 
--- And this is the plan of these derivations.
+-- And this is the plan of these derivations under the request's profile.
 abbrev pub HasPlan : (gives : Path → Answer → Type 0) → RunRequest → Graph → Type 0
 HasPlan gives request plan =
-    HasRoots request × IsPlan request.store_dir.now gives (words_of request) plan
+    HasRoots request
+    × IsLoading request.profile request.store_dir.now gives (words_of request) (Ok plan)
 
 -- Why there is no plan. The store folder is tested first, then the words DRV, then the plan. Each
 -- fault comes only where nothing is wrong with what is tested before it, by answers that the source
@@ -80,7 +82,8 @@ IsNotPlanned gives request (NoPath blamed fault) =
     × IsFirstBadWord request.store_dir.now (words_of request) blamed.now fault
 IsNotPlanned gives request (BadDrv path fault) =
     HasRoots request
-    × IsLoading request.store_dir.now gives (words_of request) (Err (graph.At path fault))
+    × IsLoading request.profile request.store_dir.now gives (words_of request)
+    (Err (graph.At path fault))
 IsNotPlanned gives request NoMemory = ¬ (¬ (IsStoreDir request.store_dir.now))
 IsNotPlanned gives request stop = ⊥
 

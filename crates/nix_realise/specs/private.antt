@@ -1,3 +1,11 @@
 -- What only private contracts and proofs cite.
+pub mod Asking
+pub mod FileDigests
+pub mod Hashing
+pub mod Inputs
 pub mod Leases
+pub mod PathReads
+pub mod Printing
+pub mod Restoring
+pub mod Verified
 pub mod Waiting

@@ -5,6 +5,7 @@
 //! | `verdict`, `check` | the verdict of `check` on one word; its lines |
 //! | `task` | what `plan` and `realise` take: a plan and a journal |
 //! | `read_task` | the same for a run that changes nothing |
+//! | `run_system` | what a run builds for |
 //! | `plan` | the subcommand `plan` |
 //! | `faults` | the table of faults |
 #![tactic(auto)]
@@ -13,5 +14,6 @@ pub mod check;
 pub mod faults;
 pub mod plan;
 pub mod read_task;
+pub mod run_system;
 pub mod task;
 pub mod verdict;

@@ -14,11 +14,13 @@
 //! | `nix_store` | whether Nix manages a store folder |
 //! | `all_written` | evidence that their files were written |
 //! | `runner`, `logs_folder` | the program that starts the builders of a run; the folder of logs |
+//! | `build_dir` | the folder that gets the build folders |
 //! | `trace_file` | the trace of a run: its file, written at the end |
 #![tactic(auto)]
 
 pub mod all_written;
 pub mod announced_locks;
+pub mod build_dir;
 pub mod files;
 pub mod folder;
 pub mod journal_file;

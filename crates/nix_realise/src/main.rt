@@ -5,16 +5,20 @@
 //! | `building` | the subcommand `realise` |
 //! | `asking` | the subcommands `check` and `plan`, which change nothing |
 //! | `adding` | the subcommands `add-text` and `add-drv` |
+//! | `archives` | the subcommands `dump`, `hash` and `restore` |
+//! | `verifying` | the subcommand `verify` |
 //! | `io` | files, folders and locks |
 //! | `words` | the words of faults, and the last lines of a run |
 //! | `cli` | the command line of the program, and how a run of it ends |
 #![tactic(auto)]
 
 mod adding;
+mod archives;
 mod asking;
 mod building;
 mod cli;
 mod io;
+mod verifying;
 mod words;
 
 pub use asking::check::check_lines;

@@ -10,7 +10,7 @@ use crate::cli::run_error::RunError;
 use crate::cli::store_dir::store_dir;
 use crate::io::files::{FileFault, FileRead};
 use command_line::AddDrvRequest;
-use drv_graph::{GraphFault, NodeFault, fill_outputs};
+use drv_graph::{GraphFault, NodeFault, fill_outputs_as};
 use nix_drv::{Derivation, DrvFault, DrvSource, read, write};
 use nix_names::{StoreDir, StorePath};
 use std::alloc::Global;
@@ -24,11 +24,12 @@ pub struct AddedDrv {
     pub text: Vec<u8>,
 }
 
-/// The derivation of a draft, with its outputs filled, under the request's folder and name. The
-/// source gives the derivations that the draft reaches; `draft` is what the draft's file gave.
+/// The derivation of a draft, with its outputs filled, under the request's profile, folder and
+/// name. The source gives the derivations that the draft reaches; `draft` is what the draft's file
+/// gave.
 ///
 /// The faults, in this order: `BadStoreDir`; `Unreadable`; `BadDraft` with the fault of the draft's
-/// text; then those of `fill_outputs`: `BadName` for its `Name`, `BadDraft` for a fault of the
+/// text; then those of `fill_outputs_as`: `BadName` for its `Name`, `BadDraft` for a fault of the
 /// draft, `BadDrv` for a fault of a derivation that the draft reaches. `NoMemory` may be answered
 /// in place of each but the first.
 ///
@@ -85,7 +86,8 @@ fn fill_draft<'a, S: DrvSource>(
 ) -> Result<(Derivation, StorePath), RunError<'a>>
     ensures { IsFillingOf dir.now (S.gives source.old) request.now draft.now result }
 {
-    match fill_outputs(alloc, source, dir, request.name.as_bytes(), draft) {
+    let name = request.name.as_bytes();
+    match fill_outputs_as(alloc, request.profile, source, dir, name, draft) {
         Ok(filled) => Ok(filled),
         Err(fault) => Err(stop_of(request, fault)),
     }

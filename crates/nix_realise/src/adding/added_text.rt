@@ -11,12 +11,12 @@ ghost use Rattle.nix_realise.specs.Files.{IsReadFrom, journal_bytes, needed_byte
 ghost use Rattle.nix_realise.specs.JournalFiles.{IsTextsJournal};
 ghost use Rattle.nix_realise.specs.Registering.{IsTextRegistering};
 
+use crate::adding::text_record::TextRecord;
 use crate::cli::run_error::RunError;
 use crate::io::files::{FileFault, FileRead};
 use command_line::AddTextRequest;
 use nix_drv::MAX_LEN;
-use nix_names::{Digest, NameFault, StoreDir, StorePath, make_path};
-use sha2::{Digest as _, Sha256};
+use nix_names::{Digest, Method, MethodDigest, NameFault, StoreDir, StorePath, make_path};
 use std::alloc::Global;
 use valid_table::{Journal, Record, TableFault};
 
@@ -67,13 +67,14 @@ impl AddedText {
 pub struct NamedText {
     path: StorePath,
     text: Vec<u8>,
-    digest: [u8; 32],
+    told: TextRecord,
 }
 
 /// The text that the request's file gave, with the path that it gets without references under the
-/// request's folder and name. The faults, in this order: `Unreadable`; `TooLong` for more than
-/// 4,194,304 bytes; `BadName`. `NoMemory` may be answered in place of each. Costs one SHA-256 over
-/// the text's bytes.
+/// request's folder and name, and with what the journal tells of it under the request's profile.
+/// The faults, in this order: `Unreadable`; `TooLong` for more than 4,194,304 bytes; `BadName`.
+/// `NoMemory` may be answered in place of each. Costs one SHA-256 over the text's bytes, and under
+/// `Profile::Nix` one over its archive.
 pub fn named_text<'a>(
     alloc: Global,
     request: &AddTextRequest<'a>,
@@ -85,17 +86,17 @@ pub fn named_text<'a>(
     ensures { IsNaming request.now (needed_bytes text.entry) result }
 {
     let text = text_within(request.file, text)?;
-    let digest = Sha256::digest(&text);
-    let path = path_of(alloc, dir, request.name, &digest)?;
-    Ok(NamedText { path, text, digest })
+    let told = TextRecord::of(request.profile, &text)?;
+    let path = path_of(alloc, dir, request.name, &told.digest)?;
+    Ok(NamedText { path, text, told })
 }
 
 /// The text, and the journal's new bytes. The journal gets one more entry, after all others: the
-/// path, with the SHA-256 digest of the text's bytes. Where the path is valid already, there are no
-/// new bytes. `journal` is what the journal file gave. The faults are those of `journal_of`.
+/// path, with what is told of the text. Where the path is valid already, there are no new bytes.
+/// `journal` is what the journal file gave. The faults are those of `journal_of`.
 ///
-/// Costs one reading of the journal. Where the path is new, the journal is written once, in version
-/// 2.
+/// Costs one reading of the journal. Where the path is new, the journal is written once, in the
+/// version that its entries need.
 pub fn added_text<'a>(
     alloc: Global,
     _request: &AddTextRequest<'a>,
@@ -106,8 +107,8 @@ pub fn added_text<'a>(
     requires { IsTextsJournal _request.now journal }
     ensures { IsAdding dir.now named (journal_bytes journal.entry) result }
 {
-    let NamedText { path, text, digest } = named;
-    let journal = renewed_journal(alloc, dir, journal, &path, digest)?;
+    let NamedText { path, text, told } = named;
+    let journal = renewed_journal(alloc, dir, journal, &path, &told)?;
     Ok(AddedText {
         path,
         text,
@@ -154,12 +155,12 @@ fn renewed_journal<'a>(
     dir: &StoreDir,
     journal: FileRead<'_>,
     path: &StorePath,
-    digest: [u8; 32],
+    told: &TextRecord,
 ) -> Result<Option<Vec<u8>>, RunError<'a>>
-    ensures { IsRenewing dir.now (journal_bytes journal.entry) path.now digest result }
+    ensures { IsRenewing dir.now (journal_bytes journal.entry) path.now told.now result }
 {
     let mut journal = journal_of(alloc, dir, journal)?;
-    if !register_text(alloc, &mut journal, path, digest)? {
+    if !register_text(alloc, &mut journal, path, told)? {
         return Ok(None);
     }
     Ok(Some(journal.write(alloc)?))
@@ -181,21 +182,25 @@ pub fn journal_of<'a>(
     }
 }
 
-// Registers a text without references under its path, with the SHA-256 digest of its bytes, unless
-// the path is valid. Says whether it did. `NoMemory` is the only fault, and changes nothing.
+// Registers a text without references under its path, with what is told of it, unless the path is
+// valid. Says whether it did. `NoMemory` is the only fault, and changes nothing.
 fn register_text(
     alloc: Global,
     journal: &mut Journal,
     path: &StorePath,
-    digest: [u8; 32],
+    told: &TextRecord,
 ) -> Result<bool, TableFault>
-    ensures { IsTextRegistering journal.old.entries journal.new.entries path.now digest result }
+    ensures { IsTextRegistering journal.old.entries journal.new.entries path.now told.now result }
 {
     if journal.registers(path) {
         return Ok(false);
     }
     let path = path.copy(alloc)?;
-    let info = Record::new(Vec::new(alloc), Some(Digest::Sha256(digest)))?;
+    let digest = MethodDigest {
+        method: Method::Flat,
+        digest: Digest::Sha256(told.digest),
+    };
+    let info = Record::new(Vec::new(alloc), Some(digest), told.nar)?;
     journal.add(path, info)?;
     Ok(true)
 }

@@ -1,16 +1,18 @@
 //! The subcommand `plan`.
 ghost use Rattle.std.specs.Prelude.{◌≡◌, IfOk};
-ghost use Rattle.nix_realise.specs.Planning.{ForecastEnds, IsForecastPrinted, PlanEnds, over};
+ghost use Rattle.nix_realise.specs.Planning.{ForecastEnds, IsForecastPrinted, PlanEnds};
 ghost use Rattle.nix_realise.specs.Planning.{whole_status};
 
 use crate::asking::read_task::read_task;
+use crate::asking::run_system::system_of;
 use crate::asking::task::Task;
 use crate::cli::exit::{Outcome, Status};
 use crate::cli::printing::print_bytes;
 use crate::cli::run_error::RunError;
 use crate::words::twins_line::twins_line;
-use command_line::{PlanRequest, RunRequest};
+use command_line::PlanRequest;
 use run_report::Forecast;
+use run_states::System;
 use std::alloc::{AllocError, Global};
 use std::io::Write;
 use std::rt::Files;
@@ -30,20 +32,23 @@ where
     ensures { PlanEnds request.now (O.contents out.old) (O.contents out.new) result }
 {
     let task = read_task(rt, &request.run)?;
-    print_forecast(rt.alloc(), request, task, out)
+    let system = system_of(rt, &request.run)?;
+    print_forecast(rt.alloc(), request, task, system, out)
 }
 
-// Prints the forecast of a run over a task, and gives the last line.
+// Prints the forecast of a run over a task for a system, and gives the last line.
 fn print_forecast<'a, O: Write>(
     alloc: Global,
     request: &PlanRequest<'a>,
     task: Task,
+    system: System,
     out: &mut O,
 ) -> Result<Outcome, RunError<'a>>
-    ensures { ForecastEnds request.now task (O.contents out.old) (O.contents out.new) result }
+    ensures { ForecastEnds request.now system task (O.contents out.old) (O.contents out.new)
+        result }
 {
     let lines = twins_line(alloc, task.plan())?;
-    let forecast = forecast_of(alloc, &request.run, task)?;
+    let forecast = forecast_of(alloc, system, task)?;
     let text = text_of(&forecast, request.dot)?;
     match print_bytes(&text, out) {
         Ok(()) => Ok(Outcome::with(whole_status(&forecast), lines)),
@@ -51,13 +56,13 @@ fn print_forecast<'a, O: Write>(
     }
 }
 
-// The forecast of a run over a task.
-fn forecast_of(alloc: Global, request: &RunRequest<'_>, task: Task) -> Result<Forecast, AllocError>
-    ensures run { IfOk result (λ forecast. forecast.run ≡ over request.now task) }
+// The forecast of a run over a task for a system.
+fn forecast_of(alloc: Global, system: System, task: Task) -> Result<Forecast, AllocError>
+    ensures run { IfOk result
+        (λ forecast. forecast.run ≡ record { graph = task.plan; system = system }) }
     ensures entries { IfOk result (λ forecast. forecast.entries ≡ task.journal.entries) }
 {
     let (plan, journal) = task.into_parts();
-    let system = Vec::from_slice(alloc, request.system.as_bytes())?;
     Forecast::open(alloc, plan, journal, system)
 }
 

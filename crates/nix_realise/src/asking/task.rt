@@ -11,7 +11,7 @@ use crate::cli::run_error::RunError;
 use crate::cli::store_dir::store_dir;
 use crate::io::files::FileRead;
 use command_line::RunRequest;
-use drv_graph::{GraphFault, Plan};
+use drv_graph::{GraphFault, Plan, Profile};
 use nix_drv::DrvSource;
 use nix_names::{NameFault, StoreDir, StorePath, parse_path};
 use std::alloc::Global;
@@ -68,10 +68,11 @@ impl Task {
     }
 }
 
-/// The store folder of a request, and the plan of its derivations, which the source gives. The
-/// faults, in this order: `BadStoreDir`; `NoPath` for the first word that is no path of the folder;
-/// `BadDrv` with a fault of `Plan::load`. `NoMemory` may be answered in place of each but the
-/// first. Files are read through the source alone, and none is read unless all words are paths.
+/// The store folder of a request, and the plan of its derivations under the request's profile,
+/// which the source gives. The faults, in this order: `BadStoreDir`; `NoPath` for the first word
+/// that is no path of the folder; `BadDrv` with a fault of `Plan::load_as`. `NoMemory` may be
+/// answered in place of each but the first. Files are read through the source alone, and none is
+/// read unless all words are paths.
 pub fn load_plan<'a, S: DrvSource>(
     alloc: Global,
     source: &mut S,
@@ -83,12 +84,13 @@ pub fn load_plan<'a, S: DrvSource>(
 {
     let dir = store_dir(alloc, request.store_dir)?;
     let roots = paths_of(alloc, &dir, &request.drvs)?;
-    let plan = plan_of(alloc, source, &dir, &roots)?;
+    let plan = plan_of(alloc, request.profile, source, &dir, &roots)?;
     Ok((dir, plan))
 }
 
-// The paths that some words spell, in their order.
-fn paths_of<'a>(
+/// The paths that some words spell, in their order. `NoPath` for the first that spells none;
+/// `NoMemory`.
+pub fn paths_of<'a>(
     alloc: Global,
     dir: &StoreDir,
     words: &[&'a str],
@@ -113,16 +115,17 @@ fn path_of<'a>(alloc: Global, dir: &StoreDir, word: &'a str) -> Result<StorePath
     }
 }
 
-// The plan of some roots.
+// The plan of some roots under a profile.
 fn plan_of<'a, S: DrvSource>(
     alloc: Global,
+    profile: Profile,
     source: &mut S,
     dir: &StoreDir,
     roots: &[StorePath],
 ) -> Result<Plan, RunError<'a>>
-    ensures { IsPlanOf dir.now (S.gives source.old) roots.now result }
+    ensures { IsPlanOf profile dir.now (S.gives source.old) roots.now result }
 {
-    match Plan::load(alloc, source, dir, roots) {
+    match Plan::load_as(alloc, profile, source, dir, roots) {
         Ok(plan) => Ok(plan),
         Err(GraphFault::At(path, fault)) => Err(RunError::BadDrv(path, fault)),
         Err(GraphFault::NoMemory) => Err(RunError::NoMemory),

@@ -31,14 +31,14 @@ pub fn roots_status<O: Outlet>(book: &Book<O>) -> Status
     Status::Done
 }
 
-// Whether a derivation in this state was built or reused.
-fn is_realised(state: State) -> bool
+/// Whether a derivation in this state was built or reused.
+pub fn is_realised(state: State) -> bool
     ensures { result ≡ is_good state }
 {
     matches!(state, State::Done | State::Reused)
 }
 
-/// The text of the journal of a book, in version 2.
+/// The text of the journal of a book, in the version that its entries need.
 pub fn journal_bytes<O: Outlet>(alloc: Global, book: &Book<O>) -> Result<Vec<u8>, AllocError>
     ensures { IfOk result (λ bytes. bytes.items ≡ written_text book.now.history.entries) }
 {

@@ -10,7 +10,7 @@ use crate::io::journal_keeper::JournalSinks;
 use crate::io::locks::Locks;
 use process_build::Builders;
 use std::alloc::{AllocError, Global};
-use std::io::{BufWriter, ErrorKind, Write};
+use std::io::{BufWriter, ErrorKind, Input, Write};
 use std::rt::{Env, Files};
 use std::sync::Wait;
 use std::thread::Threads;
@@ -22,7 +22,7 @@ use std::{env, io};
 /// that is not UTF-8 is a mistake in the words.
 pub fn run_process<R, M, L, E>(rt: &R, make: &M, host: &L, err: &mut E) -> Exit
 where
-    R: Env + Files + Print + Threads + Wait + Clock + Sync + AllocGlobal,
+    R: Env + Files + Input + Print + Threads + Wait + Clock + Sync + AllocGlobal,
     M: Builders,
     L: Locks + JournalSinks,
     E: Write,
@@ -50,7 +50,7 @@ fn discard_buffer<W: Write + Drop>(buffer: BufWriter<W>) -> W
 // Runs the program on the arguments of the process.
 fn run_arguments<R, M, L, O, E>(machine: &Machine<'_, R, M, L>, out: &mut O, err: &mut E) -> Exit
 where
-    R: Env + Files + Threads + Wait + Clock + Sync + AllocGlobal,
+    R: Env + Files + Input + Threads + Wait + Clock + Sync + AllocGlobal,
     M: Builders,
     L: Locks + JournalSinks,
     O: Write,
@@ -73,7 +73,7 @@ fn run_texts<R, M, L, O, E>(
     err: &mut E,
 ) -> Exit
 where
-    R: Files + Threads + Wait + Clock + Sync + AllocGlobal,
+    R: Env + Files + Input + Threads + Wait + Clock + Sync + AllocGlobal,
     M: Builders,
     L: Locks + JournalSinks,
     O: Write,

@@ -11,6 +11,9 @@ ghost use Rattle.nix_realise.specs.declared.cli.run_error.RunError.{RunError};
 
 use crate::adding::add_drv::add_drv;
 use crate::adding::add_text::add_text;
+use crate::archives::dump::dump;
+use crate::archives::hash::hash;
+use crate::archives::restore::restore_input;
 use crate::asking::check::check_lines;
 use crate::asking::faults::print_faults;
 use crate::asking::plan::plan;
@@ -22,13 +25,15 @@ use crate::cli::store_dir::store_dir;
 use crate::io::folder::FolderSource;
 use crate::io::journal_keeper::JournalSinks;
 use crate::io::locks::Locks;
+use crate::io::trace_file::told;
+use crate::verifying::verify::verify;
 use crate::words::fault_words::stop_line;
 use clap::error::ErrorKind;
 use command_line::{CheckRequest, Request, not_text, request};
 use process_build::Builders;
 use std::alloc::{AllocError, Global};
-use std::io::Write;
-use std::rt::Files;
+use std::io::{Input, Write};
+use std::rt::{Env, Files};
 use std::sync::Wait;
 use std::thread::Threads;
 use std::time::Clock;
@@ -56,7 +61,7 @@ pub fn run<'a, R, M, L, O, E>(
     err: &mut E,
 ) -> Exit
 where
-    R: Files + Threads + Wait + Clock + Sync + AllocGlobal,
+    R: Env + Files + Input + Threads + Wait + Clock + Sync + AllocGlobal,
     M: Builders,
     L: Locks + JournalSinks,
     O: Write,
@@ -78,7 +83,7 @@ fn run_subcommand<'a, R, M, L, O>(
     out: &mut O,
 ) -> Result<Outcome, RunError<'a>>
 where
-    R: Files + Threads + Wait + Clock + Sync + AllocGlobal,
+    R: Env + Files + Input + Threads + Wait + Clock + Sync + AllocGlobal,
     M: Builders,
     L: Locks + JournalSinks,
     O: Write,
@@ -91,7 +96,11 @@ where
         Request::AddText(request) => quietly_written(add_text(rt, host, request, out)),
         Request::AddDrv(request) => quietly_written(add_drv(rt, request, out)),
         Request::Plan(request) => plan(rt, request, out),
-        Request::Realise(request) => realise(rt, make, host, request, out),
+        Request::Realise(request) => told(realise(rt, make, host, request, out)),
+        Request::Dump(request) => quietly(dump(rt, request, out)),
+        Request::Restore(request) => quietly(restore_input(rt, request)),
+        Request::Hash(request) => quietly(hash(rt, request, out)),
+        Request::Verify(request) => quietly(verify(rt, request, out)),
         Request::Faults => quietly(print_faults(rt.alloc(), out)),
     }
 }

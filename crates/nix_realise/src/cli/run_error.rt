@@ -6,7 +6,7 @@ use crate::building::summary::JournalOutcome;
 use crate::cli::exit::Status;
 use crate::io::journal_write::UnwrittenJournal;
 use crate::io::whole_file::WriteError;
-use FaultName::{OfJournal, OfName, OfNode, OfRun, Word};
+use FaultName::{OfArchive, OfJournal, OfName, OfNode, OfRun, Word};
 use drv_graph::NodeFault;
 use nix_names::{NameFault, StorePath};
 use process_build::Failure;
@@ -21,6 +21,13 @@ pub enum RunError<'a> {
     BadStoreDir(&'a str),
     /// The file with this path, as it was given, cannot be read.
     Unreadable(&'a str),
+    /// Standard input cannot be read.
+    InputUnreadable,
+    /// The text on standard input, of which this path was to be made, as it was given, is no
+    /// archive: the byte at this place, counted from 0, can't stand there.
+    BadArchive(&'a str, usize),
+    /// What an archive holds cannot be made at this path, as it was given.
+    NotRestored(&'a str),
     /// The file with this path, as it was given, has more than 4,194,304 bytes.
     TooLong(&'a str),
     /// The file with this path, as it was given, is no draft that can be filled.
@@ -29,6 +36,8 @@ pub enum RunError<'a> {
     BadName(&'a str),
     /// This text, given as the path of a derivation, is no path of the store folder.
     NoPath(&'a str, NameFault),
+    /// This text, given as a path to verify, is no valid path.
+    NotValid(&'a str),
     /// The derivation at this path, which a draft or a plan reaches, is refused.
     BadDrv(StorePath, NodeFault),
     /// The journal file is there and cannot be read.
@@ -44,6 +53,9 @@ pub enum RunError<'a> {
     /// This word, given as the program that starts builders, is no absolute path of a file that may
     /// be executed.
     NoRunner(&'a str),
+    /// The folder at this path, which should get the build folders, is no absolute path of a folder,
+    /// or that is the store folder or lies below it.
+    NoBuildDir(String),
     /// The folder of logs at this path, as it was given, cannot be made.
     NoLogs(&'a str),
     /// The trace file at this path, as it was given, cannot be written.
@@ -90,6 +102,8 @@ pub enum FaultName<'s> {
     OfJournal(&'s TableFault),
     /// That of a fault of a run.
     OfRun(RunFault),
+    /// That of a text which is no archive, by the place of the first byte that can't stand there.
+    OfArchive(usize),
 }
 
 impl RunError<'_> {
@@ -106,6 +120,8 @@ impl RunError<'_> {
             RunError::NoMemory => cut_short(9, b"run", Word(b"NoMemory")),
             RunError::TooLong(file) => refused(12, file.as_bytes(), Word(b"TooLong")),
             RunError::Unreadable(file) => refused(20, file.as_bytes(), Word(b"Unreadable")),
+            RunError::InputUnreadable => refused(20, b"input", Word(b"Unreadable")),
+            RunError::NotValid(word) => refused(34, word.as_bytes(), Word(b"NotValid")),
             RunError::JournalUnreadable => cut_short(20, b"journal", Word(b"Unreadable")),
             RunError::JournalTooLong => cut_short(35, b"journal", Word(b"TooLong")),
             RunError::NotWritten(path) => cut_short(74, path.text(), Word(b"Unwritable")),
@@ -114,6 +130,10 @@ impl RunError<'_> {
             RunError::NotLocked(dir) => cut_short(74, dir.as_bytes(), Word(b"Unwritable")),
             RunError::NoLogs(folder) => cut_short(74, folder.as_bytes(), Word(b"Unwritable")),
             RunError::NoTrace(file) => cut_short(74, file.as_bytes(), Word(b"Unwritable")),
+            RunError::NoBuildDir(folder) => {
+                cut_short(74, folder.as_bytes(), Word(b"Unwritable"))
+            }
+            RunError::NotRestored(path) => cut_short(74, path.as_bytes(), Word(b"Unwritable")),
             RunError::InUse(dir) => cut_short(75, dir.as_bytes(), Word(b"InUse")),
             RunError::NixStore(dir) => cut_short(76, dir.as_bytes(), Word(b"NixStore")),
             RunError::NoRunner(file) => refused(77, file.as_bytes(), Word(b"NoRunner")),
@@ -124,6 +144,7 @@ impl RunError<'_> {
                 refused(fault.number(), file.as_bytes(), OfNode(fault))
             }
             RunError::BadDrv(path, fault) => refused(fault.number(), path.text(), OfNode(fault)),
+            RunError::BadArchive(path, place) => refused(87, path.as_bytes(), OfArchive(*place)),
             RunError::BadJournal(fault) => refused(fault.number(), b"journal", OfJournal(fault)),
             RunError::Run(fault, _) => cut_short(fault.number(), b"run", OfRun(*fault)),
         }

@@ -65,7 +65,9 @@ impl<R: Files + AllocGlobal> CheckpointSink for InJournal<R> {
 
     /// A fault of the write is not told. The file that was there stays then. So it does where the
     /// text has more bytes than a journal may have.
-    fn keep<J: ListId>(&mut self, text: &[u8], _shown: &Prefix<J>) -> bool {
+    fn keep<J: ListId>(&mut self, text: &[u8], _shown: &Prefix<J>) -> bool
+        ensures long { max_journal_len < length text.now → result ≡ false }
+    {
         let path = self.path.as_str();
         is_written(path, text, write_journal(&self.rt, path, text))
     }

@@ -1,21 +1,46 @@
 //! The trace of a run, if the request asks for one: its file, written at the end.
-ghost use Rattle.std.specs.Prelude.{◌≡◌, IfErr, IfOk, option_map};
-ghost use Rattle.nix_realise.specs.Tracing.{IsToldOf, IsTraceStop, IsTracedEnd, finish_in};
+ghost use Rattle.std.specs.Prelude.{◌≡◌, IfOk, option_map};
+ghost use Rattle.std.specs.Option.{option_copied};
+ghost use Rattle.nix_realise.specs.Tracing.{IsTraceOf, IsTraceTried, IsTriedAt};
+ghost use Rattle.nix_realise.specs.Tracing.{told_of, told_with, trace_stop};
 
 use crate::cli::exit::Outcome;
 use crate::cli::run_error::RunError;
-use crate::io::whole_file::{WriteError, WriteReceipt, write_whole};
+use crate::io::whole_file::{WriteError, WrittenFile, write_owned};
+use crate::words::run_trace::run_trace;
 use command_line::RealiseRequest;
-use process_build::{Failure, Trace, TraceText};
+use process_build::{Failure, Trace, trace_text};
+use sched_core::Book;
+use std::alloc::AllocError;
 use std::rt::Files;
 use std::sync::Wait;
 use std::time::Clock;
+use valid_table::Outlet;
 
 /// A trace, and the path of the file that will get it, as it was given.
 #[derive(Drop)]
 pub struct TraceFile<'a> {
     path: &'a str,
     trace: Trace,
+}
+
+/// What came of writing the trace of a run. Only that writing makes what the variants hold.
+#[derive(Drop)]
+pub enum TraceTried<'a> {
+    /// The file was written.
+    Written(WrittenFile<'a>),
+    /// The file at this path could not be written.
+    Unwritten(&'a str, WriteError),
+    /// There was no memory for the text.
+    NoText(AllocError),
+}
+
+/// How a run ended whose workers were made, and what came of writing its trace, if one was asked
+/// for.
+#[derive(Drop)]
+pub struct TracedRun<'a> {
+    trace: Option<TraceTried<'a>>,
+    ended: Result<Outcome, RunError<'a>>,
 }
 
 impl<'a> TraceFile<'a> {
@@ -40,109 +65,89 @@ impl<'a> TraceFile<'a> {
         }
     }
 
-    // Puts the trace into the file.
-    fn write<R: Files + AllocGlobal + Wait>(&self, rt: &R) -> Result<TraceWritten<'a>, RunError<'a>>
-        ensures ok { IfOk result (λ written. written.path ≡ self.now.path) }
-        ensures err { IfErr result (IsTraceStop self.now.path) }
+    // The text of the trace of a run that left this book, or none.
+    fn text<R: AllocGlobal + Wait, V: Outlet>(
+        &self,
+        rt: &R,
+        book: Option<&Book<V>>,
+    ) -> Result<Vec<u8>, AllocError>
+        ensures { IfOk result
+            (λ text. IsTraceOf (option_copied book.entry) text.items) }
     {
-        let text = self.trace.text(rt)?;
-        match write_whole(rt, self.path, text.bytes()) {
-            Ok(written) => Ok(TraceWritten::by(self.path, &text, written)),
-            Err(unwritten) => Err(trace_stop(self.path, unwritten)),
+        match book {
+            Some(book) => run_trace(rt.alloc(), book, &self.trace.take(rt)),
+            None => trace_text(rt.alloc(), &[]),
+        }
+    }
+
+    // Tries to put the trace of a run that left this book, or none, into the file.
+    fn write<R: Files + AllocGlobal + Wait, V: Outlet>(
+        &self,
+        rt: &R,
+        book: Option<&Book<V>>,
+    ) -> TraceTried<'a>
+        ensures { IsTriedAt self.now.path (option_copied book.entry) result }
+    {
+        let text = match self.text(rt, book) {
+            Ok(text) => text,
+            Err(refused) => return TraceTried::NoText(refused),
+        };
+        match write_owned(rt, self.path, text) {
+            Ok(written) => TraceTried::Written(written),
+            Err(unwritten) => TraceTried::Unwritten(self.path, unwritten),
         }
     }
 }
 
-// Evidence that the file at a path was written, with the text of a trace.
-#[derive(Clone, Copy)]
-struct TraceWritten<'a> {
-    path: &'a str,
-}
-
-impl<'a> TraceWritten<'a> {
-    // By the evidence of writing it.
-    fn by(path: &'a str, _text: &TraceText, written: WriteReceipt<'_>) -> TraceWritten<'a>
-        requires path { written.path.now ≡ path.now }
-        requires text { written.bytes.now ≡ _text.now.bytes.items }
-        ensures { result.path ≡ path.entry }
+impl<'a> TracedRun<'a> {
+    /// A run that ended so and left this book, or none: tries to write its trace, if one is asked
+    /// for.
+    pub fn of<R: Files + AllocGlobal + Wait, V: Outlet>(
+        rt: &R,
+        file: &Option<TraceFile<'a>>,
+        book: Option<&Book<V>>,
+        ended: Result<Outcome, RunError<'a>>,
+    ) -> TracedRun<'a>
+        ensures trace { IsTraceTried (option_map (λ f. f.path) file.now)
+            (option_copied book.entry) result.trace }
+        ensures ended { result.ended ≡ ended.entry }
     {
-        written.spend();
-        TraceWritten { path }
+        let trace = match file {
+            Some(file) => Some(file.write(rt, book)),
+            None => None,
+        };
+        TracedRun { trace, ended }
     }
 }
 
-/// The end of a run that wasn't stopped. Its trace was written, if the request asks for one. Only
-/// this module makes one.
-#[derive(Drop)]
-pub struct Traced {
-    finish: Outcome,
-}
-
-impl Traced {
-    // The run ends by this outcome, since no trace was asked for.
-    fn without(_file: &Option<TraceFile<'_>>, finish: Outcome) -> Traced
-        requires { option_map (λ f. f.path) _file.now ≡ None }
-        ensures { result.finish ≡ finish }
-    {
-        Traced { finish }
-    }
-
-    // The run ends by this outcome, since its trace was written.
-    fn by(_file: &TraceFile<'_>, _written: TraceWritten<'_>, finish: Outcome) -> Traced
-        requires { _written.path.now ≡ _file.now.path.now }
-        ensures { result.finish ≡ finish }
-    {
-        Traced { finish }
-    }
-}
-
-/// How a run ended that may have been traced.
-pub fn untraced<'a>(traced: Result<Traced, RunError<'a>>) -> Result<Outcome, RunError<'a>>
-    ensures { result ≡ finish_in traced.entry }
+/// What is told of a run: what stopped it, if anything did; else why there is no trace, though one
+/// was asked for.
+pub fn told<'a>(run: Result<TracedRun<'a>, RunError<'a>>) -> Result<Outcome, RunError<'a>>
+    ensures { result ≡ told_of run.entry }
 {
-    match traced {
-        Ok(traced) => Ok(traced.finish),
-        Err(stop) => Err(stop),
+    let TracedRun { trace, ended } = run?;
+    match (trace, ended) {
+        (Some(tried), Ok(finish)) => told_with(tried, finish),
+        (_, ended) => ended,
     }
 }
 
-/// Ends a run: writes its trace, if the request asks for one. Where the run was stopped, that is
-/// told, whether the trace can be written or not.
-pub fn end_traced<'a, R: Files + AllocGlobal + Wait>(
-    rt: &R,
-    file: &Option<TraceFile<'a>>,
-    ended: Result<Outcome, RunError<'a>>,
-) -> Result<Traced, RunError<'a>>
-    ensures { IsTracedEnd (option_map (λ f. f.path) file.now) ended.entry (finish_in result) }
+// What is told of a run that was not stopped, by what came of writing its trace.
+fn told_with<'a>(tried: TraceTried<'a>, finish: Outcome) -> Result<Outcome, RunError<'a>>
+    ensures { result ≡ told_with tried.entry finish }
 {
-    match (file, ended) {
-        (Some(file), ended) => told_end(file, file.write(rt), ended),
-        (None, Ok(finish)) => Ok(Traced::without(file, finish)),
-        (None, Err(stop)) => Err(stop),
+    match tried {
+        TraceTried::Written(_) => Ok(finish),
+        TraceTried::Unwritten(path, why) => Err(trace_stop(path, why.failure())),
+        TraceTried::NoText(refused) => Err(RunError::from(refused)),
     }
 }
 
-// The end of a run that is told, by what came of writing its trace.
-fn told_end<'a>(
-    file: &TraceFile<'a>,
-    written: Result<TraceWritten<'a>, RunError<'a>>,
-    ended: Result<Outcome, RunError<'a>>,
-) -> Result<Traced, RunError<'a>>
-    requires { IfOk written (λ written. written.path ≡ file.now.path) }
-    ensures { IsToldOf written.entry ended.entry (finish_in result) }
+// What ends a run whose trace file is not written for this reason.
+fn trace_stop<'a>(path: &'a str, why: Failure) -> RunError<'a>
+    ensures { result ≡ trace_stop path.entry why }
 {
-    match (written, ended) {
-        (_, Err(stop)) => Err(stop),
-        (Err(stop), Ok(_)) => Err(stop),
-        (Ok(written), Ok(finish)) => Ok(Traced::by(file, written, finish)),
-    }
-}
-
-// What ends a run whose trace file is not written.
-fn trace_stop<'a>(path: &'a str, unwritten: WriteError) -> RunError<'a>
-    ensures { IsTraceStop path.entry result }
-{
-    match unwritten.failure() {
+    match why {
         Failure::NoMemory => RunError::NoMemory,
         _ => RunError::NoTrace(path),
     }

@@ -25,13 +25,22 @@ impl WriteReceipt<'_> {
     }
 }
 
+/// Evidence that a file was written: its path, and the bytes that it got. Only `write_owned` makes
+/// one.
+#[derive(Drop)]
+pub struct WrittenFile<'a> {
+    path: &'a str,
+    bytes: Vec<u8>,
+}
+
 /// Evidence that a file could be made beside what lies at this path. Only `try_out` makes one.
 #[derive(Clone, Copy)]
 pub struct WriteProbe<'a> {
     path: &'a str,
 }
 
-/// Evidence that a file was not written, and why. Only `write_whole` and `try_out` make one.
+/// Evidence that a file was not written, and why. Only `write_whole`, `write_owned` and `try_out`
+/// make one.
 #[derive(Clone, Copy, Debug, PartialEq, Eq)]
 pub struct WriteError {
     failure: Failure,
@@ -65,6 +74,21 @@ pub fn write_whole<'a, R: Files + AllocGlobal>(
 {
     match put_whole(rt, path, bytes) {
         Ok(()) => Ok(WriteReceipt { path, bytes }),
+        Err(failure) => Err(WriteError { failure }),
+    }
+}
+
+/// Does what `write_whole` does, and keeps the bytes beside the path.
+pub fn write_owned<'a, R: Files + AllocGlobal>(
+    rt: &R,
+    path: &'a str,
+    bytes: Vec<u8>,
+) -> Result<WrittenFile<'a>, WriteError>
+    ensures { IfOk result (λ written.
+        (written.path ≡ path.entry) × (written.bytes.items ≡ bytes.items)) }
+{
+    match put_whole(rt, path, &bytes) {
+        Ok(()) => Ok(WrittenFile { path, bytes }),
         Err(failure) => Err(WriteError { failure }),
     }
 }

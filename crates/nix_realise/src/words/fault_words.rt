@@ -90,6 +90,7 @@ fn write_fault(name: FaultName<'_>, out: &mut Vec<u8>) -> Result<(), AllocError>
         FaultName::OfNode(fault) => write_node_fault(fault, out),
         FaultName::OfJournal(fault) => write_table_fault(fault, out),
         FaultName::OfRun(fault) => write_run_fault(fault, out),
+        FaultName::OfArchive(place) => write_with_number(b"BadNar", place, out),
     }
 }
 

@@ -1,8 +1,8 @@
 use Rattle.std.proofs.Common.{refl}
 use Rattle.clap.specs.Words.{App, app_of, with_rule}
 use Rattle.command_line.proofs.CommandLines.{ended_by_arg, grown_by_arg}
-use Rattle.command_line.specs.CommandLine.{keep_failed_flag, logs_option, outputs_option}
-use Rattle.command_line.specs.CommandLine.{runner_option, trace_option}
+use Rattle.command_line.specs.CommandLine.{build_dir_option, cores_option, keep_failed_flag}
+use Rattle.command_line.specs.CommandLine.{logs_option, runner_option, trace_option}
 use Rattle.command_line.proofs.command.with_builder_options.Goals as goal
 
 pub returns : goal.returns
@@ -12,6 +12,7 @@ returns c =
     let line_2 = with_rule line_1 keep_failed_flag in
     let line_3 = with_rule line_2 runner_option in
     let line_4 = with_rule line_3 trace_option in
+    let line_5 = with_rule line_4 build_dir_option in
     let logs = grown_by_arg c.args.command c.logs.result c.in_ok-arg.field-0 line_0
     logs_option c.logs.ensures.local refl c.logs.ensures.rule c.in_ok-arg.ensures in
     let kept = grown_by_arg c.in_ok-arg.field-0 c.keep_failed.result c.in_ok-arg-2.field-0 line_1
@@ -21,5 +22,8 @@ returns c =
     runner_option c.runner.ensures.local kept c.runner.ensures.rule c.in_ok-arg-3.ensures in
     let trace = grown_by_arg c.in_ok-arg-3.field-0 c.trace.result c.in_ok-arg-4.field-0 line_3
     trace_option c.trace.ensures.local runner c.trace.ensures.rule c.in_ok-arg-4.ensures in
-    ended_by_arg _ c.in_ok-arg-4.field-0 c.outputs.result c.arg-5.result line_4 outputs_option
-    c.outputs.ensures.local trace c.outputs.ensures.rule c.arg-5.ensures
+    let build_dir = grown_by_arg c.in_ok-arg-4.field-0 c.build_dir.result c.in_ok-arg-5.field-0
+    line_4 build_dir_option c.build_dir.ensures.local trace c.build_dir.ensures.rule
+    c.in_ok-arg-5.ensures in
+    ended_by_arg _ c.in_ok-arg-5.field-0 c.cores.result c.arg-6.result line_5 cores_option
+    c.cores.ensures.local build_dir c.cores.ensures.rule c.arg-6.ensures

@@ -13,6 +13,11 @@ subcommand_request-requires-clause-jobs c =
     let is = met c.args.matches.now _ _ c.in-Some.ensures.name c.in-Some.ensures.rows in
     (subst IsFound is c.requires).1
 
+pub subcommand_request-requires-clause-cores : goal.subcommand_request-requires-clause-cores
+subcommand_request-requires-clause-cores c =
+    let is = met c.args.matches.now _ _ c.in-Some.ensures.name c.in-Some.ensures.rows in
+    (subst IsFound is c.requires).2
+
 pub returns-clause-ok : goal.returns-clause-ok
 returns-clause-ok c =
     let is = met c.args.matches.now _ _ c.in-Some.ensures.name c.in-Some.ensures.rows in

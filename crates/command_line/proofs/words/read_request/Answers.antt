@@ -7,7 +7,7 @@ use Rattle.command_line.proofs.Found.{found_rows}
 use Rattle.command_line.proofs.Usage.{fault_found, is_free, none_found}
 use Rattle.command_line.specs.CommandLine.{command_line}
 use Rattle.command_line.specs.private.Found.{IsFound}
-use Rattle.command_line.specs.Kinds.{IsKindFaultIn}
+use Rattle.command_line.specs.Profiles.{IsWordFaultIn}
 use Rattle.command_line.specs.Requests.{IsAskedIn}
 use Rattle.command_line.proofs.words.read_request.Goals as goal
 
@@ -60,5 +60,5 @@ returns-clause-err c =
     (c.in_ok-matches.ensures.kinds (ap is_simple_and_free line ∙ is_free)) in
     IfErr-weaker c.found_request.result _ _
     (λ e fault. ⊎_elim inl
-    (λ of_kind. inr (inr (subst (λ f. IsKindFaultIn f (kind_of e)) same of_kind, none))) fault)
+    (λ other. inr (inr (subst (λ f. IsWordFaultIn f (kind_of e)) same other, none))) fault)
     c.found_request.ensures.err

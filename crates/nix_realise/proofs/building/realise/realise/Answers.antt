@@ -6,11 +6,11 @@ use Rattle.nix_realise.specs.declared.io.files.FileFault.TheVariants.{Unreadable
 use Rattle.nix_realise.specs.declared.cli.run_error.RunError.TheVariants.{NoMemory}
 use Rattle.nix_realise.proofs.building.realise.realise.Goals as goal
 
-pub returns-in_err-runner : goal.returns-in_err-runner
-returns-in_err-runner g c =
+pub returns-in_err-tools : goal.returns-in_err-tools
+returns-in_err-tools g c =
     let step = c.from_residual in
     let e = err_from_is_err_and step.result step.ensures.1 in
-    inl (c.in_err-runner.field-0.0, e.1 ∙ ap Err e.2, refl, c.in_err-runner.ensures.err)
+    inl (c.in_err-tools.field-0.0, e.1 ∙ ap Err e.2, refl, c.in_err-tools.ensures.err)
 
 pub returns-in_err-dir : goal.returns-in_err-dir
 returns-in_err-dir g c =

@@ -21,5 +21,11 @@ returns-in_err-place g c =
     let e = err_from_is_err_and step.result step.ensures.1 in
     inr (NoMemory, e.1 ∙ ap Err e.2, refl, inr tt)
 
+pub returns-in_err-system : goal.returns-in_err-system
+returns-in_err-system g c =
+    let step = c.from_residual-in_err-system in
+    let e = err_from_is_err_and step.result step.ensures.1 in
+    inr (NoMemory, e.1 ∙ ap Err e.2, refl, inr tt)
+
 pub returns : goal.returns
 returns g c = c.build_traced.ensures

@@ -1,0 +1,17 @@
+use Rattle.std.proofs.Common.{◌<◌, All, length, subst, sym}
+use Rattle.std.proofs.lemmas.List.Elements.{All-get_or}
+use Rattle.run_states.specs.declared.state.Event.TheVariants.{Begin}
+use Rattle.nix_realise.proofs.EventPlaces.{events_within}
+use Rattle.nix_realise.specs.private.Leases.{derivation_of}
+use Rattle.nix_realise.proofs.words.run_trace.begun_leases.Goals as goal
+
+pub push_lease-requires-after_bounds : goal.push_lease-requires-after_bounds
+push_lease-requires-after_bounds g c =
+    let run = c.args.book.now.run in
+    let history = c.args.book.now.history in
+    let items = c.events-event-items.result.now in
+    let each = subst (λ events. All (λ e. derivation_of e < length run.graph.nodes) events)
+    (sym c.events-event-items.ensures.value)
+    (events_within run history c.events-event-items.ensures.legal) in
+    λ _ _. All-get_or (λ e. derivation_of e < length run.graph.nodes) items c.events.event-index
+    (Begin 0 0) c.events-test.true each
