@@ -71,7 +71,7 @@ def linked():
     for case in (*kinds(), *swaps_of_outputs()):
         first = BUILT if "link" in case.name else case.first
         name = f"{case.name}, where links may be"
-        yield case._replace(name=name, first=first, options=("--outputs", "nix"))
+        yield case._replace(name=name, first=first, options=("--profile", "nix"))
 
 
 def limits():

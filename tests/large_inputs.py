@@ -7,11 +7,9 @@ import sys
 import tempfile
 
 from reading import MAX_DRV
-from scenes import HERE, quoted, room
-
-sys.path.insert(0, str(HERE.parent / "bench"))
-from derivations import made, write_fixed  # noqa: E402
-from store_paths import make_path, text_path  # noqa: E402
+from scenes import quoted, room  # It lets the modules of bench be found.
+from derivations import made, write_fixed
+from store_paths import make_path, text_path
 
 MAX_JOURNAL = 134217728
 DERIVATIONS = 65536

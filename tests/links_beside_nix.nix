@@ -1,4 +1,4 @@
-# Derivations whose outputs have symbolic links, for `tests/links-beside-nix`.
+# Derivations for `tests/links-beside-nix`: with symbolic links in their outputs, and with trees.
 let
   with-more = more: name: outputs: text: derivation ({
     inherit name outputs;
@@ -61,10 +61,13 @@ in {
     # A package of links alone, and a link to that.
     joined = one "joined" ''
       mkdir $out
-      for package in ${library} ${library.dev} ${program}; do cp -rst $out $package/*; done
+      for it in ${library} ${library.dev} ${program}; do cp -rst $out $it/*; chmod -R u+w $out; done
     '';
     profile = one "profile" "ln -s ${joined} $out";
   };
+
+  # Trees that the scripts in a file make.
+  trees = map (one "tree") (builtins.fromJSON (builtins.readFile (builtins.getEnv "TREES")));
 
   # What neither builds: a fixed output that is a link, though it leads to the declared content, and
   # two outputs that link to each other.

@@ -24,10 +24,17 @@ valid_view/src/writer_end.rt reader | match self . writer . factory ( ) . reader
 process_build/src/failures.rt from
     | ErrorKind :: OutOfMemory if error . raw_os_error ( ) . is_none ( ) => Failure :: NoMemory
     # an error of std's without a number of the system's is that std was refused memory
+process_build/src/disk/outputs.rt most_below | Profile :: Nix => usize :: MAX , # no limit under nix
+process_build/src/disk/outputs.rt new | Profile :: Nix => ( usize :: MAX , usize :: MAX ) , # the same
+valid_table/src/nar.rt new | if size > i64 :: MAX as u64 { # no length of an archive is as great
+process_build/src/process/caller.rt caller_value
+    | Err ( VarError :: OutOfMemory ) => Err ( Reason :: OutOfMemory ) , # std was refused memory
 process_build/src/process/processes.rt may_have_run
-    | ! matches ! ( left , Err ( Reason :: NoStart | Reason :: OutOfMemory ) )
-    # a test of a reason, which makes none
+    | ! matches ! ( left , Err ( Reason :: NoStart | Reason :: OutOfMemory ) ) # a test of a reason
 command_line/src/faults.rt - | name : "!" # the name of a fault, in the table of all of them
+command_line/src/arguments.rt cores | . range ( 0 ..= 65_535 ) # the numbers that an option takes
+nix_realise/src/archives/input.rt read_archive | [ 0 ; PIECE ] # the bytes of a piece, 65,536
+nix_realise/src/building/tools.rt processors | unwrap_or ( u16 :: MAX ) # no size: a number told
 nix_realise/src/cli/program.rt print_usage
     | if fault . kind ( ) == ErrorKind :: OutOfMemory { return print_no_memory ( err ) ; }
     # clap was refused memory
@@ -60,27 +67,26 @@ store_run/src/run.rt run_workers
 store_run/src/kept_run.rt run_beside
     | let _ = scope . spawn ( move || keep_on ( rt , alloc , locked , text , place ) )
     # without its thread nothing is kept while the run goes on, and the run ends as ever
-process_build/src/observe/trace.rt text | Err ( AllocError )
-    # memory was refused when a lease was noted, so that the trace has a gap
+nix_realise/src/words/run_trace.rt lease_at | return Err ( AllocError )
+    # memory was refused when the times of a lease were noted
 process_build/src/process/start.rt start | match command . spawn ( processes ) {
     # starts a process; its error is std's, and goes through Failure
-nix_names/src/base32.rt base32_text | with_capacity ( alloc , len )
-    # the characters of the text of some bytes
+nix_names/src/base32.rt base32_text | with_capacity ( alloc , len ) # the characters of a text
 nix_names/src/base32.rt bytes_of | with_capacity ( alloc , n )
     # at most the characters of a text (`within`)
-process_build/src/disk/kept_folders.rt new | with_capacity ( alloc , count )
-    # the derivations of a plan
+process_build/src/disk/kept_folders.rt new | with_capacity ( alloc , count ) # derivations
 process_build/src/disk/outputs.rt - | [ u8 ; MAX_PIECE ] # the bytes of a piece, 65,536
 process_build/src/disk/outputs.rt new | [ 0 ; MAX_PIECE ] # the same
 process_build/src/disk/outputs.rt names | [ 0 ; NAMES_AT_ONCE ] # 4,096 bytes of names
 process_build/src/disk/left_paths.rt left_paths | [ 0 ; NAMES_AT_ONCE ] # the same
+process_build/src/walk/telling.rt - | [ u8 ; MAX_PIECE ] # the bytes of a piece, 65,536
+process_build/src/walk/telling.rt new | [ 0 ; MAX_PIECE ] # the same
+process_build/src/walk/entry_names.rt read_names | [ 0 ; NAMES_AT_ONCE ] # 4,096 bytes of names
 process_build/src/observe/counts.rt new | unsettled : usize :: MAX # no size: no count reaches it
 process_build/src/observe/time.rt micros_of | unwrap_or ( u64 :: MAX )
     # no size: the greatest time that is told
-ref_scan/src/index.rt sieve_of | vec ! [ in alloc ; NONE ; slots ]
-    # the slots of a sieve, at most 1,048,576
-build_outcome/src/links.rt no_links | with_capacity ( alloc , count )
-    # a list for each output of a derivation
+ref_scan/src/index.rt sieve_of | vec ! [ in alloc ; NONE ; slots ] # at most 1,048,576
+build_outcome/src/links.rt no_links | with_capacity ( alloc , count ) # a list for each output
 run_states/src/users.rt open
     | vec ! [ in alloc ; Edge { user : 0 , place : 0 } ; pairs_in ( plan , twins ) ]
     # derivations with who waits for them

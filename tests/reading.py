@@ -10,6 +10,8 @@ BODY = re.compile(rb"[0-9abcdfghijklmnpqrsvwxyz]{32}-([A-Za-z0-9+\-._?=]{1,211})
 SPELLED = {b'"': b'"', b"\\": b"\\", b"n": b"\n", b"r": b"\r", b"t": b"\t"}
 LETTERS = {value: letter for letter, value in SPELLED.items()}
 DIGITS = {b"md5": 32, b"sha1": 40, b"sha256": 64, b"sha512": 128}
+FIELDS = {b"1": 1, b"2": 1, b"3": 2}  # after the path, in A and O lines, by versions
+NAR = re.compile(rb"[0-9a-f]{64}:(0|[1-9][0-9]*)\Z")
 MAX_DRV = 4194304
 # The parts of a derivation: strings, tuples and lists. The first strings of a list's elements rise,
 # but where None follows the element.
@@ -120,23 +122,28 @@ def check_words(folder, path, text):
 
 
 def row_of(folder, version, line):
-    """The kind, the path and the digest, as version 2 has it, of a line if it is well formed."""
-    kind, path, *rest = line.split(b" ", 2) + [b""]
+    """The kind, path, digest and archive, as version 3 has them, of a line if it is well formed."""
+    kind, *fields = line.split(b" ")
     has_digest = kind in (b"A", b"O")
-    if kind not in (b"A", b"D", b"O", b"R") or len(rest) != 1 + has_digest:
+    wanted = 1 + (FIELDS[version] if has_digest else 0)
+    if kind not in (b"A", b"D", b"O", b"R") or len(fields) != wanted:
         return None
-    digest = rest[0] if has_digest else None
-    if version == b"1" and has_digest and digest != b"-":
+    path, digest, nar = [*fields, b"-", b"-"][:3]
+    if version == b"1" and digest != b"-":
         digest = b"sha256:" + digest
-    name, colon, digits = (digest or b"-").partition(b":")
+    plain = digest.removeprefix(b"r:") if version == b"3" else digest
+    name, colon, digits = plain.partition(b":")
     is_digest = colon and DIGITS.get(name) == len(digits) and re.fullmatch(b"[0-9a-f]*", digits)
-    is_good = is_path(folder, path) and (is_digest or digest in (None, b"-"))
-    return (kind, path, digest) if is_good else None
+    is_nar = NAR.match(nar) and int(nar[65:]) < 2**63
+    known = (is_digest or digest == b"-") and (is_nar or nar == b"-")
+    if not known or not is_path(folder, path):
+        return None
+    return (kind, path, digest, nar) if has_digest else (kind, path, None, None)
 
 
 def may_follow(row, entry, after):
     """Whether a row may follow those of the last entry, before a line that stands after it."""
-    kind, path, _ = row
+    kind, path, *_ = row
     if kind == b"D":
         name = name_of(path)
         return name.endswith(b".drv") and len(name) > 4 and after.startswith(b"O ")
@@ -150,7 +157,7 @@ def may_follow(row, entry, after):
 def entries_of(folder, text):
     """The entries of a journal, each a list of rows; else what is wrong with it."""
     head = re.match(rb"realiser-journal (\d+)\n", text)
-    if head and head[1] not in (b"1", b"2"):
+    if head and head[1] not in FIELDS:
         raise Refused(b"WrongVersion")
     if text and not head:
         raise Refused(b"BadLine(1)")
@@ -174,8 +181,8 @@ def faults_of(entries, numbers):
     """References that are not registered, and paths that are registered twice, by their lines."""
     valid = set()
     for place, entry in enumerate(entries, 1):
-        own = {path for kind, path, _ in entry if kind in (b"A", b"O")}
-        for at, (kind, path, _) in enumerate(entry, 1):
+        own = {path for kind, path, *_ in entry if kind in (b"A", b"O")}
+        for at, (kind, path, *_) in enumerate(entry, 1):
             number = numbers[place, at]
             if kind == b"R" and path not in valid | own:
                 yield number, b"NotClosed(%d)" % number
@@ -185,8 +192,11 @@ def faults_of(entries, numbers):
 
 
 def journal_of(folder, text):
-    """A journal's text in version 2, and the valid paths; else what is wrong."""
+    """A journal's text as it is written, in version 3 where that is needed, else in version 2; and
+    the valid paths; else what is wrong."""
     rows = [row for entry in entries_of(folder, text) for row in entry]
-    lines = [b" ".join(part for part in row if part is not None) + b"\n" for row in rows]
-    valid = {path for kind, path, _ in rows if kind in (b"A", b"O")}
-    return b"realiser-journal 2\n" + b"".join(lines), valid
+    needs = any(row[3] not in (None, b"-") or (row[2] or b"").startswith(b"r:") for row in rows)
+    fields = ([part for part in row[: 4 if needs else 3] if part is not None] for row in rows)
+    lines = (b" ".join(parts) + b"\n" for parts in fields)
+    valid = {path for kind, path, *_ in rows if kind in (b"A", b"O")}
+    return b"realiser-journal %d\n" % (3 if needs else 2) + b"".join(lines), valid

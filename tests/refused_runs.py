@@ -177,8 +177,11 @@ class Realise(Plan):
         """The entries of the journal, and whether those of before stand first."""
         text = found[JOURNAL][1].decode() if JOURNAL in found else ""
         old = self.old_files[JOURNAL]
-        entries = re.split("^(?=[AD] )", text[len(old) :], flags=re.M)
-        return text.startswith(old), [entry for entry in entries if entry]
+        # With the first output under the profile nix the text goes over to version 3.
+        in_three = old.replace("journal 2", "journal 3").replace(" -\n", " - -\n")
+        begins = in_three if text.startswith(in_three) else old
+        entries = re.split("^(?=[AD] )", text[len(begins) :], flags=re.M)
+        return text.startswith(begins), [entry for entry in entries if entry]
 
     def known(self, found):
         """The derivations that the journal knows as an undisturbed run knows them."""
@@ -239,8 +242,7 @@ class RealiseByRunner(Realise):
     """The same by a runner and with logs, where build folders of failed builders are kept."""
 
     name = "realise by a runner"
-    scripts = {**SCRIPTS, "third": SCRIPTS["third"] + "; ln -s d $dev/l"}
-    options = ("--keep-failed", "--outputs", "nix", "--logs", "LOGS", "--runner", "/usr/bin/env")
+    options = ("--keep-failed", "--logs", "LOGS", "--runner", "/usr/bin/env")
     kept = ""
 
     def lay(self):

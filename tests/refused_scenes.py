@@ -66,7 +66,7 @@ ROWS = [
     ("realise", "look rename open-folder list remove", "folder aside", "ever", "moved"),
     ("realise", "make-folder open spawn", "start", "NoStart", "less"),
     ("realise", "wait", "end", "ReadFault", "less"),
-    ("realise", "look open read open-folder list read-link", "output", "ReadFault", "less"),
+    ("realise", "look open read open-folder list", "output", "ReadFault", "less"),
     ("realise", "look open-folder remove", "build folder", "ever", "new"),
     ("realise", WRITING, "journal written", "unwritten", "outputs"),
     ("realise", WRITING, "journal kept", "ever", "new"),
@@ -254,10 +254,11 @@ class Check(Scene):
 
 
 class AddText(Scene):
-    """`add-text` over an old file and a journal with an entry."""
+    """`add-text` over an old file and a journal with an entry; or of a path that is valid, where no
+    file is changed."""
 
     subcommand = name = "add-text"
-    is_old, held = True, JOURNAL
+    is_old, is_valid, held = True, False, JOURNAL
     command = lambda self: ["greeting", self.file]
 
     def prepare(self):
@@ -272,6 +273,9 @@ class AddText(Scene):
         new += f"A {self.path} sha256:{hashlib.sha256(text.encode()).hexdigest()}\n"
         before = self.old_files.get
         self.own = {base: (before(base), text), self.held: (before(self.held), new)}
+        if self.is_valid:
+            self.old_files[self.held] = new
+            self.own = {name: (held, held) for name, held in self.old_files.items()}
 
     def place_of(self, calls, at):
         call, path = calls[at], os.path.abspath(calls[at].path)
@@ -302,17 +306,6 @@ class AddTextRelative(AddText):
     def prepare(self):
         super().prepare()
         self.file, self.journal = map(os.path.relpath, (self.file, self.store / self.held))
-
-
-class AddTextValid(AddText):
-    """`add-text` of a path that is valid: no file is changed."""
-
-    name = "add-text, valid"
-
-    def prepare(self):
-        super().prepare()
-        self.old_files[JOURNAL] = self.own[JOURNAL][1]
-        self.own = {name: (text, text) for name, text in self.old_files.items()}
 
 
 class AddDrv(AddText):
@@ -360,12 +353,12 @@ ALL = [
     AddText,
     variant(AddText, "add-text, no journal", is_old=False),
     AddTextRelative,
-    AddTextValid,
+    variant(AddText, "add-text, valid", is_valid=True),
     AddDrv,
     variant(Words, "words", given=NAMED, told=WRONG),
     variant(Words, "words, a bad folder", given=ELSEWHERE, told=FOLDER),
     variant(Words, "words, no option", given=["check", "--frob"]),
-    variant(Words, "words, no kind", given=["realise", "--outputs", "x", "x"]),
+    variant(Words, "words, no profile", given=["realise", "--profile", "x", "x"]),
     variant(Words, "help", subcommand="help", given=["--version"], told=VERSION),
     variant(Words, "help, faults", subcommand="help", given=["help", "faults"]),
 ]

@@ -1,7 +1,7 @@
 """Takes the step `lab` of a row: calls of the libraries, by the program `crates/lab`.
 
 Each text with a label is kept under that name first; after `lab` stand the labels of journals, of
-which the first line is left out. The lines of the text without a label are given to the program,
+which the first line is left out, after their version, if that isn't 2. The lines of the text without a label are given to the program,
 and what it prints is compared with `out`, but for the lines that say where a call begins and ends.
 The program runs in the folder of the tests, and `<xff>` stands for a byte of all ones.
 """
@@ -21,7 +21,9 @@ bytes_of = lambda text: text.encode(errors="surrogateescape")
 def script_of(scene, step):
     """The lines that a step gives to the program."""
     kept = {label: scene.text(step, label) for label in step.texts if label not in ("", "out")}
-    kept |= {label: f"realiser-journal 2\n{kept.get(label, '')}" for label in step.words}
+    labels = scene.words(step.words)
+    version = labels.pop(0) if labels and labels[0].isdigit() else "2"
+    kept |= {it: f"realiser-journal {version}\n{kept.get(it, '')}" for it in labels}
     texts = [f"{label} = bytes {bytes_of(text).hex()}\n" for label, text in kept.items()]
     return "".join(texts) + scene.text(step)
 

@@ -7,7 +7,8 @@ for what earlier steps name.
 
 `put any` writes a draft to `<dir>/file` and lets `add-drv` add it under the name `any`: then
 `<any>` stands for the derivation's path, `<any.out>` for that of its output `out`, `<any.file>` for
-the name of its file, and `<any.name>` for that name without hash part and end.
+the name of its file, `<any.name>` for that name without hash part and end, and `<any.out.nar>` for
+what a journal says of the archive of what lies at that path.
 `script any <input>..` does so with a draft whose builder is a shell over the text, and which uses
 the output `out` of each input. `many N any MOST <input>..` adds N of them, `<any-0>` and so on, and
 `<any-*>` stands for all their paths: in their text `<n>` is the number, and `<inputs>` are the
@@ -84,6 +85,8 @@ class Scene:
                 return pathlib.Path(meant([word[:-6] + ">"])).name
             if word.endswith(".name>"):
                 return pathlib.Path(meant([word[:-6] + ">"])).stem[33:]
+            if word.endswith(".nar>"):
+                return nar_at(pathlib.Path(meant([word[:-5] + ">"])))
             return self.said(self.texts[word]) if word in self.texts else self.names.get(word, word)
 
         return WORD.sub(meant, text)
@@ -118,6 +121,29 @@ class Scene:
         path = self.names[f"<{word}>"] = ran.out.rstrip("\n")
         self.names |= {f"<{word}.{output}>": found for output, found in outputs_at(path).items()}
         return path
+
+
+def strings_at(path):
+    """The strings of the archive (NAR) of what lies at a path."""
+    yield from (b"(", b"type")
+    if path.is_symlink():
+        yield from (b"symlink", b"target", os.fsencode(os.readlink(path)))
+    elif path.is_dir():
+        yield b"directory"
+        for name in sorted(map(os.fsencode, os.listdir(path))):
+            yield from (b"entry", b"(", b"name", name, b"node")
+            yield from (*strings_at(path / os.fsdecode(name)), b")")
+    else:
+        mark = (b"executable", b"") if path.stat().st_mode & stat.S_IXUSR else ()
+        yield from (b"regular", *mark, b"contents", path.read_bytes())
+    yield b")"
+
+
+def nar_at(path):
+    """The SHA-256 and the length of the archive of what lies at a path."""
+    strings = (b"nix-archive-1", *strings_at(path))
+    archive = b"".join(len(it).to_bytes(8, "little") + it + bytes(-len(it) % 8) for it in strings)
+    return f"{hashlib.sha256(archive).hexdigest()}:{len(archive)}"
 
 
 def take_script(scene, step):

@@ -99,6 +99,16 @@ def room(need=2**28):
     return tempfile.gettempdir()
 
 
+@contextlib.contextmanager
+def own_folder(what="", **where):
+    """A folder that goes away at the end. A fault ends the script, and is told."""
+    with tempfile.TemporaryDirectory(**where) as name:
+        try:
+            yield pathlib.Path(os.path.realpath(name))
+        except Fault as fault:
+            sys.exit(f"== {what}\n{fault}")
+
+
 def option(words, name):
     return next((it.partition("=")[2] for it in words if it.startswith(name + "=")), None)
 

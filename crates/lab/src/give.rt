@@ -5,12 +5,12 @@ use crate::stop::{Stop, Taken, call};
 use crate::teller::Teller;
 use crate::words::faults::Fault;
 use crate::world::World;
-use drv_graph::Plan;
+use drv_graph::{Plan, Profile};
 use nix_drv::Derivation;
 use nix_names::{Digest, StoreDir, StorePath};
-use ref_scan::Tree;
+use ref_scan::{ArchiveSum, Tree};
 use std::alloc::AllocError;
-use std::fmt::Debug;
+use std::fmt::{Debug, Display};
 use valid_table::Journal;
 use valid_view::Seen;
 
@@ -33,30 +33,16 @@ impl<A: Debug + Drop, B: Debug + Drop> Give for (A, B) {
     }
 }
 
-impl Give for bool {
+impl<A: Display + Drop> Give for (A,) {
     fn give(self, teller: &mut Teller<'_>, _world: &mut World, _line: &Line<'_>) -> Taken {
-        teller.say(self);
+        teller.say(self.0);
         Ok(())
     }
 }
 
-impl Give for u64 {
-    fn give(self, teller: &mut Teller<'_>, _world: &mut World, _line: &Line<'_>) -> Taken {
-        teller.say(self);
-        Ok(())
-    }
-}
-
-impl Give for [u8; 20] {
+impl<const N: usize> Give for [u8; N] {
     fn give(self, teller: &mut Teller<'_>, _world: &mut World, _line: &Line<'_>) -> Taken {
         teller.hex(&self);
-        Ok(())
-    }
-}
-
-impl Give for String {
-    fn give(self, teller: &mut Teller<'_>, _world: &mut World, _line: &Line<'_>) -> Taken {
-        teller.say(self.as_str());
         Ok(())
     }
 }
@@ -137,7 +123,13 @@ impl Give for Derivation {
 
 impl Give for Plan {
     fn give(self, teller: &mut Teller<'_>, world: &mut World, line: &Line<'_>) -> Taken {
-        teller.say(format_args!("{} derivations", self.len()));
+        let profile = call!(teller, "Plan::profile" => self.profile());
+        let under = if profile == Profile::Nix {
+            " under Nix"
+        } else {
+            ""
+        };
+        teller.say(format_args!("{} derivations{under}", self.len()));
         world.plans.keep(line.name, self)
     }
 }
@@ -150,16 +142,33 @@ impl Give for Journal {
     }
 }
 
-// The algorithm and the bytes of a digest, if there is one.
-impl Give for Option<Digest> {
+// What there is, or `none`.
+impl<T: Give + Drop> Give for Option<T> {
+    fn give(self, teller: &mut Teller<'_>, world: &mut World, line: &Line<'_>) -> Taken {
+        match self {
+            Some(value) => value.give(teller, world, line),
+            None => {
+                teller.say("none");
+                Ok(())
+            }
+        }
+    }
+}
+
+impl Give for ArchiveSum {
     fn give(self, teller: &mut Teller<'_>, _world: &mut World, _line: &Line<'_>) -> Taken {
-        let Some(digest) = self else {
-            teller.say("none");
-            return Ok(());
-        };
-        let algorithm = call!(teller, "Digest::algorithm" => digest.algorithm());
+        teller.say(format_args!("{} bytes", self.length));
+        teller.hex(&self.hash);
+        Ok(())
+    }
+}
+
+// The algorithm and the bytes of a digest.
+impl Give for Digest {
+    fn give(self, teller: &mut Teller<'_>, _world: &mut World, _line: &Line<'_>) -> Taken {
+        let algorithm = call!(teller, "Digest::algorithm" => self.algorithm());
         let name = call!(teller, "Algorithm::name" => algorithm.name());
-        let bytes = call!(teller, "Digest::bytes" => digest.bytes());
+        let bytes = call!(teller, "Digest::bytes" => self.bytes());
         teller.text(name);
         teller.hex(bytes);
         Ok(())

@@ -61,11 +61,8 @@ impl<'a> Teller<'a> {
             self.rest = rest;
             if !text.is_empty() {
                 let line = Line::of(self.rt.alloc(), text)?;
-                return Ok(if line.call == last || !self.goes_on() {
-                    None
-                } else {
-                    Some(line)
-                });
+                let is_over = line.call == last || !self.goes_on();
+                return Ok(if is_over { None } else { Some(line) });
             }
         }
         Ok(None)

@@ -21,6 +21,13 @@ macro_rules! argument {
     ($t:ident $w:ident $line:ident written $n:literal) => {
         Digest::of_text($line.argument($n)).ok_or(Stop::Lost("no digest"))?
     };
+    ($t:ident $w:ident $line:ident version $n:literal) => {
+        match $line.argument($n) {
+            b"1" => Version::One,
+            b"3" => Version::Three,
+            _ => Version::Two,
+        }
+    };
     ($t:ident $w:ident $line:ident table $n:literal) => { table($t, $w, $line)? };
     ($t:ident $w:ident $line:ident entries $n:literal) => { entries($w, $line)? };
     ($t:ident $w:ident $line:ident node $n:literal) => { node_of($w, $line, $n)? };

@@ -10,6 +10,7 @@ use crate::plans::{Host, Made, SYSTEM, store_dir};
 use drv_graph::Plan;
 use nix_names::parse_path;
 use ref_scan::Tree;
+use run_states::System;
 use sched_core::{Answer, Book, Build, Job, LeaseObserver, Reason};
 use std::alloc::{AllocError, Global};
 use std::marker::Brand;
@@ -133,7 +134,8 @@ fn run_named<J: ListId + Send + Sync, R: Host>(
     requires { name ≡ J.book }
 {
     let journal = Journal::new(alloc);
-    let ended: RunResult<J, R> = realise(rt, alloc, name, plan, &journal, SYSTEM, builders);
+    let system = System::named(alloc, SYSTEM)?;
+    let ended: RunResult<J, R> = realise(rt, alloc, name, plan, &journal, &system, builders);
     report_at_end(ended)
 }
 

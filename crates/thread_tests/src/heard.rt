@@ -5,6 +5,7 @@ ghost use Rattle.std.specs.Prelude.{◌≡◌, ◌++◌, []};
 use crate::hearing::{Act, Acts, Behaviour, Comes, View, Worker, awaits};
 use crate::plans::{Host, SYSTEM};
 use drv_graph::Plan;
+use run_states::System;
 use sched_core::{Book, BookFault, Build, Event, LeaseObserver};
 use std::alloc::Global;
 use std::marker::Brand;
@@ -103,7 +104,7 @@ impl<J: ListId + Send, R: Wait + Drop> Tells<J> for Poor<J, R> {
 type Crew<B, J> = (Vec<B>, Vec<ViewReader<J>>);
 
 // What is given to a run: its plan, its journal and its system.
-type Given = (Plan, Journal, Vec<u8>);
+type Given = (Plan, Journal, System);
 
 /// The events of a run, and why it was stopped.
 pub(crate) type Ended = (Vec<Event>, Option<BookFault>);
@@ -218,7 +219,7 @@ pub(crate) fn heard_from<R: Host>(
     behaviour: Behaviour,
 ) -> Result<Heard, Fail> {
     let log = Mutex::new(Vec::new(alloc));
-    let given = (plan, journal, Vec::from_slice(alloc, SYSTEM)?);
+    let given = (plan, journal, System::named(alloc, SYSTEM)?);
     let ended = heard_named::<Brand, _>(rt, alloc, Name::new(), given, behaviour, &log)?;
     Ok((log.into_inner(), ended))
 }

@@ -1,9 +1,10 @@
 //! What builders hear of leases: each is heard of before its job is run, and once; and it counts as
 //! built exactly where its outputs were registered; and how runs end that are stopped.
 use crate::heard::{Ended, heard_of};
-use crate::hearing::{Act, Behaviour, Gate, View, by, text_of, waiting};
+use crate::hearing::View::{self, Full, Gone, Stuck, Whole};
+use crate::hearing::{Act, Behaviour, Gate, by, text_of, waiting};
 use crate::locking::CHAIN;
-use crate::plans::{DIAMOND, Host, SOME, plan, random_plan};
+use crate::plans::{DIAMOND, Host, SOME, Uses, plan, random_plan};
 use drv_graph::Plan;
 use sched_core::{BookFault, Event, Reason};
 use std::alloc::{AllocError, Global};
@@ -31,11 +32,7 @@ fn ended(alloc: Global, events: &[Event]) -> Result<Leases, AllocError> {
 
 // The leases that have ended by what the builders of `workers` workers heard: each is that of the
 // job that the worker ran last.
-fn ended_by_acts(
-    alloc: Global,
-    acts: &[(usize, Act)],
-    workers: usize,
-) -> Result<Leases, AllocError> {
+fn ended_by_acts(alloc: Global, acts: &[(usize, Act)], workers: usize) -> Result<Leases, Fail> {
     let mut running = vec![in alloc; None; workers]?;
     let mut ended = Vec::new(alloc);
     for (worker, act) in acts {
@@ -133,11 +130,7 @@ fn failed_for_each_reason(rt: HostRuntime) -> Result<(), Fail> {
 // that, and where the view is gone.
 #[test]
 fn built_and_registered(rt: HostRuntime) -> Result<(), Fail> {
-    for (view, wanted) in [
-        (View::Whole, CHAIN),
-        (View::Full, FAILED),
-        (View::Gone, STOPPED),
-    ] {
+    for (view, wanted) in [(Whole, CHAIN), (Full, FAILED), (Gone, STOPPED)] {
         let mut behaviour = by(1, 0, &[]);
         behaviour.view = view;
         let text = alone(&rt, rt.alloc(), behaviour)?;
@@ -149,16 +142,16 @@ fn built_and_registered(rt: HostRuntime) -> Result<(), Fail> {
 // Views that stop a run: when the next lease is taken, since it refuses memory or cannot be
 // reached; or when a verdict is found, by a reader whose view is gone.
 const CAUSES: [(View, BookFault); 3] = [
-    (View::Stuck(OutletFault::NoMemory), BookFault::NoMemory),
-    (View::Stuck(OutletFault::NoView), BookFault::NoView),
-    (View::Gone, BookFault::NoView),
+    (Stuck(OutletFault::NoMemory), BookFault::NoMemory),
+    (Stuck(OutletFault::NoView), BookFault::NoView),
+    (Gone, BookFault::NoView),
 ];
 
 // The events of a run over a view, and why it stopped.
 fn rest<R: Host>(
     rt: &R,
     alloc: Global,
-    (uses, view): (&[&[usize]], View),
+    (uses, view): (Uses, View),
     mut behaviour: Behaviour,
 ) -> Result<Ended, Fail> {
     behaviour.view = view;
@@ -172,7 +165,7 @@ fn rest<R: Host>(
 fn stopped_while_others_wait(rt: HostRuntime) -> Result<(), Fail> {
     let all = [Event::Begin(0, 0), Event::Done(0, 0)];
     for (view, fault) in CAUSES {
-        let count = if view == View::Gone { 1 } else { 2 };
+        let count = if view == Gone { 1 } else { 2 };
         for workers in [1usize, 2, 4, 64] {
             let gates = [waiting(0, workers.wrapping_sub(1))];
             let behaviour = by(workers, 0, &gates);
@@ -193,7 +186,7 @@ fn stop_gates(workers: usize) -> [Gate; 3] {
 }
 
 // A derivation apart from a diamond.
-const APART: &[&[usize]] = &[&[], &[], &[1], &[1], &[2, 3]];
+const APART: Uses = &[&[], &[], &[1], &[1], &[2, 3]];
 
 // The run is stopped while that one is being built, which ends well afterwards, and is registered
 // likewise.
@@ -202,7 +195,7 @@ fn stopped_while_another_builds(rt: HostRuntime) -> Result<(), Fail> {
     let [first, second] = [Event::Begin(0, 0), Event::Begin(1, 1)];
     let all = [first, second, Event::Done(1, 1), Event::Done(0, 0)];
     for (view, fault) in CAUSES {
-        let count = if view == View::Gone { 2 } else { 4 };
+        let count = if view == Gone { 2 } else { 4 };
         for workers in [2, 4, 64] {
             let gates = stop_gates(workers);
             let behaviour = by(workers, 0, &gates);

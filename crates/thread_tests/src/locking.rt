@@ -2,7 +2,7 @@
 //! not held for a closure.
 use crate::heard::{heard_from, heard_of};
 use crate::hearing::{Act, Acts, Behaviour, Gate, by, count, text_of, waiting};
-use crate::plans::{Host, Made, SOME, journal, plan, random_plan};
+use crate::plans::{Host, Made, SOME, Uses, journal, plan, random_plan};
 use drv_graph::Plan;
 use std::alloc::Global;
 use std::test::*;
@@ -27,7 +27,7 @@ const OTHER_USER: &str = "Lock(Taken) Lock(Waits) Lock(Woken) Lock(Freed) Begins
 
 // Runs of two links, and of two users of a base: which derivations each uses, and what each worker
 // does, as texts in rising order.
-const ROWS: [(&[&[usize]], &[&str]); 5] = [
+const ROWS: [(Uses, &[&str]); 5] = [
     (&[&[], &[0]], &[CHAIN]),
     (&[&[], &[0]], &[CHAIN, IDLE]),
     (&[&[], &[0]], &[CHAIN, IDLE, IDLE, IDLE]),
@@ -49,12 +49,7 @@ fn acts_of<R: Host>(rt: &R, alloc: Global, plan: Plan, behaviour: Behaviour) -> 
 }
 
 // What each worker does in a run, in rising order.
-fn texts<R: Host>(
-    rt: &R,
-    alloc: Global,
-    uses: &[&[usize]],
-    workers: usize,
-) -> Result<Vec<String>, Fail> {
+fn texts<R: Host>(rt: &R, alloc: Global, uses: Uses, workers: usize) -> Result<Vec<String>, Fail> {
     let gates = gates(workers, uses.len() > 2);
     let behaviour = by(workers, 0, &gates);
     let acts = acts_of(rt, alloc, plan(alloc, uses)?, behaviour)?;
@@ -141,10 +136,7 @@ fn may_follow(last: Act, next: Act) -> bool {
         Act::Begins(_) => matches!(next, Act::Runs(_, _)),
         Act::Runs(_, _) => next == Act::Lock(LockCall::Taken),
         Act::Ends(_, _) => {
-            matches!(
-                next,
-                Act::Begins(_) | Act::Leaves | Act::Lock(LockCall::Taken)
-            )
+            matches!(next, Act::Begins(_) | Act::Leaves) || next == Act::Lock(LockCall::Taken)
         }
         Act::Leaves => false,
     }
@@ -161,13 +153,12 @@ fn holder_after(holder: Option<usize>, worker: usize, act: Act) -> Option<Option
     if is_right { Some(after) } else { None }
 }
 
+// An act that its worker may not do then, if there is one.
+type Wrong = Result<Option<(usize, Act)>, Fail>;
+
 // The first act of `count` workers that may not follow what they did before. Each begins as one
 // whose builder has heard of an end.
-fn first_wrong(
-    alloc: Global,
-    acts: &[(usize, Act)],
-    count: usize,
-) -> Result<Option<(usize, Act)>, Fail> {
+fn first_wrong(alloc: Global, acts: &[(usize, Act)], count: usize) -> Wrong {
     let mut last = vec![in alloc; Act::Ends(true, 0); count]?;
     let mut holder = None;
     for (worker, act) in acts {
@@ -183,11 +174,7 @@ fn first_wrong(
 }
 
 // The first wrong act of so many workers over 100 derivations, of which some fail.
-fn first_wrong_by<R: Host>(
-    rt: &R,
-    alloc: Global,
-    workers: usize,
-) -> Result<Option<(usize, Act)>, Fail> {
+fn first_wrong_by<R: Host>(rt: &R, alloc: Global, workers: usize) -> Wrong {
     let plan = random_plan(alloc, 100)?;
     let acts = acts_of(rt, alloc, plan, by(workers, SOME, &[]))?;
     first_wrong(alloc, &acts, workers)
@@ -214,22 +201,14 @@ fn chain(alloc: Global, plan: &Plan) -> Result<Journal, Fail> {
     write!(text, "{:032}-link -\n", 0)?;
     for number in 0..LINKS {
         let next = number + 1;
-        write!(
-            text,
-            "A /nix/store/{next:032}-link -\nR /nix/store/{number:032}-link\n"
-        )?;
+        write!(text, "A /nix/store/{next:032}-link -\n")?;
+        write!(text, "R /nix/store/{number:032}-link\n")?;
     }
-    let base = if plan.len() > 1 {
-        plan.output_paths(1).first()
-    } else {
-        None
-    };
-    if let Some(path) = base {
-        write!(
-            text,
-            "A {} -\nR /nix/store/{LINKS:032}-link\n",
-            path.as_str()
-        )?;
+    if plan.len() > 1 {
+        if let Some(path) = plan.output_paths(1).first() {
+            write!(text, "A {} -\n", path.as_str())?;
+            write!(text, "R /nix/store/{LINKS:032}-link\n")?;
+        }
     }
     journal(alloc, text.as_bytes())
 }

@@ -31,8 +31,11 @@ const EMPTY: &str = "e3b0c44298fc1c149afbf4c8996fb92427ae41e4649b934ca495991b785
 const FIXED: &[u8] =
     b"fixed:out:sha256:e3b0c44298fc1c149afbf4c8996fb92427ae41e4649b934ca495991b7852b855:";
 
-/// Which derivations before it each derivation uses: a base, two users of it, and a user of both.
-pub(crate) const DIAMOND: &[&[usize]] = &[&[], &[0], &[0], &[1, 2]];
+/// Which derivations before it each derivation uses.
+pub(crate) type Uses = &'static [&'static [usize]];
+
+/// A base, two users of it, and a user of both.
+pub(crate) const DIAMOND: Uses = &[&[], &[0], &[0], &[1, 2]];
 
 /// Of each 64 derivations these fail.
 pub(crate) const SOME: u64 = 0x0810_0040_0204_1000;
@@ -62,23 +65,16 @@ fn file(alloc: Global, path: &[u8], bytes: &[u8]) -> Result<ListedFile, AllocErr
 
 // The path of a fixed output under a name, which is an empty file.
 fn out_path(alloc: Global, name: &str) -> Result<StorePath, Fail> {
-    let inner = Sha256::digest(FIXED);
-    Ok(make_path(
-        alloc,
-        b"output:out",
-        &inner,
-        &store_dir(alloc)?,
-        name.as_bytes(),
-    )?)
+    let (inner, dir) = (Sha256::digest(FIXED), store_dir(alloc)?);
+    let name = name.as_bytes();
+    Ok(make_path(alloc, b"output:out", &inner, &dir, name)?)
 }
 
 // The path of a derivation's text under a name.
 fn drv_path(alloc: Global, name: &str, text: &[u8]) -> Result<StorePath, Fail> {
     let (dir, drv) = (store_dir(alloc)?, read(alloc, text)?);
-    let (file, refs) = (
-        format!(in alloc; "{name}.drv")?,
-        references(alloc, &dir, &drv)?,
-    );
+    let file = format!(in alloc; "{name}.drv")?;
+    let refs = references(alloc, &dir, &drv)?;
     Ok(text_path(alloc, &dir, file.as_bytes(), text, &refs)?)
 }
 

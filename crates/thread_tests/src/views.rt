@@ -4,8 +4,9 @@ ghost use Rattle.std.specs.Prelude.{◌≡◌, ◌≤◌, ◌++◌, IfOk, length
 ghost use Rattle.valid_table.specs.Entries.{registered_by};
 ghost use Rattle.valid_table.specs.Valid.{HasDrvPath};
 
-use crate::plans::{BEFORE, Host, journal, next, plan, store_dir};
+use crate::plans::{BEFORE, Host, SYSTEM, journal, next, plan, store_dir};
 use nix_names::{StorePath, parse_path};
+use run_states::System;
 use sched_core::Book;
 use std::alloc::Global;
 use std::marker::Brand;
@@ -26,7 +27,7 @@ fn numbered(alloc: Global, n: usize) -> Result<StorePath, Fail> {
 // The record of a folder that refers to the path before path n.
 fn record(alloc: Global, n: usize) -> Result<Record, Fail> {
     let before = numbered(alloc, n.wrapping_sub(1))?;
-    Ok(Record::new(vec![in alloc; before]?, None)?)
+    Ok(Record::new(vec![in alloc; before]?, None, None)?)
 }
 
 // The entry that adds path n.
@@ -141,10 +142,8 @@ impl<'a, J: ListId> Watcher<'a, J> {
         let (Some(path), Some(all)) = (paths.get(n), paths.get(..=n)) else {
             return Ok(false);
         };
-        let found = self
-            .reader
-            .closure(self.square.alloc, slice::from_ref(path));
-        match found {
+        let (alloc, roots) = (self.square.alloc, slice::from_ref(path));
+        match self.reader.closure(alloc, roots) {
             Ok(closure) => {
                 self.last = self.last.max(n);
                 Ok(closure.as_slice() == all)
@@ -310,8 +309,9 @@ fn asked<J: ListId + Send, R: Host>(
     requires { name ≡ J.book }
 {
     let (plan, journal) = (plan(alloc, &[&[]])?, journal(alloc, BEFORE)?);
+    let system = System::named(alloc, SYSTEM)?;
     let (outlet, mut readers) = open::<J, &R>(alloc, rt, name, &journal, 1)?;
-    let book = Book::open(alloc, plan, journal, Vec::new(alloc), outlet)?;
+    let book = Book::open(alloc, plan, journal, system, outlet)?;
     let (answer, entries) = asked_meanwhile::<J, _, R>(rt, alloc, book, &mut readers[0], roots);
     Ok((answer?, entries))
 }

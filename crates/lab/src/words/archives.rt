@@ -5,7 +5,7 @@
 //! that comes in pieces of N bytes. `rewrite BYTES` is the archive that is written while one is
 //! read; its length and its SHA-256 are told. `altered BYTES` counts what comes of an archive in
 //! pieces of several lengths, and of those that differ a little from it, each read and written
-//! again.
+//! again. `archive_sum TREE` and the like are of the archive of a tree.
 ghost use Rattle.std.specs.Prelude.{⊤};
 
 use crate::give::Give;
@@ -14,12 +14,16 @@ use crate::stop::{Found, Stop, Taken, call, tried};
 use crate::teller::Teller;
 use crate::world::World;
 use nix_archive::{ArchiveFault, ArchiveReader, ArchiveWriter, Both, DigestSink, Event, Hear};
-use sha2::{Digest, Sha256};
+use ref_scan::{archive_digest, archive_into, archive_sum};
+use sha2::{Digest, Sha256, Sha512};
 use std::alloc::{AllocError, Global};
 
 /// Takes a line, if its call is one of these.
 pub(crate) fn take(teller: &mut Teller<'_>, world: &mut World, line: &Line<'_>) -> Found {
     words! { teller, world, line;
+        "archive_sum" (tree = trees 0) => archive_sum(world.alloc, tree);
+        "archive_digest" (tree = trees 0) => archive_digest::<Sha512>(world.alloc, tree);
+        "archive_into" (tree = trees 0) => archive_into(world.alloc, tree, Vec::new(world.alloc));
         do "archive" => archive(teller, world, line);
         do "events" => events(teller, world, line);
         do "rewrite" => rewrite(teller, world, line);
@@ -105,15 +109,12 @@ fn feed<H: Hear>(
 }
 
 fn events(teller: &mut Teller<'_>, world: &World, line: &Line<'_>) -> Taken {
-    let (bytes, length) = (
-        world.text(line.argument(0)),
-        line.number(1).unwrap_or(usize::MAX),
-    );
+    let (bytes, length) = (world.text(line.argument(0)), line.number(1));
     let text = String::new(world.alloc);
     let mut heard = Heard { text };
     let mut reader = call!(teller, "ArchiveReader::new" => ArchiveReader::new(world.alloc));
     let place = tried!(teller, "ArchiveReader::feed" =>
-        feed(&mut reader, bytes, length, &mut heard))?;
+        feed(&mut reader, bytes, length.unwrap_or(usize::MAX), &mut heard))?;
     let is_done = call!(teller, "ArchiveReader::is_done" => reader.is_done());
     let words = heard.text.as_bytes().strip_suffix(b" ");
     teller.text(words.unwrap_or(b"none"));
@@ -139,47 +140,40 @@ fn rewrite(teller: &mut Teller<'_>, world: &mut World, line: &Line<'_>) -> Taken
 
 // What comes of archives: how many are written again with the same bytes, how many may go on, and
 // how many are refused, with the sum of the places.
-#[derive(Default, Drop)]
-struct Counts {
-    written: usize,
-    unfinished: usize,
-    refused: usize,
-    places: usize,
+type Counts = (usize, usize, usize, usize);
+
+const NONE: Counts = (0, 0, 0, 0);
+
+// Counts an archive that comes in pieces of a length.
+fn add(counts: Counts, alloc: Global, bytes: &[u8], length: usize) -> Result<Counts, Stop> {
+    let mut reader = ArchiveReader::new(alloc);
+    let mut writer = ArchiveWriter::begin(Vec::new(alloc))?;
+    let place = feed(&mut reader, bytes, length, &mut writer)?;
+    let (mut written, mut unfinished, mut refused, mut places) = counts;
+    match place {
+        Some(place) => {
+            refused = refused.saturating_add(1);
+            places = places.saturating_add(place);
+        }
+        None if !reader.is_done() => unfinished = unfinished.saturating_add(1),
+        None if writer.sink.as_slice() == bytes => written = written.saturating_add(1),
+        None => return Err(Stop::Lost("it is written again with other bytes")),
+    }
+    Ok((written, unfinished, refused, places))
 }
 
-impl Counts {
-    // Counts an archive that comes in pieces of a length.
-    fn add(&mut self, alloc: Global, bytes: &[u8], length: usize) -> Taken {
-        let mut reader = ArchiveReader::new(alloc);
-        let mut writer = ArchiveWriter::begin(Vec::new(alloc))?;
-        let place = feed(&mut reader, bytes, length, &mut writer)?;
-        match place {
-            Some(place) => {
-                self.refused = self.refused.saturating_add(1);
-                self.places = self.places.saturating_add(place);
-            }
-            None if !reader.is_done() => self.unfinished = self.unfinished.saturating_add(1),
-            None if writer.sink.as_slice() == bytes => {
-                self.written = self.written.saturating_add(1);
-            }
-            None => return Err(Stop::Lost("it is written again with other bytes")),
-        }
-        Ok(())
-    }
-
-    fn tell(&self, teller: &mut Teller<'_>, what: &str) {
-        teller.say(format_args!(
-            "{what}: {} written, {} unfinished, {} refused at {}",
-            self.written, self.unfinished, self.refused, self.places,
-        ));
-    }
+fn tell(teller: &mut Teller<'_>, what: &str, counts: Counts) {
+    let (written, unfinished, refused, places) = counts;
+    teller.say(format_args!(
+        "{what}: {written} written, {unfinished} unfinished, {refused} refused at {places}"
+    ));
 }
 
 // The texts that end before the archive's last byte.
 fn of_cuts(alloc: Global, bytes: &[u8]) -> Result<Counts, Stop> {
-    let mut counts = Counts::default();
+    let mut counts = NONE;
     for end in 0..bytes.len() {
-        counts.add(alloc, &bytes[..end], 5)?;
+        counts = add(counts, alloc, &bytes[..end], 5)?;
     }
     Ok(counts)
 }
@@ -187,13 +181,13 @@ fn of_cuts(alloc: Global, bytes: &[u8]) -> Result<Counts, Stop> {
 // The archives in which one bit differs.
 fn of_bits(alloc: Global, bytes: &[u8]) -> Result<Counts, Stop> {
     const BITS: [u8; 8] = [1, 2, 4, 8, 16, 32, 64, 128];
-    let mut counts = Counts::default();
+    let mut counts = NONE;
     for bit in 0..bytes.len().saturating_mul(8) {
         let mut changed = bytes.to_vec(alloc)?;
         if let (Some(byte), Some(mask)) = (changed.get_mut(bit / 8), BITS.get(bit % 8)) {
             *byte ^= mask;
         }
-        counts.add(alloc, &changed, 5)?;
+        counts = add(counts, alloc, &changed, 5)?;
     }
     Ok(counts)
 }
@@ -201,14 +195,14 @@ fn of_bits(alloc: Global, bytes: &[u8]) -> Result<Counts, Stop> {
 // No call is told, since each takes memory often.
 fn altered(teller: &mut Teller<'_>, world: &World, line: &Line<'_>) -> Taken {
     let (alloc, bytes) = (world.alloc, world.text(line.argument(0)));
-    let (mut whole, mut longer) = (Counts::default(), Counts::default());
+    let mut whole = NONE;
     for length in [1, 7, 64, usize::MAX] {
-        whole.add(alloc, bytes, length)?;
+        whole = add(whole, alloc, bytes, length)?;
     }
-    longer.add(alloc, &[bytes, b"\0".as_slice()].concat(alloc)?, 5)?;
-    whole.tell(teller, "in pieces");
-    of_bits(alloc, bytes)?.tell(teller, "with one bit changed");
-    of_cuts(alloc, bytes)?.tell(teller, "cut");
-    longer.tell(teller, "with a zero more");
+    let longer = add(NONE, alloc, &[bytes, b"\0".as_slice()].concat(alloc)?, 5)?;
+    tell(teller, "in pieces", whole);
+    tell(teller, "with one bit changed", of_bits(alloc, bytes)?);
+    tell(teller, "cut", of_cuts(alloc, bytes)?);
+    tell(teller, "with a zero more", longer);
     Ok(())
 }

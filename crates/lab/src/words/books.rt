@@ -1,9 +1,13 @@
 //! Books, their leases and verdicts.
 //!
 //! `Book::open PLAN JOURNAL SYSTEM` begins the lines of a book, which end with `close` (`session`).
+//! Behind a system there may stand its features and the builtin builders that have a program, each
+//! as a list with commas.
 //! What a builder leaves is a status, or `killed`, and a tree for each output: `-` where nothing
 //! lies, `file:TEXT`, `zeros:N` for a file of N bytes, `parts:A:B` for a file in these pieces, or
-//! `folder:N` for a folder of N empty files. The last tree stands for those that are left out.
+//! `folder:N` for a folder of N empty files of one name; `program:A:B` is a file in pieces that its
+//! owner may execute. The last tree stands for those that are left out. A kind is a digest by a
+//! method, or another word, and has `nix/` before it under that profile.
 ghost use Rattle.std.specs.Prelude.{IfOk};
 ghost use Rattle.nix_names.specs.Rising.{IsRising};
 ghost use Rattle.build_outcome.specs.Verdicts.{IsExamining};
@@ -17,9 +21,10 @@ use crate::teller::Teller;
 use crate::words::journals::push_known;
 use crate::words::scans::wide;
 use crate::world::World;
-use drv_graph::{Kind, Method, Plan};
-use nix_names::{Digest, StorePath};
+use drv_graph::{Kind, Plan, Profile};
+use nix_names::{MethodDigest, StorePath};
 use ref_scan::Tree;
+use run_states::System;
 use sched_core::{
     Answer, Book, BookFault, Checked, Job, JobOutput, Lease, Reason, examine as verdict_on,
     permitted_beside,
@@ -40,10 +45,30 @@ pub(crate) fn take(teller: &mut Teller<'_>, world: &mut World, line: &Line<'_>) 
 }
 
 /// Copies of the plan and of the journal that a line names first, and the system.
-pub(crate) fn opening(world: &World, line: &Line<'_>) -> Result<(Plan, Journal, Vec<u8>), Stop> {
+pub(crate) fn opening(
+    teller: &mut Teller<'_>,
+    world: &World,
+    line: &Line<'_>,
+) -> Result<(Plan, Journal, System), Stop> {
     let plan = world.plans.get(line.argument(0))?.copy(world.alloc)?;
     let journal = world.journals.get(line.argument(1))?.copy(world.alloc)?;
-    Ok((plan, journal, line.argument(2).to_vec(world.alloc)?))
+    Ok((plan, journal, system(teller, world, line)?))
+}
+
+/// The system that a line names behind a plan and a journal.
+pub(crate) fn system(
+    teller: &mut Teller<'_>,
+    world: &World,
+    line: &Line<'_>,
+) -> Result<System, Stop> {
+    let name = line.argument(2);
+    if line.arguments(3).is_empty() {
+        return tried!(teller, "System::named" => System::named(world.alloc, name));
+    }
+    let name = name.to_vec(world.alloc)?;
+    let features = world.copies(&pieces(world.alloc, line.argument(3), b',')?)?;
+    let builtins = world.copies(&pieces(world.alloc, line.argument(4), b',')?)?;
+    Ok(call!(teller, "System::new" => System::new(name, features, builtins)))
 }
 
 /// The book that a line opens.
@@ -53,7 +78,7 @@ fn opened<'a>(
     line: &Line<'_>,
     unshown: &'a AtomicU64,
 ) -> Result<Book<Counting<'a>>, Stop> {
-    let (plan, journal, system) = opening(world, line)?;
+    let (plan, journal, system) = opening(teller, world, line)?;
     let outlet = Counting {
         outlet: ListOutlet::open(world.alloc, &journal)?,
         appends: 0,
@@ -142,6 +167,7 @@ fn tree(world: &World, word: &[u8]) -> Result<Option<Tree>, AllocError> {
         b"file" => Tree::File(world.text(rest).to_vec(world.alloc)?),
         b"zeros" => Tree::File(vec![in world.alloc; 0; count]?),
         b"parts" => Tree::Pieces(world.copies(&pieces(world.alloc, rest, b':')?)?),
+        b"program" => Tree::Executable(world.copies(&pieces(world.alloc, rest, b':')?)?),
         b"folder" => wide(world.alloc, count, b"f")?,
         _ => return Ok(None),
     }))
@@ -179,9 +205,14 @@ pub(crate) fn made_job(world: &World, kind: &[u8], word: &[u8]) -> Result<Job, S
         let name = Vec::new(alloc);
         outputs.push(JobOutput { name, path })?;
     }
-    let fixed = Digest::of_text(kind).map(|digest| Kind::Fixed(Method::Flat, digest));
+    let (profile, kind) = match kind.strip_prefix(b"nix/") {
+        Some(kind) => (Profile::Nix, kind),
+        None => (Profile::Plain, kind),
+    };
+    let fixed = MethodDigest::of_text(kind).map(|it| Kind::Fixed(it.method, it.digest));
     Ok(Job {
         derivation: 0,
+        profile,
         builder: Vec::new(alloc),
         args: Vec::new(alloc),
         env: Vec::new(alloc),
@@ -230,7 +261,7 @@ pub(crate) fn text_of(alloc: Global, records: &[Record]) -> Result<Vec<u8>, Allo
     let mut text = Vec::new(alloc);
     for record in records {
         text.extend_from_slice(b"record")?;
-        push_known(&mut text, record.digest(), record.references())?;
+        push_known(&mut text, record)?;
         text.push(b'\n')?;
     }
     Ok(text)
@@ -239,12 +270,12 @@ pub(crate) fn text_of(alloc: Global, records: &[Record]) -> Result<Vec<u8>, Allo
 /// Tells what a book answers about itself.
 pub(crate) fn look(teller: &mut Teller<'_>, book: &Book<Counting<'_>>) -> Taken {
     const CALLS: &str = "Book::steps Book::unsettled Book::settled Book::can_begin Book::opening \
-        Book::tell Book::plan Book::system Book::journal Book::events";
+        Book::tell Book::plan Book::system System::name Book::journal Book::events";
     teller.begins(CALLS);
     let (steps, unsettled, opening) = (book.steps(), book.unsettled(), book.opening());
     let (settled, can_begin, told) = (book.settled(), book.can_begin(), book.tell());
     let (entries, count) = (book.journal().entries().len(), book.plan().len());
-    let (system, events) = (book.system(), book.events());
+    let (system, events) = (book.system().name(), book.events());
     teller.ends(CALLS);
     let system = system.escape_ascii();
     teller.say(format_args!("{count} for {system}, {opening} of {entries} entries, {told:?}"));

@@ -1,4 +1,5 @@
-//! Derivations, their texts and their sources, plans, drafts and modulo texts.
+//! Derivations, their texts and their sources, plans, drafts and modulo texts. `Plan::load_as` and
+//! `fill_outputs_as` go by the profile `Nix`.
 ghost use Rattle.std.specs.Prelude.{◌<◌, IfOk, length};
 
 use crate::give::{Appended, Give};
@@ -8,7 +9,7 @@ use crate::stop::{Found, Stop, Taken, call, tried};
 use crate::teller::Teller;
 use crate::words::names::{digest_of, file_bytes};
 use crate::world::World;
-use drv_graph::{Kind, Plan, fill_outputs, modulo_text};
+use drv_graph::{Kind, Plan, Profile, fill_outputs, fill_outputs_as, modulo_text};
 use nix_drv::{
     Derivation, DrvSource, EnvEntry, Input, ListSource, ListedFile, Output, Parts, SourceFault,
     check_text, named_text_path, read, references, text_path, write, write_string,
@@ -52,7 +53,7 @@ fn of_drvs(teller: &mut Teller<'_>, world: &mut World, line: &Line<'_>) -> Found
             => (drv.output_place(name), drv.env_place(name));
         "uses" as "Derivation::uses" (drv = drvs 0, input = number 1, name = text 2)
             if input < drv.inputs().len()
-            => drv.uses(input, name);
+            => (drv.uses(input, name),);
         do "drv" => drv(teller, world, line);
         do "Derivation::new" => new(teller, world, line);
         do "Parts::copy" => parts(teller, world, line);
@@ -65,10 +66,10 @@ fn of_plans(teller: &mut Teller<'_>, world: &mut World, line: &Line<'_>) -> Foun
         "modulo_text" (drv = drvs 0, masked = text 1, hashes = digests 2)
             if hashes.len() == drv.inputs().len()
             => modulo_text(world.alloc, drv, &hashes, masked == b"masked".as_slice());
-        do "Plan::load" => load(teller, world, line);
+        do "Plan::load" | "Plan::load_as" => load(teller, world, line);
         do "plan" => plan(teller, world, line);
         do "node" => node(teller, world, line);
-        do "fill_outputs" => fill(teller, world, line);
+        do "fill_outputs" | "fill_outputs_as" => fill(teller, world, line);
     }
 }
 
@@ -242,8 +243,12 @@ fn fetch(teller: &mut Teller<'_>, world: &mut World, line: &Line<'_>) -> Taken {
 
 fn load(teller: &mut Teller<'_>, world: &mut World, line: &Line<'_>) -> Taken {
     let (mut source, roots) = (source_of(world, line)?, world.paths(line.arguments(1))?);
-    let answer = call!(teller, "Plan::load" =>
-        Plan::load(world.alloc, &mut source, &world.dir, &roots));
+    let answer = if line.call == "Plan::load" {
+        call!(teller, "Plan::load" => Plan::load(world.alloc, &mut source, &world.dir, &roots))
+    } else {
+        call!(teller, "Plan::load_as" =>
+            Plan::load_as(world.alloc, Profile::Nix, &mut source, &world.dir, &roots))
+    };
     tell_failures(teller, &source);
     answer.give(teller, world, line)
 }
@@ -313,8 +318,13 @@ fn fill(teller: &mut Teller<'_>, world: &mut World, line: &Line<'_>) -> Taken {
         Err(_) => word,
     };
     let draft = world.drvs.get(line.argument(2))?;
-    let answer = call!(teller, "fill_outputs" =>
-        fill_outputs(world.alloc, &mut source, &world.dir, name, draft));
+    let (alloc, dir) = (world.alloc, &world.dir);
+    let answer = if line.call == "fill_outputs" {
+        call!(teller, "fill_outputs" => fill_outputs(alloc, &mut source, dir, name, draft))
+    } else {
+        call!(teller, "fill_outputs_as" =>
+            fill_outputs_as(alloc, Profile::Nix, &mut source, dir, name, draft))
+    };
     tell_failures(teller, &source);
     let (drv, path) = teller.answered(answer)?;
     teller.say(path.as_str());

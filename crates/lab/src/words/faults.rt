@@ -209,13 +209,12 @@ fn of_plans(teller: &mut Teller<'_>, alloc: Global, x: &StorePath) -> Result<(),
 
 // `unclosed` is the fault of an entry that adds a path, and refers to another that is not valid.
 fn of_tables(teller: &mut Teller<'_>, alloc: Global, x: &StorePath, y: StorePath) -> Taken {
-    let info = Record::new(vec![in alloc; y]?, None)?;
+    let info = Record::new(vec![in alloc; y]?, None, None)?;
     let Err(unclosed) = Journal::new(alloc).add(x.copy(alloc)?, info) else {
         return Err(Stop::Lost("the entry was added"));
     };
-    let faults = faults!(TableFault: NoMemory, BadLine(2), NotClosed(3), Twice(4), WrongVersion,
-        NotValid(x.copy(alloc)?), TooLong);
-    tell_all(teller, "TableFault::number", &faults, |it| it.number())?;
+    tell_all!(teller, "TableFault::number"; TableFault: NoMemory, BadLine(2), NotClosed(3),
+        Twice(4), WrongVersion, NotValid(x.copy(alloc)?), TooLong)?;
     let faults = [unclosed, TableFault::AlreadyValid(x.copy(alloc)?)];
     Ok(tell_all(teller, "TableFault::number", &faults, |it| it.number())?)
 }
@@ -231,7 +230,7 @@ fn of_runs(teller: &mut Teller<'_>) -> Result<(), AllocError> {
     tell_numbers!(teller, "Reason::number"; Reason: ExitStatus(7), NoStart, MissingOutput(0),
         NotFlatFile, HashMismatch, OutputCycle, TooLarge, ReadFault, OutOfMemory, Killed);
     tell_numbers!(teller, "Refusal::number"; Refusal: WrongSystem, Unsupported, MissingSource(0),
-        InputNotRealised(0), PartlyValid(0));
+        InputNotRealised(0), PartlyValid(0), MissingFeature(0));
     tell_all!(teller, "BookFault::number"; BookFault: NoMemory, NoView, ForeignLease, NotLawful)?;
     tell_all!(teller, "RunFault::number"; RunFault: NoView, NoWorkers, ThreadFault, NoMemory,
         ForeignPlan)

@@ -1,5 +1,5 @@
 //! What is known of a plan's derivations before a run, forecasts, and the words of reports.
-use super::books::opening;
+use super::books::{opening, system};
 use super::derivations::node_of;
 use crate::give::{Appended, Give};
 use crate::line::{Line, halves, number_of};
@@ -40,10 +40,11 @@ pub(crate) fn take(teller: &mut Teller<'_>, world: &mut World, line: &Line<'_>) 
 
 // `standings PLAN JOURNAL SYSTEM`: how the derivations stand, and which are wanted.
 fn standings(teller: &mut Teller<'_>, world: &World, line: &Line<'_>) -> Taken {
-    let (plan, system) = (world.plans.get(line.argument(0))?, line.argument(2));
+    let plan = world.plans.get(line.argument(0))?;
     let journal = world.journals.get(line.argument(1))?;
+    let system = system(teller, world, line)?;
     let standings = tried!(teller, "standings_of" =>
-        standings_of(world.alloc, plan, journal, system))?;
+        standings_of(world.alloc, plan, journal, &system))?;
     if standings.len() != plan.len() {
         return Err(Stop::Lost("too few standings"));
     }
@@ -75,6 +76,7 @@ fn cause_of(word: &[u8]) -> Refusal {
     let number = rest.strip_suffix(b")").and_then(number_of).unwrap_or(0);
     match name {
         b"WrongSystem" => Refusal::WrongSystem,
+        b"MissingFeature" => Refusal::MissingFeature(number),
         b"MissingSource" => Refusal::MissingSource(number),
         b"InputNotRealised" => Refusal::InputNotRealised(number),
         b"PartlyValid" => Refusal::PartlyValid(number),
@@ -84,7 +86,7 @@ fn cause_of(word: &[u8]) -> Refusal {
 
 // `forecast PLAN JOURNAL SYSTEM`.
 fn forecast(teller: &mut Teller<'_>, world: &World, line: &Line<'_>) -> Taken {
-    let (plan, journal, system) = opening(world, line)?;
+    let (plan, journal, system) = opening(teller, world, line)?;
     let forecast = tried!(teller, "Forecast::open" =>
         Forecast::open(world.alloc, plan, journal, system))?;
     let text = tried!(teller, "Forecast::text" => forecast.text())?;

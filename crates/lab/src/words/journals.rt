@@ -1,7 +1,8 @@
 //! Journals, their entries and what these are made of, and the plain outlet.
 //!
-//! An added path is given, and printed, as `PATH DIGEST REFERENCE ..`, where the digest is left out
-//! if there is none, and the outputs of a derivation as `DERIVER : PATH .. / PATH ..`.
+//! An added path is given, and printed, as `PATH DIGEST NAR REFERENCE ..`, where the digest and the
+//! archive (`HASH:SIZE`) are left out if there is none, and the outputs of a derivation as
+//! `DERIVER : PATH .. / PATH ..`. A version is `1`, `3`, or else 2.
 //!
 //! `Journal::append_each J` is a journal to which each entry of another one was added or appended,
 //! and `outlet J ENTRY` opens an outlet with a journal, in which an entry waits and is published.
@@ -10,16 +11,18 @@ ghost use Rattle.valid_table.specs.Entries.{registered_by};
 ghost use Rattle.valid_table.specs.Valid.{HasDrvPath};
 
 use crate::give::{Give, Lines};
-use crate::line::Line;
+use crate::line::{Line, halves, number_of};
 use crate::rising::rising;
 use crate::stop::{Found, Stop, Taken, call, tried};
 use crate::teller::Teller;
+use crate::words::names::digest_of;
 use crate::words::tables::{check_reference, tell_obstacle};
 use crate::world::World;
-use nix_names::{Digest, StorePath, is_drv_name};
+use nix_names::{MethodDigest, is_drv_name};
 use std::alloc::{AllocError, Global};
 use valid_table::{
-    Entry, Journal, ListOutlet, Outlet, Outputs, Record, Registration, TableFault, write_lines,
+    Entry, Journal, ListOutlet, Nar, Outlet, Outputs, Record, Registration, TableFault, Version,
+    write_lines,
 };
 
 /// Takes a line, if its call is one of these.
@@ -28,9 +31,12 @@ pub(crate) fn take(teller: &mut Teller<'_>, world: &mut World, line: &Line<'_>) 
         "Journal::new" => Journal::new(world.alloc);
         "Journal::read" (text = text 0) => Journal::read(world.alloc, &world.dir, text);
         "Journal::copy" (journal = journals 0) => journal.copy(world.alloc);
-        "Journal::registers" (journal = journals 0, path = path 1) => journal.registers(&path);
+        "Journal::registers" (journal = journals 0, path = path 1) => (journal.registers(&path),);
         "Journal::write" (journal = journals 0) => journal.write(world.alloc).map(Lines);
-        "write_lines" (entries = entries 0) => write_lines(world.alloc, entries).map(Lines);
+        "Journal::write_in" (journal = journals 0, version = version 1)
+            => journal.write_in(world.alloc, version).map(Lines);
+        "write_lines" (entries = entries 0, version = version 3)
+            => write_lines(world.alloc, version, entries).map(Lines);
         do "Journal::append_each" => append_each(teller, world, line);
         do "Journal::add" | "Journal::append" => add(teller, world, line);
         do "Journal::push_reserved" => push_reserved(teller, world, line);
@@ -199,34 +205,42 @@ fn registrations_of(world: &World, words: &[&[u8]]) -> Result<Vec<Registration>,
 
 fn registration_of(world: &World, words: &[&[u8]]) -> Result<Registration, Stop> {
     let (path, known) = words.split_first().ok_or(Stop::Lost("no path"))?;
-    let (digest, references) = digest_first(known);
-    let info = Record::new(rising(world, references)?, digest)?;
+    let (digest, nar, references) = known_first(known);
+    let info = Record::new(rising(world, references)?, digest, nar)?;
     let path = world.path(path)?;
     Ok(Registration { path, info })
 }
 
-// The digest that the first of some words is, if it is one, and the words after it.
-fn digest_first<'a, 'b>(words: &'a [&'b [u8]]) -> (Option<Digest>, &'a [&'b [u8]]) {
-    match words {
-        [first, rest @ ..] => match Digest::of_text(first) {
-            None => (None, words),
-            digest => (digest, rest),
-        },
-        [] => (None, words),
-    }
+// The digest and the archive with which some words begin, if they do, and the words after these.
+fn known_first<'a, 'b>(
+    words: &'a [&'b [u8]],
+) -> (Option<MethodDigest>, Option<Nar>, &'a [&'b [u8]]) {
+    let digest = words.first().and_then(|word| MethodDigest::of_text(word));
+    let (_, words) = words.split_at(usize::from(digest.is_some()));
+    let nar = words.first().and_then(|word| nar_of(word));
+    let (_, references) = words.split_at(usize::from(nar.is_some()));
+    (digest, nar, references)
 }
 
-/// Adds a digest, if there is one, and paths to a text.
-pub(crate) fn push_known(
-    text: &mut Vec<u8>,
-    digest: Option<Digest>,
-    references: &[StorePath],
-) -> Result<(), AllocError> {
-    if let Some(digest) = digest {
+// The archive that a word is, as `HASH:SIZE`, if it is one.
+fn nar_of(word: &[u8]) -> Option<Nar> {
+    let (hash, size) = halves(word, b':');
+    Nar::new(digest_of(hash).ok()?, number_of(size)? as u64)
+}
+
+/// Adds what a record says to a text.
+pub(crate) fn push_known(text: &mut Vec<u8>, info: &Record) -> Result<(), AllocError> {
+    let alloc = *text.allocator();
+    if let Some(digest) = info.digest() {
         text.push(b' ')?;
         digest.push_text(text)?;
     }
-    for reference in references {
+    if let Some(nar) = info.nar() {
+        let hash = hex::encode(alloc, &nar.hash())?;
+        let words = format!(in alloc; " {}:{}", hash.as_str(), nar.size())?;
+        text.extend_from_slice(words.as_bytes())?;
+    }
+    for reference in info.references() {
         text.push(b' ')?;
         text.extend_from_slice(reference.text())?;
     }
@@ -239,7 +253,7 @@ fn tell(teller: &mut Teller<'_>, mut text: Vec<u8>, registrations: &[Registratio
     for Registration { path, info } in registrations {
         text.extend_from_slice(if text.len() > front { b" / " } else { b"" })?;
         text.extend_from_slice(path.text())?;
-        push_known(&mut text, info.digest(), info.references())?;
+        push_known(&mut text, info)?;
     }
     teller.text(&text);
     Ok(())
@@ -247,14 +261,14 @@ fn tell(teller: &mut Teller<'_>, mut text: Vec<u8>, registrations: &[Registratio
 
 // A record, its copy, and what that says.
 fn record(teller: &mut Teller<'_>, world: &World, line: &Line<'_>) -> Taken {
-    let (digest, references) = digest_first(line.arguments(0));
+    const CALLS: &str = "Record::references Record::digest Record::nar";
+    let (digest, nar, references) = known_first(line.arguments(0));
     let references = rising(world, references)?;
-    let info = tried!(teller, "Record::new" => Record::new(references, digest))?;
+    let info = tried!(teller, "Record::new" => Record::new(references, digest, nar))?;
     let copy = tried!(teller, "Record::copy" => info.copy(world.alloc))?;
-    let references = call!(teller, "Record::references" => copy.references());
-    let digest = call!(teller, "Record::digest" => copy.digest());
+    call!(teller, CALLS => (copy.references(), copy.digest(), copy.nar()));
     let mut text = Vec::from_slice(world.alloc, b"known:")?;
-    push_known(&mut text, digest, references)?;
+    push_known(&mut text, &copy)?;
     teller.text(&text);
     Ok(())
 }

@@ -46,7 +46,7 @@ fn of_paths(teller: &mut Teller<'_>, world: &mut World, line: &Line<'_>) -> Foun
 
 fn of_texts(teller: &mut Teller<'_>, world: &mut World, line: &Line<'_>) -> Found {
     words! { teller, world, line;
-        "to_base32" (bytes = text 0) => to_base32(world.alloc, bytes);
+        "to_base32" (bytes = text 0) => to_base32(world.alloc, bytes).map(|it| (it,));
         "from_base32" (text = text 0, count = number 1)
             => from_base32(world.alloc, text, count) => hex;
         "fold20" (digest = digest 0) => fold20(&digest);
@@ -57,7 +57,7 @@ fn of_texts(teller: &mut Teller<'_>, world: &mut World, line: &Line<'_>) -> Foun
             => Appended(digest.push_digits(&mut out), out);
         "Digest::of_digits" as "Algorithm::of_name Digest::of_digits" (name = text 0, digits = text 1)
             => Algorithm::of_name(name).and_then(|named| Digest::of_digits(named, digits));
-        "memmem" (text = text 0, wanted = text 1) => memmem::find(text, wanted).is_some();
+        "memmem" (text = text 0, wanted = text 1) => (memmem::find(text, wanted).is_some(),);
         keep "bytes" => hex::decode(world.alloc, line.argument(0)).map_err(|_| NO_BYTES)?;
         keep "file" => file_bytes(teller, line.argument(0))?;
     }

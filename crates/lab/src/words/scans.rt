@@ -1,6 +1,6 @@
 //! Trees, scans and scanners, and the texts of which large ones are made.
 //!
-//! `zeros N` and `numbered TEMPLATE FIRST END HEAD` are texts; `file_tree`, `pieces`, `link`,
+//! `zeros N` and `numbered TEMPLATE FIRST END HEAD` are texts; `file_tree`, `pieces`, `program`, `link`,
 //! `folder`, `wide` and `nested` are trees. A folder takes its trees: they are not kept any more.
 //! `Scanner PATH .. : PIECE .. / PIECE ..` feeds a scanner for the paths, with cuts between pieces.
 
@@ -17,11 +17,12 @@ use std::slice;
 /// Takes a line, if its call is one of these.
 pub(crate) fn take(teller: &mut Teller<'_>, world: &mut World, line: &Line<'_>) -> Found {
     words! { teller, world, line;
-        "Tree::fits" (tree = trees 0) => tree.fits();
+        "Tree::fits" (tree = trees 0) => (tree.fits(),);
         "scan" (permitted = rising 1, tree = trees 0) => scan(world.alloc, tree, &permitted);
         keep "zeros" (count = number 0) => vec![in world.alloc; 0; count]?;
         keep "numbered" => numbered(world, line)?;
         keep "file_tree" (text = copy 0) => Tree::File(text);
+        keep "program" (texts = copies 0) => Tree::Executable(texts);
         keep "link" (text = copy 0) => Tree::Link(text);
         keep "pieces" (texts = copies 0) => Tree::Pieces(texts);
         keep "wide" (count = number 0, name = text 1) => wide(world.alloc, count, name)?;
@@ -83,10 +84,8 @@ fn folder(world: &mut World, words: &[&[u8]]) -> Result<Tree, Stop> {
         let [name, tree] = pair else {
             return Err(Stop::Lost("a name without a tree"));
         };
-        let (name, tree) = (
-            world.text(name).to_vec(world.alloc)?,
-            world.trees.take(tree)?,
-        );
+        let name = world.text(name).to_vec(world.alloc)?;
+        let tree = world.trees.take(tree)?;
         members.push(Member { name, tree })?;
     }
     Ok(Tree::Dir(members))

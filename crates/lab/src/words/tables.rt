@@ -21,11 +21,11 @@ pub(crate) fn take(teller: &mut Teller<'_>, world: &mut World, line: &Line<'_>) 
     words! { teller, world, line;
         "Table::closure" (table = table 0, roots = paths 1) => table.closure(world.alloc, &roots);
         "union" (left = before b"/", right = behind b"/") => union(world.alloc, &left, &right);
-        "Plan::eq" (one = plans 0, two = plans 1) => one == two;
-        "Derivation::eq" (one = drvs 0, two = drvs 1) => one == two;
-        "same_entries" (one = journals 0, two = journals 1) => one.entries() == two.entries();
-        "same_paths" (one = lists 0, two = lists 1) => one.as_slice() == two.as_slice();
-        "same" (one = text 0, two = text 1) => one == two;
+        "Plan::eq" (one = plans 0, two = plans 1) => (one == two,);
+        "Derivation::eq" (one = drvs 0, two = drvs 1) => (one == two,);
+        "same_entries" (one = journals 0, two = journals 1) => (one.entries() == two.entries(),);
+        "same_paths" (one = lists 0, two = lists 1) => (one.as_slice() == two.as_slice(),);
+        "same" (one = text 0, two = text 1) => (one == two,);
         keep "list" (text = text 0) => listed(world, text)?;
         do "Table::new" => new(teller, world, line);
         do "Table::replay" => replay(teller, world, line);
@@ -76,7 +76,7 @@ fn push_told(text: &mut Vec<u8>, table: &Table, paths: &[StorePath]) -> Result<(
         match table.get(path) {
             Some(info) => {
                 text.extend_from_slice(path.text())?;
-                push_known(text, info.digest(), info.references())?;
+                push_known(text, info)?;
             }
             None => text.extend_from_slice(b"none")?,
         }

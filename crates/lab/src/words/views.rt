@@ -120,7 +120,7 @@ impl<J: ListId + Send, W: Wait> View<'_, J, W> {
 
     fn of_writer(&mut self, teller: &mut Teller<'_>, world: &mut World, line: &Line<'_>) -> Found {
         words! { teller, world, line;
-            "tell" as "ViewWriter::tell Prefix::len" => self.writer.tell().len();
+            "tell" as "ViewWriter::tell Prefix::len" => (self.writer.tell().len(),);
             do "append" => self.append(teller, world, line);
             do "publish" => self.publish(teller);
             do "learn" => self.learn(teller, line);
@@ -228,7 +228,7 @@ fn ask<J: ListId>(
         "look" as "ViewReader::look" (path = path 1) => reader.look(&path);
         "closure" as "ViewReader::closure" (roots = paths 1)
             => reader.closure(world.alloc, &roots);
-        "seen" as "ViewReader::seen Prefix::len" => reader.seen().len();
+        "seen" as "ViewReader::seen Prefix::len" => (reader.seen().len(),);
         do "fault" => fault(teller, world, line, reader);
     }
 }
