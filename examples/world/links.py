@@ -15,7 +15,7 @@ from store import FLAGS, compare_references, foretell, read, realise, reported, 
 
 HERE = pathlib.Path(__file__).resolve().parent
 # The option by which outputs may have links.
-LINKS = ("--outputs", "nix")
+LINKS = ("--profile", "nix")
 
 
 def write_linked_plan(store, archives):
@@ -136,7 +136,7 @@ def show(store, archives, jobs):
     plan = write_linked_plan(store, archives)
     profile = plan["profile"]["out"]
     options = ("--jobs", str(jobs), *LINKS)
-    print("WITHOUT --outputs nix a link in an output is a ReadFault:", flush=True)
+    print("WITHOUT --profile nix a link in an output is a ReadFault:", flush=True)
     expect_read_fault(store, profile, plan["zlib"])
     print("\nWITH IT the libraries and the program are built:", flush=True)
     realise(store, part_of(plan, "roundtrip"), plan["roundtrip"]["out"], *options)
