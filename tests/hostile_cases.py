@@ -149,8 +149,7 @@ def beside():
     yield Case("a hard link for the output", "ln $W/file $out", stands="file")
 
 
-# Has the children end, and waits for them.
-STOP = lambda site: site.stop()
+STOP = lambda site: site.stop()  # Has the children end, and waits for them.
 ANY_ANSWER = (READ_FAULT, TOO_LARGE, failed('MissingOutput("out")'), BUILT)
 MANY_FILES = "mkdir -p $out/d; for i in $(seq 300); do : > $out/d/$i; : > $out/$i; done; "
 

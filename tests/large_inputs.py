@@ -14,14 +14,11 @@ from store_paths import make_path, text_path
 MAX_JOURNAL = 134217728
 DERIVATIONS = 65536
 INPUTS = 50000
-# What the largest group of cases writes, with a good deal over.
-ROOM = 3 * 2**29
+ROOM = 3 * 2**29  # What the largest group of cases writes, with a good deal over.
 FIRST = b"realiser-journal 2\n"
-# What each fixed output is.
-TWIN = b"twin\n"
+TWIN = b"twin\n"  # What each fixed output is.
 digest_of = lambda data: "sha256:" + hashlib.sha256(data).hexdigest()
-# An input derivation of which `out` is used.
-used = lambda path: f'("{path}",["out"])'
+used = lambda path: f'("{path}",["out"])'  # An input derivation of which `out` is used.
 # The lines that register some paths without digests and references.
 added = lambda paths: "".join(f"A {path} -\n" for path in paths).encode()
 

@@ -56,14 +56,12 @@ TYPES = rf"(?:struct|enum) (?!{ERRORS})\w+ [^{{(;]*(?:{block('type')}|\( .*? \) 
 LENGTH = r"(?:\d\d?|(?:\d \* )?\w+(?: \. \w+(?: \( \))?)* \. len \( \))"
 SIZE = rf"{LENGTH}(?: \+ {LENGTH})*"
 SIZED = "with_capacity|reserve|reserve_exact|try_reserve|try_reserve_exact"
-# What stands before a range in the same brackets.
-BEFORE = r"(?:[^][(){};]|\( [^()]*\))*"
+BEFORE = r"(?:[^][(){};]|\( [^()]*\))*"  # What stands before a range in the same brackets.
 RANGES = (
     rf"(?<![\w)\]}}] )\.\.|(?: in|\[|get \() {BEFORE}\.\.| \d\d? \.\.=? \d\d? (?:\)|=>)"
     rf"| in \( {BEFORE}\.\.{BEFORE}\) \. rev \( \) \d+\{{"
 )
-# An arm's pattern, where it is a few paths.
-CASE = r"(?:\w+ :: )*\w+(?: \( [\w:. ]* \))?"
+CASE = r"(?:\w+ :: )*\w+(?: \( [\w:. ]* \))?"  # An arm's pattern, where it is a few paths.
 PATTERN = rf"(?<=[{{,}}] ){CASE}(?: \| {CASE})*(?= =>| if )"
 
 

@@ -8,10 +8,12 @@
 // not 0 the call fails with that error.
 // OWN has the begin and the end, from the program's base, of the two functions by which it asks for
 // memory; the C library and the kit ask by others, while they start a thread or a process. Then
-// growths of memory are counted, and that with the number GROWTH is refused: of the whole run, or
-// of CALL alone, the first time that it is made, between the lines `begins CALL` and `ends CALL` of
-// the program. With EACH it is told how many growths each call met, in the file TELL or on standard
-// error.
+// growths of memory are counted, and that with the number GROWTH is refused. With EACH they are
+// counted for each call, from the line `begins CALL` of the program to `ends CALL`, and how many it
+// met is told in the file TELL or on standard error. With CHILDREN a child of the process goes on
+// where a call asks for a growth, and to the child it is refused: that file gets what the child
+// prints, then its status, how many bytes were printed before, the growth's number and the call.
+// With STEP this is done for each growth whose number that divides.
 // RUN_COUNTS is a file whose first 24 bytes get, also where the program is killed: the bytes for
 // which it asks, a list that grows by its new length; and its processor time, in nanoseconds, when
 // it last opened a file, and when it last wrote to its standard output.
@@ -37,7 +39,7 @@
 #include <time.h>
 #include <unistd.h>
 
-enum { EVENTS = 8, LONG = 8192 };
+enum { EVENTS = 8, LONG = 8192, SECONDS = 100 }; // SECONDS: more than a run of lab takes.
 
 struct rule {
     char kind[32];
@@ -160,14 +162,16 @@ static unsigned long long own_time(void) {
     return time.tv_sec * 1000000000ull + time.tv_nsec;
 }
 
-// Whether growths are counted now, or no more; how many were met; the number of the refused one.
+// Whether growths are counted now; how many were met; the number of the refused one; whether they
+// are counted for each call, up to the end of that whose growth was refused.
 static _Atomic int is_within;
-static int is_over;
 static _Atomic long met;
-static long number;
+static long number, step;
+static int is_each;
 static unsigned long base, own[4];
-static char line[400];
-static size_t length;
+// The call that begins or began, what is printed of a line, and how much was printed in all.
+static char call[400], line[400];
+static size_t length, printed;
 
 static void begin_growths(void) {
     Dl_info place;
@@ -178,7 +182,9 @@ static void begin_growths(void) {
     for (int i = 0; i < 4; i++)
         own[i] = strtoul(rest, &rest, 16);
     number = getenv("GROWTH") ? atol(getenv("GROWTH")) : 0;
-    is_within = !getenv("CALL") && !getenv("EACH");
+    is_each = getenv("EACH") != 0;
+    step = getenv("STEP") ? atol(getenv("STEP")) : 1;
+    is_within = !is_each;
 }
 
 __attribute__((constructor)) static void begin(void) {
@@ -196,26 +202,19 @@ static void say(const char *text) {
         syscall(SYS_close, to);
 }
 
-// What stands in the line after a word, if it begins with that and is of a call that is counted.
-static const char *call_after(const char *word) {
-    size_t head = strlen(word);
-    const char *call = length > head && !memcmp(line, word, head) ? line + head : 0;
-    return call && (getenv("EACH") || !strcmp(call, getenv("CALL"))) ? call : 0;
-}
-
 static void end_line(void) {
     char text[sizeof line + 80];
     line[length] = 0;
-    if (!is_within && !is_over && call_after("begins ")) {
+    length = 0;
+    if (!is_within && !strncmp(line, "begins ", 7)) {
+        strcpy(call, line + 7);
         met = 0;
         is_within = 1;
-    } else if (is_within && call_after("ends ")) {
+    } else if (is_within && !strncmp(line, "ends ", 5)) {
         is_within = 0;
-        is_over = !getenv("EACH");
-        snprintf(text, sizeof text, "met %ld %s\n", met, call_after("ends "));
+        snprintf(text, sizeof text, "met %ld %s\n", met, call);
         say(text);
     }
-    length = 0;
 }
 
 static void read_lines(const char *bytes, size_t count) {
@@ -236,14 +235,39 @@ static void tell_asker(int is_own) {
     say(is_own ? own : is_first ? thread : process);
 }
 
+// Lets a child go on, to which the growth is refused, and waits for its end. Whether this is it.
+static int is_refused_to_child(void) {
+    int flags = O_WRONLY | O_CREAT | O_APPEND | O_CLOEXEC, status;
+    int file = (int)syscall(SYS_openat, AT_FDCWD, getenv("CHILDREN"), flags, 0600);
+    is_within = 0;
+    pid_t child = fork();
+    if (!child) {
+        is_each = 0;
+        dup2(file, 1);
+        alarm(SECONDS);
+        return 1;
+    }
+    while (child > 0 && syscall(SYS_wait4, child, &status, 0, 0) != child)
+        ;
+    if (child < 0 || WIFSIGNALED(status))
+        status = 0xff00;
+    const char *form = "\x1e%d %zu %ld %s\n";
+    dprintf(file, form, WEXITSTATUS(status), printed, met, call);
+    syscall(SYS_close, file);
+    is_within = 1;
+    return 0;
+}
+
 static int gives_none(const void *caller) {
     if (!is_within)
         return 0;
     unsigned long at = (unsigned long)caller - base;
     int is_own = (own[0] <= at && at < own[1]) || (own[2] <= at && at < own[3]);
-    if (++met != number)
+    int is_chosen = ++met == number;
+    if (is_chosen)
+        tell_asker(is_own);
+    else if (!is_each || !getenv("CHILDREN") || met % step || !is_refused_to_child())
         return 0;
-    tell_asker(is_own);
     errno = ENOMEM;
     return 1;
 }
@@ -331,9 +355,11 @@ static const char *write_kind(int fd) { return fd == 1 ? "print" : fd == 2 ? "te
 ssize_t write(int fd, const void *bytes, size_t count) {
     char room[LONG];
     REFUSE(write_kind(fd), path_of(fd, 0, room), -1);
-    if (fd == 1 && (getenv("CALL") || getenv("EACH")))
+    if (fd == 1 && is_each)
         read_lines(bytes, count);
     ssize_t taken = syscall(SYS_write, fd, bytes, least(count));
+    if (fd == 1 && taken > 0)
+        printed += taken;
     if (fd == 1 && counts != &uncounted)
         counts->written = own_time();
     return taken;
@@ -363,6 +389,12 @@ CALL(ssize_t, readlink, (const char *path, char *bytes, size_t count), "read-lin
      SYS_readlinkat, AT_FDCWD, path, bytes, count)
 CALL(ssize_t, getdents64, (int fd, void *bytes, size_t count), "list", path_of(fd, 0, room),
      SYS_getdents64, fd, bytes, count)
+
+char *realpath(const char *path, char *resolved) {
+    NEXT(realpath);
+    REFUSE("resolve", path, 0);
+    return next(path, resolved);
+}
 
 int rename(const char *from, const char *to) {
     char both[LONG];

@@ -4,8 +4,8 @@ import os
 import re
 import shutil
 
-from refused_scenes import FIRST_LINE, JOURNAL, LEAVES, Scene, variant
-from scenes import contents, draft, run
+from refused_scenes import ALL, FIRST_LINE, JOURNAL, LEAVES, Scene, variant
+from scenes import contents, draft, run, snapshot
 
 SCRIPTS = {
     "first": "echo first > $out",
@@ -15,14 +15,16 @@ SCRIPTS = {
 }
 OUTPUTS = {"first": ["out"], "second": ["out"], "third": ["dev", "out"]}
 REASONS = '(NoStart|ReadFault|MissingOutput\\("out"\\)|ExitStatus\\(\\d+\\)|OutOfMemory|Killed)'
-OWN = re.compile(r"\.build-[012](/|$)|\.nix_realise-(left-)?[0-4](/|$)")
+OWN = re.compile(
+    r"(\.build-[012]|(build/)?\.nix_realise-(left-)?[0-4]|build/nix-build-(?!first-0)\w+-\d)(/|$)"
+)
 
 
 class Plan(Scene):
     """`plan` of three derivations: the second uses the first; the third has an old output."""
 
     subcommand = name = "plan"
-    scripts, options = SCRIPTS, ()
+    scripts, options, entries = SCRIPTS, (), ()
     # Whether the first derivation is realised before, and those that are built then.
     is_begun, builds = False, ()
     good = lambda self: (0, self.report(dict.fromkeys(SCRIPTS, "build")), "")
@@ -31,7 +33,8 @@ class Plan(Scene):
         self.drv, self.paths = {}, {}
         for name, script in self.scripts.items():
             inputs = [(self.drv["first"], "out")] if name == "second" else []
-            self.drv[name], outputs = self.put(name, draft(script, OUTPUTS[name], inputs))
+            text = draft(script, OUTPUTS[name], inputs, more=self.entries)
+            self.drv[name], outputs = self.put(name, text)
             self.paths[name] = [outputs[output] for output in OUTPUTS[name]]
         self.old_files[JOURNAL] = FIRST_LINE + f"A {self.store}/{'a' * 32}-x -\n"
         self.old_files[os.path.basename(self.paths["third"][-1]) + "/old/file"] = "old\n"
@@ -42,7 +45,7 @@ class Plan(Scene):
                 self.old_files[os.path.basename(path)] = open(path).read()
 
     def command(self):
-        places = {"TRACE": self.folder / "trace", "LOGS": self.logs}
+        places = {"TRACE": self.folder / "trace", "LOGS": self.logs, "BUILD": self.build}
         options = [places.get(word, word) for word in self.options]
         return [*options, self.drv["second"], self.drv["third"]]
 
@@ -67,8 +70,7 @@ class Realise(Plan):
 
     subcommand = name = "realise"
     options, builds = ("--jobs", "1"), {*SCRIPTS}
-    # The one that fails where a call is refused.
-    failed = None
+    failed = None  # The one that fails where a call is refused.
     good = lambda self: (0, self.report(dict.fromkeys(SCRIPTS, "built")), "")
     races = lambda self, calls, at: [False, True] if self.moves_to(calls, at, False) else [False]
 
@@ -79,9 +81,11 @@ class Realise(Plan):
         return None
 
     def derivation_of(self, calls, at):
-        """The derivation that a call's thread works for."""
+        """The derivation that a call's thread works for: its output, or a folder by its name."""
         own = (it.path for it in reversed(calls[: at + 1]) if it.thread == calls[at].thread)
-        return next(filter(None, map(self.of_output, own)), None)
+        named = lambda path: re.findall(r"/nix-build-(\w+)-\d", path)[-1:]
+        found = (self.of_output(path) or "".join(named(path)) for path in own)
+        return next(filter(None, found), None)
 
     def has_started(self, calls, at):
         """Whether the call's thread has started the builder of its derivation."""
@@ -266,8 +270,8 @@ class RealiseByRunner(Realise):
         if self.failed and told == "ReadFault":
             own = [it for it in calls[:at] if it.thread == calls[at].thread]
             made = [it.path for it in own if it.kind == "make-folder" and not it.is_refused]
-            self.kept = os.path.basename(made[-1])
-            err += f"nix_realise: {drv}: kept {self.store}/{self.kept}\n"
+            self.kept = os.path.relpath(made[-1], self.folder).removeprefix("store/")
+            err += "" if self.entries else f"nix_realise: {drv}: kept {made[-1]}\n"
         return status, out, err
 
     def is_stated(self, told):
@@ -279,9 +283,45 @@ class RealiseByRunner(Realise):
 
     def rest(self, found, stands):
         # What is kept may be moved aside by the next run, and is not then.
-        kept = {name for name in found if self.kept and name.split("/")[0] == self.kept}
+        kept = {name for name in found if self.kept and f"{name}/".startswith(f"{self.kept}/")}
         self.left |= kept
         return [name for name in super().rest(found, stands) if name not in kept]
+
+
+class RealiseUnderNix(RealiseByRunner):
+    """The same under the profile `nix`, with a file that is passed, a link, and a folder for build
+    folders, in which the first name is taken. Of a folder that is kept no line is told."""
+
+    name = "realise under nix"
+    options = (*RealiseByRunner.options, *"--profile nix --build-dir BUILD --cores 3".split())
+    scripts = {**SCRIPTS, "first": "cat $kPath > $out"}
+    scripts["third"] += "; ln -s d $dev/link"
+    entries = (("k", "first\n"), ("passAsFile", "k"))
+
+    def lay(self):
+        shutil.rmtree(self.build, ignore_errors=True)
+        (self.build / "nix-build-first-0").mkdir(parents=True)
+        super().lay()
+
+    def found(self):
+        made = snapshot(self.build).items()
+        return {**super().found(), **{f"build/{name}": entry for name, entry in made}}
+
+    def place_of(self, calls, at):
+        call = calls[at]
+        if call.path == str(self.build):
+            return "folder of build folders"
+        if call.kind == "resolve":
+            return "path of the store"
+        if call.path == "/dev/kvm":
+            return "feature kvm"
+        if "/nix-build-" in call.path and call.kind in ("create", "write"):
+            return "start"
+        return super().place_of(calls, at)
+
+    def passes(self, call, name):
+        is_made = call.kind == "make-folder" and "/nix-build-" in call.path
+        return is_made and name == "EEXIST" or super().passes(call, name)
 
 
 class RealiseFailing(RealiseByRunner):
@@ -297,13 +337,15 @@ class RealiseFailing(RealiseByRunner):
 
 BEGUN = {"has_calls": False, "is_begun": True}
 TRACED = ("--trace", "TRACE", "--jobs", "2")
-RUNS = [
+SCENES = [
+    *ALL,
     Plan,
     # Rows and large-cases say what the graph is.
     variant(Plan, "plan --dot", options=("--dot",), good=lambda self: None),
     Realise,
     variant(Realise, "realise by two", options=("--jobs", "2")),
     RealiseByRunner,
+    RealiseUnderNix,
     variant(Plan, "plan of what is begun", **BEGUN),
     variant(Realise, "realise of what is begun", **BEGUN, builds={"second", "third"}),
     variant(Realise, "realise, traced, shown", options=TRACED, has_calls=False, is_shown=True),

@@ -25,6 +25,7 @@ TOLD = {
     "no thread": (3, "", "run: ThreadFault"),
     "no runner": (2, "", "/usr/bin/env: NoRunner"),
     "no logs": (3, "", "LOGS: Unwritable"),
+    "no build folder": (3, "", "BUILD: Unwritable"),
     "NoStart": (1, "report", ""),
     "ReadFault": (1, "report", ""),
 }
@@ -36,19 +37,18 @@ READING = "look open read"
 # one that could not be removed (left), the new ones and a folder that should be gone (moved).
 ROWS = [
     ("check", READING, "derivation", "bad", "old"),
-    ("add-text", "open read", "file", "file", "old"),
+    ("add-text add-drv words", "open read", "file", "file", "old"),
     ("add-text realise", "create lock", "lock", "unlocked", "old"),
-    ("add-text", READING, "journal read", "unread", "old"),
-    ("add-text", "print", "", "unprinted", "old"),
+    ("add-text plan realise", READING, "journal read", "unread", "old"),
+    ("check add-text plan help", "print", "", "unprinted", "old"),
     ("add-text", WRITING, "path", "no text", "old"),
     ("add-text", WRITING, "journal written", "unregistered", "text"),
-    ("add-drv", "open read", "file", "file", "old"),
-    ("add-drv", READING, "derivation", "derivation", "old"),
+    ("add-drv plan realise", READING, "derivation", "derivation", "old"),
     ("add-drv", WRITING, "path", "no derivation", "old"),
-    ("add-drv", "print", "", "unprinted", "new"),
-    ("plan realise", READING, "derivation", "derivation", "old"),
-    ("plan realise", READING, "journal read", "unread", "old"),
-    ("check plan", "print", "", "unprinted", "old"),
+    ("add-drv realise", "print", "", "unprinted", "new"),
+    ("realise", "look resolve", "folder of build folders", "no build folder", "old"),
+    ("realise", "resolve", "path of the store", "ever", "new"),
+    ("realise", "open", "feature kvm", "ever", "new"),
     ("realise", "look", "database of Nix", "ever", "new"),
     ("realise", "open-folder list", "store folder", "ever", "new"),
     ("realise", "look create", "journal tried", "unwritten", "old"),
@@ -64,16 +64,13 @@ ROWS = [
     ("realise", "look open-folder remove", "taken place", "ever", "new"),
     ("realise", "look rename", "name aside", "NoStart", "less"),
     ("realise", "look rename open-folder list remove", "folder aside", "ever", "moved"),
-    ("realise", "make-folder open spawn", "start", "NoStart", "less"),
+    ("realise", "make-folder create write open spawn", "start", "NoStart", "less"),
     ("realise", "wait", "end", "ReadFault", "less"),
-    ("realise", "look open read open-folder list", "output", "ReadFault", "less"),
+    ("realise", "look open read read-link open-folder list", "output", "ReadFault", "less"),
     ("realise", "look open-folder remove", "build folder", "ever", "new"),
     ("realise", WRITING, "journal written", "unwritten", "outputs"),
     ("realise", WRITING, "journal kept", "ever", "new"),
-    ("realise", "print", "", "unprinted", "new"),
-    ("words", "open read", "file", "file", "old"),
     ("words", "tell", "", "untold", "old"),
-    ("help", "print", "", "unprinted", "old"),
 ]
 JOURNAL = "realiser-journal"
 FIRST_LINE = "realiser-journal 2\n"
@@ -91,7 +88,7 @@ def row_of(subcommand, kind, place):
     """What is told where a call is refused, and what stands then."""
     for number, (names, kinds, where, told, stands) in enumerate(ROWS):
         if subcommand in names.split() and kind in kinds.split() and where == place:
-            MET.add((number, kind))
+            MET.add((number, subcommand, kind))
             return told, stands
     raise AssertionError(f"no row for {subcommand}, {kind}, {place!r}")
 
@@ -99,8 +96,9 @@ def row_of(subcommand, kind, place):
 def rows_not_met():
     """The rows' kinds of call that were never refused. A short run may keep no journal."""
     for number, (names, kinds, where, _, _) in enumerate(ROWS):
-        left = [kind for kind in kinds.split() if (number, kind) not in MET]
-        yield from (f"{names}: {kind}, {where}" for kind in left if where != "journal kept")
+        calls = {(number, name, kind) for name in names.split() for kind in kinds.split()}
+        left = sorted(calls - MET) if where != "journal kept" else []
+        yield from (f"{name}: {kind}, {where}" for _, name, kind in left)
 
 
 class Scene:
@@ -110,14 +108,14 @@ class Scene:
     # Whether calls of the system are refused to it too, so that all that it tells is stated;
     # whether standard error is a terminal.
     has_calls, is_shown = True, False
-    # Whether two workers' calls were made in another order than they were logged.
-    is_raced = False
+    is_raced = False  # Whether two workers' calls were made in another order than they were logged.
     # The words after the folder's option; where a call is made; whether a next run tells the same.
     command = lambda self: []
     place_of = lambda self, calls, at: ""
     is_again = lambda self, out: out == self.ample[1]
     # What an undisturbed run tells; none if that is not stated.
     good = lambda self: (0, self.path + "\n", "")
+    found = lambda self: snapshot(self.store)  # All that stands where a run writes.
     # The orders that are possible of the refused call and those of other workers.
     races = lambda self, calls, at: [False]
 
@@ -125,7 +123,8 @@ class Scene:
         self.program, self.folder, self.store = program, folder, folder / "store"
         self.store.mkdir(exist_ok=True)
         empty(self.store)
-        self.journal, self.file, self.logs = self.store / JOURNAL, folder / "file", folder / "logs"
+        self.journal = self.store / JOURNAL
+        self.file, self.logs, self.build = folder / "file", folder / "logs", folder / "build"
         # The files before a run, and what those that it writes were and become.
         self.old_files, self.own = {}, {}
         self.drvs, self.path, self.last = [], "", None
@@ -154,7 +153,7 @@ class Scene:
             path.parent.mkdir(exist_ok=True, parents=True)
             path.write_text(text)
             path.chmod(0o640 if name in self.old_files else 0o644)
-        self.laid, self.left = snapshot(self.store), set()
+        self.laid, self.left = self.found(), set()
 
     def is_of_journal(self, call):
         """Whether a call opens the journal, which may be gone by then: it counts as empty."""
@@ -180,6 +179,7 @@ class Scene:
             return self.ample
         status, out, err = TOLD[told]
         places = {"FILE": self.file, "PATH": self.path, "STORE": self.store, "LOGS": self.logs}
+        places["BUILD"] = self.build
         for word, path in places.items():
             out, err = out.replace(word, str(path)), err.replace(word, str(path))
         err = err.replace("DRV", calls[at].path) if at is not None else err

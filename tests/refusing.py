@@ -1,6 +1,7 @@
 """Runs a program under the library of `refused_calls.c`, which refuses calls and growths."""
 
 import collections
+import concurrent.futures
 import functools
 import os
 import re
@@ -9,12 +10,18 @@ import sys
 
 from row_calls import compiled
 from row_runs import Stream
-from scenes import HERE, contents, run, snapshot
+from scenes import HERE, contents, run
 
 # How a run ended: its status, and what it printed and said.
 Ran = collections.namedtuple("Ran", "status out err")
-# More seconds than a run takes.
-LONGEST = 100
+LANES = len(os.sched_getaffinity(0))  # How many processes there are.
+LONGEST = 600  # More seconds than a run takes, with all its children.
+
+
+def in_lanes(act, some):
+    """What an act gives for each of some, several at a time, each in a process of its own."""
+    with concurrent.futures.ProcessPoolExecutor(LANES) as lanes:
+        return list(lanes.map(act, some))
 
 
 class Wrong(Exception):
@@ -81,7 +88,7 @@ class Sweep:
         """The undisturbed run: what it tells, what it leaves, and what it logs."""
         scene = self.scene
         scene.ample, lines = self.ran(env)
-        scene.last = contents(snapshot(scene.store))
+        scene.last = contents(scene.found())
         wanted = scene.good() if scene.has_calls else None
         if wanted not in (None, scene.ample):
             self.blame("undisturbed", "told", scene.ample, "and not", wanted)
@@ -90,10 +97,10 @@ class Sweep:
     def look(self, what, stands):
         """Looks at what stands after a run, and at what comes of the same command then."""
         scene = self.scene
-        if stray := scene.strays(snapshot(scene.store), stands):
+        if stray := scene.strays(scene.found(), stands):
             self.blame(what, "there is", stray)
         status, out, err = run(scene.words())
         if status != scene.ample[0] or not scene.is_again(out):
             self.blame(what, "the next run ended with", status, out, err)
-        if stray := scene.strays(snapshot(scene.store), scene.last):
+        if stray := scene.strays(scene.found(), scene.last):
             self.blame(what, "after the next run there is", stray)

@@ -1,10 +1,10 @@
 """Reads files of rows: what is done in a store folder, and what has to come of it.
 
-A row begins with `== NAME`, and a comment with `#`. Each other line begins a step, whose texts
-stand below it: `|` begins a line of a text, and `+` a piece of a line. Before these marks stands
-the text's label, if the step has more than one text. A text of one line may stand behind its step,
-with its mark, and before that other steps, each with `; ` after it. Lines right below the name of a
-row are calls by `lab`.
+A row begins with `== NAME`, and a comment with `#`, also behind a row's name. Each other line
+begins a step, whose texts stand below it: `|` begins a line of a text, and `+` a piece of a line.
+Before these marks stands the text's label, if the step has more than one text. A text of one line
+may stand behind its step, with its mark, and before that other steps, each with `; ` after it.
+Lines right below the name of a row are calls by `lab`.
 
 `=> ANSWER`, behind a run or a call, or below it, is what it prints, with `; ` between lines;
 `status N: FAULT` there is a run's fault. So the lines of a file may stand behind `=>`.
@@ -16,7 +16,7 @@ Before the first row `text <WORD>` lets a word stand for a text, and `scene NAME
 scene: the steps that a row takes by that name, with values of the words. There `<below>`, and each
 label, stand for the texts below the name, and what these say of a run is said of the scene's. The
 last word stands for all values that are left. All files have the texts and scenes of `words`, and
-`use FOLDER` has words, as `put` has, for the derivations in a folder here. `for <WORD> in VALUES`
+`use FOLDER..` has words, as `put` has, for the derivations in folders here. `for <WORD> in VALUES`
 has each row taken once with each value: a word, or the numbers `1..9`; in a row it has that row
 taken so. `for <A> <B> => <C>` does so with each line below it, which has values divided as the
 words are. The last one before `=>` and at the end may have several words, and `\\n` in it ends a
@@ -56,7 +56,7 @@ ends 1 has-lines 1 has-mode 2 is-link 1+ is-pipe 1+ is-file 1+ is-folder 1+ miss
 for 1+
 """
 STEPS = dict(zip(KINDS.split()[::2], KINDS.split()[1::2]))
-FRONT = {"text": "1", "for": "1+", "scene": "1+", "use": "1"}
+FRONT = {"text": "1", "for": "1+", "scene": "1+", "use": "1+"}
 # The texts and numbers that each kind of run may have.
 GIVEN = {"in", "env", "tty", "before"}, {"room", "err room", "limit", "ignore", *NUMBERS}
 TOLD = {"out", "err", "tty", "by path", "out like", "err like", "tty like"}, {"status"}
@@ -73,6 +73,7 @@ class Step:
 
     def __init__(self, number, line):
         self.number, self.line, self.texts, self.numbers = number, line, {}, {}
+        self.answers = []
         is_listed = LISTED.match(line)
         head, sign, answer = line.partition(" => ") if is_listed else (line, "", "")
         inline = None if is_listed else INLINE.fullmatch(line)
@@ -108,16 +109,20 @@ class Step:
             raise Mistake("it is no part of a step")
 
     def answer(self, text):
-        """Adds what stands behind the sign of an answer."""
-        is_run = self.kind in RUNS
-        for line in text.split("; "):
-            if is_run and (fault := FAULT.fullmatch(line)):
-                self.numbers["status"] = int(fault[1])
-                self.put("err", "|", f"nix_realise: {fault[2]}")
-            elif is_run and REPORT.match(line):
-                self.put("by path", "|", line)
-            else:
-                self.put("out" if is_run or self.kind == "lab" else "", "|", line)
+        """Adds what stands behind the sign of an answer; that of a run is read by `read_answer`."""
+        if self.kind in RUNS:
+            self.answers.append(text)
+        else:
+            for line in text.split("; "):
+                self.put("out" if self.kind == "lab" else "", "|", line)
+
+    def read_answer(self, line):
+        """Reads a line of the answer of a run."""
+        if fault := FAULT.fullmatch(line):
+            self.numbers["status"] = int(fault[1])
+            self.put("err", "|", f"nix_realise: {fault[2]}")
+        else:
+            self.put("by path" if REPORT.match(line) else "out", "|", line)
 
     def put(self, label, mark, text):
         """Adds a line or a piece to the text with a label."""
@@ -151,21 +156,32 @@ class Step:
             text = with_values(word, values)
             step.words += [text] if not word.endswith("*>") else text.split(" ") if text else []
         step.texts = {label: with_values(text, values) for label, text in self.texts.items()}
+        step.answers = [with_values(text, values) for text in self.answers]
         if self.kind == "$":
+            step.answers += call.answers
             step.texts |= {label: text for label, text in call.texts.items() if label in RUN[0]}
             step.numbers = {**self.numbers, **call.numbers}
         return step
 
-    def settled(self):
+    def settled(self, values):
         """The same step, where a run has its status, and `plan` says so what it forecasts."""
-        report = self.texts.get("by path", "")
-        told = report + self.texts.get("out", "")
-        if self.kind in RUNS and "status" not in self.numbers:
-            self.numbers["status"] = 2 if BAD.search(told) else int(bool(UNREALISED.search(told)))
-        if report and self.words[1:2] == ["plan"]:
-            report = REPORT.sub(lambda found: PLANNED.get(found[0], found[0]), report)
-            self.texts = {**self.texts, "by path": report}
-        return self
+        if self.kind not in RUNS:
+            return self
+        step = copy.copy(self)
+        step.texts, step.numbers = dict(self.texts), dict(self.numbers)
+        for text in self.answers:
+            while (valued := with_values(text, values)) != text:
+                text = valued
+            for line in text.removesuffix("\n").replace("; ", "\n").split("\n"):
+                step.read_answer(line)
+        report = step.texts.get("by path", "")
+        told = report + step.texts.get("out", "")
+        if "status" not in step.numbers:
+            step.numbers["status"] = 2 if BAD.search(told) else int(bool(UNREALISED.search(told)))
+        if report and step.words[1:2] == ["plan"]:
+            plan = REPORT.sub(lambda found: PLANNED.get(found[0], found[0]), report)
+            step.texts["by path"] = plan
+        return step
 
 
 def with_values(text, values):
@@ -173,7 +189,8 @@ def with_values(text, values):
 
     def valued(found):
         value, more = values.get(found[1]), found[2]
-        return found[0] if value is None else f"{value[:-1]}{more}>" if more else value
+        is_known = value is not None and (not more or WORD.fullmatch(value))
+        return found[0] if not is_known else f"{value[:-1]}{more}>" if more else value
 
     return WORD.sub(valued, text)
 
@@ -184,6 +201,11 @@ class Row(collections.namedtuple("Row", "file name texts steps")):
     def full_name(self):
         """The names of the file and of the row."""
         return f"{self.file.stem}::{self.name}"
+
+    def settled(self):
+        """The same row, whose runs have the answers that its words give."""
+        values = {word.strip("<>"): text for word, text in self.texts.items()}
+        return self._replace(steps=[step.settled(values) for step in self.steps])
 
     def looped(self, step):
         """The same row with each value of the words of a `for`."""
@@ -225,10 +247,10 @@ class Reading:
         if line.startswith("    "):
             self.read_below(number, line)
         elif line.startswith("== "):
-            if line[3:] in self.rows:
+            name, self.steps, self.last = line[3:].split(" # ")[0], [], None
+            if name in self.rows:
                 raise Mistake("another row has this name")
-            self.steps, self.last = [], None
-            self.rows[line[3:]] = self.steps
+            self.rows[name] = self.steps
         elif line and not line.startswith("#"):
             plain = MARK.split(line, maxsplit=1)[0]
             *first, last = plain.split("; ")
@@ -241,7 +263,8 @@ class Reading:
         self.steps = self.front if self.last.kind in FRONT and not self.rows else self.steps
         self.steps.append(self.last)
         if self.last.kind == "use":
-            self.texts = {**self.texts, **paths_in(HERE / self.last.words[0])}
+            for folder in self.last.words:
+                self.texts = {**self.texts, **paths_in(HERE / folder)}
         elif self.last.kind == "scene":
             name, *words = self.last.words
             self.steps = []
@@ -272,7 +295,7 @@ class Reading:
         labels = {label for label in step.texts if f"<{label or 'below'}>" not in texts}
         is_run = any(it.kind in ("$", *self.scenes) for it in inner)
         is_short = len(step.words) < sum(word[-1] != "*" for word in words)
-        if is_short or labels - RUN[0] or (labels or step.numbers) and not is_run:
+        if is_short or labels - RUN[0] or (labels or step.answers or step.numbers) and not is_run:
             raise Mistake("the scene has other words, or below it stands what it has not")
 
     def check_all(self):
@@ -295,7 +318,7 @@ class Reading:
                 values = {**step.texts, "below": step.texts.get("", ""), **given}
                 yield from self.expanded([it.given(step, values) for it in inner])
             else:
-                yield step.settled()
+                yield step
 
     def given(self):
         """The rows, each with each value of the words that have several."""
@@ -305,7 +328,7 @@ class Reading:
             found = [Row(self.file, name, self.known()[0], inner)]
             for loop in (step for step in [*self.front, *steps] if step.kind == "for"):
                 found = [each for row in found for each in row.looped(loop)]
-            rows += found
+            rows += [row.settled() for row in found]
         return rows
 
 

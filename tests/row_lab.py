@@ -1,21 +1,19 @@
 """Takes the step `lab` of a row: calls of the libraries, by the program `crates/lab`.
 
 Each text with a label is kept under that name first; after `lab` stand the labels of journals, of
-which the first line is left out, after their version, if that isn't 2. The lines of the text without a label are given to the program,
-and what it prints is compared with `out`, but for the lines that say where a call begins and ends.
-The program runs in the folder of the tests, and `<xff>` stands for a byte of all ones.
+which the first line is left out, after their version, if that isn't 2. The lines of the text
+without a label are given to the program, and what it prints is compared with `out`, but for the
+lines that say where a call begins and ends. The program runs in the folder of the tests, and
+`<xff>` stands for a byte of all ones.
 """
 
 import re
 
 from scenes import HERE, expect, lab_program, run, told
 
-# The seconds that the program may take.
-MOST_SECONDS = 60
-# A line that says where a call begins or ends.
-MARK = re.compile(r"(begins|ends) \d+ .*\n")
-# The bytes of a text.
-bytes_of = lambda text: text.encode(errors="surrogateescape")
+MOST_SECONDS = 60  # The seconds that the program may take.
+MARK = re.compile(r"(begins|ends) \d+ .*\n")  # A line that says where a call begins or ends.
+bytes_of = lambda text: text.encode(errors="surrogateescape")  # The bytes of a text.
 
 
 def script_of(scene, step):

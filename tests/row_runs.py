@@ -2,13 +2,14 @@
 
 Below `$ WORD..` stand what it writes to standard output (`out`) and to standard error (`err`), and
 its status. Lines of `by path`, as those of `=>` that tell of derivations, come before those of
-`out`, in the order of the paths in them. With `tty` in place of `err` standard error is a terminal:
-`~` begins what follows the sequence that clears a line, which is cut at the last column.
-`out like`, `err like` and `tty like` are expressions for the whole. A word for which nothing stands
-yet, alone in `out`, stands for what came. `in` is the standard input. A line of `env` sets a
-variable, or names one that is not set. With `room N` standard output takes N bytes and refuses the
-next, with `err room N` standard error does; with `too much` the run is made with each room that is
-less than this text's. `limit N` is the greatest size of a file, and `ignore N` an ignored signal.
+`out`, in the order of the paths in them. With `tty` in place of `err` standard error is a terminal,
+an xterm if `env` has no other: `~` begins what follows the sequence that clears a line, which is
+cut at the last column. `out like`, `err like` and `tty like` are expressions for the whole. A word
+for which nothing stands yet, alone in `out`, stands for what came. `in` is the standard input. A
+line of `env` sets a variable, or names one that is not set. With `room N` standard output takes N
+bytes and refuses the next, with `err room N` standard error does; with `too much` the run is made
+with each room that is less than this text's. `limit N` is the greatest size of a file, and `ignore
+N` an ignored signal.
 
 `sh` has a shell take the text below, above the store folder; `nix_realise` is the program there,
 and a command that fails ends it. `start NAME WORD..` lets a run go on, and `await NAME` waits for
@@ -39,12 +40,11 @@ from scenes import Fault, expect, told, until
 MOST_SECONDS, SOME_SECONDS = 120, 0.3
 # The greatest size of a file, at the end of which a stream of a run has little room.
 GREATEST_FILE = 2**30
-# The user who is not the superuser.
-NOBODY = 65534
+NOBODY = 65534  # The user who is not the superuser.
 # What clears a line of a terminal, and a line that is cut at the last column.
 CLEAR, CUT = "\r\x1b[K", re.compile(r"\x1b\[\?7l(.*)\x1b\[\?7h")
-# A text that is one word.
-ALONE = re.compile(r"(<[a-z0-9.-]+>)\n?")
+ALONE = re.compile(r"(<[a-z0-9.-]+>)\n?")  # A text that is one word.
+until_at = lambda path: until(f"something at {path}", lambda: os.path.lexists(path), MOST_SECONDS)
 # What stands below a step of which nothing is said.
 NOTHING = types.SimpleNamespace(texts={}, numbers={})
 # How a run ended: what it wrote, its status, and the label of standard error.
@@ -130,6 +130,7 @@ class Run:
 def environment(scene, step):
     """The variables of a run."""
     found = dict(settings(scene, step))
+    found |= {"TERM": "xterm"} if any(label.startswith("tty") for label in step.texts) else {}
     for line in scene.said(step.texts.get("env", "")).splitlines():
         name, is_set, value = line.partition("=")
         found[name] = value if is_set else None
@@ -209,12 +210,6 @@ def take_kill(scene, step):
         raise Fault("a run that is killed", "one that has ended")
 
 
-def take_until(scene, step):
-    """Waits until something stands at a path."""
-    path = scene.path(step.words[0])
-    until(f"something at {path}", lambda: os.path.lexists(path), MOST_SECONDS)
-
-
 def take_quickest(scene, step):
     """Fails where no run on a terminal has ended within so many hundredths of a second."""
     if scene.quickest * 100 > int(step.words[0]):
@@ -237,7 +232,7 @@ RUNS = {
     "await": lambda scene, step: compare(scene, step, scene.runs[step.words[0]].ended()),
     "goes-on": take_goes_on,
     "kill": take_kill,
-    "until": take_until,
+    "until": lambda scene, step: until_at(scene.path(step.words[0])),
     "quickest": take_quickest,
     "as-user": take_as_user,
 }

@@ -44,10 +44,9 @@ WORD = re.compile(r"<[^<>\s]+>")
 # How many numbers are tried at most for an order of paths. Each gives the order of two paths in one
 # of two cases, and that of three in one of six.
 MOST_TRIES = 64
-# How far before one of many derivations those may be that it uses.
-WINDOW = 10
-# The SHA-256 digest of a text.
-sha256 = lambda text: hashlib.sha256(text.encode()).hexdigest()
+ORDER = "<lesser>", "<greater>"
+WINDOW = 10  # How far before one of many derivations those may be that it uses.
+sha256 = lambda text: hashlib.sha256(text.encode()).hexdigest()  # The SHA-256 digest of a text.
 # A text with its lines sorted.
 in_order = lambda text: "".join(sorted(text.splitlines(keepends=True)))
 # The names and the paths of the outputs of the derivation at a path.
@@ -212,11 +211,6 @@ def write_drv(scene, text, name):
     return path
 
 
-def take_order(scene, step):
-    """Names the lesser and the greater of two paths."""
-    scene.names["<lesser>"], scene.names["<greater>"] = sorted(map(scene.said, step.words))
-
-
 def unchanged(scene, _):
     """Compares what stands in the store folder with what stood there at the last note."""
     found = snapshot(scene.dir)
@@ -287,13 +281,13 @@ TAKEN = {
     "drv": naming(write_drv),
     "repeat": naming(lambda _, __, count, letter: letter * int(count)),
     "digest": naming(lambda _, text: sha256(text)),
-    "order": take_order,
+    "order": lambda scene, step: scene.names.update(zip(ORDER, sorted(scene.words(step.words)))),
     "note": lambda scene, _: setattr(scene, "noted", snapshot(scene.dir)),
     "unchanged": unchanged,
     "write": at_path(lambda path, text: path.write_text(text, "utf-8", "surrogateescape", "")),
     "fill": fill,
     "folder": on_paths(lambda path: path.mkdir(parents=True, exist_ok=True)),
-    "mode": lambda scene, step: scene.path(step.words[0]).chmod(int(step.words[1], 8)),
+    "mode": lambda scene, step: scene.path(step.words[0]).chmod(int(scene.said(step.words[1]), 8)),
     "link": lambda scene, step: scene.path(step.words[0]).symlink_to(scene.path(step.words[2])),
     "move": lambda scene, step: scene.path(step.words[0]).rename(scene.path(step.words[2])),
     "pipe": on_paths(os.mkfifo),
@@ -302,10 +296,7 @@ TAKEN = {
     "has-lines": at_path(lambda path, text: expect(in_order(text), in_order(text_at(path, text)))),
     "ends": at_path(lambda path, end: expect(end, text_at(path, end)[-len(end) :])),
     "has-mode": has_mode,
-    "is-link": is_kind("link"),
-    "is-pipe": is_kind("pipe"),
-    "is-file": is_kind("file"),
-    "is-folder": is_kind("folder"),
+    **{f"is-{kind}": is_kind(kind) for kind in ("link", "pipe", "file", "folder")},
     "missing": is_kind("nothing"),
     "entries": entries,
 }

@@ -10,8 +10,7 @@ import json
 
 from scenes import expect
 
-# The microseconds by which a builder may take longer than its script.
-SLACK = 5_000_000
+SLACK = 5_000_000  # The microseconds by which a builder may take longer than its script.
 # Values in order, as a text.
 told = lambda values: "".join(f"{value}\n" for value in sorted(map(str, values)))
 

@@ -3,7 +3,6 @@
 import os
 import pathlib
 import re
-import signal
 import subprocess
 
 from reading import entries_of
@@ -82,21 +81,6 @@ def edited(name, folder, **values):
     copy.write_text(text)
     copy.chmod(0o755)
     return copy
-
-
-def limited_run(words, seconds):
-    """What a run writes and its status, as `run` gives them. It may take so many seconds: then it
-    is ended, as it is where this script is, with the builders that it has started here."""
-    pipes = {"stdout": subprocess.PIPE, "stderr": subprocess.PIPE, "text": True}
-    with subprocess.Popen(words, start_new_session=True, **pipes) as started:
-        try:
-            out, err = started.communicate(timeout=seconds)
-        except subprocess.TimeoutExpired:
-            return "none", "", f"no end within {seconds} s\n"
-        finally:
-            if started.poll() is None:
-                os.killpg(started.pid, signal.SIGKILL)
-    return started.returncode, out, err
 
 
 def last_lines(folder, count=5):

@@ -21,8 +21,7 @@ BUILT = HERE.parent / "crates/nix_realise/out/nix_realise"
 LAB = HERE.parent / "crates/lab/out/lab"
 PATH = ("PATH", "/usr/sbin:/usr/bin:/sbin:/bin")
 MEMORY = "/dev/shm"
-# The file of a store folder that is locked.
-LOCK = ".nix_realise-lock"
+LOCK = ".nix_realise-lock"  # The file of a store folder that is locked.
 # What a call says of a name that went away, or was another kind of file when it was looked at.
 CHANGED_MEANWHILE = "ENOENT ENOTDIR ENAMETOOLONG EINVAL ELOOP EISDIR".split()
 number_of = lambda words, name, default: int(option(words, name) or default)
