@@ -1,0 +1,3 @@
+export CC=@out@/bin/cc
+sawCompiler() { echo "compiled by $CC" >.compiler; }
+preHooks+=(sawCompiler)
