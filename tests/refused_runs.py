@@ -194,9 +194,9 @@ class Realise(Plan):
         drv = {entry.split()[1]: entry for entry in last}
         return {name for name in SCRIPTS if drv.get(self.drv[name]) in entries}
 
-    def names_of(self, found, name):
+    def names_of(self, found, name, bits):
         bases = [os.path.basename(path) for path in self.paths[name]]
-        return {n: e[:2] for n, e in found.items() if n.split("/")[0] in bases}
+        return {n: (e[0] & bits, e[1]) for n, e in found.items() if n.split("/")[0] in bases}
 
     def strays(self, found, stands):
         is_last, last = isinstance(stands, dict), self.last or contents(found)
@@ -206,7 +206,9 @@ class Realise(Plan):
         if not is_longer or not {*entries} <= {*self.journal_of(last)[1]}:
             stray.append(JOURNAL)
         for name in SCRIPTS:
-            held, *may = (self.names_of(it, name) for it in (found, self.laid, last))
+            # Some of what a failed builder left may have its canonical mode.
+            bits = 0o170000 if stands in ("less", "whole") and name not in known else 0o177777
+            held, *may = (self.names_of(it, name, bits) for it in (found, self.laid, last))
             if stands in ("new", "moved", "outputs") or is_last or name in known:
                 may = may[1:]
             elif stands in ("old", "left"):

@@ -66,7 +66,7 @@ ROWS = [
     ("realise", "look rename open-folder list remove", "folder aside", "ever", "moved"),
     ("realise", "make-folder create write open spawn", "start", "NoStart", "less"),
     ("realise", "wait", "end", "ReadFault", "less"),
-    ("realise", "look open read read-link open-folder list", "output", "ReadFault", "less"),
+    ("realise", READING + " permissions read-link open-folder list", "output", "ReadFault", "less"),
     ("realise", "look open-folder remove", "build folder", "ever", "new"),
     ("realise", WRITING, "journal written", "unwritten", "outputs"),
     ("realise", WRITING, "journal kept", "ever", "new"),

@@ -1,6 +1,7 @@
 -- What only private contracts and proofs cite.
 pub mod Answers
 pub mod BuilderCalls
+pub mod Canonical
 pub mod Folders
 pub mod MakingLaws
 pub mod Placeholders

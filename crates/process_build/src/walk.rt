@@ -9,7 +9,7 @@
 //! | `fault` | why a walk gave up |
 #![tactic(auto)]
 
-mod entry_names;
+pub(crate) mod entry_names;
 pub mod fault;
 mod file_bytes;
 mod found;

@@ -2,6 +2,7 @@
 ghost use Rattle.std.specs.Prelude.{◌≡◌, [], IfErr, IfOk, Ok, OnErr, OnOk, string_bytes, true};
 ghost use Rattle.process_build.specs.private.Folders.{aside_of, gone_after, IsAside, IsThere, NotesAside};
 
+use crate::disk::removal::remove_folder;
 use crate::failures::Failure;
 use std::alloc::{AllocError, Global};
 use std::fs::Metadata;
@@ -52,7 +53,7 @@ impl<'a, R: Files + AllocGlobal> Cleanup<'a, R> {
     /// Removes what was moved aside, with all that is in it. What can't be removed stays there.
     pub fn finish(&self) {
         for aside in &self.aside {
-            let _ = fs::remove_dir_all(self.rt, aside.as_str());
+            let _ = remove_folder(self.rt, aside.as_str());
         }
     }
 }
@@ -89,7 +90,7 @@ fn remove_empty<R: Files>(rt: &R, path: &str) -> io::Result<()> {
 // Removes what lies at a path, with all that is in it if it is a folder. No link is followed.
 pub(crate) fn remove_whole<R: Files + AllocGlobal>(rt: &R, path: &str) -> io::Result<()> {
     if fs::symlink_metadata(rt, path)?.is_dir() {
-        fs::remove_dir_all(rt, path)
+        remove_folder(rt, path)
     } else {
         fs::remove_file(rt, path)
     }

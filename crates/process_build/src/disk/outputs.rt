@@ -13,6 +13,7 @@ ghost use Rattle.ref_scan.specs.Trees.{joined};
 ghost use Rattle.build_outcome.specs.declared.reason.Reason.TheVariants.{OutOfMemory, ReadFault};
 ghost use Rattle.build_outcome.specs.declared.reason.Reason.TheVariants.{TooLarge};
 
+use crate::disk::canonical::make_canonical;
 use crate::failures::is_made_again;
 use crate::reasons::read_fault;
 use build_outcome::{Job, Reason};
@@ -29,7 +30,7 @@ use std::{fs, io, str};
 const MAX_PIECE: usize = 65_536;
 
 // The bit of a mode by which the owner may execute a file.
-const OWNER_EXECUTES: u32 = 0o100;
+pub(crate) const OWNER_EXECUTES: u32 = 0o100;
 
 // How many bytes of a folder's names are read at once; there is room for any name.
 const NAMES_AT_ONCE: usize = 4_096;
@@ -37,8 +38,9 @@ const NAMES_AT_ONCE: usize = 4_096;
 /// What lies at the path of each output of a job, in the job's order, `None` where nothing does; or
 /// the first fault. A folder's entries are read in the byte order of their names. Under the profile
 /// `nix` outputs may have symbolic links, none of which is followed, files that their owner may
-/// execute are told from others, and nothing is limited. Under `plain` a link is a `ReadFault`, and
-/// what passes the limits of an output is `TooLarge`.
+/// execute are told from others, nothing is limited, and files and folders get their canonical modes
+/// and time before they are read. Under `plain` a link is a `ReadFault`, and what passes the limits
+/// of an output is `TooLarge`.
 pub fn read_outputs<R: Files + AllocGlobal>(rt: &R, job: &Job) -> Result<Vec<Option<Tree>>, Reason>
     ensures trees { IfOk result (λ trees. length trees.items ≡ length job.now.outputs.items) }
     ensures plain { IfOk result (λ trees.
@@ -61,7 +63,9 @@ fn read_output<R: Files + AllocGlobal>(
     ensures plain { IfOk result (λ tree. IfSome tree (IsAllowed profile)) }
     ensures bad { IfErr result IsReadingFault }
 {
-    match kind_of(fs::symlink_metadata(rt, path), profile)? {
+    let found = fs::symlink_metadata(rt, path);
+    make_canonical(rt, path, &found, profile)?;
+    match kind_of(found, profile)? {
         Some(kind) => {
             let mut reader = Reader::new(rt, profile);
             Ok(Some(reader.tree(kind, path, most_below(profile), profile)?))
@@ -205,6 +209,7 @@ impl<'a, R: Files + AllocGlobal> Reader<'a, R> {
         };
         let path = child_path(self.rt.alloc(), path, &name)?;
         let found = fs::symlink_metadata(self.rt, path.as_str());
+        make_canonical(self.rt, path.as_str(), &found, profile)?;
         let Some(kind) = kind_of(found, profile)? else {
             return Err(Reason::ReadFault);
         };
