@@ -186,6 +186,17 @@ def wide(place, rows):
     return with_outputs(place, names, text)
 
 
+def listing(place, listed, source):
+    """A draft whose output refers to a source, and may reach the listed paths; the filled text, and
+    the output's path. The list is too long for a variable, and goes into a file."""
+    words = f'"-c",{quoted(f"echo {source} > $o")}'
+    front, back = f'("allowedRequisites","{" ".join(listed)}")', '("passAsFile","allowedRequisites")'
+    env = lambda paths: f'{front},("o","{paths.get("o", "")}"),{back}'
+    parts = lambda paths: {"sources": quoted(source), "args": words, "env": env(paths)}
+    text = lambda paths, _: text_of(outputs(["o"], paths), **parts(paths))
+    return with_outputs(place, ["o"], text)
+
+
 # What makes the outputs of `many_outputs`: each has the paths of so many before it.
 BEFORE = 300
 WRITER = """

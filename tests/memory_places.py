@@ -64,6 +64,8 @@ nix_realise/src/cli/process.rt run_texts | Err ( _ ) => print_no_memory ( err )
 store_run/src/run.rt run_workers
     | let _ = scope . spawn ( move || work ( rt , alloc , locked , reader , & builder ) )
     # a thread that can't be started is told as ThreadFault, if all of them can't
+store_run/src/refusal.rt - | impl From < AllocError > for RefusedCall # hands it on
+store_run/src/refusal.rt from | fault : BookFault :: NoMemory # the same
 store_run/src/kept_run.rt run_beside
     | let _ = scope . spawn ( move || keep_on ( rt , alloc , locked , text , place ) )
     # without its thread nothing is kept while the run goes on, and the run ends as ever

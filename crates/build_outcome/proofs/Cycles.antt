@@ -19,7 +19,7 @@ use Rattle.nix_names.proofs.Lists.{Contains-from_get, get_from_contains, same_el
 module _ (paths : List (List ℕ)) (infos : List PathInfo) (links : List (Vec ℕ))
     (have : HaveLinks paths infos links) where
   -- what links lead from and to, references do
-  goes_leads : (from to : ℕ) → Goes links from to → (a b : List ℕ) → slice_get have.keys from
+  pub goes_leads : (from to : ℕ) → Goes links from to → (a b : List ℕ) → slice_get have.keys from
       ≡ Some a → slice_get have.keys to ≡ Some b
       → (steps : List (List ℕ)) × LeadsBy (OutputRefersTo paths infos) a b steps
   goes_leads _ _ (goes_nowhere n) a b at at' = ([], same_element _ n a b at at')
@@ -53,7 +53,7 @@ module _ (paths : List (List ℕ)) (infos : List PathInfo) (links : List (Vec �
       (refers, leads_on next b c steps more rest leads)
 
   -- an output that another one is linked to
-  linked_by : (n : ℕ) (a next : List ℕ) → slice_get have.keys n ≡ Some a
+  pub linked_by : (n : ℕ) (a next : List ℕ) → slice_get have.keys n ≡ Some a
       → OutputRefersTo paths infos a next → (m : ℕ) × (slice_get have.keys m ≡ Some next)
       × IsLinked links n m
   linked_by n a next at (k, info, here, has, refers, among) =

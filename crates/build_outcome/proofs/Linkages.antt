@@ -281,3 +281,10 @@ pub links_inner : (paths : List (List ℕ)) (infos : List PathInfo) (links : Lis
 links_inner paths infos links have from to linked =
     let h = have.are.sound from to linked in omega
     (arith, slice_get_within have.keys to h.1 h.3, have.are.places)
+
+pub links_inner_of : (paths : List (List ℕ)) (infos : List PathInfo) (keys : List (List ℕ))
+    (count : ℕ) (links : List (Vec ℕ)) → AreEachOnce paths keys
+    → AreLinks paths infos keys count links → AreInner links
+links_inner_of paths infos keys count links once are from to linked =
+    let h = are.sound from to linked in omega
+    (arith, slice_get_within keys to h.1 h.3, are.places)

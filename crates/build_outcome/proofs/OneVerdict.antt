@@ -18,7 +18,7 @@ use Rattle.valid_table.specs.PathInfos.{NarInfo, PathInfo}
 use Rattle.build_outcome.specs.declared.job.Answer.{Answer}
 use Rattle.build_outcome.specs.declared.job.Job.{Job}
 use Rattle.build_outcome.specs.declared.reason.Reason.{Reason}
-use Rattle.build_outcome.specs.declared.reason.Reason.TheVariants.{ExitStatus, NoStart, MissingOutput, NotFlatFile, HashMismatch, OutputCycle, TooLarge, ReadFault, OutOfMemory, Killed}
+use Rattle.build_outcome.specs.declared.reason.Reason.TheVariants.{ExitStatus, NoStart, MissingOutput, NotFlatFile, HashMismatch, OutputCycle, TooLarge, ReadFault, OutOfMemory, Killed, NotAllowed, BadSpecifier}
 use Rattle.build_outcome.specs.Verdicts.{AreOutputsThere, AreRead, AreRecords, HasForm, HasOneVerdict, IsCyclic, IsFaulty, IsFirstFault, IsFirstNumber, IsNarOf, IsRecordDigest, IsRecordNar, IsRecordOf, IsTaken, IsTreeFault, IsUnreadAt, IsVerdict, outputs_of, tree_at}
 use Rattle.build_outcome.proofs.Archives.{one_archive}
 use Rattle.build_outcome.proofs.FixedDigests.{one_digest_by}
@@ -142,6 +142,8 @@ module _ (job : Job) (permitted : List (List ℕ)) (answer : Answer) where
   outcome_of (Err OutputCycle) (taken, (infos, records, round)) = cyclic infos taken records round
   outcome_of (Err NoStart) none = absurd none
   outcome_of (Err OutOfMemory) none = absurd none
+  outcome_of (Err (NotAllowed output place)) none = absurd none
+  outcome_of (Err (BadSpecifier output)) none = absurd none
 
   -- the first output without a tree, and the first faulty one, are among the outputs
   missing_within : (n : ℕ) → IsFirstNumber (λ m. tree_at answer m ≡ None)

@@ -15,7 +15,7 @@ use Rattle.valid_table.specs.PathInfos.{PathInfo}
 use Rattle.build_outcome.specs.declared.job.Answer.{Answer}
 use Rattle.build_outcome.specs.declared.job.Job.{Job}
 use Rattle.build_outcome.specs.declared.reason.Reason.{Reason}
-use Rattle.build_outcome.specs.declared.reason.Reason.TheVariants.{ExitStatus, NoStart, MissingOutput, NotFlatFile, HashMismatch, OutputCycle, TooLarge, ReadFault, OutOfMemory, Killed}
+use Rattle.build_outcome.specs.declared.reason.Reason.TheVariants.{ExitStatus, NoStart, MissingOutput, NotFlatFile, HashMismatch, OutputCycle, TooLarge, ReadFault, OutOfMemory, Killed, NotAllowed, BadSpecifier}
 use Rattle.build_outcome.specs.Verdicts.{AreOutputsThere, AreRead, AreRecords, HasForm, IsCyclic, IsExamining, IsFaulty, IsFirstFault, IsRecordAt, IsRecordOf, IsTaken, IsTreeFault, IsVerdict, MayBeTaken, outputs_of, tree_at}
 
 -- What is known once the first `count` outputs were looked at: none of them is missing.
@@ -125,6 +125,8 @@ tree_fault_cases profile Addressed tree OutputCycle fault = absurd fault
 tree_fault_cases profile Addressed tree ReadFault fault = absurd fault
 tree_fault_cases profile Addressed tree OutOfMemory fault = absurd fault
 tree_fault_cases profile Addressed tree Killed fault = absurd fault
+tree_fault_cases profile Addressed tree (NotAllowed output place) fault = absurd fault
+tree_fault_cases profile Addressed tree (BadSpecifier output) fault = absurd fault
 tree_fault_cases profile (Fixed method declared) tree (ExitStatus n) fault = absurd fault
 tree_fault_cases profile (Fixed method declared) tree NoStart fault = absurd fault
 tree_fault_cases profile (Fixed method declared) tree (MissingOutput n) fault = absurd fault
@@ -132,6 +134,8 @@ tree_fault_cases profile (Fixed method declared) tree OutputCycle fault = absurd
 tree_fault_cases profile (Fixed method declared) tree ReadFault fault = absurd fault
 tree_fault_cases profile (Fixed method declared) tree OutOfMemory fault = absurd fault
 tree_fault_cases profile (Fixed method declared) tree Killed fault = absurd fault
+tree_fault_cases profile (Fixed method declared) tree (NotAllowed output place) fault = absurd fault
+tree_fault_cases profile (Fixed method declared) tree (BadSpecifier output) fault = absurd fault
 
 -- a fault of a tree after trees that are taken is the first
 pub first_fault : (job : Job) (permitted : List (List ℕ)) (answer : Answer) (count : ℕ)

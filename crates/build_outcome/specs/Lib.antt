@@ -1,5 +1,7 @@
 -- What public contracts cite, and what that rests on.
+pub mod Checks
 pub mod Jobs
 pub mod Numbers
+pub mod Tokens
 pub mod Verdicts
 pub mod private

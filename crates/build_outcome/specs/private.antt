@@ -1,5 +1,9 @@
 -- What only private contracts and proofs cite.
 pub mod Hashing
 pub mod Linking
+pub mod Listing
+pub mod Reaching
+pub mod RootPaths
 pub mod Summing
+pub mod Testing
 pub mod Walking

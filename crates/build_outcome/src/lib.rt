@@ -10,12 +10,14 @@
 //! | `sums`, `archive_digests` | the digests and the lengths of outputs' archives |
 //! | `cycle`, `links`, `walk` | whether outputs refer to each other in a cycle |
 //! | `reason` | why building a derivation failed |
-//! | `laws` | a law over the definitions that contracts cite |
+//! | `checks` | the tests of what outputs refer to |
+//! | `laws` | laws over the definitions that contracts cite |
 #![tactic(auto)]
 
 mod archive_digests;
 mod build;
 mod checked;
+mod checks;
 mod cycle;
 mod digest;
 mod job;
@@ -29,6 +31,11 @@ mod walk;
 
 pub use build::{Build, LeaseObserver};
 pub use checked::Checked;
+pub use checks::check::Check;
+pub use checks::lists::asks_for_closures;
+pub use checks::roots::{OutputRoots, output_roots};
+pub use checks::testing::test_outputs;
+pub use checks::tokens::{is_space, tokens_of};
 pub use cycle::is_cyclic;
 pub use job::{Answer, Job, JobOutput};
 pub use reason::Reason;

@@ -1,8 +1,8 @@
 //! The links among outputs, by numbers.
-ghost use Rattle.std.specs.Prelude.{◌≡◌, IfOk, MatchOption, OnOk, Contains, Some, length, nat_eq, slice_get, take, vec_capacity};
+ghost use Rattle.std.specs.Prelude.{◌≡◌, IfOk, MatchOption, OnOk, Contains, Some, length, nat_eq, slice_get, vec_capacity};
 ghost use Rattle.std.specs.Cmp.Lexicographic.{pointwise};
 ghost use Rattle.std.specs.List.{IsDistinct};
-ghost use Rattle.build_outcome.specs.private.Linking.{AddsLinks, AreEachOnce, HaveLinks, HaveNoLinks};
+ghost use Rattle.build_outcome.specs.private.Linking.{AddsLinks, AreEachOnce, AreLinks, HaveLinks, HaveNoLinks};
 
 use indexmap::IndexSet;
 use nix_names::StorePath;
@@ -19,8 +19,23 @@ pub(crate) fn links_among(
     ensures { IfOk result (λ links. HaveLinks outputs.now records.now links.items) }
 {
     let paths = each_once(alloc, outputs)?;
+    links_by(alloc, &paths, outputs, records)
+}
+
+// For each of the paths, the places of those that its outputs refer to.
+pub(crate) fn links_by(
+    alloc: Global,
+    paths: &IndexSet<StorePath>,
+    outputs: &[StorePath],
+    records: &[Record],
+) -> Result<Vec<Vec<usize>>, AllocError>
+    requires same { length records.now ≡ length outputs.now }
+    requires once { AreEachOnce outputs.now paths.now.keys }
+    ensures { IfOk result (λ links. AreLinks outputs.now records.now paths.now.keys
+        (length records.now) links.items) }
+{
     let mut links = no_links(alloc, paths.len())?;
-    fill_links(&paths, outputs, records, &mut links)?;
+    fill_links(paths, outputs, records, &mut links)?;
     Ok(links)
 }
 
@@ -35,7 +50,8 @@ fn fill_links(
     requires once { AreEachOnce outputs.now paths.now.keys }
     requires count { length links.old.items ≡ length paths.now.keys }
     requires none { HaveNoLinks links.old.items }
-    ensures { OnOk result (HaveLinks outputs.now records.now links.new.items) }
+    ensures { OnOk result (AreLinks outputs.now records.now paths.now.keys (length records.now)
+        links.new.items) }
 {
     for (n, record) in records.iter().enumerate() {
         if let Some(from) = place_of(paths, &outputs[n]) {
@@ -46,7 +62,10 @@ fn fill_links(
 }
 
 // The paths of the outputs, each once.
-fn each_once(alloc: Global, outputs: &[StorePath]) -> Result<IndexSet<StorePath>, AllocError>
+pub(crate) fn each_once(
+    alloc: Global,
+    outputs: &[StorePath],
+) -> Result<IndexSet<StorePath>, AllocError>
     ensures { IfOk result (λ paths. AreEachOnce outputs.now paths.keys) }
 {
     let mut paths = IndexSet::new(alloc);
@@ -70,7 +89,7 @@ fn no_links(alloc: Global, count: usize) -> Result<Vec<Vec<usize>>, AllocError>
 }
 
 // The place of a path among these, if it is one of them.
-fn place_of(paths: &IndexSet<StorePath>, path: &StorePath) -> Option<usize>
+pub(crate) fn place_of(paths: &IndexSet<StorePath>, path: &StorePath) -> Option<usize>
     ensures { MatchOption result (Contains paths.now.keys path.now → ⊥)
         (λ n. slice_get paths.now.keys n ≡ Some path.now) }
 {

@@ -29,6 +29,12 @@ pub enum Reason {
     OutOfMemory,
     /// A signal ended the builder.
     Killed,
+    /// The output with the first number, counted from 0, refers to a path to which it may not: the
+    /// one with the second number, counted from 0, among the permitted paths in rising order.
+    NotAllowed(usize, usize),
+    /// A check of the output with this number, counted from 0, lists what is neither a path of the
+    /// store folder nor the name of an output.
+    BadSpecifier(usize),
 }
 
 impl Reason {
@@ -47,6 +53,8 @@ impl Reason {
             Reason::ReadFault => 57,
             Reason::OutOfMemory => 58,
             Reason::Killed => 59,
+            Reason::NotAllowed(_, _) => 84,
+            Reason::BadSpecifier(_) => 85,
         }
     }
 }

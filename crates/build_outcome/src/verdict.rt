@@ -70,7 +70,7 @@ fn refer_in_cycle(alloc: Global, job: &Job, records: &[Record]) -> Result<bool, 
 }
 
 // The outputs' paths, in their order.
-fn paths_of(alloc: Global, outputs: &[JobOutput]) -> Result<Vec<StorePath>, AllocError>
+pub(crate) fn paths_of(alloc: Global, outputs: &[JobOutput]) -> Result<Vec<StorePath>, AllocError>
     ensures paths { IfOk result
         (λ paths. paths.items ≡ map (λ (o : JobOutput). o.path) outputs.now) }
     ensures room { IfOk result (λ paths. vec_capacity paths ≡ length outputs.now) }

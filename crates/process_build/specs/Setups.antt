@@ -1,10 +1,10 @@
 -- What a builder is started with: its name, arguments, environment and files. Those of the profile
 -- `plain` are this product's own (`FORMATS.md`); those of `nix` are Nix 2.8's (Nix manual, "Building";
 -- its source, `local-derivation-goal.cc`: `startBuilder`, `initEnv`, `initTmpDir`, `runChild`).
-use Rattle.std.specs.Prelude.{◌≡◌, ◌≢◌, ◌⊎◌, ℕ, Bool, false, not, ◌||◌, ◌==◌, List, [], ◌∷◌, ◌++◌}
+use Rattle.std.specs.Prelude.{◌≡◌, ◌≢◌, ◌⊎◌, ℕ, Bool, false, ◌==◌, List, [], ◌∷◌, ◌++◌}
 use Rattle.std.specs.Prelude.{All, Contains, IsUtf8, Option, None, Some, bytes_eq, codes, decimal}
-use Rattle.std.specs.Prelude.{filter, fold, if◌then◌else◌, length, map, nat_eq, string_bytes}
-use Rattle.std.specs.List.{AllZip, after_last, list_any, slice_split, starts_with}
+use Rattle.std.specs.Prelude.{filter, fold, if◌then◌else◌, map, nat_eq, string_bytes}
+use Rattle.std.specs.List.{AllZip, after_last, list_any, starts_with}
 use Rattle.sha2.specs.Sha256.{sha256}
 use Rattle.nix_names.specs.Base32.{base32}
 use Rattle.nix_names.specs.Bytes.{Bytes, Dir, Name}
@@ -14,6 +14,7 @@ use Rattle.drv_graph.specs.declared.kinds.Kind.{Kind}
 use Rattle.drv_graph.specs.declared.kinds.Kind.TheVariants.{Addressed, Fixed}
 use Rattle.drv_graph.specs.declared.profile.Profile.{Profile}
 use Rattle.drv_graph.specs.declared.profile.Profile.TheVariants.{Nix, Plain}
+use Rattle.build_outcome.specs.Tokens.{tokens}
 use Rattle.build_outcome.specs.declared.job.Job.{Job}
 use Rattle.build_outcome.specs.declared.job.JobOutput.{JobOutput}
 use Rattle.process_build.specs.declared.process.builtins.OwnBuiltin.{OwnBuiltin}
@@ -59,17 +60,9 @@ abbrev pub or_empty : Option Bytes → Bytes
 or_empty (Some value) = value
 or_empty None = []
 
--- a space, a tab, a line feed or a carriage return
-abbrev pub is_blank : ℕ → Bool
-is_blank byte = byte == 32 || byte == 9 || byte == 10 || byte == 13
-
--- the tokens of a text: what stands between its blanks, where anything does
-abbrev pub tokens_of : Bytes → List Bytes
-tokens_of text = filter (λ token. not (length token == 0)) (slice_split is_blank text)
-
 -- the tokens of the value of one of a job's own entries
 abbrev pub tokens_under : (key : Name) → Job → List Bytes
-tokens_under key job = tokens_of (or_empty (value_of key (own_entries job)))
+tokens_under key job = tokens (or_empty (value_of key (own_entries job)))
 
 -- the placeholder of the path of the output with this name, which stands in a derivation before its
 -- paths are known: a slash and 52 base-32 characters

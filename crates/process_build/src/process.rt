@@ -14,7 +14,7 @@
 //! | `setup` | what a builder is started with |
 //! | `surroundings` | what a builder's setup depends on beside its job |
 //! | `texts` | the texts that a builder is given |
-//! | `tokens` | the values of an environment's entries, and their tokens |
+//! | `values` | the values of an environment's entries |
 //! | `ended` | how a builder ended, which nothing but waiting for it tells |
 //! | `start` | a builder that is started and waited for |
 //! | `options` | how the builders of a run build |
@@ -35,4 +35,4 @@ pub mod setup;
 pub mod start;
 pub mod surroundings;
 pub mod texts;
-pub mod tokens;
+pub mod values;

@@ -48,7 +48,7 @@ abbrev pub line_of : Tense → List Node → Node → State → Bytes
 line_of tense nodes node Done = path_line (built_word tense) node.path
 line_of tense nodes node Reused = path_line (reused_word tense) node.path
 line_of tense nodes node (Failed reason) = why_line (failed_word tense) node.path
-    (reason_words node.drv reason)
+    (reason_words node.drv None reason)
 line_of tense nodes node (Refused cause) = why_line (refused_word tense) node.path
     (refusal_words nodes node.drv cause)
 line_of tense nodes node state = []

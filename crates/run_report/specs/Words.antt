@@ -2,13 +2,13 @@
 -- value in parentheses (this product's own).
 use Rattle.std.specs.Prelude.{ℕ, Option, Some, None, List, ◌++◌, map, codes, decimal, slice_get}
 use Rattle.std.specs.Fmt.{signed_decimal}
-use Rattle.nix_names.specs.Bytes.{Bytes}
+use Rattle.nix_names.specs.Bytes.{Bytes, Path}
 use Rattle.nix_drv.specs.Derivation.{Drv, Output}
 use Rattle.nix_drv.specs.Strings.{string_text}
 use Rattle.drv_graph.specs.Nodes.{Node, paths_of}
 use Rattle.drv_graph.specs.PlanNodes.{output_paths_of}
 use Rattle.build_outcome.specs.declared.reason.Reason.{Reason}
-use Rattle.build_outcome.specs.declared.reason.Reason.TheVariants.{ExitStatus, NoStart, MissingOutput, NotFlatFile, HashMismatch, OutputCycle, TooLarge, ReadFault, OutOfMemory, Killed}
+use Rattle.build_outcome.specs.declared.reason.Reason.TheVariants.{ExitStatus, NoStart, MissingOutput, NotFlatFile, HashMismatch, OutputCycle, TooLarge, ReadFault, OutOfMemory, Killed, NotAllowed, BadSpecifier}
 use Rattle.run_states.specs.Systems.{required_features}
 use Rattle.run_states.specs.declared.state.Refusal.{Refusal}
 use Rattle.run_states.specs.declared.state.Refusal.TheVariants.{WrongSystem, Unsupported, MissingFeature, MissingSource, InputNotRealised, PartlyValid}
@@ -35,19 +35,29 @@ spelled_names drv = map (λ (o : Output). string_text o.name) drv.outputs
 abbrev pub spelled_features : Drv → List Bytes
 spelled_features drv = map string_text (required_features drv)
 
--- why the building of a derivation failed
-abbrev pub reason_words : Drv → Reason → Bytes
-reason_words drv (ExitStatus status) = with_value (codes "ExitStatus") (signed_decimal status)
-reason_words drv NoStart = codes "NoStart"
-reason_words drv (MissingOutput output) = with_text (codes "MissingOutput") (spelled_names drv)
-    output
-reason_words drv NotFlatFile = codes "NotFlatFile"
-reason_words drv HashMismatch = codes "HashMismatch"
-reason_words drv OutputCycle = codes "OutputCycle"
-reason_words drv TooLarge = codes "TooLarge"
-reason_words drv ReadFault = codes "ReadFault"
-reason_words drv OutOfMemory = codes "OutOfMemory"
-reason_words drv Killed = codes "Killed"
+-- the name of the output with this number, as the text of its derivation spells it
+abbrev pub output_words : Drv → (output : ℕ) → Bytes
+output_words drv output = text_or_number (slice_get (spelled_names drv) output) output
+
+-- why the building of a derivation failed; of a path to which an output may not refer its place is
+-- told where no path is named
+abbrev pub reason_words : Drv → (named : Option Path) → Reason → Bytes
+reason_words drv named (ExitStatus status) =
+    with_value (codes "ExitStatus") (signed_decimal status)
+reason_words drv named NoStart = codes "NoStart"
+reason_words drv named (MissingOutput output) =
+    with_value (codes "MissingOutput") (output_words drv output)
+reason_words drv named NotFlatFile = codes "NotFlatFile"
+reason_words drv named HashMismatch = codes "HashMismatch"
+reason_words drv named OutputCycle = codes "OutputCycle"
+reason_words drv named TooLarge = codes "TooLarge"
+reason_words drv named ReadFault = codes "ReadFault"
+reason_words drv named OutOfMemory = codes "OutOfMemory"
+reason_words drv named Killed = codes "Killed"
+reason_words drv named (NotAllowed output place) = with_value (codes "NotAllowed")
+    (output_words drv output ++ codes "," ++ text_or_number named place)
+reason_words drv named (BadSpecifier output) =
+    with_value (codes "BadSpecifier") (output_words drv output)
 
 -- why a derivation of a plan, which has these nodes, is not begun
 abbrev pub refusal_words : List Node → Drv → Refusal → Bytes

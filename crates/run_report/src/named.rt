@@ -14,6 +14,13 @@ pub fn write_name(name: &[u8], out: &mut Vec<u8>) -> Result<(), AllocError>
     out.extend_from_slice(name)
 }
 
+// Adds a number in decimal digits.
+pub(crate) fn write_number(number: usize, out: &mut Vec<u8>) -> Result<(), AllocError>
+    ensures { OnOk result (out.new.items ≡ out.old.items ++ decimal number) }
+{
+    out.extend_from_slice(Buffer::new().format(number).as_bytes())
+}
+
 /// Adds a name, and a number in decimal digits in parentheses. An error where memory is refused,
 /// and no other; a part may be written then.
 pub fn write_with_number(name: &[u8], number: usize, out: &mut Vec<u8>) -> Result<(), AllocError>

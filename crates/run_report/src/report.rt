@@ -1,6 +1,6 @@
 //! What is told of a plan, in either tense: a line for each wanted derivation, and the outputs of
 //! the roots. And the report of a run.
-ghost use Rattle.std.specs.Prelude.{◌≡◌, ◌<◌, ◌++◌, ℕ, IfOk, OnOk, flat_map, length};
+ghost use Rattle.std.specs.Prelude.{◌≡◌, ◌<◌, ◌++◌, ℕ, IfOk, None, OnOk, flat_map, length};
 ghost use Rattle.drv_graph.specs.Plans.{Graph};
 ghost use Rattle.drv_graph.specs.SoundGraphs.{IsSound};
 ghost use Rattle.run_states.specs.StateTables.{course_state};
@@ -162,9 +162,9 @@ fn write_failed(
     out: &mut Vec<u8>,
 ) -> Result<(), AllocError>
     ensures { OnOk result (out.new.items ≡ out.old.items
-        ++ why_line word.now path.now (reason_words drv.now reason)) }
+        ++ why_line word.now path.now (reason_words drv.now None reason)) }
 {
     write_line_start(word, path, out)?;
-    write_reason(drv, reason, out)?;
+    write_reason(drv, None, reason, out)?;
     out.extend_from_slice(b"\n")
 }

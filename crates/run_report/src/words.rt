@@ -1,31 +1,38 @@
 //! The words for why a derivation was not built: a name, and its value in parentheses.
 ghost use Rattle.std.specs.Prelude.{◌≡◌, ◌++◌, OnOk, codes};
+ghost use Rattle.std.specs.Option.{option_map};
 ghost use Rattle.drv_graph.specs.Nodes.{paths_of};
 ghost use Rattle.drv_graph.specs.PlanNodes.{output_paths_of};
-ghost use Rattle.run_report.specs.Words.{reason_words, refusal_words, spelled_features, spelled_names, with_text};
+ghost use Rattle.run_report.specs.Words.{output_words, reason_words, refusal_words, spelled_features, text_or_number, with_text, with_value};
 
-use crate::named::{write_name, write_with_number, write_with_string, write_with_value};
+use crate::named::{
+    write_name, write_number, write_with_number, write_with_string, write_with_value,
+};
 use build_outcome::Reason;
 use drv_graph::Plan;
 use itoa::Buffer;
-use nix_drv::Derivation;
+use nix_drv::{Derivation, write_string};
+use nix_names::StorePath;
 use run_states::{Refusal, required_feature};
 use std::alloc::AllocError;
 
-// Adds why the building of a derivation failed.
+// Adds why the building of a derivation failed. Where no path is named, the place of the one to
+// which an output may not refer is told.
 pub(crate) fn write_reason(
     drv: &Derivation,
+    named: Option<&StorePath>,
     reason: Reason,
     out: &mut Vec<u8>,
 ) -> Result<(), AllocError>
-    ensures { OnOk result (out.new.items ≡ out.old.items ++ reason_words drv.now reason) }
+    ensures { OnOk result (out.new.items ≡ out.old.items
+        ++ reason_words drv.now (option_map (λ path. path.now) named.entry) reason) }
 {
     match reason {
         Reason::ExitStatus(status) => {
             write_with_value(b"ExitStatus", Buffer::new().format(status).as_bytes(), out)
         }
         Reason::NoStart => write_name(b"NoStart", out),
-        Reason::MissingOutput(output) => write_missing_output(drv, output, out),
+        Reason::MissingOutput(output) => write_with_output(b"MissingOutput", drv, output, out),
         Reason::NotFlatFile => write_name(b"NotFlatFile", out),
         Reason::HashMismatch => write_name(b"HashMismatch", out),
         Reason::OutputCycle => write_name(b"OutputCycle", out),
@@ -33,6 +40,8 @@ pub(crate) fn write_reason(
         Reason::ReadFault => write_name(b"ReadFault", out),
         Reason::OutOfMemory => write_name(b"OutOfMemory", out),
         Reason::Killed => write_name(b"Killed", out),
+        Reason::NotAllowed(output, place) => write_not_allowed(drv, output, named, place, out),
+        Reason::BadSpecifier(output) => write_with_output(b"BadSpecifier", drv, output, out),
     }
 }
 
@@ -57,18 +66,79 @@ pub fn write_refusal(
     }
 }
 
-// Adds that an output is missing: its name as the derivation's text spells it.
-fn write_missing_output(
+// Adds a name, and in parentheses the name of an output.
+fn write_with_output(
+    name: &[u8],
     drv: &Derivation,
     output: usize,
     out: &mut Vec<u8>,
 ) -> Result<(), AllocError>
     ensures { OnOk result (out.new.items ≡ out.old.items
-        ++ with_text (codes "MissingOutput") (spelled_names drv.now) output) }
+        ++ with_value name.now (output_words drv.now output)) }
+{
+    out.extend_from_slice(name)?;
+    out.extend_from_slice(b"(")?;
+    write_output(drv, output, out)?;
+    out.extend_from_slice(b")")
+}
+
+// Adds that an output refers to a path to which it may not.
+fn write_not_allowed(
+    drv: &Derivation,
+    output: usize,
+    named: Option<&StorePath>,
+    place: usize,
+    out: &mut Vec<u8>,
+) -> Result<(), AllocError>
+    ensures { OnOk result (out.new.items ≡ out.old.items ++ with_value (codes "NotAllowed")
+        (output_words drv.now output ++ codes ","
+        ++ text_or_number (option_map (λ path. path.now) named.entry) place)) }
+{
+    out.extend_from_slice(b"NotAllowed")?;
+    out.extend_from_slice(b"(")?;
+    write_reference(drv, output, named, place, out)?;
+    out.extend_from_slice(b")")
+}
+
+// Adds the name of an output that refers to a path, a comma, and that path, or its place where no
+// path is named.
+fn write_reference(
+    drv: &Derivation,
+    output: usize,
+    named: Option<&StorePath>,
+    place: usize,
+    out: &mut Vec<u8>,
+) -> Result<(), AllocError>
+    ensures { OnOk result (out.new.items ≡ out.old.items ++ output_words drv.now output
+        ++ codes "," ++ text_or_number (option_map (λ path. path.now) named.entry) place) }
+{
+    write_output(drv, output, out)?;
+    out.extend_from_slice(b",")?;
+    write_path_or_place(named, place, out)
+}
+
+// Adds the name of an output as the derivation's text spells it.
+fn write_output(drv: &Derivation, output: usize, out: &mut Vec<u8>) -> Result<(), AllocError>
+    ensures { OnOk result (out.new.items ≡ out.old.items ++ output_words drv.now output) }
 {
     match drv.outputs().get(output) {
-        Some(found) => write_with_string(b"MissingOutput", &found.name, out),
-        None => write_with_number(b"MissingOutput", output, out),
+        Some(found) => write_string(out, &found.name),
+        None => write_number(output, out),
+    }
+}
+
+// Adds a path, or its place where there is none.
+fn write_path_or_place(
+    named: Option<&StorePath>,
+    place: usize,
+    out: &mut Vec<u8>,
+) -> Result<(), AllocError>
+    ensures { OnOk result (out.new.items ≡ out.old.items
+        ++ text_or_number (option_map (λ path. path.now) named.entry) place) }
+{
+    match named {
+        Some(path) => out.extend_from_slice(path.text()),
+        None => write_number(place, out),
     }
 }
 

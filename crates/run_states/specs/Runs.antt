@@ -49,14 +49,13 @@ is_valid entries path = list_any (same_bytes path) (registered_paths (registered
 
 -- keys of the environment that ask for what is left out under both profiles
 abbrev pub left_out_of_both : List Name
-left_out_of_both =
-    codes "__json" ∷ codes "exportReferencesGraph" ∷ codes "allowedReferences"
-    ∷ codes "allowedRequisites"
-    ∷ codes "disallowedReferences" ∷ codes "disallowedRequisites" ∷ []
+left_out_of_both = codes "__json" ∷ codes "exportReferencesGraph" ∷ []
 
--- keys of the environment that ask for what is left out: under `plain` also `passAsFile`
+-- keys of the environment that ask for what is left out: under `plain` also `passAsFile`, and those
+-- of the checks of references
 abbrev pub left_out_of : Profile → List Name
-left_out_of Plain = codes "passAsFile" ∷ left_out_of_both
+left_out_of Plain = codes "passAsFile" ∷ codes "allowedReferences" ∷ codes "allowedRequisites"
+    ∷ codes "disallowedReferences" ∷ codes "disallowedRequisites" ∷ left_out_of_both
 left_out_of Nix = left_out_of_both
 
 -- whether a derivation has one of those keys

@@ -1,12 +1,13 @@
 -- What a run builds for, and what a derivation asks of it (Nix manual, "system-features" and
 -- "requiredSystemFeatures"; Nix 2.8, which starts its builtin builders itself).
-use Rattle.std.specs.Prelude.{◌||◌, ◌&&◌, ◌==◌, ◌++◌, not, Bool, ℕ, Option, Some, None, List, [], codes, filter, find, length, nat_eq}
+use Rattle.std.specs.Prelude.{◌&&◌, ◌++◌, not, Bool, ℕ, Option, Some, None, List, [], codes, find, nat_eq}
 use Rattle.std.specs.Cmp.{IsEquivalence, and_equiv, on_equiv}
 use Rattle.std.specs.Cmp.Lexicographic.{lists_equiv, nat_list_eq_equiv, pointwise}
-use Rattle.std.specs.List.{list_any, position, slice_split, starts_with}
+use Rattle.std.specs.List.{list_any, position, starts_with}
 use Rattle.nix_names.specs.Bytes.{Bytes, Name}
 use Rattle.nix_names.specs.Names.{same_bytes}
 use Rattle.nix_drv.specs.Derivation.{Drv, EnvEntry}
+use Rattle.build_outcome.specs.Tokens.{tokens}
 
 -- What a run builds for: the name of its system, the features that it offers, and the names of the
 -- builtin builders for which it has a program.
@@ -23,14 +24,6 @@ is_builtin drv = starts_with nat_eq drv.builder (codes "builtin:")
 abbrev pub has_program : Platform → Drv → Bool
 has_program system drv =
     list_any (λ name. same_bytes drv.builder (codes "builtin:" ++ name)) system.builtins
-
--- whether a byte is white space: a space, a tab, the end of a line, or a carriage return
-abbrev pub is_space : ℕ → Bool
-is_space byte = ((byte == 32 || byte == 9) || byte == 10) || byte == 13
-
--- the tokens of a text: its longest runs of bytes that aren't white space
-abbrev pub tokens : Bytes → List Bytes
-tokens text = filter (λ token. not (length token == 0)) (slice_split is_space text)
 
 -- the value of an entry; empty where there is none
 abbrev pub value_or_empty : Option EnvEntry → Bytes

@@ -1,9 +1,10 @@
 //! The features that a derivation asks for.
 ghost use Rattle.std.specs.Prelude.{◌≡◌, slice_get};
 ghost use Rattle.std.specs.Option.{option_map};
-ghost use Rattle.run_states.specs.Systems.{features_text, is_space, missing_feature, required_features};
+ghost use Rattle.run_states.specs.Systems.{features_text, missing_feature, required_features};
 
 use crate::system::System;
+use build_outcome::is_space;
 use nix_drv::{Derivation, EnvEntry};
 
 /// The feature with this number, counted from 0, among those that a derivation asks for: the
@@ -39,11 +40,4 @@ fn features_text(drv: &Derivation) -> &[u8]
         Some(entry) => &entry.value,
         None => b"",
     }
-}
-
-// Whether a byte is white space.
-fn is_space(byte: u8) -> bool
-    ensures { result ≡ is_space byte }
-{
-    matches!(byte, b' ' | b'\t' | b'\n' | b'\r')
 }

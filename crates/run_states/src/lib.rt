@@ -33,7 +33,7 @@ mod work_queues;
 pub use fault::BookFault;
 pub use features::required_feature;
 pub use precondition::Precondition;
-pub use preconditions::standings_of;
+pub use preconditions::{is_left_out, standings_of};
 pub use state::{Event, Refusal, State};
 pub use state_table::StateTable;
 pub use system::System;

@@ -2,6 +2,7 @@
 ghost use Rattle.std.specs.Prelude.{◌≡◌, ◌<◌, ◌&&◌, IfOk, IfSome, codes, length, not, slice_get, vec_capacity};
 ghost use Rattle.std.specs.List.{list_all, list_any, position};
 ghost use Rattle.nix_names.specs.Names.{same_bytes};
+ghost use Rattle.drv_graph.specs.declared.profile.Profile.TheVariants.{Plain};
 ghost use Rattle.run_states.specs.StateTables.{AreStandings};
 ghost use Rattle.run_states.specs.Runs.{is_for_under, is_unsupported_under, is_valid, left_out_of, left_out_of_both, missing_feature_under, own_cause, standing_at};
 
@@ -135,26 +136,34 @@ fn has_tree(outputs: &[Output]) -> bool
         .any(|output| output.algo.as_slice() == b"r:sha256".as_slice())
 }
 
-// Whether a key asks for what is left out.
-fn is_left_out(profile: Profile, key: &[u8]) -> bool
+/// Whether a key of an environment asks for what is left out under a profile. Costs a few
+/// comparisons.
+pub fn is_left_out(profile: Profile, key: &[u8]) -> bool
     ensures { result ≡ list_any (same_bytes key.now) (left_out_of profile) }
 {
     match profile {
-        Profile::Plain => key == b"passAsFile".as_slice() || is_left_out_of_both(key),
+        Profile::Plain => is_left_out_of_plain(key),
         Profile::Nix => is_left_out_of_both(key),
     }
+}
+
+// Whether a key asks for what is left out under `plain`.
+fn is_left_out_of_plain(key: &[u8]) -> bool
+    ensures { result ≡ list_any (same_bytes key.now) (left_out_of Plain) }
+{
+    key == b"passAsFile".as_slice()
+        || key == b"allowedReferences".as_slice()
+        || key == b"allowedRequisites".as_slice()
+        || key == b"disallowedReferences".as_slice()
+        || key == b"disallowedRequisites".as_slice()
+        || is_left_out_of_both(key)
 }
 
 // Whether a key asks for what is left out under both profiles.
 fn is_left_out_of_both(key: &[u8]) -> bool
     ensures { result ≡ list_any (same_bytes key.now) left_out_of_both }
 {
-    key == b"__json".as_slice()
-        || key == b"exportReferencesGraph".as_slice()
-        || key == b"allowedReferences".as_slice()
-        || key == b"allowedRequisites".as_slice()
-        || key == b"disallowedReferences".as_slice()
-        || key == b"disallowedRequisites".as_slice()
+    key == b"__json".as_slice() || key == b"exportReferencesGraph".as_slice()
 }
 
 // Whether all of the paths are valid.

@@ -36,3 +36,4 @@ pub use run_report::{
 pub use run_states::{
     BookFault, Event, Precondition, Refusal, State, mark, standings_of, wanted_of,
 };
+pub use union::union_of;

@@ -6,13 +6,11 @@ ghost use Rattle.valid_table.specs.Unions.{IsUnion};
 use nix_names::StorePath;
 use std::alloc::AllocError;
 
-// The union of two strictly rising lists, of which the second has few paths. The paths of the first
-// that stand above one of the second are taken off and put back; the others keep their places.
-// Costs a binary search for each path of the second.
-pub(crate) fn union_of(
-    paths: Vec<StorePath>,
-    others: Vec<StorePath>,
-) -> Result<Vec<StorePath>, AllocError>
+/// The union of two strictly rising lists, strictly rising, of which the second is meant to have few
+/// paths; both are given away. The error says that memory was refused. Costs a binary search for
+/// each path of the second, and a move of the paths of the first that stand above the least of
+/// those; the others keep their places, and no path is copied.
+pub fn union_of(paths: Vec<StorePath>, others: Vec<StorePath>) -> Result<Vec<StorePath>, AllocError>
     requires left { IsRising paths.items }
     requires right { IsRising others.items }
     ensures { IfOk result (λ all. IsUnion paths.items others.items all.items) }

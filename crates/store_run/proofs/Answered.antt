@@ -1,6 +1,7 @@
 -- What keeps a book's history answered.
 use Rattle.std.proofs.Common.{◌≡◌, ◌∙◌, ◌⊎◌, inl, inr, ℕ, List, Option, Some, None, Result, Ok, Err, rules}
 use Rattle.std.specs.Prelude.{MatchOption}
+use Rattle.valid_table.specs.Entries.{registered}
 use Rattle.valid_table.specs.PathInfos.{PathInfo}
 use Rattle.valid_table.specs.declared.entry.Entry.{Entry}
 use Rattle.valid_view.specs.Shown.{IsShowable}
@@ -11,6 +12,7 @@ use Rattle.build_outcome.specs.declared.job.Answer.{Answer}
 use Rattle.build_outcome.specs.declared.job.Job.{Job}
 use Rattle.build_outcome.specs.declared.reason.Reason.{Reason}
 use Rattle.build_outcome.specs.declared.reason.Reason.TheVariants.{OutOfMemory}
+use Rattle.build_outcome.proofs.TestedVerdicts.{tested_verdict_stays}
 use Rattle.sched_core.proofs.ExaminedRecords.{verdicts_may_refer}
 use Rattle.store_run.specs.Builders.{IsAnswered, IsOutcomeVerdict, IsVerdictBehind, MayComeTo, answered_begin, answered_done, answered_fail}
 use Rattle.store_run.specs.private.JobVerdicts.{IsFoundBy, IsToldOfSeeds, MayBeFound, StaysPermitted}
@@ -77,7 +79,8 @@ after_failing may before after job number reason answered why fails =
 outcome_may_refer : (entries : List Entry) (job : Job) (outcome : Result Answer Reason)
     (infos : List PathInfo) → IsOutcomeVerdict entries job outcome (Ok infos)
     → MayAllRefer entries job infos
-outcome_may_refer entries job (Ok answer) infos is = search (rules, verdicts_may_refer)
+outcome_may_refer entries job (Ok answer) infos (permitted, are, (is, passed)) =
+    verdicts_may_refer entries job permitted answer infos are is
 outcome_may_refer entries job (Err reason) infos is = let no = is.2 in absurd cc
 
 pub came_may_refer : (may : Job → Result Answer Reason → Type 0) (entries : List Entry)
@@ -104,7 +107,19 @@ examined_comes {P} may seen entries job verdict found stays = by found.outcome f
         → (verdict ≡ Err OutOfMemory) ⊎ (P → MayComeTo may entries job verdict)
     by (Ok answer) (inl refused) is = absurd cc
     by (Ok answer) (inr given) (inl refused) = inl refused
-    by (Ok answer) (inr given) (inr seen) = search rules
+    by (Ok answer) (inr given) (inr is) =
+        inr (λ holds.
+        let permitted = is.is.0 in
+        let stay = stays holds is.showable is.seeds permitted is.is.1 in (
+          Ok answer,
+          given,
+          (
+            permitted,
+            stay.0,
+            tested_verdict_stays (registered seen) (registered entries) job permitted answer verdict
+                stay.1 is.is.2,
+          ),
+        ))
     by (Err reason) given is = absurd is
 
 -- so does the reason of a builder that gave no answer

@@ -1,13 +1,13 @@
 -- Paths whose records stand in another list of registrations too, with those of all that they
 -- reach.
-use Rattle.std.proofs.Common.{◌≡◌, inl, inr, ℕ, List, [], ◌∷◌, ◌++◌, refl, subst, ⊎_elim, rules}
+use Rattle.std.proofs.Common.{◌≡◌, ◌↔◌, inl, inr, ℕ, List, [], ◌∷◌, ◌++◌, refl, subst, ⊎_elim, rules}
 use Rattle.std.specs.Prelude.{Contains}
 use Rattle.std.proofs.lemmas.List.Elements.{Contains-append_left}
 use Rattle.valid_table.specs.Closure.{LeadsByReferences, Reaches}
 use Rattle.valid_table.specs.PathInfos.{PathInfo}
 use Rattle.valid_table.specs.Valid.{AreReferencesValid, IsOnce, IsValid, Registers}
 use Rattle.valid_table.specs.declared.entry.Registration.{Registration}
-use Rattle.valid_table.proofs.ClosureLaws.{leads_before, registers_from_valid}
+use Rattle.valid_table.proofs.ClosureLaws.{leads_before, leads_behind, registers_from_valid}
 use Rattle.valid_table.proofs.Following.{one_info}
 use Rattle.run_states.specs.Legal.{MayRefer}
 use Rattle.run_states.proofs.Dones.{reached_is_valid}
@@ -19,7 +19,7 @@ IsCarried all other from = (to : List ℕ) (info : PathInfo) → Reaches all fro
     → Registers all to info → Registers other to info
 
 -- what leads on
-leads_on : (all : List Registration) (a b c : List ℕ) (there on : List (List ℕ))
+pub leads_on : (all : List Registration) (a b c : List ℕ) (there on : List (List ℕ))
     → LeadsByReferences all a b there → LeadsByReferences all b c on
     → LeadsByReferences all a c (there ++ on)
 leads_on all a b c [] on there leads = search rules
@@ -59,6 +59,57 @@ may_refer_there all other seeds outputs carried path may =
       ),
     ))
     (λ own. inr own) may
+
+-- what may be referred to is valid, but for outputs
+pub referred_valid : (registrations : List Registration) (seeds outputs : List (List ℕ))
+    (path : List ℕ) → MayRefer registrations seeds outputs path → (Contains outputs path → ⊥)
+    → IsValid registrations path
+referred_valid registrations seeds outputs path (inl reached) foreign =
+    reached_is_valid registrations reached.0 path reached.2.0 reached.2.1
+referred_valid registrations seeds outputs path (inr own) foreign = absurd (foreign own)
+
+-- what a carried path reaches is carried
+carried_on : (all other : List Registration) (seed from : List ℕ) → IsCarried all other seed
+    → Reaches all seed from → IsCarried all other from
+carried_on all other seed from carried there to info reaches has =
+    carried to info (
+      there.0 ++ reaches.0,
+      leads_on all seed from to there.0 reaches.0 there.1 reaches.1,
+    ) has
+
+-- what may be referred to reaches the same there, but for outputs
+reach_carried : (all other : List Registration) (seeds outputs : List (List ℕ))
+    → ((seed : List ℕ) → Contains seeds seed → IsCarried all other seed) → (from to : List ℕ)
+    → MayRefer all seeds outputs from → (Contains outputs from → ⊥) → Reaches all from to
+    → Reaches other from to
+reach_carried all other seeds outputs carried from to (inl reached) foreign reaches = (
+  reaches.0,
+  leads_carried all other from to reaches.0
+      (carried_on all other reached.0 from (carried reached.0 reached.1) reached.2) reaches.1,
+)
+reach_carried all other seeds outputs carried from to (inr own) foreign reaches =
+    absurd (foreign own)
+
+-- and so both ways
+pub reach_both : (all other : List Registration) (seeds outputs : List (List ℕ))
+    → ((seed : List ℕ) → Contains seeds seed → IsCarried all other seed)
+    → ((seed : List ℕ) → Contains seeds seed → IsCarried other all seed) → (from to : List ℕ)
+    → MayRefer all seeds outputs from → (Contains outputs from → ⊥)
+    → Reaches all from to ↔ Reaches other from to
+reach_both all other seeds outputs there back from to may foreign = (
+  reach_carried all other seeds outputs there from to may foreign,
+  reach_carried other all seeds outputs back from to
+      (may_refer_there all other seeds outputs there from may) foreign,
+)
+
+-- what a valid path reaches stays the same where more is registered
+pub reach_more : (first more : List Registration) → AreReferencesValid first
+    → IsOnce (first ++ more) → (from to : List ℕ) → IsValid first from
+    → Reaches first from to ↔ Reaches (first ++ more) from to
+reach_more first more closed once from to valid = (
+  λ reaches. (reaches.0, leads_behind first more from to reaches.0 reaches.1),
+  λ reaches. (reaches.0, leads_before first more closed once from to reaches.0 valid reaches.1),
+)
 
 -- what was valid at first is carried to each list that begins the same
 pub first_carried : (first more other : List Registration) → AreReferencesValid first

@@ -33,6 +33,7 @@ use Rattle.store_run.proofs.AlonePlans.{all_one, all_two, one_of}
 use Rattle.store_run.proofs.DiamondPlan.{kind_of, recipe_of}
 use Rattle.store_run.proofs.ExampleJobs.{is_job_of, job_of, left_answer, left_leaves, left_verdict}
 use Rattle.store_run.proofs.OneOutcome.{job_outputs, job_seeds}
+use Rattle.store_run.proofs.SameTests.{plain_tested}
 use Rattle.store_run.proofs.TwinJobs.{file_in, file_verdict, none_occurs, script_args, second_answer, second_leaves}
 use Rattle.store_run.proofs.TwinPlans.{all_three, empty_kind}
 
@@ -190,8 +191,10 @@ module _ (name out : List ℕ) (short : length name < 256) (out_few : length out
           (
             permitted,
             permitted_for entries d job_for _ permitted is_job at permits,
-            makes d name out inputs path at job_for is_job permitted long second_answer
-                second_leaves,
+            plain_tested (registered entries) job_for permitted second_answer
+                (Ok (file_in ∷ [])) is_job.profile
+                (makes d name out inputs path at job_for is_job permitted long second_answer
+                second_leaves),
           ),
         );
       }
@@ -263,7 +266,7 @@ right_fails entries permitted permits =
         (
           permitted,
           permitted_for entries 2 job right permitted is_job refl permits,
-          left_verdict job permitted left_answer left_leaves,
+          inl (left_verdict job permitted left_answer left_leaves),
         ),
       );
     }

@@ -1,5 +1,5 @@
 -- What the jobs of the two derivations come to.
-use Rattle.std.proofs.Common.{◌≡◌, ◌∙◌, ◌<◌, ◌^◌, ℕ, zero, suc, true, false, List, [], ◌∷◌, length, map, Some, None, Result, Ok, Err, ap, refl, sym, subst, arith, rules}
+use Rattle.std.proofs.Common.{◌≡◌, ◌∙◌, ◌<◌, ◌^◌, inl, ℕ, zero, suc, true, false, List, [], ◌∷◌, length, map, Some, None, Result, Ok, Err, ap, refl, sym, subst, arith, rules}
 use Rattle.std.specs.Prelude.{codes, pos, slice_get}
 use Rattle.std.specs.declared.alloc.Global.{Global}
 use Rattle.std.specs.declared.vec.Vec.{Vec}
@@ -25,18 +25,20 @@ use Rattle.ref_scan.specs.Scan.{IsFound}
 use Rattle.ref_scan.specs.Trees.{Fits, depth_among, entry_count_among, file_bytes_among, pieces_among}
 use Rattle.ref_scan.specs.declared.tree.Tree.{Tree, File, Pieces, Executable, Link, Dir', Row_of-Member, end_of-Member, more_of-Member}
 use Rattle.valid_table.specs.PathInfos.{PathInfo}
+use Rattle.valid_table.specs.declared.entry.Registration.{Registration}
 use Rattle.build_outcome.specs.Jobs.{IsJob, seeds_of}
 use Rattle.build_outcome.specs.Verdicts.{IsCyclic, IsRecordAt, IsRecordDigest, IsRecordNar, IsRecordOf, IsTreeFault, IsUnread, IsVerdict, NeedsArchive, OutputRefersTo, file_digest_of, flat_digest, outputs_of, tree_at}
 use Rattle.build_outcome.specs.declared.job.Answer.{Answer}
 use Rattle.build_outcome.specs.declared.job.Job.{Job}
 use Rattle.build_outcome.specs.declared.job.JobOutput.{JobOutput}
 use Rattle.build_outcome.specs.declared.reason.Reason.{Reason}
-use Rattle.build_outcome.specs.declared.reason.Reason.TheVariants.{ExitStatus, HashMismatch, Killed, MissingOutput, NoStart, NotFlatFile, OutOfMemory, OutputCycle, ReadFault, TooLarge}
-use Rattle.build_outcome.proofs.OneVerdict.{has_one_verdict}
+use Rattle.build_outcome.specs.declared.reason.Reason.TheVariants.{BadSpecifier, ExitStatus, HashMismatch, Killed, MissingOutput, NoStart, NotAllowed, NotFlatFile, OutOfMemory, OutputCycle, ReadFault, TooLarge}
+use Rattle.build_outcome.proofs.TestedVerdicts.{has_one_tested_verdict}
 use Rattle.store_run.specs.Builders.{IsVerdictOn}
 use Rattle.store_run.specs.Scheduling.{HasOneOutcome}
 use Rattle.store_run.specs.ScheduleExample.{IsEmptyFolder, Leaves, Recipe, both, drv_alone, failing, left, making, may_leave, out_alone, right}
 use Rattle.store_run.proofs.AlonePlans.{kind_alone, out_short}
+use Rattle.store_run.proofs.SameTests.{plain_tested}
 use Rattle.store_run.proofs.SameVerdicts.{said_of}
 use denote.RawPtr.{null_ptr}
 
@@ -101,6 +103,8 @@ no_fault tree is OutputCycle none = none
 no_fault tree is ReadFault none = none
 no_fault tree is OutOfMemory none = none
 no_fault tree is Killed none = none
+no_fault tree is (NotAllowed output place) none = none
+no_fault tree is (BadSpecifier output) none = none
 
 -- ---- records without references
 
@@ -198,22 +202,27 @@ abbrev pub comes_to : ℕ → Result (List PathInfo) Reason
 comes_to zero = Err (ExitStatus (pos 1))
 comes_to (suc d) = Ok (nothing_in ∷ [])
 
-comes : (d : ℕ) (job : Job) (permitted : List (List ℕ)) (x : Result Answer Reason)
-    (a : Result (List PathInfo) Reason) → IsJob both.graph d job → may_leave job x
-    → IsVerdictOn job permitted x a → a ≡ comes_to d
-comes d job permitted (Err reason) a is may on = absurd may
-comes zero job permitted (Ok answer) a is may on =
-    search (rules, has_one_verdict, comes_to, left_verdict, left_builder)
-comes (suc zero) job permitted (Ok answer) a is may on =
-    has_one_verdict job permitted answer a (comes_to 1) on
+comes : (d : ℕ) (job : Job) (registrations : List Registration) (permitted : List (List ℕ))
+    (x : Result Answer Reason) (a : Result (List PathInfo) Reason) → IsJob both.graph d job
+    → may_leave job x → IsVerdictOn registrations job permitted x a → a ≡ comes_to d
+comes d job registrations permitted (Err reason) a is may on = absurd may
+comes zero job registrations permitted (Ok answer) a is may on =
+    has_one_tested_verdict registrations job permitted answer a (comes_to 0) on
+    (inl (left_verdict job permitted answer
+    (subst (λ (b : List ℕ). Leaves (same_bytes b (codes "/bin/false")) answer)
+    (left_builder job is) may)))
+comes (suc zero) job registrations permitted (Ok answer) a is may on =
+    has_one_tested_verdict registrations job permitted answer a (comes_to 1) on
+    (plain_tested registrations job permitted answer (comes_to 1) is.profile
     (right_verdict _ 1 refl job is refl answer
     (subst (λ (b : List ℕ). Leaves (same_bytes b (codes "/bin/false")) answer)
-    (right_builder both.graph 1 refl job is) may) permitted)
-comes (suc (suc d)) job permitted (Ok answer) a is may on = search rules
+    (right_builder both.graph 1 refl job is) may) permitted))
+comes (suc (suc d)) job registrations permitted (Ok answer) a is may on = search rules
 
 pub both_outcome : HasOneOutcome may_leave both.graph
-both_outcome d job again permitted x y a b is is' may may' on on' =
-    comes d _ _ x a is may on ∙ sym (comes d _ _ y b is' may' on')
+both_outcome d job again registrations permitted x y a b is is' may may' on on' =
+    comes d job registrations permitted x a is may on
+    ∙ sym (comes d again registrations permitted y b is' may' on')
 
 -- ---- a job and an answer for each
 

@@ -20,7 +20,7 @@ use Rattle.store_run.specs.Builders.{IsAnswered, IsVerdictBehind, IsVerdictOn, a
 use Rattle.store_run.specs.GivenOutcomes.{EqualOutcomesAreAlike, GivesEach, OutcomesDecide}
 use Rattle.store_run.specs.Scheduling.{HasOneOutcome, IsEndedRun, IsWholeRun}
 use Rattle.store_run.proofs.OneThreads.{has_one_thread}
-use Rattle.store_run.proofs.SameVerdicts.{one_for_both}
+use Rattle.store_run.proofs.SameTests.{one_for_both}
 use Rattle.store_run.proofs.Schedules.{any_schedule, one_report_of, whole_runs_are_alike}
 use Rattle.store_run.proofs.Telling.{phase_broken, phase_ended}
 use Rattle.store_run.proofs.ToldRuns.{IsTold, told_begin, told_done, told_fail, told_from, told_opening}
@@ -160,15 +160,19 @@ answered_from may run _ (told_fail history d lease reason told legal phase why) 
 
 one_outcome : (may : Job → Result Answer Reason → Type 0) (outcomes : ℕ → Result Answer Reason)
     (graph : Graph) → HasOneOutcome (GivesEach may outcomes) graph
-one_outcome may outcomes graph d job again permitted x y a b is is' gives gives' on on' =
-    by x on (subst (λ (o : Result Answer Reason). IsVerdictOn again permitted o b) (sym same) on')
+one_outcome may outcomes graph d job again registrations permitted x y a b is is' gives gives' on
+    on' =
+    by x on
+    (subst (λ (o : Result Answer Reason). IsVerdictOn registrations again permitted o b) (sym same)
+    on')
   where
     same : x ≡ y
     same = search (rules, outcomes)
 
-    by : (outcome : Result Answer Reason) → IsVerdictOn job permitted outcome a
-        → IsVerdictOn again permitted outcome b → a ≡ b
-    by (Ok answer) on on' = one_for_both graph d job again is is' permitted answer a b on on'
+    by : (outcome : Result Answer Reason) → IsVerdictOn registrations job permitted outcome a
+        → IsVerdictOn registrations again permitted outcome b → a ≡ b
+    by (Ok answer) on on' =
+        one_for_both graph d job again is is' registrations permitted answer a b on on'
     by (Err reason) on on' = on ∙ sym on'
 
 -- such a run is a whole one

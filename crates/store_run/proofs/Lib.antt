@@ -12,7 +12,6 @@ pub mod DiamondJobs
 pub mod DiamondPlan
 pub mod DiamondRuns
 pub mod ExampleJobs
-pub mod Examined
 pub mod FlatRecords
 pub mod GivenOutcomes
 pub mod KeptTexts
@@ -20,6 +19,7 @@ pub mod Interruptions
 pub mod OneOutcome
 pub mod OneThreads
 pub mod Openings
+pub mod OutputClosures
 pub mod Permits
 pub mod RunEndings
 pub mod RunEntries
@@ -28,6 +28,7 @@ pub mod ExampleLoads
 pub mod ScheduleExample
 pub mod Schedules
 pub mod SameOutcomes
+pub mod SameTests
 pub mod SameVerdicts
 pub mod Standings
 pub mod StorePlans

@@ -10,7 +10,8 @@ use Rattle.drv_graph.specs.PlanNodes.{output_paths_of}
 use Rattle.drv_graph.specs.Plans.{Graph}
 use Rattle.valid_table.specs.Entries.{registered}
 use Rattle.valid_table.specs.PathInfos.{PathInfo}
-use Rattle.valid_table.specs.Valid.{IsOnce}
+use Rattle.valid_table.specs.Closure.{Reaches}
+use Rattle.valid_table.specs.Valid.{IsOnce, IsValid}
 use Rattle.valid_table.specs.declared.entry.Entry.{Entry}
 use Rattle.valid_table.specs.declared.entry.Registration.{Registration}
 use Rattle.valid_table.proofs.JournalLists.{registered-append}
@@ -18,16 +19,18 @@ use Rattle.sched_core.specs.Books.{ArePermittedPaths}
 use Rattle.build_outcome.specs.Jobs.{IsJob, seeds_of}
 use Rattle.run_states.specs.Legal.{ArePermitted, ArePermittedTo, MayRefer}
 use Rattle.run_states.specs.Runs.{History, Run}
-use Rattle.build_outcome.specs.Verdicts.{IsVerdict, outputs_of}
+use Rattle.build_outcome.specs.Checks.{IsTestedVerdict, ReachAlike}
+use Rattle.build_outcome.specs.Verdicts.{outputs_of}
 use Rattle.build_outcome.specs.declared.job.Answer.{Answer}
 use Rattle.build_outcome.specs.declared.job.Job.{Job}
 use Rattle.build_outcome.specs.declared.job.JobOutput.{JobOutput}
 use Rattle.build_outcome.specs.declared.reason.Reason.{Reason}
+use Rattle.build_outcome.proofs.TestedVerdicts.{tested_verdict_stays}
 use Rattle.run_states.proofs.Seeds.{permitted_stays}
 use Rattle.store_run.specs.Builders.{IsOutcomeVerdict, IsVerdictBehind}
 use Rattle.store_run.specs.Scheduling.{HasOneOutcome}
 use Rattle.store_run.proofs.Answered.{came_may_refer}
-use Rattle.store_run.proofs.Carried.{IsCarried, may_refer_there}
+use Rattle.store_run.proofs.Carried.{IsCarried, may_refer_there, reach_both, reach_more, referred_valid}
 use Rattle.store_run.proofs.Telling.{CameTo}
 
 -- ---- a job's parts are its derivation's
@@ -82,6 +85,19 @@ module _ (may : Job → Result Answer Reason → Type 0) (run : Run) (history : 
       (permitted_stays (registered came.before) (registered came.more) seeds outputs path
       came.closed (subst IsOnce whole once) (came.seeds node at))
 
+  -- a path that was valid then reaches the same after all
+  pub reach_whole : (verdict : Result (List PathInfo) Reason)
+      (came : CameTo may run history d verdict) (from to : List ℕ)
+      → IsValid (registered came.before) from
+      → Reaches (registered came.before) from to ↔ Reaches (registered history.entries) from to
+  reach_whole verdict came from to valid =
+      let whole : registered history.entries ≡ registered came.before ++ registered came.more =
+      ap registered came.parts ∙ registered-append came.before came.more in
+      subst (λ (rs : List Registration). Reaches (registered came.before) from to
+      ↔ Reaches rs from to) (sym whole)
+      (reach_more (registered came.before) (registered came.more) came.closed
+      (subst IsOnce whole once) from to valid)
+
   -- each reference of what was built may stand there
   pub came_refers : (infos : List PathInfo) → CameTo may run history d (Ok infos)
       → (info : PathInfo) (path : List ℕ) → Contains infos info → Contains info.references path
@@ -103,7 +119,7 @@ module _ (may : Job → Result Answer Reason → Type 0) (run : Run) (history : 
       by : (outcome : Result Answer Reason)
           → IsOutcomeVerdict came.before came.behind.job outcome (Ok infos)
           → length infos ≡ length came.behind.job.outputs.items
-      by (Ok answer) is = is.2.1.count
+      by (Ok answer) is = is.2.0.1.count
       by (Err reason) is = let no = is.2 in absurd cc
 
 -- ---- two histories
@@ -142,6 +158,40 @@ module _ (may : Job → Result Answer Reason → Type 0) (run : Run)
             ((are'.each path).0 has)))),
       ))
 
+  -- what is permitted reaches the same after the first entries of either, but for outputs
+  reach_first : (v w : Result (List PathInfo) Reason) (came : CameTo may run history d v)
+      (came' : CameTo may run other d w) (from to : List ℕ)
+      → MayRefer (registered came.before) (seeds_of run.graph.nodes node.drv)
+      (output_paths_of node.drv) from
+      → (Contains (output_paths_of node.drv) from → ⊥)
+      → Reaches (registered came.before) from to ↔ Reaches (registered came'.before) from to
+  reach_first v w came came' from to first foreign =
+      let seeds = seeds_of run.graph.nodes node.drv in
+      let outputs = output_paths_of node.drv in
+      let all = registered history.entries in
+      let all' = registered other.entries in
+      let whole = (permitted_whole may run history once d node at v came from).0 first in
+      let first' = (permitted_whole may run other once' d node at w came' from).1
+      (may_refer_there all all' seeds outputs there from whole) in
+      let here = reach_whole may run history once d node at v came from to
+      (referred_valid (registered came.before) seeds outputs from first foreign) in
+      let here' = reach_whole may run other once' d node at w came' from to
+      (referred_valid (registered came'.before) seeds outputs from first' foreign) in
+      let both = reach_both all all' seeds outputs there back from to whole foreign in
+      (λ reaches. here'.1 (both.0 (here.0 reaches)), λ reaches. here.1 (both.1 (here'.0 reaches)))
+
+  alike_first : (v w : Result (List PathInfo) Reason) (came : CameTo may run history d v)
+      (came' : CameTo may run other d w) (p : List (List ℕ))
+      → ArePermittedPaths came.before came.behind.job p
+      → ReachAlike (registered came.before) (registered came'.before) came.behind.job p
+  alike_first v w came came' p of_p from to has foreign =
+      let job = came.behind.job in
+      let are = permitted_job run.graph d job node came.before p came.behind.is_job at of_p in
+      reach_first v w came came' from to ((are.each from).0 has)
+      (λ own. foreign
+      (subst (λ (outputs : List (List ℕ)). Contains outputs from)
+      (sym (job_outputs run.graph d job node came.behind.is_job at)) own))
+
   -- there is one verdict
   pub one_verdict : (v w : Result (List PathInfo) Reason) → CameTo may run history d v
       → CameTo may run other d w → v ≡ w
@@ -149,14 +199,33 @@ module _ (may : Job → Result Answer Reason → Type 0) (run : Run)
       by came.behind.comes_to.0 came'.behind.comes_to.0 came.behind.comes_to.1
       came'.behind.comes_to.1 came.behind.comes_to.2 came'.behind.comes_to.2
     where
-      by : (x y : Result Answer Reason) → may came.behind.job x → may came'.behind.job y
-          → IsOutcomeVerdict came.before came.behind.job x v
-          → IsOutcomeVerdict came'.before came'.behind.job y w → v ≡ w
+      job : Job
+      job = came.behind.job
+
+      again : Job
+      again = came'.behind.job
+
+      first : List Registration
+      first = registered came.before
+
+      first' : List Registration
+      first' = registered came'.before
+
+      by : (x y : Result Answer Reason) → may job x → may again y
+          → IsOutcomeVerdict came.before job x v → IsOutcomeVerdict came'.before again y w → v ≡ w
       by (Ok a) (Ok b) may_a may_b is is' =
-          outcome d came.behind.job came'.behind.job is.0 (Ok a) (Ok b) v w came.behind.is_job
-          came'.behind.is_job may_a may_b is.2
-          (subst (λ (ps : List (List ℕ)). IsVerdict came'.behind.job ps b w)
-          (sym (same_permitted v w came came' _ _ is.1 is'.1)) is'.2)
-      by (Ok a) (Err r) may_a may_b is is' = search rules
-      by (Err r) (Ok b) may_a may_b is is' = search rules
-      by (Err r) (Err s) may_a may_b is is' = search rules
+          outcome d job again first' is.0 (Ok a) (Ok b) v w came.behind.is_job
+          came'.behind.is_job may_a may_b
+          (tested_verdict_stays first first' job is.0 a v (alike_first v w came came' is.0 is.1)
+          is.2)
+          (subst (λ (ps : List (List ℕ)). IsTestedVerdict first' again ps b w)
+          (sym (same_permitted v w came came' is.0 is'.0 is.1 is'.1)) is'.2)
+      by (Ok a) (Err r) may_a may_b is is' =
+          outcome d job again first is.0 (Ok a) (Err r) v w came.behind.is_job
+          came'.behind.is_job may_a may_b is.2 is'.2
+      by (Err r) (Ok b) may_a may_b is is' =
+          outcome d job again first' is'.0 (Err r) (Ok b) v w came.behind.is_job
+          came'.behind.is_job may_a may_b is.2 is'.2
+      by (Err r) (Err s) may_a may_b is is' =
+          outcome d job again first is.0 (Err r) (Err s) v w came.behind.is_job
+          came'.behind.is_job may_a may_b is.2 is'.2

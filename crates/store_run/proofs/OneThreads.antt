@@ -3,6 +3,7 @@ use Rattle.std.proofs.Common.{◌≡◌, ◌↔◌, ◌∙◌, ◌<◌, ℕ, zer
 use Rattle.std.specs.Prelude.{Contains, slice_get}
 use Rattle.drv_graph.specs.Nodes.{Node}
 use Rattle.drv_graph.specs.PlanNodes.{output_paths_of}
+use Rattle.valid_table.specs.Closure.{Reaches}
 use Rattle.valid_table.specs.Entries.{registered}
 use Rattle.valid_table.specs.PathInfos.{PathInfo}
 use Rattle.valid_table.specs.Valid.{IsOnce}
@@ -14,18 +15,20 @@ use Rattle.build_outcome.specs.Jobs.{seeds_of}
 use Rattle.run_states.specs.Legal.{MayRefer, begins, begun, ended, failed}
 use Rattle.run_states.specs.Runs.{History, IsWanted, Run}
 use Rattle.run_states.specs.States.{Phase, Idle, Begun, Ended, Broken, phase_of}
+use Rattle.build_outcome.specs.Checks.{ReachAlike}
 use Rattle.build_outcome.specs.Verdicts.{outputs_of}
 use Rattle.build_outcome.specs.declared.job.Answer.{Answer}
 use Rattle.build_outcome.specs.declared.job.Job.{Job}
 use Rattle.run_states.specs.declared.state.Event.TheVariants.{Begin, Done as Finish, Fail}
 use Rattle.build_outcome.specs.declared.reason.Reason.{Reason}
 use Rattle.build_outcome.specs.declared.reason.Reason.TheVariants.{OutOfMemory}
+use Rattle.build_outcome.proofs.TestedVerdicts.{tested_verdict_stays}
 use Rattle.store_run.specs.Builders.{IsOutcomeVerdict, IsVerdictBehind}
 use Rattle.store_run.specs.OneThread.{HadTurns, turn_done, turn_failed, turn_opening, turn_skipped}
 use Rattle.store_run.specs.Scheduling.{HasOneThread, IsWholeRun}
 use Rattle.store_run.proofs.Alike.{HasSameTurn, IsAccounted, IsAlikeAt, alike_below, none_building, not_idle, seed_carried, swapped, unhindered_there}
-use Rattle.store_run.proofs.Carried.{IsCarried, may_refer_there}
-use Rattle.store_run.proofs.OneOutcome.{job_outputs, job_seeds, permitted_job, permitted_whole}
+use Rattle.store_run.proofs.Carried.{IsCarried, may_refer_there, reach_both, referred_valid}
+use Rattle.store_run.proofs.OneOutcome.{job_outputs, job_seeds, permitted_job, permitted_whole, reach_whole}
 use Rattle.store_run.proofs.Schedules.{opening_journal, run_accounted, run_told, turns_accounted}
 use Rattle.store_run.proofs.Telling.{CameTo, phase_broken, phase_ended}
 use Rattle.store_run.proofs.Turns.{HaveTurned, turned_is}
@@ -69,6 +72,26 @@ module _ (may : Job → Result Answer Reason → Type 0) (run : Run) (history ot
             ));
       }
 
+  reach_there : (permitted : List (List ℕ))
+      → ArePermittedPaths came.before came.behind.job permitted
+      → ReachAlike (registered came.before) (registered other.entries) came.behind.job permitted
+  reach_there permitted of from to has foreign =
+      let job = came.behind.job in
+      let seeds = seeds_of run.graph.nodes node.drv in
+      let outputs = output_paths_of node.drv in
+      let all = registered history.entries in
+      let apart : Contains outputs from → ⊥ =
+      λ own. foreign (subst (λ (paths : List (List ℕ)). Contains paths from)
+      (sym (job_outputs run.graph d job node came.behind.is_job at)) own) in
+      let are = permitted_job run.graph d job node came.before permitted came.behind.is_job at of in
+      let first = (are.each from).0 has in
+      let whole = (permitted_whole may run history once d node at verdict came from).0 first in
+      let here = reach_whole may run history once d node at verdict came from to
+      (referred_valid (registered came.before) seeds outputs from first apart) in
+      let both = reach_both all (registered other.entries) seeds outputs there back from to whole
+      apart in
+      (λ reaches. both.0 (here.0 reaches), λ reaches. here.1 (both.1 reaches))
+
   behind_there : IsVerdictBehind may run other.entries d verdict
   behind_there = record {
     job = came.behind.job;
@@ -83,7 +106,12 @@ module _ (may : Job → Result Answer Reason → Type 0) (run : Run) (history ot
       by : (outcome : Result Answer Reason)
           → IsOutcomeVerdict came.before came.behind.job outcome verdict
           → IsOutcomeVerdict other.entries came.behind.job outcome verdict
-      by (Ok answer) is = (is.0, permitted_there _ is.1, is.2)
+      by (Ok answer) is = (
+        is.0,
+        permitted_there _ is.1,
+        tested_verdict_stays (registered came.before) (registered other.entries) came.behind.job
+            is.0 answer verdict (reach_there is.0 is.1) is.2,
+      )
       by (Err reason) is = is
 
 -- ---- one turn after another

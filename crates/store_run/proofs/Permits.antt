@@ -1,16 +1,17 @@
 -- What is permitted to a job by lists of entries that go on from one list.
 use Rattle.std.proofs.Common.{◌≡◌, ◌↔◌, inl, inr, ℕ, List, [], ◌∷◌, ◌++◌, All, None, Result, Ok, Err, refl, subst, sym, rules}
-use Rattle.std.specs.Prelude.{IfOk, OnOk, slice_get}
+use Rattle.std.specs.Prelude.{Contains, IfOk, OnOk, slice_get}
 use Rattle.std.proofs.lemmas.List.Elements.{All-contains}
 use mathlib.Core.List.{IsPrefix}
 use Rattle.nix_names.proofs.Lists.{Contains-nothing}
-use Rattle.valid_table.specs.Closure.{IsClosure}
+use Rattle.valid_table.specs.Closure.{IsClosure, Reaches}
 use Rattle.valid_table.specs.Entries.{registered}
 use Rattle.valid_table.specs.Unions.{IsUnion}
 use Rattle.valid_table.specs.Valid.{IsJournal, IsOnce, IsValid}
 use Rattle.valid_table.specs.declared.entry.Entry.{Entry}
 use Rattle.valid_table.specs.declared.entry.Registration.{Registration}
 use Rattle.valid_table.proofs.JournalLists.{closed_references_valid, registered-append, valid_more}
+use Rattle.valid_view.specs.Answers.{Knowing}
 use Rattle.valid_view.specs.Shown.{IsShowable}
 use Rattle.valid_view.proofs.Showable.{showable_prefix}
 use Rattle.sched_core.specs.Books.{ArePermittedPaths, AreSeedsValid}
@@ -19,16 +20,28 @@ use Rattle.build_outcome.specs.Verdicts.{outputs_of}
 use Rattle.build_outcome.specs.declared.job.Job.{Job}
 use Rattle.sched_core.proofs.Permitting.{are_permitted}
 use Rattle.run_states.proofs.Seeds.{permitted_stays}
-use Rattle.store_run.specs.private.JobVerdicts.{StaysPermitted}
+use Rattle.store_run.specs.private.JobVerdicts.{AreKnownValid, StaysPermitted}
+use Rattle.store_run.proofs.Carried.{reach_more, referred_valid}
 
 -- what is valid stays so in each list that goes on
+paths_stay : (before after : List Entry) (paths : List (List ℕ)) → IsPrefix before after
+    → All (IsValid (registered before)) paths → All (IsValid (registered after)) paths
+paths_stay before after paths goes valid =
+    subst (λ (entries : List Entry). All (IsValid (registered entries)) paths) goes.1
+    (subst (λ (registrations : List Registration). All (IsValid registrations) paths)
+    (sym (registered-append before goes.0))
+    (valid_more (registered before) (registered goes.0) paths valid))
+
 pub seeds_stay : (before after : List Entry) (job : Job) → IsPrefix before after
     → AreSeedsValid before job → AreSeedsValid after job
-seeds_stay before after job goes valid =
-    subst (λ (entries : List Entry). AreSeedsValid entries job) goes.1
-    (subst (λ (registrations : List Registration). All (IsValid registrations) job.seeds.items)
-    (sym (registered-append before goes.0))
-    (valid_more _ (registered goes.0) _ valid))
+seeds_stay before after job goes valid = paths_stay before after job.seeds.items goes valid
+
+-- what a reader knows is valid is so by the list that it sees then
+pub known_valid : (known : Knowing) (now : List Entry) (paths : List (List ℕ))
+    → AreKnownValid known paths → IsPrefix known.told now → IsPrefix known.seen now
+    → All (IsValid (registered now)) paths
+known_valid known now paths (inl valid) told seen = paths_stay known.told now paths told valid
+known_valid known now paths (inr valid) told seen = paths_stay known.seen now paths seen valid
 
 -- a closure of the seeds beside the job's own outputs
 pub closure_and_outputs : (entries : List Entry) (job : Job) (reached all : List (List ℕ))
@@ -56,11 +69,26 @@ same_behind before after job path goes showable valid =
     ↔ MayRefer registrations job.seeds.items (outputs_of job) path)
     (sym (registered-append before goes.0)) both)
 
+-- what a valid path reaches is the same in a list and after it
+pub reach_behind : (before after : List Entry) (from to : List ℕ) → IsPrefix before after
+    → IsShowable after → IsValid (registered before) from
+    → Reaches (registered before) from to ↔ Reaches (registered after) from to
+reach_behind before after from to goes showable valid =
+    let whole : IsShowable (before ++ goes.0) = subst IsShowable (sym goes.1) showable in
+    let both = reach_more (registered before) (registered goes.0)
+    (closed_references_valid before (showable_prefix before goes.0 whole).closed)
+    (subst IsOnce (registered-append before goes.0) whole.once) from to valid in
+    subst (λ (entries : List Entry). Reaches (registered before) from to
+    ↔ Reaches (registered entries) from to) goes.1
+    (subst (λ (registrations : List Registration). Reaches (registered before) from to
+    ↔ Reaches registrations from to) (sym (registered-append before goes.0)) both)
+
 -- what is the same by each path is permitted by both
 permitted_by_both : (before after : List Entry) (job : Job) → ((path : List ℕ)
     → MayRefer (registered before) job.seeds.items (outputs_of job) path
     ↔ MayRefer (registered after) job.seeds.items (outputs_of job) path)
-    → StaysPermitted before after job
+    → (permitted : List (List ℕ)) → ArePermittedPaths before job permitted
+    → ArePermittedPaths after job permitted
 permitted_by_both before after job same permitted are = record {
   rising = are.rising;
   each = λ path. (
@@ -69,28 +97,82 @@ permitted_by_both before after job same permitted are = record {
   );
 }
 
+-- so is what is permitted by a list where the seeds are valid, in each list that goes on
+pub permitted_behind : (before after : List Entry) (job : Job) → IsPrefix before after
+    → IsShowable after → AreSeedsValid before job → (permitted : List (List ℕ))
+    → ArePermittedPaths before job permitted → ArePermittedPaths after job permitted
+permitted_behind before after job goes showable valid =
+    permitted_by_both before after job
+    (λ path. same_behind before after job path goes showable valid)
+
+-- and where what is permitted reaches the same too, it stays permitted
+stays_by_both : (before after : List Entry) (job : Job) → ((path : List ℕ)
+    → MayRefer (registered before) job.seeds.items (outputs_of job) path
+    ↔ MayRefer (registered after) job.seeds.items (outputs_of job) path)
+    → ((from to : List ℕ) → MayRefer (registered before) job.seeds.items (outputs_of job) from
+    → (Contains (outputs_of job) from → ⊥)
+    → Reaches (registered before) from to ↔ Reaches (registered after) from to)
+    → StaysPermitted before after job
+stays_by_both before after job same alike permitted are = (
+  permitted_by_both before after job same permitted are,
+  λ from to has foreign. alike from to ((are.each from).0 has) foreign,
+)
+
 -- a list that was seen, one that is seen after it and begins with what is shown, and the entries,
 -- which begin so too
-pub stays_by_view : (seen now shown entries : List Entry) (job : Job) → IsPrefix seen now
-    → IsPrefix shown now → IsPrefix shown entries → IsShowable now → IsShowable entries
-    → AreSeedsValid seen job → AreSeedsValid shown job → StaysPermitted seen entries job
-stays_by_view seen now shown entries job from_seen from_shown goes_on showable journal valid there =
-    permitted_by_both seen entries job (λ path.
-    let first = same_behind _ _ job _ from_seen showable valid in
-    let second = same_behind _ _ job _ from_shown showable there in
-    let third = same_behind _ _ job _ goes_on journal there in
-    (λ may. third.0 (second.1 (first.0 may)), λ may. first.1 (second.0 (third.1 may))))
+module _ (seen now shown entries : List Entry) (job : Job) (from_seen : IsPrefix seen now)
+    (from_shown : IsPrefix shown now) (goes_on : IsPrefix shown entries)
+    (showable : IsShowable now) (journal : IsShowable entries) (valid : AreSeedsValid seen job)
+    (there : AreSeedsValid shown job) where
+  same_by_view : (path : List ℕ)
+      → MayRefer (registered seen) job.seeds.items (outputs_of job) path
+      ↔ MayRefer (registered entries) job.seeds.items (outputs_of job) path
+  same_by_view path =
+      let first = same_behind seen now job path from_seen showable valid in
+      let second = same_behind shown now job path from_shown showable there in
+      let third = same_behind shown entries job path goes_on journal there in
+      (λ may. third.0 (second.1 (first.0 may)), λ may. first.1 (second.0 (third.1 may)))
+
+  reach_by_view : (from to : List ℕ)
+      → MayRefer (registered seen) job.seeds.items (outputs_of job) from
+      → (Contains (outputs_of job) from → ⊥)
+      → Reaches (registered seen) from to ↔ Reaches (registered entries) from to
+  reach_by_view from to may foreign =
+      let seeds = job.seeds.items in
+      let may_now = (same_behind seen now job from from_seen showable valid).0 may in
+      let may_shown = (same_behind shown now job from from_shown showable there).1 may_now in
+      let was_valid = referred_valid (registered seen) seeds (outputs_of job) from may foreign in
+      let is_valid = referred_valid (registered shown) seeds (outputs_of job) from may_shown foreign
+      in
+      let first = reach_behind seen now from to from_seen showable was_valid in
+      let second = reach_behind shown now from to from_shown showable is_valid in
+      let third = reach_behind shown entries from to goes_on journal is_valid in (
+        λ reaches. third.0 (second.1 (first.0 reaches)),
+        λ reaches. first.1 (second.0 (third.1 reaches)),
+      )
+
+  pub stays_by_view : StaysPermitted seen entries job
+  stays_by_view = stays_by_both seen entries job same_by_view reach_by_view
 
 -- from no seeds nothing is reached
-no_seeds : (a b : List Registration) (seeds outputs : List (List ℕ)) (path : List ℕ) → seeds ≡ []
-    → MayRefer a seeds outputs path → MayRefer b seeds outputs path
-no_seeds a b seeds outputs path none (inl reached) = search (rules, Contains-nothing)
-no_seeds a b seeds outputs path none (inr own) = inr own
+only_own : (registrations : List Registration) (seeds outputs : List (List ℕ)) (path : List ℕ)
+    → seeds ≡ [] → MayRefer registrations seeds outputs path → Contains outputs path
+only_own registrations seeds outputs path none (inl reached) =
+    absurd (Contains-nothing reached.0
+    (subst (λ (paths : List (List ℕ)). Contains paths reached.0) none reached.1))
+only_own registrations seeds outputs path none (inr own) = own
 
 -- so the same is permitted whatever is valid
 pub stays_without_seeds : (before after : List Entry) (job : Job) → job.seeds.items ≡ []
     → StaysPermitted before after job
-stays_without_seeds before after job none = search (rules, permitted_by_both, no_seeds)
+stays_without_seeds before after job none =
+    stays_by_both before after job
+    (λ path. (
+      λ may. inr (only_own (registered before) job.seeds.items (outputs_of job) path none may),
+      λ may. inr (only_own (registered after) job.seeds.items (outputs_of job) path none may),
+    ))
+    (λ from to may foreign. absurd
+    (foreign (only_own (registered before) job.seeds.items (outputs_of job) from none may)))
 
 -- no first seed, none at all
 pub none_first : (paths : List (List ℕ)) → slice_get paths 0 ≡ None → paths ≡ []
@@ -102,6 +184,11 @@ pub where_ok : {A E Fact Other : Type 0} (answer : Result A E) → OnOk answer F
     → (Fact → Other) → OnOk answer Other
 where_ok (Ok seen) fact follows = follows fact
 where_ok (Err fault) fact follows = tt
+
+-- what holds anyway
+pub anyway_ok : {A E Fact : Type 0} (answer : Result A E) → Fact → OnOk answer Fact
+anyway_ok (Ok seen) fact = fact
+anyway_ok (Err fault) fact = tt
 
 -- what follows of a good answer
 pub of_ok : {A E : Type 0} {Fact Other : A → Type 0} (answer : Result A E) → IfOk answer Fact

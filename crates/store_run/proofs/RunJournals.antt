@@ -169,7 +169,7 @@ module _ (may : Job → Result Answer Reason → Type 0) (dir : List ℕ)
       by : (outcome : Result Answer Reason)
           → IsOutcomeVerdict entries job outcome (Ok infos) → AreRecordsIn node infos
       by (Err reason) verdict = let clash : Ok infos ≡ Err reason = verdict.2 in cc
-      by (Ok answer) (permitted, are, verdict) = record {
+      by (Ok answer) (permitted, are, (verdict, passed)) = record {
         count = verdict.1.count
             ∙ sym (length-map job.outputs.items (λ (o : JobOutput). o.path))
             ∙ ap length outputs;

@@ -1,5 +1,5 @@
 -- Verdicts on answers that are the same, trees of the same bytes counting as one.
-use Rattle.std.proofs.Common.{◌≡◌, ◌∙◌, ℕ, List, Option, Some, None, Result, Ok, Err, ap, refl, subst, sym, rules}
+use Rattle.std.proofs.Common.{◌≡◌, ◌∙◌, inl, inr, ℕ, List, Option, Some, None, Result, Ok, Err, ap, refl, subst, sym, rules}
 use Rattle.nix_names.specs.Digests.{algorithm_of}
 use Rattle.nix_names.specs.declared.digest.Algorithm.{Algorithm}
 use Rattle.nix_names.specs.declared.digest.Algorithm.TheVariants.{Sha256}
@@ -14,14 +14,17 @@ use Rattle.drv_graph.specs.declared.profile.Profile.TheVariants.{Plain, Nix}
 use Rattle.ref_scan.specs.Scan.{IsFoundIn}
 use Rattle.ref_scan.specs.declared.tree.Tree.{Tree}
 use Rattle.valid_table.specs.PathInfos.{NarInfo, PathInfo}
+use Rattle.valid_table.specs.declared.entry.Registration.{Registration}
+use Rattle.build_outcome.specs.Checks.{IsTestedVerdict}
 use Rattle.build_outcome.specs.Verdicts.{AreOutputsThere, AreRead, AreRecords, HasForm, IsDigestBy, IsFaulty, IsFirstFault, IsRecordDigest, IsRecordNar, IsRecordOf, IsTaken, IsTreeFault, IsUnread, IsUnreadAt, IsVerdict, MayBeTaken, flat_digest, tree_at}
 use Rattle.build_outcome.specs.declared.job.Answer.{Answer}
 use Rattle.build_outcome.specs.declared.job.Job.{Job}
 use Rattle.build_outcome.specs.declared.reason.Reason.{Reason}
-use Rattle.build_outcome.specs.declared.reason.Reason.TheVariants.{ExitStatus, NoStart, MissingOutput, NotFlatFile, HashMismatch, OutputCycle, TooLarge, ReadFault, OutOfMemory, Killed}
+use Rattle.build_outcome.specs.declared.reason.Reason.TheVariants.{ExitStatus, NoStart, MissingOutput, NotFlatFile, HashMismatch, OutputCycle, TooLarge, ReadFault, OutOfMemory, Killed, NotAllowed, BadSpecifier}
 use Rattle.store_run.specs.Builders.{IsVerdictOn}
 use Rattle.store_run.specs.SameOutcomes.{AllowedIsOne, AreSameAnswers, AreSameOutcomes, AreSameTrees, HaveSameBytes}
-use Rattle.store_run.proofs.SameVerdicts.{first_same, one_for_both}
+use Rattle.store_run.proofs.SameTests.{one_for_both}
+use Rattle.store_run.proofs.SameVerdicts.{first_same}
 
 -- ---- trees
 
@@ -74,6 +77,8 @@ fault_there profile Addressed tree other same OutputCycle fault = absurd fault
 fault_there profile Addressed tree other same ReadFault fault = absurd fault
 fault_there profile Addressed tree other same OutOfMemory fault = absurd fault
 fault_there profile Addressed tree other same Killed fault = absurd fault
+fault_there profile Addressed tree other same (NotAllowed output place) fault = absurd fault
+fault_there profile Addressed tree other same (BadSpecifier output) fault = absurd fault
 fault_there profile (Fixed method digest) tree other same (ExitStatus n) fault = absurd fault
 fault_there profile (Fixed method digest) tree other same NoStart fault = absurd fault
 fault_there profile (Fixed method digest) tree other same (MissingOutput n) fault = absurd fault
@@ -81,6 +86,10 @@ fault_there profile (Fixed method digest) tree other same OutputCycle fault = ab
 fault_there profile (Fixed method digest) tree other same ReadFault fault = absurd fault
 fault_there profile (Fixed method digest) tree other same OutOfMemory fault = absurd fault
 fault_there profile (Fixed method digest) tree other same Killed fault = absurd fault
+fault_there profile (Fixed method digest) tree other same (NotAllowed output place) fault =
+    absurd fault
+fault_there profile (Fixed method digest) tree other same (BadSpecifier output) fault =
+    absurd fault
 
 unread_there : (job : Job) (tree other : Tree) → HaveSameBytes tree other → IsUnread job tree
     → IsUnread job other
@@ -215,16 +224,32 @@ module _ (job : Job) (answer other : Answer) (same : AreSameAnswers answer other
       (taken_too taken, (infos, records_there job answer other same permitted infos records, round))
   verdict_there permitted (Err NoStart) is = absurd is
   verdict_there permitted (Err OutOfMemory) is = absurd is
+  verdict_there permitted (Err (NotAllowed output place)) is = absurd is
+  verdict_there permitted (Err (BadSpecifier output)) is = absurd is
+
+  -- the tests are of the records
+  tested_there : (registrations : List Registration) (permitted : List (List ℕ))
+      (verdict : Result (List PathInfo) Reason)
+      → IsTestedVerdict registrations job permitted answer verdict
+      → IsTestedVerdict registrations job permitted other verdict
+  tested_there registrations permitted (Ok infos) (is, passed) =
+      (verdict_there permitted (Ok infos) is, passed)
+  tested_there registrations permitted (Err reason) (inl is) =
+      inl (verdict_there permitted (Err reason) is)
+  tested_there registrations permitted (Err reason) (inr (infos, is, first)) =
+      inr (infos, verdict_there permitted (Ok infos) is, first)
 
 pub allowed_is_one : (may : Job → Result Answer Reason → Type 0) → AllowedIsOne may
-allowed_is_one may graph allows d job again permitted x y a b is is' gives gives' on on' =
+allowed_is_one may graph allows d job again registrations permitted x y a b is is' gives gives' on
+    on' =
     by x y (allows d job again x y is is' gives gives') on on'
   where
-    by : (u w : Result Answer Reason) → AreSameOutcomes u w → IsVerdictOn job permitted u a
-        → IsVerdictOn again permitted w b → a ≡ b
+    by : (u w : Result Answer Reason) → AreSameOutcomes u w
+        → IsVerdictOn registrations job permitted u a
+        → IsVerdictOn registrations again permitted w b → a ≡ b
     by (Ok u) (Ok w) same on on' =
-        one_for_both graph d job again is is' permitted w a b
-        (verdict_there job u w same permitted a on) on'
+        one_for_both graph d job again is is' registrations permitted w a b
+        (tested_there job u w same registrations permitted a on) on'
     by (Err u) (Err w) same on on' = search rules
     by (Ok u) (Err w) same on on' = absurd same
     by (Err u) (Ok w) same on on' = absurd same

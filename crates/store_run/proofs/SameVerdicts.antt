@@ -1,24 +1,20 @@
--- The verdict on an answer is one for all jobs of a derivation.
+-- The verdict on an answer is the same for jobs with the same outputs, of one kind and under one
+-- profile.
 use Rattle.std.proofs.Common.{◌≡◌, ◌∙◌, ◌<◌, ℕ, List, All, length, None, Result, Ok, Err, subst, sym, rules}
 use Rattle.std.proofs.lemmas.List.{length-map}
-use Rattle.nix_names.proofs.Lists.{same_element}
-use Rattle.drv_graph.specs.Plans.{Graph}
 use Rattle.drv_graph.specs.declared.kinds.Kind.{Kind}
 use Rattle.drv_graph.specs.declared.profile.Profile.{Profile}
-use Rattle.drv_graph.proofs.KindAnswers.{one_kind}
 use Rattle.ref_scan.specs.declared.tree.Tree.{Tree}
 use Rattle.valid_table.specs.PathInfos.{PathInfo}
-use Rattle.build_outcome.specs.Jobs.{IsJob}
 use Rattle.build_outcome.specs.Verdicts.{AreOutputsThere, AreRead, AreRecords, IsCyclic, IsFaulty, IsFirstFault, IsFirstNumber, IsRecordDigest, IsRecordNar, IsRecordOf, IsTaken, IsTreeFault, IsUnreadAt, IsVerdict, NeedsArchive, outputs_of, tree_at}
 use Rattle.build_outcome.specs.declared.job.Answer.{Answer}
 use Rattle.build_outcome.specs.declared.job.Job.{Job}
 use Rattle.build_outcome.specs.declared.reason.Reason.{Reason}
-use Rattle.build_outcome.specs.declared.reason.Reason.TheVariants.{ExitStatus, NoStart, MissingOutput, NotFlatFile, HashMismatch, OutputCycle, TooLarge, ReadFault, OutOfMemory, Killed}
-use Rattle.build_outcome.proofs.OneVerdict.{has_one_verdict}
+use Rattle.build_outcome.specs.declared.reason.Reason.TheVariants.{ExitStatus, NoStart, MissingOutput, NotFlatFile, HashMismatch, OutputCycle, TooLarge, ReadFault, OutOfMemory, Killed, NotAllowed, BadSpecifier}
 
 -- ---- firsts
 
-all_weaker : {X : Type 0} (P Q : X → Type 0) → ((x : X) → P x → Q x) → (xs : List X) → All P xs
+pub all_weaker : {X : Type 0} (P Q : X → Type 0) → ((x : X) → P x → Q x) → (xs : List X) → All P xs
     → All Q xs
 all_weaker P Q goes xs all = search rules
 
@@ -61,7 +57,7 @@ module _ (job again : Job) (kinds : job.kind ≡ again.kind)
 
 module _ (job again : Job) (outputs : outputs_of job ≡ outputs_of again)
     (kinds : job.kind ≡ again.kind) (profiles : job.profile ≡ again.profile) (answer : Answer) where
-  counts : length job.outputs.items ≡ length again.outputs.items
+  pub counts : length job.outputs.items ≡ length again.outputs.items
   counts = search (rules, length-map)
 
   within : (n : ℕ) → n < length again.outputs.items → n < length job.outputs.items
@@ -107,7 +103,7 @@ module _ (job again : Job) (outputs : outputs_of job ≡ outputs_of again)
         (is.0, is.1, record_too job again kinds profiles permitted is.0 info is.2);
   }
 
-  verdict_too : (permitted : List (List ℕ)) (verdict : Result (List PathInfo) Reason)
+  pub verdict_too : (permitted : List (List ℕ)) (verdict : Result (List PathInfo) Reason)
       → IsVerdict job permitted answer verdict → IsVerdict again permitted answer verdict
   verdict_too permitted (Ok infos) is = (
     taken_too is.0,
@@ -142,26 +138,5 @@ module _ (job again : Job) (outputs : outputs_of job ≡ outputs_of again)
   )
   verdict_too permitted (Err NoStart) is = absurd is
   verdict_too permitted (Err OutOfMemory) is = absurd is
-
--- two jobs of a derivation have the same outputs, and are of one kind and under one profile, so an
--- answer has one verdict for both
-module _ (graph : Graph) (d : ℕ) (job again : Job) (is : IsJob graph d job)
-    (is' : IsJob graph d again) where
-  same_node : is.node ≡ is'.node
-  same_node = search (rules, same_element)
-
-  same_outputs : outputs_of job ≡ outputs_of again
-  same_outputs = search (rules, same_node)
-
-  same_kind : job.kind ≡ again.kind
-  same_kind = search (rules, one_kind, same_node)
-
-  same_profile : job.profile ≡ again.profile
-  same_profile = is.profile ∙ sym is'.profile
-
-  pub one_for_both : (permitted : List (List ℕ)) (answer : Answer)
-      (a b : Result (List PathInfo) Reason) → IsVerdict job permitted answer a
-      → IsVerdict again permitted answer b → a ≡ b
-  one_for_both permitted answer a b of of' =
-      has_one_verdict again permitted answer a b
-      (verdict_too job again same_outputs same_kind same_profile answer permitted a of) of'
+  verdict_too permitted (Err (NotAllowed output place)) is = absurd is
+  verdict_too permitted (Err (BadSpecifier output)) is = absurd is

@@ -11,6 +11,7 @@ use Rattle.drv_graph.specs.PlanNodes.{output_paths_of}
 use Rattle.drv_graph.specs.Plans.{Graph}
 use Rattle.drv_graph.specs.declared.kinds.Kind.TheVariants.{Addressed, Fixed}
 use Rattle.drv_graph.proofs.KindAnswers.{one_kind}
+use Rattle.valid_table.specs.Entries.{registered}
 use Rattle.valid_table.specs.PathInfos.{PathInfo}
 use Rattle.valid_table.specs.Valid.{IsJournal}
 use Rattle.valid_table.specs.declared.entry.Entry.{Entry}
@@ -39,6 +40,7 @@ use Rattle.store_run.specs.ScheduleExample.{Overlap, both, failing, in_turn, lef
 use Rattle.store_run.proofs.AlonePlans.{both_sound, kind_alone, one_of, outputs_differ}
 use Rattle.store_run.proofs.OneOutcome.{job_outputs, job_seeds}
 use Rattle.store_run.proofs.ExampleJobs.{both_outcome, is_job_of_right, job_of_right, left_answer, left_is_job, left_job, left_leaves, left_may, left_verdict, no_cycle, nothing_in, right_answer, right_leaves, right_may, right_verdict}
+use Rattle.store_run.proofs.SameTests.{plain_tested}
 use Rattle.store_run.proofs.Unhindered.{IsUnhindered, inputs_in, standing_in, state_by, unhindered_ready}
 
 -- ---- verdicts after some entries
@@ -63,7 +65,7 @@ left_behind entries = record {
     (
       output_paths_of left.drv,
       permitted_own _ entries 0 _ _ left_is_job refl refl _ refl,
-      left_verdict left_job (output_paths_of left.drv) left_answer left_leaves,
+      inl (left_verdict left_job (output_paths_of left.drv) left_answer left_leaves),
     ),
   );
 }
@@ -80,8 +82,10 @@ right_behind entries = record {
       output_paths_of right.drv,
       permitted_own _ entries 1 _ _ (is_job_of_right both.graph 1 refl refl)
           refl refl _ refl,
-      right_verdict both.graph 1 refl _ (is_job_of_right both.graph 1 refl refl) refl
-          _ right_leaves _,
+      plain_tested (registered entries) (job_of_right 1) (output_paths_of right.drv) right_answer
+          (Ok (nothing_in ∷ [])) (is_job_of_right both.graph 1 refl refl).profile
+          (right_verdict both.graph 1 refl _ (is_job_of_right both.graph 1 refl refl) refl
+          _ right_leaves _),
     ),
   );
 }

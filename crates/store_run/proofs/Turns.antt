@@ -231,7 +231,7 @@ module _ (may : Job → Result Answer Reason → Type 0) (run : Run) (sound : Is
           by (Ok answer) is = (
             is.0,
             verdicts_are_registrable run.graph d behind.job node is.0 answer infos behind.is_job at
-                is.2,
+                is.2.0,
           )
           by (Err reason) is = let no = is.2 in absurd cc
 

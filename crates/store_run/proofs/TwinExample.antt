@@ -1,5 +1,5 @@
 -- A derivation that is built after its twin failed, beside a third, is part of a whole run.
-use Rattle.std.proofs.Common.{◌≡◌, ◌∙◌, ◌<◌, inr, ℕ, zero, suc, true, false, List, [], ◌∷◌, Some, Ok, Err, refl, sym, ap, ap₂, subst, arith, rules}
+use Rattle.std.proofs.Common.{◌≡◌, ◌∙◌, ◌<◌, inl, inr, ℕ, zero, suc, true, false, List, [], ◌∷◌, Some, Ok, Err, refl, sym, ap, ap₂, subst, arith, rules}
 use Rattle.std.specs.Prelude.{Contains, pos, slice_get}
 use Rattle.std.proofs.lemmas.Bool.{and_from}
 use Rattle.nix_names.specs.declared.digest.Digest.{Digest}
@@ -12,6 +12,7 @@ use Rattle.drv_graph.specs.Twins.{are_twins_at}
 use Rattle.drv_graph.specs.declared.kinds.Kind.TheVariants.{Fixed}
 use Rattle.drv_graph.proofs.FirstTwins.{twins_are_told}
 use Rattle.drv_graph.proofs.KindAnswers.{one_kind}
+use Rattle.valid_table.specs.Entries.{registered}
 use Rattle.valid_table.specs.PathInfos.{PathInfo}
 use Rattle.valid_table.specs.declared.entry.Entry.{Entry}
 use Rattle.run_states.specs.StateTables.{CanBegin, IsRunSettled}
@@ -34,6 +35,7 @@ use Rattle.store_run.specs.ScheduleExample.{Overlap, made, making, out_alone, ri
 use Rattle.store_run.specs.TwinExample.{first_twin, freed, made_file, making_twin, may_leave_file, one_by_one, second_twin, three, tried_again, waiting}
 use Rattle.store_run.proofs.AlonePlans.{one_of}
 use Rattle.store_run.proofs.ExampleJobs.{is_job_of_right, job_of_right, left_answer, left_leaves, left_verdict, nothing_in, right_answer, right_leaves, right_verdict}
+use Rattle.store_run.proofs.SameTests.{plain_tested}
 use Rattle.store_run.proofs.ScheduleExample.{closed_done, closed_failed, journal, none_valid, one_allowed, one_entry, permitted_own, right_allowed, right_entry}
 use Rattle.store_run.proofs.TwinJobs.{file_in, first_is_job, first_job, first_may, second_answer, second_is_job, second_job, second_leaves, second_may, second_verdict, third_may, three_outcome}
 use Rattle.store_run.proofs.TwinPlans.{are_twins, empty_kind, kind_empty, outs_differ, three_sound}
@@ -54,7 +56,7 @@ first_behind entries = record {
     (
       output_paths_of first_twin.drv,
       permitted_own _ entries 0 _ _ first_is_job refl refl _ refl,
-      left_verdict first_job (output_paths_of first_twin.drv) left_answer left_leaves,
+      inl (left_verdict first_job (output_paths_of first_twin.drv) left_answer left_leaves),
     ),
   );
 }
@@ -70,7 +72,9 @@ second_behind entries = record {
     (
       output_paths_of second_twin.drv,
       permitted_own _ entries 1 _ _ second_is_job refl refl _ refl,
-      second_verdict _ second_is_job _ second_leaves,
+      plain_tested (registered entries) second_job (output_paths_of second_twin.drv) second_answer
+          (Ok (file_in ∷ [])) second_is_job.profile
+          (second_verdict _ second_is_job _ second_leaves),
     ),
   );
 }
@@ -87,8 +91,10 @@ third_behind entries = record {
       output_paths_of right.drv,
       permitted_own _ entries 2 _ right
           (is_job_of_right three.graph 2 refl refl) refl refl _ refl,
-      right_verdict three.graph 2 refl _ (is_job_of_right three.graph 2 refl refl) refl
-          _ right_leaves _,
+      plain_tested (registered entries) (job_of_right 2) (output_paths_of right.drv) right_answer
+          (Ok (nothing_in ∷ [])) (is_job_of_right three.graph 2 refl refl).profile
+          (right_verdict three.graph 2 refl _ (is_job_of_right three.graph 2 refl refl) refl
+          _ right_leaves _),
     ),
   );
 }

@@ -32,7 +32,7 @@ use Rattle.build_outcome.specs.Verdicts.{HasArchive, IsFlatFile, IsRecordDigest,
 use Rattle.build_outcome.specs.declared.job.Answer.{Answer}
 use Rattle.build_outcome.specs.declared.job.Job.{Job}
 use Rattle.build_outcome.specs.declared.reason.Reason.{Reason}
-use Rattle.build_outcome.specs.declared.reason.Reason.TheVariants.{ExitStatus, HashMismatch, Killed, MissingOutput, NoStart, NotFlatFile, OutOfMemory, OutputCycle, ReadFault, TooLarge}
+use Rattle.build_outcome.specs.declared.reason.Reason.TheVariants.{BadSpecifier, ExitStatus, HashMismatch, Killed, MissingOutput, NoStart, NotAllowed, NotFlatFile, OutOfMemory, OutputCycle, ReadFault, TooLarge}
 use Rattle.store_run.specs.SameOutcomes.{AllowsOneOutcome, AreSameAnswers, AreSameTrees, HaveSameBytes}
 use Rattle.store_run.specs.Scheduling.{HasOneOutcome}
 use Rattle.store_run.specs.ScheduleExample.{IsEmptyFolder, Leaves, right}
@@ -90,6 +90,8 @@ no_file_fault tree is OutputCycle none = none
 no_file_fault tree is ReadFault none = none
 no_file_fault tree is OutOfMemory none = none
 no_file_fault tree is Killed none = none
+no_file_fault tree is (NotAllowed output place) none = none
+no_file_fault tree is (BadSpecifier output) none = none
 
 module _ (job : Job) (plain : job.profile ≡ Plain) (kind : job.kind ≡ empty_kind) where
   record_of_file : (permitted : List (List ℕ)) (tree : Tree) → IsEmptyFile tree

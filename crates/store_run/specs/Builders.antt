@@ -3,25 +3,28 @@
 use Rattle.std.specs.Prelude.{◌≡◌, ◌⊎◌, ℕ, Some, List, Result, Ok, Err, IfOk, slice_get}
 use Rattle.nix_names.specs.Bytes.{Path}
 use Rattle.drv_graph.specs.Nodes.{Node}
+use Rattle.valid_table.specs.Entries.{registered}
 use Rattle.valid_table.specs.PathInfos.{PathInfo}
 use Rattle.valid_table.specs.declared.entry.Entry.{Entry}
+use Rattle.valid_table.specs.declared.entry.Registration.{Registration}
 use Rattle.sched_core.specs.Books.{ArePermittedPaths}
 use Rattle.run_states.specs.Runs.{opened}
 use Rattle.build_outcome.specs.Jobs.{IsJob}
 use Rattle.run_states.specs.Legal.{IsEntryOf, begun, ended, failed}
 use Rattle.run_states.specs.Runs.{History, Run}
-use Rattle.build_outcome.specs.Verdicts.{IsVerdict}
+use Rattle.build_outcome.specs.Checks.{IsTestedVerdict}
 use Rattle.build_outcome.specs.declared.job.Answer.{Answer}
 use Rattle.build_outcome.specs.declared.job.Job.{Job}
 use Rattle.build_outcome.specs.declared.reason.Reason.{Reason}
 use Rattle.build_outcome.specs.declared.reason.Reason.TheVariants.{OutOfMemory}
 
--- *Verdict* on an outcome by permitted paths: the reason why there is no answer, or the verdict on
--- the answer
-abbrev pub IsVerdictOn : Job → (permitted : List Path) → Result Answer Reason
+-- *Verdict* on an outcome by the paths that are valid and those that are permitted: the reason why
+-- there is no answer, or the verdict on the answer, with the tests of its outputs
+abbrev pub IsVerdictOn : List Registration → Job → (permitted : List Path) → Result Answer Reason
     → Result (List PathInfo) Reason → Type 0
-IsVerdictOn job permitted (Ok answer) verdict = IsVerdict job permitted answer verdict
-IsVerdictOn job permitted (Err reason) verdict = verdict ≡ Err reason
+IsVerdictOn registrations job permitted (Ok answer) verdict =
+    IsTestedVerdict registrations job permitted answer verdict
+IsVerdictOn registrations job permitted (Err reason) verdict = verdict ≡ Err reason
 
 -- *Verdict* on an outcome after some entries: the verdict by the paths that are permitted there.
 -- Only an answer needs the permitted paths.
@@ -29,7 +32,7 @@ abbrev pub IsOutcomeVerdict : List Entry → Job → Result Answer Reason
     → Result (List PathInfo) Reason → Type 0
 IsOutcomeVerdict entries job outcome verdict = (permitted : List Path)
     × IfOk outcome (λ answer. ArePermittedPaths entries job permitted)
-    × IsVerdictOn job permitted outcome verdict
+    × IsVerdictOn (registered entries) job permitted outcome verdict
 
 -- what a job may come to after some entries: the verdict on an outcome that may be given for it
 abbrev pub MayComeTo : (may : Job → Result Answer Reason → Type 0) → List Entry → Job

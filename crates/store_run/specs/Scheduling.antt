@@ -8,6 +8,7 @@ use Rattle.valid_table.specs.Entries.{registered}
 use Rattle.valid_table.specs.PathInfos.{PathInfo}
 use Rattle.valid_table.specs.Valid.{Registers}
 use Rattle.valid_table.specs.declared.entry.Entry.{Entry}
+use Rattle.valid_table.specs.declared.entry.Registration.{Registration}
 use Rattle.run_states.specs.StateTables.{IsRunSettled}
 use Rattle.run_states.specs.Systems.{Platform}
 use Rattle.sched_core.specs.Books.{Ledger}
@@ -24,13 +25,14 @@ use Rattle.store_run.specs.Builders.{IsAnswered, IsVerdictOn}
 use Rattle.store_run.specs.OneThread.{IsOneThread}
 use Rattle.store_run.specs.Realising.{IsRealised}
 
--- each derivation of a plan has one outcome: whatever paths are permitted, the verdicts on two
--- outcomes that may be given for jobs of it are the same
+-- each derivation of a plan has one outcome: whatever paths are valid and permitted, the verdicts on
+-- two outcomes that may be given for jobs of it are the same
 abbrev pub HasOneOutcome : (may : Job → Result Answer Reason → Type 0) → Graph → Type 0
-HasOneOutcome may graph = (d : ℕ) (job again : Job) (permitted : List Path)
-    (x y : Result Answer Reason) (a b : Result (List PathInfo) Reason)
+HasOneOutcome may graph = (d : ℕ) (job again : Job) (registrations : List Registration)
+    (permitted : List Path) (x y : Result Answer Reason) (a b : Result (List PathInfo) Reason)
     → IsJob graph d job → IsJob graph d again → may job x → may again y
-    → IsVerdictOn job permitted x a → IsVerdictOn again permitted y b → a ≡ b
+    → IsVerdictOn registrations job permitted x a
+    → IsVerdictOn registrations again permitted y b → a ≡ b
 
 -- no wanted derivation failed because memory was refused
 abbrev pub HasMemory : Run → History → Type 0

@@ -1,8 +1,9 @@
 //! Calls of a reader and of a book, whose refusals are values that only these calls make.
-ghost use Rattle.std.specs.Prelude.{◌≡◌, ◌⊎◌, ℕ, IfErr, IfOk, MatchOption, OnErr, OnOk, ⊤};
+ghost use Rattle.std.specs.Prelude.{◌≡◌, ◌⊎◌, ℕ, All, IfErr, IfOk, MatchOption, OnErr, OnOk, ⊤};
 ghost use mathlib.Core.List.{IsPrefix};
 ghost use Rattle.valid_table.specs.Closure.{IsClosure};
 ghost use Rattle.valid_table.specs.Entries.{registered};
+ghost use Rattle.valid_table.specs.Valid.{IsValid};
 ghost use Rattle.valid_view.specs.Shown.{IsShowable};
 ghost use Rattle.valid_view.specs.declared.fault.ViewFault.TheVariants.{NotValid};
 ghost use Rattle.sched_core.specs.Books.{AreSeedsValid, IsBeginning, IsBooksLease, IsFailing, IsFinishFault, IsFinishing, IsSameRun, MayAllRefer};
@@ -12,17 +13,17 @@ ghost use Rattle.run_states.specs.declared.fault.BookFault.TheVariants.{ForeignL
 ghost use Rattle.valid_table.specs.Unions.{IsUnion};
 ghost use Rattle.nix_names.specs.Bytes.{Path};
 ghost use Rattle.nix_names.specs.Rising.{IsRising};
-ghost use Rattle.store_run.specs.private.JobVerdicts.{IsToldAs, IsUnseen};
+ghost use Rattle.store_run.specs.private.JobVerdicts.{AreKnownValid, IsToldAs, IsUnseen};
 
 use nix_names::StorePath;
 use sched_core::{Book, BookFault, Checked, Job, Lease, Reason};
-use std::alloc::Global;
+use std::alloc::{AllocError, Global};
 use std::marker::Model;
 use valid_table::Outlet;
 use valid_view::{ListId, ViewFault, ViewReader};
 
-// Evidence that a call of a reader or of a book was refused. A contract sees the fault that the
-// call answered. Only the calls of this module make one.
+// Evidence that a call of a reader or of a book was refused, or memory. A contract sees the fault
+// that the call answered. Only the calls of this module make one, and want of memory.
 #[derive(Debug, Drop)]
 pub(crate) struct RefusedCall {
     fault: BookFault,
@@ -45,21 +46,34 @@ impl RefusedCall {
     }
 }
 
-// The closure of what a job is built from, by the list that the reader sees. All of it is valid by
-// each list that the reader may see. Refused where memory is, or where the view is gone.
+impl From<AllocError> for RefusedCall {
+    ghost use Rattle.run_states.specs.declared.fault.BookFault.TheVariants.{NoMemory};
+
+    ghost from_gives = { λ _ refusal. refusal ≡ NoMemory };
+
+    fn from(_: AllocError) -> Self {
+        RefusedCall {
+            fault: BookFault::NoMemory,
+        }
+    }
+}
+
+// The closure of some paths that are valid by what the reader was told of or saw, by the list that
+// it sees now. Refused where memory is, or where the view is gone.
 pub(crate) fn closure<J: ListId>(
     alloc: Global,
     reader: &mut ViewReader<J>,
-    job: &Job,
+    roots: &[StorePath],
 ) -> Result<Vec<StorePath>, RefusedCall>
-    requires { AreSeedsValid reader.old.told job.now }
+    requires { AreKnownValid reader.old roots.now }
+    ensures later { IsPrefix reader.old.seen reader.new.seen }
     ensures showable { OnOk result (IsShowable reader.new.seen) }
-    ensures seeds { OnOk result (AreSeedsValid reader.new.seen job.now) }
+    ensures valid { OnOk result (All (IsValid (registered reader.new.seen)) roots.now) }
     ensures closure { IfOk result
-        (λ reached. IsClosure (registered reader.new.seen) job.now.seeds.items reached.items) }
+        (λ reached. IsClosure (registered reader.new.seen) roots.now reached.items) }
     ensures err { IfErr result IsUnseen }
 {
-    match reader.closure(alloc, &job.seeds) {
+    match reader.closure(alloc, roots) {
         Ok(reached) => Ok(reached),
         Err(fault) => Err(of_reader(fault)),
     }

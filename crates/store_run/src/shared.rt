@@ -84,8 +84,9 @@ impl<O: Outlet, B: Build, S: Basis> Shared<O, B, S> {
     }
 
     // Has a reader see the list that the outlet shows. Then the paths that were permitted to a job
-    // of the book's by the list that the reader saw before are permitted after the book's
-    // entries. Refused where the view is gone. Costs one look.
+    // of the book's by the list that the reader saw before are permitted after the book's entries,
+    // and reach the same paths there, but for the job's outputs. Refused where the view is gone.
+    // Costs one look.
     pub(crate) fn catch_up<J: ListId>(
         &self,
         reader: &mut ViewReader<J>,

@@ -1,13 +1,17 @@
 //! What a worker finds of the outcome of a job, without a lock, by the list that its reader sees.
-ghost use Rattle.std.specs.Prelude.{◌≡◌, IfErr, IfOk, OnOk};
+ghost use Rattle.std.specs.Prelude.{◌≡◌, IfErr, IfOk, Ok, OnOk};
 ghost use Rattle.valid_view.specs.Shown.{IsShowable};
 ghost use Rattle.sched_core.specs.Books.{ArePermittedPaths, AreSeedsValid};
+ghost use Rattle.build_outcome.specs.Verdicts.{IsVerdict};
+ghost use Rattle.build_outcome.specs.declared.job.Answer.{Answer as AnAnswer};
 ghost use Rattle.store_run.specs.private.JobVerdicts.{IsFoundBy, IsToldOfSeeds, IsUnseen};
 
 use crate::job_verdict::JobVerdict;
 use crate::refusal::{RefusedCall, closure, permitted_beside};
+use crate::requisites::requisites;
+use build_outcome::test_outputs;
 use nix_names::StorePath;
-use sched_core::{Answer, Job, Lease, Reason, examine};
+use sched_core::{Answer, Checked, Job, Lease, Reason, examine};
 use std::alloc::Global;
 use valid_view::{ListId, Tells, ViewReader};
 
@@ -26,9 +30,10 @@ pub(crate) fn learn<J: ListId, O: Tells<J>>(reader: &mut ViewReader<J>, lease: &
 }
 
 // What is found of a job's outcome: the builder's reason why there is no answer, or the verdict on
-// the answer by the paths that are permitted to the job in the list that the reader sees. In place
-// of a verdict the refusal of the reader, or of memory. Costs the closure of the job's seeds and
-// one pass over what the builder left; takes no lock.
+// the answer, with the tests of its outputs, by the paths that are valid and those that are
+// permitted to the job in the list that the reader sees. In place of a verdict the refusal of the
+// reader, or of memory. Costs the closure of the job's seeds, one pass over what the builder left,
+// and where checks ask for them the closures of the outputs; takes no lock.
 pub(crate) fn verdict<J: ListId>(
     alloc: Global,
     reader: &mut ViewReader<J>,
@@ -42,9 +47,38 @@ pub(crate) fn verdict<J: ListId>(
         Ok(answer) => answer,
         Err(reason) => return JobVerdict::Unanswered(reason),
     };
-    match permitted(alloc, reader, job) {
-        Ok(permitted) => JobVerdict::Examined(examine(alloc, job, &permitted, answer)),
-        Err(refusal) => JobVerdict::Refused(refusal),
+    let permitted = match permitted(alloc, reader, job) {
+        Ok(permitted) => permitted,
+        Err(refusal) => return JobVerdict::Refused(refusal),
+    };
+    match examine(alloc, job, &permitted, answer) {
+        Ok(checked) => tested(alloc, reader, job, &permitted, checked),
+        Err(reason) => JobVerdict::Examined(Err(reason)),
+    }
+}
+
+// What is found of an answer with these records, by their tests.
+fn tested<J: ListId>(
+    alloc: Global,
+    reader: &mut ViewReader<J>,
+    job: &Job,
+    permitted: &[StorePath],
+    checked: Checked,
+) -> JobVerdict
+    requires showable { IsShowable reader.old.seen }
+    requires seeds { AreSeedsValid reader.old.seen job.now }
+    requires permitted { ArePermittedPaths reader.old.seen job.now permitted.now }
+    requires verdict { (answer : AnAnswer) × IsVerdict job.now permitted.now answer (Ok checked) }
+    ensures { (answer : AnAnswer) → IsVerdict job.now permitted.now answer (Ok checked)
+        → IsFoundBy reader.new.seen job.now (Ok answer) result }
+{
+    let lists = match requisites(alloc, reader, job, &checked) {
+        Ok(lists) => lists,
+        Err(refusal) => return JobVerdict::Refused(refusal),
+    };
+    match test_outputs(alloc, job, permitted, &checked, &lists) {
+        Ok(()) => JobVerdict::Examined(Ok(checked)),
+        Err(reason) => JobVerdict::Examined(Err(reason)),
     }
 }
 
@@ -62,6 +96,6 @@ fn permitted<J: ListId>(
         (λ paths. ArePermittedPaths reader.new.seen job.now paths.items) }
     ensures err { IfErr result IsUnseen }
 {
-    let reached = closure(alloc, reader, job)?;
+    let reached = closure(alloc, reader, &job.seeds)?;
     permitted_beside(alloc, reached, job)
 }

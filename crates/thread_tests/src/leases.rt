@@ -117,6 +117,8 @@ fn failed_for_each_reason(rt: HostRuntime) -> Result<(), Fail> {
         Reason::ReadFault,
         Reason::OutOfMemory,
         Reason::Killed,
+        Reason::NotAllowed(0, 1),
+        Reason::BadSpecifier(0),
     ] {
         let mut behaviour = by(1, u64::MAX, &[]);
         behaviour.reason = reason;

@@ -1,11 +1,8 @@
 //! The lines of derivations that are refused as `Unsupported`.
 ghost use Rattle.std.specs.Prelude.{◌≡◌, ◌<◌, ◌↔◌, ◌&&◌, ◌++◌, IfOk, OnOk, flat_map, length, map};
-ghost use Rattle.std.specs.List.{list_any};
-ghost use Rattle.nix_names.specs.Names.{same_bytes};
 ghost use Rattle.nix_drv.specs.Parts.{entry_of};
 ghost use Rattle.run_report.specs.Listing.{AreWithin, IsMarked};
 ghost use Rattle.run_report.specs.declared.listing.Listed.{Listed};
-ghost use Rattle.run_states.specs.Runs.{left_out_of, left_out_of_both};
 ghost use Rattle.nix_realise.specs.CauseLines.{AreCauseLines, IsCauseText, IsUnsupportedIn};
 ghost use Rattle.nix_realise.specs.CauseLines.{cause_line, cause_of, first_left_out, hint_of, is_refused_so, line_with};
 ghost use Rattle.nix_realise.specs.RootsStatus.{roots_status};
@@ -17,7 +14,7 @@ use drv_graph::{Plan, Profile};
 use nix_drv::{Derivation, EnvEntry};
 use nix_names::StorePath;
 use run_report::{Listed, marked_by_path};
-use run_states::System;
+use run_states::{System, is_left_out};
 use sched_core::{Book, Precondition, Refusal, standings_of, wanted_of};
 use std::alloc::{AllocError, Global};
 use valid_table::{Journal, Outlet};
@@ -137,28 +134,6 @@ fn first_left_out<'a>(profile: Profile, other: &'a [u8], env: &'a [EnvEntry]) ->
         }
     }
     other
-}
-
-// Whether a key asks for what a profile leaves out.
-fn is_left_out(profile: Profile, key: &[u8]) -> bool
-    ensures { result ≡ list_any (same_bytes key.now) (left_out_of profile) }
-{
-    match profile {
-        Profile::Plain => key == b"passAsFile".as_slice() || is_left_out_of_both(key),
-        Profile::Nix => is_left_out_of_both(key),
-    }
-}
-
-// Whether a key asks for what both profiles leave out.
-fn is_left_out_of_both(key: &[u8]) -> bool
-    ensures { result ≡ list_any (same_bytes key.now) left_out_of_both }
-{
-    key == b"__json".as_slice()
-        || key == b"exportReferencesGraph".as_slice()
-        || key == b"allowedReferences".as_slice()
-        || key == b"allowedRequisites".as_slice()
-        || key == b"disallowedReferences".as_slice()
-        || key == b"disallowedRequisites".as_slice()
 }
 
 // What a line ends with.

@@ -2,8 +2,8 @@
 ghost use Rattle.std.specs.Prelude.{◌≡◌, IfErr};
 ghost use Rattle.build_outcome.specs.declared.reason.Reason.TheVariants.{OutOfMemory};
 
-use crate::process::tokens::{tokens_of, value_in};
-use build_outcome::{Job, Reason};
+use crate::process::values::value_in;
+use build_outcome::{Job, Reason, tokens_of};
 use drv_graph::{Kind, Profile};
 use nix_drv::EnvEntry;
 use std::env::{Env, VarError};

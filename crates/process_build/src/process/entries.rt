@@ -10,8 +10,8 @@ ghost use Rattle.build_outcome.specs.declared.reason.Reason.TheVariants.{OutOfMe
 use crate::process::placeholders::digits_of;
 use crate::process::surroundings::Surroundings;
 use crate::process::texts::RawText;
-use crate::process::tokens::{is_among, tokens_of, value_in};
-use build_outcome::{Job, Reason};
+use crate::process::values::{is_among, value_in};
+use build_outcome::{Job, Reason, tokens_of};
 use drv_graph::{Kind, Profile};
 use nix_drv::EnvEntry;
 use sha2::{Digest, Sha256};

@@ -18,7 +18,7 @@ use crate::process::entries::{RawVar, entries_of, file_name, names_of_files};
 use crate::process::placeholders::Placeholders;
 use crate::process::surroundings::Surroundings;
 use crate::process::texts::{RawText, Text, text_of};
-use crate::process::tokens::is_among;
+use crate::process::values::is_among;
 use build_outcome::{Job, JobOutput, Reason};
 use drv_graph::Profile;
 use memchr::memrchr;

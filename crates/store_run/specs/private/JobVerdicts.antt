@@ -1,15 +1,21 @@
 -- What a worker finds of the job of its lease, by a list of entries that its reader sees (this
 -- product's own).
-use Rattle.std.specs.Prelude.{◌≡◌, ◌⊎◌, ℕ, List, Result, Ok, Err, MatchOption}
+use Rattle.std.specs.Prelude.{◌≡◌, ◌⊎◌, ℕ, All, Some, List, Result, Ok, Err, MatchOption, slice_get}
+use Rattle.std.specs.Global.{Vec}
 use Rattle.nix_names.specs.Bytes.{Path}
+use Rattle.valid_table.specs.Entries.{registered}
 use Rattle.valid_table.specs.PathInfos.{PathInfo}
+use Rattle.valid_table.specs.Valid.{IsValid}
 use Rattle.valid_table.specs.declared.entry.Entry.{Entry}
+use Rattle.valid_view.specs.Answers.{Knowing}
 use Rattle.valid_view.specs.Shown.{IsShowable}
 use Rattle.valid_view.specs.declared.fault.ViewFault.{ViewFault}
 use Rattle.valid_view.specs.declared.fault.ViewFault.TheVariants as view
 use Rattle.sched_core.specs.Books.{ArePermittedPaths, AreSeedsValid, IsBooksLease, Leased, Ledger}
 use Rattle.run_states.specs.declared.fault.BookFault.{BookFault}
 use Rattle.run_states.specs.declared.fault.BookFault.TheVariants.{NoMemory, NoView}
+use Rattle.build_outcome.specs.Checks.{AreRequisites, ReachAlike}
+use Rattle.build_outcome.specs.Verdicts.{outputs_of}
 use Rattle.build_outcome.specs.declared.job.Answer.{Answer}
 use Rattle.build_outcome.specs.declared.job.Job.{Job}
 use Rattle.build_outcome.specs.declared.reason.Reason.{Reason}
@@ -17,6 +23,21 @@ use Rattle.build_outcome.specs.declared.reason.Reason.TheVariants.{OutOfMemory}
 use Rattle.store_run.specs.Builders.{IsOutcomeVerdict}
 use Rattle.store_run.specs.declared.job_verdict.JobVerdict.{JobVerdict}
 use Rattle.store_run.specs.declared.job_verdict.JobVerdict.TheVariants.{Examined, Unanswered, Refused}
+
+-- each of some paths is valid by the list that a reader was told of, or by the one that it saw
+abbrev pub AreKnownValid : Knowing → List Path → Type 0
+AreKnownValid known paths = All (IsValid (registered known.told)) paths
+    ⊎ All (IsValid (registered known.seen)) paths
+
+-- a list of paths is the closure of the output with this number, by some entries
+abbrev pub IsClosureAt : List Entry → Job → List PathInfo → ℕ → List Path → Type 0
+IsClosureAt entries job infos n all = (own : Path) × (slice_get (outputs_of job) n ≡ Some own)
+    × AreRequisites (registered entries) job infos own all
+
+-- some lists are the closures of a job's first outputs, by some entries
+abbrev pub AreClosures : List Entry → Job → List PathInfo → List (Vec Path) → Type 0
+AreClosures entries job infos lists = (n : ℕ) (list : Vec Path) → slice_get lists n ≡ Some list
+    → IsClosureAt entries job infos n list.items
 
 -- a lease was told of a list by which all that its job is built from is valid
 abbrev pub IsToldOfSeeds : {Told : Type 0} → (names : Told → List Entry → Type 0) → Leased Told
@@ -62,14 +83,16 @@ pub record MayBeFound (may : Job → Result Answer Reason → Type 0) (seen : Li
   pub given : (outcome ≡ Err OutOfMemory) ⊎ may job outcome
   pub by : IsFoundBy seen job outcome found
 
--- the paths that are permitted to a job after some entries are permitted after others
+-- the paths that are permitted to a job after some entries are permitted after others, and reach the
+-- same paths, but for the job's own outputs
 abbrev pub StaysPermitted : (before after : List Entry) → Job → Type 0
 StaysPermitted before after job = (permitted : List Path) → ArePermittedPaths before job permitted
     → ArePermittedPaths after job permitted
+    × ReachAlike (registered before) (registered after) job permitted
 
 -- A reader has caught up with a book. Where a job of the book's has its seeds valid in the list
 -- that the reader saw, the paths that were permitted to it by that list are permitted after the
--- book's entries.
+-- book's entries, and reach the same there.
 abbrev pub HasCaughtUp : (seen : List Entry) → Ledger → Job → Type 0
 HasCaughtUp seen book job = (number : ℕ) → IsBooksLease book.run book.history job number
     → IsShowable seen → AreSeedsValid seen job → StaysPermitted seen book.history.entries job

@@ -264,10 +264,13 @@ impl Desk<'_> {
     }
 }
 
-// The reason that a word is: `Killed`, a status, or else want of memory.
+// The reason that a word is: one of these, with the numbers 1 where it has some; a status; or else
+// want of memory.
 fn reason_of(word: &[u8]) -> Reason {
     match word {
         b"Killed" => Reason::Killed,
+        b"NotAllowed" => Reason::NotAllowed(1, 1),
+        b"BadSpecifier" => Reason::BadSpecifier(1),
         word => status_of(word).map_or(Reason::OutOfMemory, Reason::ExitStatus),
     }
 }

@@ -4,7 +4,8 @@ use Rattle.std.proofs.lemmas.Iterator.Consumers.{YieldsList-at, YieldsList-from_
 use Rattle.std.proofs.lemmas.Iterator.Search.{position_from_yields_List}
 use Rattle.std.proofs.lemmas.Iterator.Splits.{YieldsList-from_slice_split}
 use Rattle.nix_names.specs.Bytes.{Bytes}
-use Rattle.run_states.specs.Systems.{is_space, offers, tokens}
+use Rattle.build_outcome.specs.Tokens.{is_space, tokens}
+use Rattle.run_states.specs.Systems.{offers}
 use Rattle.run_states.proofs.features.missing_feature.Goals as goal
 
 pub returns : goal.returns

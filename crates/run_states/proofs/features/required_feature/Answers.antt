@@ -3,7 +3,7 @@ use Rattle.std.specs.Prelude.{slice_get}
 use Rattle.std.proofs.lemmas.Iterator.Consumers.{YieldsList-at, YieldsList-from_filter, nth_from_yields_List}
 use Rattle.std.proofs.lemmas.Iterator.Splits.{YieldsList-from_slice_split}
 use Rattle.nix_names.specs.Bytes.{Bytes}
-use Rattle.run_states.specs.Systems.{is_space, tokens}
+use Rattle.build_outcome.specs.Tokens.{is_space, tokens}
 use Rattle.run_states.proofs.features.required_feature.Goals as goal
 
 pub returns : goal.returns

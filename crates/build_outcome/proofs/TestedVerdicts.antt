@@ -1,0 +1,294 @@
+-- There is one verdict with the tests, and it stays where what is reached stays.
+use Rattle.std.proofs.Common.{◌≡◌, ◌∙◌, inl, inr, ⊎_elim, ℕ, List, length, Some, refl, sym, ap, subst}
+use Rattle.std.specs.Prelude.{Contains, Result, Ok, Err}
+use Rattle.std.specs.List.{range_with_len, slice_get}
+use Rattle.std.proofs.lemmas.Option.{same_Some}
+use Rattle.nix_names.proofs.FirstElements.{first_contained, one_first}
+use Rattle.nix_names.proofs.Lists.{same_element}
+use Rattle.valid_table.specs.Closure.{Reaches}
+use Rattle.valid_table.specs.PathInfos.{PathInfo}
+use Rattle.valid_table.specs.declared.entry.Registration.{Registration}
+use Rattle.build_outcome.specs.Checks.{ArePassed, AreSpecifiers, Forbids, HasOneTestedVerdict, IsFirstPath, IsFirstTestFault, IsRequisite, IsTestFault, IsTestedVerdict, IsUsed, Of, OfFixed, RefersAt, Test, TestedVerdictStays, list_of, tests_of}
+use Rattle.build_outcome.specs.Verdicts.{AreRecords, IsVerdict, outputs_of}
+use Rattle.build_outcome.specs.declared.checks.check.Check.{Check}
+use Rattle.build_outcome.specs.declared.checks.check.Check.TheVariants.{AllowedReferences, AllowedRequisites, DisallowedReferences, DisallowedRequisites}
+use Rattle.build_outcome.specs.declared.job.Answer.{Answer}
+use Rattle.build_outcome.specs.declared.job.Job.{Job}
+use Rattle.build_outcome.specs.declared.reason.Reason.{Reason}
+use Rattle.build_outcome.specs.declared.reason.Reason.TheVariants.{NotAllowed, BadSpecifier}
+use Rattle.build_outcome.proofs.OneVerdict.{has_one_verdict}
+use Rattle.build_outcome.proofs.RisingPlaces.{first_alike}
+
+-- ---- one fault of a test
+
+module _ (registrations : List Registration) (job : Job) (permitted : List (List ℕ))
+    (infos : List PathInfo) where
+  -- Why a test isn't passed, by its cases.
+  data Fault : Test → Reason → Type 0 where
+    refers : (n place : ℕ)
+        → IsTestFault registrations job permitted infos (OfFixed n) (NotAllowed n place)
+        → Fault (OfFixed n) (NotAllowed n place)
+    stray : (n : ℕ) (check : Check)
+        → IsTestFault registrations job permitted infos (Of n check) (BadSpecifier n)
+        → Fault (Of n check) (BadSpecifier n)
+    barred : (n : ℕ) (check : Check) (place : ℕ)
+        → IsTestFault registrations job permitted infos (Of n check) (NotAllowed n place)
+        → Fault (Of n check) (NotAllowed n place)
+
+  fault_cases : (test : Test) (why : Reason)
+      → IsTestFault registrations job permitted infos test why → Fault test why
+  fault_cases (OfFixed n) (NotAllowed output place) fault =
+      subst (λ k. Fault (OfFixed n) (NotAllowed k place)) (sym fault.0)
+      (refers n place (refl, fault.1, fault.2))
+  fault_cases (Of n check) (BadSpecifier output) fault =
+      subst (λ k. Fault (Of n check) (BadSpecifier k)) (sym fault.0)
+      (stray n check (refl, fault.1))
+  fault_cases (Of n check) (NotAllowed output place) fault =
+      subst (λ k. Fault (Of n check) (NotAllowed k place)) (sym fault.0)
+      (barred n check place (refl, fault.1))
+  fault_cases test why fault = absurd fault
+
+  one_place : (Holds : List ℕ → Type 0) (a b : ℕ) → IsFirstPath permitted Holds a
+      → IsFirstPath permitted Holds b → a ≡ b
+  one_place Holds a b first first' =
+      one_first (λ n. ((p : List ℕ) × (slice_get permitted n ≡ Some p) × Holds p) → ⊥)
+      (λ n. (p : List ℕ) × (slice_get permitted n ≡ Some p) × Holds p)
+      (λ n not is. not is) (range_with_len 0 (length permitted)) a b first first'
+
+  same_list : (check : Check) (a b : List (List ℕ)) → list_of job check ≡ Some a
+      → list_of job check ≡ Some b → a ≡ b
+  same_list check a b is is' = same_Some a b (sym is ∙ is')
+
+  clash : (n : ℕ) (check : Check) (place : ℕ)
+      → IsTestFault registrations job permitted infos (Of n check) (BadSpecifier n)
+      → IsTestFault registrations job permitted infos (Of n check) (NotAllowed n place) → ⊥
+  clash n check place (e, (own, list, at, listed, not)) (e', (own', list', at', listed', all, first))
+      =
+      let owns : own' ≡ own = same_element (outputs_of job) n own' own at' at in
+      let lists : list' ≡ list = same_list check list' list listed' listed in
+      not (subst (λ (o : List ℕ). AreSpecifiers job o list) owns
+      (subst (λ (l : List (List ℕ)). AreSpecifiers job own' l) lists all))
+
+  one_barred : (n : ℕ) (check : Check) (place place' : ℕ)
+      → IsTestFault registrations job permitted infos (Of n check) (NotAllowed n place)
+      → IsTestFault registrations job permitted infos (Of n check) (NotAllowed n place')
+      → place ≡ place'
+  one_barred n check place place' (e, (own, list, at, listed, all, first))
+      (e', (own', list', at', listed', all', first')) =
+      let owns : own' ≡ own = same_element (outputs_of job) n own' own at' at in
+      let lists : list' ≡ list = same_list check list' list listed' listed in
+      one_place (λ path. IsUsed registrations job infos check n own path
+      × Forbids job own check list path) place place' first
+      (subst (λ (o : List ℕ). IsFirstPath permitted
+      (λ path. IsUsed registrations job infos check n o path × Forbids job o check list path)
+      place') owns
+      (subst (λ (l : List (List ℕ)). IsFirstPath permitted
+      (λ path. IsUsed registrations job infos check n own' path × Forbids job own' check l path)
+      place') lists first'))
+
+  one_fault : (test : Test) (a b : Reason) → Fault test a → Fault test b → a ≡ b
+  one_fault _ _ _ (refers n place fault) (refers _ place' fault') =
+      ap (NotAllowed n) (one_place _ place place' fault.2 fault'.2)
+  one_fault _ _ _ (stray n check fault) (stray _ _ fault') = refl
+  one_fault _ _ _ (stray n check fault) (barred _ _ place fault') =
+      absurd (clash n check place fault fault')
+  one_fault _ _ _ (barred n check place fault) (stray _ _ fault') =
+      absurd (clash n check place fault' fault)
+  one_fault _ _ _ (barred n check place fault) (barred _ _ place' fault') =
+      ap (NotAllowed n) (one_barred n check place place' fault fault')
+
+  abbrev Failing : Test → Type 0
+  Failing test = (why : Reason) × IsTestFault registrations job permitted infos test why
+
+  pub one_first_fault : (a b : Reason) → IsFirstTestFault registrations job permitted infos a
+      → IsFirstTestFault registrations job permitted infos b → a ≡ b
+  one_first_fault a b (test, first, fault) (test', first', fault') =
+      let same : test' ≡ test = one_first (λ t. Failing t → ⊥) Failing (λ t not is. not is)
+      (tests_of job) test' test first' first in
+      one_fault test a b (fault_cases test a fault)
+      (fault_cases test b
+      (subst (λ (t : Test). IsTestFault registrations job permitted infos t b) same fault'))
+
+  pub passed_or_failed : (why : Reason) → ArePassed registrations job permitted infos
+      → IsFirstTestFault registrations job permitted infos why → ⊥
+  passed_or_failed why passed (test, first, fault) =
+      passed test why (first_contained (λ t. Failing t → ⊥) Failing (tests_of job) test first) fault
+
+-- ---- one verdict
+
+module _ (registrations : List Registration) (job : Job) (permitted : List (List ℕ))
+    (answer : Answer) where
+  one_verdict : (a b : Result (List PathInfo) Reason) → IsVerdict job permitted answer a
+      → IsVerdict job permitted answer b → a ≡ b
+  one_verdict = has_one_verdict job permitted answer
+
+  same_infos : (a b : List PathInfo) → IsVerdict job permitted answer (Ok a)
+      → IsVerdict job permitted answer (Ok b) → a ≡ b
+  same_infos a b verdict verdict' =
+      let same = one_verdict (Ok a) (Ok b) verdict verdict' in cc
+
+  ok_and_err : (a : List PathInfo) (why : Reason) → IsVerdict job permitted answer (Ok a)
+      → IsVerdict job permitted answer (Err why) → ⊥
+  ok_and_err a why verdict verdict' =
+      let same = one_verdict (Ok a) (Err why) verdict verdict' in absurd cc
+
+  ok_and_failed : (a b : List PathInfo) (why : Reason) → IsVerdict job permitted answer (Ok a)
+      → ArePassed registrations job permitted a → IsVerdict job permitted answer (Ok b)
+      → IsFirstTestFault registrations job permitted b why → ⊥
+  ok_and_failed a b why verdict passed verdict' failed =
+      passed_or_failed registrations job permitted a why passed
+      (subst (λ (i : List PathInfo). IsFirstTestFault registrations job permitted i why)
+      (same_infos b a verdict' verdict) failed)
+
+  pub one_tested : (a b : Result (List PathInfo) Reason)
+      → IsTestedVerdict registrations job permitted answer a
+      → IsTestedVerdict registrations job permitted answer b → a ≡ b
+  one_tested (Ok a) (Ok b) told told' = ap Ok (same_infos a b told.0 told'.0)
+  one_tested (Ok a) (Err why) told told' = ⊎_elim
+      (λ verdict. absurd (ok_and_err a why told.0 verdict))
+      (λ h. absurd (ok_and_failed a h.0 why told.0 told.1 h.1 h.2))
+      told'
+  one_tested (Err why) (Ok b) told told' = ⊎_elim
+      (λ verdict. absurd (ok_and_err b why told'.0 verdict))
+      (λ h. absurd (ok_and_failed b h.0 why told'.0 told'.1 h.1 h.2))
+      told
+  one_tested (Err why) (Err other) told told' = ⊎_elim
+      (λ verdict. ⊎_elim
+      (λ verdict'. one_verdict (Err why) (Err other) verdict verdict')
+      (λ h. absurd (ok_and_err h.0 why h.1 verdict))
+      told')
+      (λ h. ⊎_elim
+      (λ verdict'. absurd (ok_and_err h.0 other h.1 verdict'))
+      (λ h'. ap Err (one_first_fault registrations job permitted h.0 why other h.2
+      (subst (λ (i : List PathInfo). IsFirstTestFault registrations job permitted i other)
+      (same_infos h'.0 h.0 h'.1 h.1) h'.2)))
+      told')
+      told
+
+pub has_one_tested_verdict : HasOneTestedVerdict
+has_one_tested_verdict registrations job permitted answer a b told told' =
+    one_tested registrations job permitted answer a b told told'
+
+-- ---- it stays
+
+-- what permitted paths reach by one list of valid paths they reach by the other
+abbrev Carries : (registrations others : List Registration) → Job → (permitted : List (List ℕ))
+    → Type 0
+Carries registrations others job permitted = (from to : List ℕ) → Contains permitted from
+    → (Contains (outputs_of job) from → ⊥) → Reaches registrations from to → Reaches others from to
+
+-- what outputs refer to is permitted
+abbrev AreAllPermitted : (permitted : List (List ℕ)) → List PathInfo → Type 0
+AreAllPermitted permitted infos =
+    (n : ℕ) (path : List ℕ) → RefersAt infos n path → Contains permitted path
+
+used_carried : (registrations others : List Registration) (job : Job)
+    (permitted : List (List ℕ)) (infos : List PathInfo)
+    → Carries registrations others job permitted → AreAllPermitted permitted infos
+    → (check : Check) (n : ℕ) (own path : List ℕ)
+    → IsUsed registrations job infos check n own path → IsUsed others job infos check n own path
+used_carried registrations others job permitted infos carries refer = used
+  where
+    requisite : (own path : List ℕ) → IsRequisite registrations job infos own path
+        → IsRequisite others job infos own path
+    requisite own path is = ⊎_elim inl
+        (λ h. inr (h.0, h.1, carries h.0 path (refer h.1.0 h.0 h.1.4) h.1.5 h.2)) is
+
+    used : (check : Check) (n : ℕ) (own path : List ℕ)
+        → IsUsed registrations job infos check n own path
+        → IsUsed others job infos check n own path
+    used AllowedReferences n own path is = is
+    used DisallowedReferences n own path is = is
+    used AllowedRequisites n own path is = (requisite own path is.0, is.1)
+    used DisallowedRequisites n own path is = (requisite own path is.0, is.1)
+
+fault_carried : (registrations others : List Registration) (job : Job)
+    (permitted : List (List ℕ)) (infos : List PathInfo)
+    → Carries registrations others job permitted → Carries others registrations job permitted
+    → AreAllPermitted permitted infos → (test : Test) (why : Reason)
+    → IsTestFault registrations job permitted infos test why
+    → IsTestFault others job permitted infos test why
+fault_carried registrations others job permitted infos there back refer = carried
+  where
+    carried : (test : Test) (why : Reason)
+        → IsTestFault registrations job permitted infos test why
+        → IsTestFault others job permitted infos test why
+    carried (OfFixed n) (NotAllowed output place) fault = fault
+    carried (Of n check) (BadSpecifier output) fault = fault
+    carried (Of n check) (NotAllowed output place) (e, (own, list, at, listed, all, first)) = (
+      e,
+      (
+        own,
+        list,
+        at,
+        listed,
+        all,
+        first_alike permitted
+            (λ path. IsUsed registrations job infos check n own path × Forbids job own check list path)
+            (λ path. IsUsed others job infos check n own path × Forbids job own check list path) place
+            (λ path. (
+              λ h. (
+                used_carried registrations others job permitted infos there refer check n own path h.0,
+                h.1,
+              ),
+              λ h. (
+                used_carried others registrations job permitted infos back refer check n own path h.0,
+                h.1,
+              ),
+            )) first,
+      ),
+    )
+    carried test why fault = absurd fault
+
+refer_permitted : (job : Job) (permitted : List (List ℕ)) (answer : Answer)
+    (infos : List PathInfo) → AreRecords job permitted answer infos
+    → AreAllPermitted permitted infos
+refer_permitted job permitted answer infos records n path (info, at, has) =
+    (((records.each n info at).2.found.each path).0 has).0
+
+pub tested_verdict_stays : TestedVerdictStays
+tested_verdict_stays registrations others job permitted answer verdict alike told =
+    stays verdict told
+  where
+    there : Carries registrations others job permitted
+    there from to has none = (alike from to has none).0
+
+    back : Carries others registrations job permitted
+    back from to has none = (alike from to has none).1
+
+    stays : (verdict : Result (List PathInfo) Reason)
+        → IsTestedVerdict registrations job permitted answer verdict
+        → IsTestedVerdict others job permitted answer verdict
+    stays (Ok infos) (is, passed) = (
+      is,
+      λ test why has fault. passed test why has
+          (fault_carried others registrations job permitted infos back there
+          (refer_permitted job permitted answer infos is.1) test why fault),
+    )
+    stays (Err why) told = ⊎_elim inl
+        (λ h.
+        let refer = refer_permitted job permitted answer h.0 h.1.1 in
+        inr (
+          h.0,
+          h.1,
+          (
+            h.2.0,
+            record {
+              before = h.2.1.before;
+              after = h.2.1.after;
+              parts = h.2.1.parts;
+              others = λ k d low f. h.2.1.others k d low (
+                f.0,
+                fault_carried others registrations job
+                    permitted h.0 back there refer _ f.0 f.1,
+              );
+              is = (
+                h.2.1.is.0,
+                fault_carried registrations others job permitted h.0 there back refer h.2.0
+                    h.2.1.is.0 h.2.1.is.1,
+              );
+            },
+            fault_carried registrations others job permitted h.0 there back refer h.2.0 why h.2.2,
+          ),
+        ))
+        told

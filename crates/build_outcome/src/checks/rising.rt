@@ -1,0 +1,36 @@
+//! Paths in rising order, and where a path stands among them.
+ghost use Rattle.std.specs.Prelude.{◌≡◌, ◌↔◌, Contains, IsTrue, List, MatchOption, Some, slice_get, ℕ};
+ghost use Rattle.nix_names.specs.Rising.{IsRising};
+
+use nix_names::StorePath;
+
+// The same paths, once each, by path. Costs one sort.
+pub(crate) fn by_path(paths: Vec<StorePath>) -> Vec<StorePath>
+    ensures rising { IsRising result.items }
+    ensures same { (path : List ℕ) → Contains result.items path ↔ Contains paths.items path }
+{
+    let mut sorted = paths;
+    sorted.sort_unstable();
+    sorted.dedup();
+    sorted
+}
+
+// The place of a path among paths in rising order. Costs a binary search.
+pub(crate) fn place_among(paths: &[StorePath], path: &StorePath) -> Option<usize>
+    requires { IsRising paths.now }
+    ensures { MatchOption result (Contains paths.now path.now → ⊥)
+        (λ place. slice_get paths.now place ≡ Some path.now) }
+{
+    match paths.binary_search(path) {
+        Ok(place) => Some(place),
+        Err(_) => None,
+    }
+}
+
+// Whether a path is one of some paths in rising order. Costs a binary search.
+pub(crate) fn is_among(paths: &[StorePath], path: &StorePath) -> bool
+    requires { IsRising paths.now }
+    ensures { IsTrue result ↔ Contains paths.now path.now }
+{
+    place_among(paths, path).is_some()
+}

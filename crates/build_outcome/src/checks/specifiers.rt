@@ -1,0 +1,120 @@
+//! The paths that a list of specifiers names.
+ghost use Rattle.std.specs.Prelude.{IfOk, List, ℕ};
+ghost use Rattle.nix_names.specs.Names.{IsStoreDir};
+ghost use Rattle.nix_names.specs.StorePaths.{IsPathOf};
+ghost use Rattle.build_outcome.specs.Tokens.{tokens};
+ghost use Rattle.build_outcome.specs.private.Listing.{AddsNamed, AddsSpecified, IsWithoutSlash, TellsListed, TellsPath};
+
+use crate::checks::rising::by_path;
+use crate::checks::tokens::tokens_of;
+use crate::job::{Job, JobOutput};
+use nix_names::{NameFault, StoreDir, StorePath, parse_path};
+use std::alloc::{AllocError, Global};
+
+// The paths that a list names for the output at `own`, in rising order; none where a specifier in
+// it names no path. Costs one pass, a copy of each path in two allocations, and one sort.
+pub(crate) fn paths_listed(
+    alloc: Global,
+    job: &Job,
+    own: &StorePath,
+    list: &[u8],
+) -> Result<Option<Vec<StorePath>>, AllocError>
+    ensures { IfOk result (TellsListed job.now own.now (tokens list.now)) }
+{
+    let dir = folder_of(alloc, own)?;
+    let specifiers = tokens_of(alloc, list)?;
+    let mut named = Vec::new(alloc);
+    for specifier in &specifiers {
+        if !add_specified(alloc, job, &dir, specifier, &mut named)? {
+            return Ok(None);
+        }
+    }
+    Ok(Some(by_path(named)))
+}
+
+// Adds the paths that a specifier names for an output in this folder. Whether there are any.
+fn add_specified(
+    alloc: Global,
+    job: &Job,
+    dir: &StoreDir,
+    specifier: &[u8],
+    named: &mut Vec<StorePath>,
+) -> Result<bool, AllocError>
+    ensures { IfOk result (λ some. (own : List ℕ) → IsPathOf dir.now own
+        → AddsSpecified job.now own specifier.now named.old.items named.new.items some) }
+{
+    match path_told(alloc, dir, specifier)? {
+        Some(path) => {
+            named.push(path)?;
+            Ok(true)
+        }
+        None => add_named(alloc, &job.outputs, specifier, named),
+    }
+}
+
+// Adds the paths of the outputs with this name. Whether there are any.
+fn add_named(
+    alloc: Global,
+    outputs: &[JobOutput],
+    name: &[u8],
+    named: &mut Vec<StorePath>,
+) -> Result<bool, AllocError>
+    ensures { IfOk result
+        (AddsNamed outputs.now name.now named.old.items named.new.items) }
+{
+    let mut some = false;
+    for output in outputs {
+        if output.name.as_slice() == name {
+            named.push(output.path.copy(alloc)?)?;
+            some = true;
+        }
+    }
+    Ok(some)
+}
+
+// The path of the folder that a text is, save for a slash at its end.
+fn path_told(alloc: Global, dir: &StoreDir, text: &[u8]) -> Result<Option<StorePath>, AllocError>
+    ensures { IfOk result (TellsPath dir.now text.now) }
+{
+    match parse_path(alloc, dir, without_slash(text)) {
+        Ok(path) => Ok(Some(path)),
+        Err(fault) => match fault {
+            NameFault::NoMemory => Err(AllocError),
+            _ => Ok(None),
+        },
+    }
+}
+
+// A text without a slash at its end.
+fn without_slash(text: &[u8]) -> &[u8]
+    ensures { IsWithoutSlash text.now result.now }
+{
+    match text.split_last() {
+        Some((b'/', front)) => front,
+        _ => text,
+    }
+}
+
+// The folder in which a path stands.
+fn folder_of(alloc: Global, path: &StorePath) -> Result<StoreDir, AllocError>
+    ensures { IfOk result (λ dir. IsPathOf dir path.now) }
+{
+    match StoreDir::new(alloc, folder_text(path)) {
+        Ok(dir) => Ok(dir),
+        Err(fault) => match fault {
+            NameFault::NoMemory => Err(AllocError),
+            // A path stands in a folder.
+            _ => unreachable!(),
+        },
+    }
+}
+
+// The text of the folder in which a path stands.
+fn folder_text(path: &StorePath) -> &[u8]
+    ensures dir { IsStoreDir result.now }
+    ensures path { IsPathOf result.now path.now }
+{
+    let text = path.text();
+    let base = path.hash_part().len() + 1 + path.name().len();
+    &text[..text.len() - base - 1]
+}

@@ -1,0 +1,105 @@
+//! The paths that an output uses, and the first that a check bars.
+ghost use Rattle.std.specs.Prelude.{[], ◌≡◌, ◌≢◌, ◌<◌, ◌↔◌, All, Contains, IsTrue, List, MatchOption, None, Some, length, slice_get, ℕ};
+ghost use Rattle.nix_names.specs.Rising.{IsRising};
+ghost use Rattle.drv_graph.specs.declared.profile.Profile.TheVariants.{Nix};
+ghost use Rattle.build_outcome.specs.Checks.{HaveRequisites, IsFirstPath, list_of};
+ghost use Rattle.build_outcome.specs.Verdicts.{outputs_of};
+ghost use Rattle.build_outcome.specs.private.Testing.{AreTestable, AreUsed, IsBarred, bars};
+
+use crate::checks::check::Check;
+use crate::checks::rising::{is_among, place_among};
+use nix_names::StorePath;
+use valid_table::Record;
+
+// The paths that the output with this number may use by a check: its references, or those of its
+// closure.
+pub(crate) fn used_by<'a>(
+    records: &'a [Record],
+    requisites: &'a [Vec<StorePath>],
+    n: usize,
+    check: Check,
+) -> &'a [StorePath]
+    requires { n < length records.now }
+    ensures testable { (job : _) (permitted : List (List ℕ))
+        → AreTestable job permitted records.now requisites.now
+        → IsRising result.now × All (Contains permitted) result.now }
+    ensures used { (registrations : _) (job : _) (own : List ℕ)
+        → HaveRequisites registrations job records.now requisites.now → job.profile ≡ Nix
+        → list_of job check ≢ None → slice_get (outputs_of job) n ≡ Some own
+        → AreUsed registrations job records.now check n own result.now }
+{
+    match check {
+        Check::AllowedReferences | Check::DisallowedReferences => records[n].references(),
+        Check::AllowedRequisites | Check::DisallowedRequisites => requisites_at(requisites, n),
+    }
+}
+
+// The paths in the list with this number, if there is one.
+fn requisites_at(requisites: &[Vec<StorePath>], n: usize) -> &[StorePath]
+    ensures some { (all : _) → slice_get requisites.now n ≡ Some all → result.now ≡ all.items }
+    ensures none { slice_get requisites.now n ≡ None → result.now ≡ [] }
+{
+    match requisites.get(n) {
+        Some(all) => all,
+        None => &[],
+    }
+}
+
+// The place of the first of these paths among the permitted ones, if there are any.
+pub(crate) fn first_place(permitted: &[StorePath], paths: &[StorePath]) -> Option<usize>
+    requires permitted { IsRising permitted.now }
+    requires paths { IsRising paths.now × All (Contains permitted.now) paths.now }
+    ensures { MatchOption result ((path : List ℕ) → Contains paths.now path → ⊥)
+        (λ place. IsFirstPath permitted.now (λ path. Contains paths.now path) place) }
+{
+    match paths.first() {
+        Some(first) => place_among(permitted, first),
+        None => None,
+    }
+}
+
+// The place, among the permitted paths, of the first path used that a check bars, where its list
+// names these paths. Costs a binary search for each path used.
+pub(crate) fn first_barred(
+    permitted: &[StorePath],
+    used: &[StorePath],
+    check: Check,
+    own: &StorePath,
+    named: &[StorePath],
+) -> Option<usize>
+    requires permitted { IsRising permitted.now }
+    requires used { IsRising used.now × All (Contains permitted.now) used.now }
+    requires named { IsRising named.now }
+    ensures { MatchOption result ((path : List ℕ) → Contains used.now path
+        → IsBarred named.now check own.now path → ⊥)
+        (λ place. IsFirstPath permitted.now
+        (λ path. Contains used.now path × IsBarred named.now check own.now path) place) }
+{
+    for path in used {
+        if is_barred(named, check, own, path) {
+            return place_among(permitted, path);
+        }
+    }
+    None
+}
+
+// Whether a check, whose list names these paths, bars a path that the output at `own` may use.
+fn is_barred(named: &[StorePath], check: Check, own: &StorePath, path: &StorePath) -> bool
+    requires { IsRising named.now }
+    ensures { IsTrue result ↔ IsBarred named.now check own.now path.now }
+{
+    bars(check, is_among(named, path), path == own)
+}
+
+// Whether a check bars a path, by whether its list names the path, and whether the path is the
+// output's own.
+fn bars(check: Check, is_named: bool, is_own: bool) -> bool
+    ensures { result ≡ bars check is_named is_own }
+{
+    match check {
+        Check::AllowedReferences => !is_named,
+        Check::AllowedRequisites => !is_named && !is_own,
+        Check::DisallowedReferences => is_named,
+        Check::DisallowedRequisites => is_named && !is_own,
+    }
+}
