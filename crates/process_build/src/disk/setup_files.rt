@@ -7,17 +7,17 @@ use crate::disk::outputs::join_path;
 use crate::process::setup::SetupFile;
 use crate::reasons::no_start;
 use build_outcome::Reason;
-use std::fs::File;
+use std::fs::{File, OpenFile, Permissions};
 use std::io;
 use std::io::Write;
-use std::os::unix::fs::OpenOptionsExt;
+use std::os::unix::fs::PermissionsExt;
 use std::rt::Files;
 
 // All may read a file of a builder, and its owner may write it.
 const OWNER_WRITES: u32 = 0o644;
 
 /// Writes the files of a builder into its folder, each as a new one: nothing is followed or replaced
-/// that lies at its path. `NoStart` where one can't be written.
+/// that lies at its path. Each has the mode 0644. `NoStart` where one can't be written.
 pub fn write_files<R: Files + AllocGlobal>(
     rt: &R,
     folder: &BuildFolder,
@@ -32,10 +32,10 @@ pub fn write_files<R: Files + AllocGlobal>(
     Ok(())
 }
 
-// Makes a file with these bytes at a path at which nothing lies.
+// Makes a file with these bytes at a path at which nothing lies. The umask of the run takes nothing
+// from its mode.
 fn write_new<R: Files>(rt: &R, path: &str, bytes: &[u8]) -> io::Result<()> {
-    let mut options = File::options();
-    options.write(true).create_new(true).mode(OWNER_WRITES);
-    let mut file = options.open(rt, path)?;
-    file.write_all(bytes)
+    let mut file = File::create_new(rt, path)?;
+    file.write_all(bytes)?;
+    file.set_permissions(Permissions::from_mode(OWNER_WRITES))
 }
