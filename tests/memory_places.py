@@ -27,6 +27,9 @@ process_build/src/failures.rt from
 process_build/src/disk/outputs.rt most_below | Profile :: Nix => usize :: MAX , # no limit under nix
 process_build/src/disk/outputs.rt new | Profile :: Nix => ( usize :: MAX , usize :: MAX ) , # the same
 valid_table/src/nar.rt new | if size > i64 :: MAX as u64 { # no length of an archive is as great
+process_build/src/disk/kept_folders.rt note_suffix
+    | kept . resize ( number . checked_add ( 1 ) . ok_or ( AllocError ) ? , None ) ?
+    # the places of the leases so far; no memory has 2^64
 process_build/src/process/caller.rt caller_value
     | Err ( VarError :: OutOfMemory ) => Err ( Reason :: OutOfMemory ) , # std was refused memory
 process_build/src/process/processes.rt may_have_run

@@ -273,7 +273,7 @@ class RealiseByRunner(Realise):
             own = [it for it in calls[:at] if it.thread == calls[at].thread]
             made = [it.path for it in own if it.kind == "make-folder" and not it.is_refused]
             self.kept = os.path.relpath(made[-1], self.folder).removeprefix("store/")
-            err += "" if self.entries else f"nix_realise: {drv}: kept {made[-1]}\n"
+            err += f"nix_realise: {drv}: kept {made[-1]}\n"
         return status, out, err
 
     def is_stated(self, told):
@@ -292,7 +292,7 @@ class RealiseByRunner(Realise):
 
 class RealiseUnderNix(RealiseByRunner):
     """The same under the profile `nix`, with a file that is passed, a link, and a folder for build
-    folders, in which the first name is taken. Of a folder that is kept no line is told."""
+    folders, in which the first name is taken."""
 
     name = "realise under nix"
     options = (*RealiseByRunner.options, *"--profile nix --build-dir BUILD --cores 3".split())
@@ -317,7 +317,7 @@ class RealiseUnderNix(RealiseByRunner):
             return "path of the store"
         if call.path == "/dev/kvm":
             return "feature kvm"
-        if "/nix-build-" in call.path and call.kind in ("create", "write"):
+        if "/nix-build-" in call.path and call.kind in ("create", "write", "permissions"):
             return "start"
         return super().place_of(calls, at)
 

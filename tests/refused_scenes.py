@@ -64,7 +64,7 @@ ROWS = [
     ("realise", "look open-folder remove", "taken place", "ever", "new"),
     ("realise", "look rename", "name aside", "NoStart", "less"),
     ("realise", "look rename open-folder list remove", "folder aside", "ever", "moved"),
-    ("realise", "make-folder create write open spawn", "start", "NoStart", "less"),
+    ("realise", "make-folder create write permissions open spawn", "start", "NoStart", "less"),
     ("realise", "wait", "end", "ReadFault", "less"),
     ("realise", READING + " permissions read-link open-folder list", "output", "ReadFault", "less"),
     ("realise", "look open-folder remove", "build folder", "ever", "new"),

@@ -7,7 +7,6 @@ pub mod EventPlaces
 pub mod HeardArchives
 pub mod Inputs
 pub mod Journals
-pub mod KeptLeases
 pub mod LastLines
 pub mod ReaderEnds
 pub mod Registrations

@@ -1,5 +1,5 @@
 -- How a run of `realise` ends: its status, and what was printed.
-use Rattle.std.specs.Prelude.{◌≡◌, ◌⊎◌, ◌≤◌, ◌<◌, ℕ, Bool, List, Option, Some, Result, Ok, Err, is_some, length}
+use Rattle.std.specs.Prelude.{◌≡◌, ◌⊎◌, ◌≤◌, ◌<◌, Bool, Option, Some, Result, Ok, Err, is_some, length}
 use Rattle.std.specs.Io.KnownBytes.{Appends}
 use Rattle.nix_names.specs.Bytes.{Bytes}
 use Rattle.drv_graph.specs.Plans.{Graph}
@@ -32,6 +32,7 @@ use Rattle.nix_realise.specs.declared.cli.run_error.RunError.TheVariants.{Journa
 use Rattle.nix_realise.specs.declared.cli.run_error.RunError.TheVariants.{NoMemory, Run, Unwritable}
 use Rattle.nix_realise.specs.declared.asking.task.Task.{Task}
 use Rattle.nix_realise.specs.declared.io.trace_file.TracedRun.{TracedRun}
+use Rattle.nix_realise.specs.declared.words.kept_lines.KeptBuilds.{KeptBuilds}
 
 -- what a builder may give for a job
 abbrev pub May : Type 1
@@ -68,7 +69,7 @@ abbrev pub BookEnds : RealiseRequest → Ledger → (before after : Option Bytes
 BookEnds request book before after (Ok finish) =
     ((text : Bytes) × IsReportIn book.run book.history text × Appends before after text)
     × (finish.status ≡ roots_status book.run book.history)
-    × ((kept : List ℕ) × AreKeptFor request kept
+    × ((kept : KeptBuilds) × AreKeptFor request kept
     × IsLastText request book.run book.history kept (last_text finish))
     × HasShortText book
 BookEnds request book before after (Err JournalTooLong) =

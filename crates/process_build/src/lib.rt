@@ -37,7 +37,7 @@ pub use observe::with_trace::WithTrace;
 pub use process::builders::Builders;
 pub use process::builtins::BuiltinProgram;
 pub use process::drv_paths::DrvPaths;
-pub use process::lease::{EndedLease, LeaseTimes};
+pub use process::lease::{EndedLease, LeaseTimes, drv_name};
 pub use process::options::BuildOptions;
 pub use process::processes::{ProcessBuild, ProcessBuilders};
 pub use walk::fault::WalkFault;

@@ -1,6 +1,6 @@
 //! The subcommand `realise`.
-ghost use Rattle.std.specs.Prelude.{◌≡◌, All, IfErr, IfOk, List, is_some, length, option_map};
-ghost use Rattle.std.specs.Prelude.{string_bytes, true};
+ghost use Rattle.std.specs.Prelude.{◌≡◌, [], All, IfErr, IfOk, List, is_some, length, option_map};
+ghost use Rattle.std.specs.Prelude.{false, string_bytes, true};
 ghost use Rattle.std.proofs.Props.{props};
 ghost use Rattle.nix_names.specs.Bytes.{Bytes};
 ghost use Rattle.valid_table.specs.declared.entry.Entry.{Entry};
@@ -33,9 +33,9 @@ use crate::io::logs_folder::{LogsFolder, logs_folder};
 use crate::io::nix_store::allow;
 use crate::io::trace_file::{TraceFile, TracedRun};
 use crate::io::whole_file::WriteProbe;
+use crate::words::kept_lines::KeptBuilds;
 use crate::words::last_lines::last_lines;
 use command_line::RealiseRequest;
-use drv_graph::Profile;
 use process_build::{BuildOptions, Builders, DrvPaths, KeptFolders, WithTrace, remove_left};
 use run_states::System;
 use sched_core::Book;
@@ -337,21 +337,31 @@ impl<'a, R: Files + AllocGlobal + Wait> Realisation<'a, '_, '_, R> {
         let written = self.file.write(self.rt, &bytes)?;
         let report = report_of(self.request, book, written)?;
         let (kept, opening) = (self.take_kept(), self.task.journal());
-        let lines = last_lines(self.rt.alloc(), self.request, book, kept, opening)?;
+        let lines = last_lines(self.rt.alloc(), self.request, book, &kept, opening)?;
         match print_bytes(&report, out) {
             Ok(()) => Ok(Outcome::with(roots_status(book), lines)),
             Err(_) => Err(RunError::Unwritable),
         }
     }
 
-    // The leases whose build folders were kept: none where the request doesn't ask for them, and none
-    // under `nix`, where a folder's path doesn't tell the number of its lease.
-    fn take_kept(&self) -> Vec<u64>
-        ensures { AreKeptFor self.now.request.now result.items }
+    // The build folders that were kept.
+    fn take_kept(&self) -> KeptBuilds<'_>
+        ensures { AreKeptFor self.now.request.now result }
     {
-        match (&self.kept, self.request.run.profile) {
-            (Some(kept), Profile::Plain) => kept.take(self.rt),
-            _ => Vec::new(self.rt.alloc()),
+        KeptBuilds {
+            build_dir: self.tools.build_dir(),
+            suffixes: self.take_suffixes(),
+        }
+    }
+
+    // The numbers at the ends of their names, by the numbers of their leases: none where the request
+    // doesn't ask for them.
+    fn take_suffixes(&self) -> Vec<Option<u64>>
+        ensures { self.now.request.now.keep_failed ≡ false → result.items ≡ [] }
+    {
+        match &self.kept {
+            Some(kept) => kept.take(self.rt),
+            None => Vec::new(self.rt.alloc()),
         }
     }
 }

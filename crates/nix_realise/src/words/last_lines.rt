@@ -11,7 +11,7 @@ use crate::building::summary::roots_status;
 use crate::cli::exit::Status;
 use crate::words::cause_lines::cause_lines;
 use crate::words::drv_line::write_front;
-use crate::words::kept_lines::kept_lines;
+use crate::words::kept_lines::{KeptBuilds, kept_lines};
 use command_line::RealiseRequest;
 use drv_graph::Plan;
 use nix_names::StorePath;
@@ -21,24 +21,23 @@ use std::alloc::{AllocError, Global};
 use valid_table::{Journal, Outlet};
 
 /// The lines that standard error gets at the end of a run with this book, which opened with the
-/// entries of this journal, and in which the build folders of the leases with these numbers were
-/// kept. The first are the lines of the derivations that failed, by path, where logs were asked for
-/// and a root was not realised; then come those of the folders of leases under which a derivation
-/// failed, by its path, and those of the derivations that are refused as `Unsupported`, by path,
-/// where a root was not realised.
+/// entries of this journal, and which kept these build folders. The first are the lines of the
+/// derivations that failed, by path, where logs were asked for and a root was not realised; then
+/// come those of the folders of leases under which a derivation failed, by its path, and those of
+/// the derivations that are refused as `Unsupported`, by path, where a root was not realised.
 pub fn last_lines<V: Outlet>(
     alloc: Global,
     request: &RealiseRequest<'_>,
     book: &Book<V>,
-    kept: Vec<u64>,
+    kept: &KeptBuilds<'_>,
     opening: &Journal,
 ) -> Result<Vec<u8>, AllocError>
     requires { opening.now.entries ≡ book.now.history.opening }
-    ensures { IfOk result (λ text. IsLastText request.now book.now.run book.now.history kept.items
+    ensures { IfOk result (λ text. IsLastText request.now book.now.run book.now.history kept.now
         text.items) }
 {
     let mut lines = failed_lines(alloc, request, book)?;
-    lines.extend_from_slice(&kept_lines(alloc, request.run.store_dir, book, kept)?)?;
+    lines.extend_from_slice(&kept_lines(alloc, &request.run, book, kept)?)?;
     lines.extend_from_slice(&cause_lines(alloc, book, opening)?)?;
     Ok(lines)
 }

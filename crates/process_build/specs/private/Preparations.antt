@@ -27,11 +27,12 @@ IsLogOf own derivation (Some log) = (logs : Bytes) × (drv : Path)
 
 -- the build folder of the lease of a job with this number, under a profile
 abbrev pub IsFolderOf : OwnOptions → (number : ℕ) → Job → Profile → BuildFolder → Type 0
-IsFolderOf own number job Plain folder = (folder.number ≡ number)
+IsFolderOf own number job Plain folder = (folder.number ≡ number) × (folder.suffix ≡ number)
     × (string_bytes folder.path ≡ build_folder_of (string_bytes own.store_dir) number)
-IsFolderOf own number job Nix folder = (drv : Path) × (at : ℕ) × (folder.number ≡ number)
-    × (slice_get own.drvs job.derivation ≡ Some drv) × (number ≤ at)
-    × (string_bytes folder.path ≡ nix_folder_of (string_bytes own.build_dir) (drv_name drv) at)
+IsFolderOf own number job Nix folder = (drv : Path) × (folder.number ≡ number)
+    × (slice_get own.drvs job.derivation ≡ Some drv) × (number ≤ folder.suffix)
+    × (string_bytes folder.path
+    ≡ nix_folder_of (string_bytes own.build_dir) (drv_name drv) folder.suffix)
 
 -- What the setup of a builder depends on that runs in a folder, by the options and the entries of
 -- the caller's environment that are asked for.

@@ -11,6 +11,8 @@ use std::alloc::{AllocError, Global};
 #[derive(Drop)]
 pub struct BuildFolder {
     number: u64,
+    // the number at the end of its name
+    suffix: u64,
     dir: String,
     path: String,
 }
@@ -19,32 +21,44 @@ impl BuildFolder {
     /// The build folder of the lease with this number, in a store folder.
     pub fn new(alloc: Global, store_dir: &str, number: u64) -> Result<BuildFolder, AllocError>
         ensures number { IfOk result (λ folder. folder.number ≡ number) }
+        ensures suffix { IfOk result (λ folder. folder.suffix ≡ number) }
         ensures dir { IfOk result (λ folder. string_bytes folder.dir ≡ store_dir.now) }
         ensures path { IfOk result (λ folder.
             string_bytes folder.path ≡ build_folder_of store_dir.now number) }
     {
         let path = format!(in alloc; "{store_dir}/.build-{number}")?;
         let dir = String::from_str(alloc, store_dir)?;
-        Ok(BuildFolder { number, dir, path })
+        Ok(BuildFolder {
+            number,
+            suffix: number,
+            dir,
+            path,
+        })
     }
 
     // The build folder under `nix` of the lease with this number: that of a derivation with this
-    // name, at a number.
+    // name, with a number at the end of its own name.
     pub(crate) fn at(
         alloc: Global,
         build_dir: &str,
         drv: &str,
         number: u64,
-        at: u64,
+        suffix: u64,
     ) -> Result<BuildFolder, AllocError>
         ensures number { IfOk result (λ folder. folder.number ≡ number) }
+        ensures suffix { IfOk result (λ folder. folder.suffix ≡ suffix) }
         ensures dir { IfOk result (λ folder. string_bytes folder.dir ≡ build_dir.now) }
         ensures path { IfOk result (λ folder.
-            string_bytes folder.path ≡ nix_folder_of build_dir.now drv.now at) }
+            string_bytes folder.path ≡ nix_folder_of build_dir.now drv.now suffix) }
     {
-        let path = format!(in alloc; "{build_dir}/nix-build-{drv}-{at}")?;
+        let path = format!(in alloc; "{build_dir}/nix-build-{drv}-{suffix}")?;
         let dir = String::from_str(alloc, build_dir)?;
-        Ok(BuildFolder { number, dir, path })
+        Ok(BuildFolder {
+            number,
+            suffix,
+            dir,
+            path,
+        })
     }
 
     /// The number of its lease.
@@ -52,6 +66,14 @@ impl BuildFolder {
         ensures { result ≡ self.now.number }
     {
         self.number
+    }
+
+    /// The number at the end of its name: under `plain` that of its lease, and under `nix` that or a
+    /// greater one.
+    pub fn suffix(&self) -> u64
+        ensures { result ≡ self.now.suffix }
+    {
+        self.suffix
     }
 
     /// The folder in which it is.

@@ -1,5 +1,5 @@
 //! Build folders under `nix`, each of which is made where nothing lay.
-ghost use Rattle.std.specs.Prelude.{◌≡◌, ◌≤◌, ℕ, IfErr, IfOk, string_bytes};
+ghost use Rattle.std.specs.Prelude.{◌≡◌, ◌≤◌, IfErr, IfOk, string_bytes};
 ghost use Rattle.process_build.specs.Folders.{nix_folder_of};
 ghost use Rattle.process_build.specs.Leases.{drv_name};
 ghost use Rattle.process_build.specs.private.Answers.{IsRoomFault};
@@ -27,8 +27,9 @@ pub fn fresh_folder<R: Files + AllocGlobal>(
     number: u64,
 ) -> Result<BuildFolder, Reason>
     ensures number { IfOk result (λ folder. folder.number ≡ number) }
-    ensures path { IfOk result (λ folder. (at : ℕ) × (number ≤ at)
-        × (string_bytes folder.path ≡ nix_folder_of build_dir.now (drv_name drv.now) at)) }
+    ensures suffix { IfOk result (λ folder. number ≤ folder.suffix) }
+    ensures path { IfOk result (λ folder. string_bytes folder.path
+        ≡ nix_folder_of build_dir.now (drv_name drv.now) folder.suffix) }
     ensures err { IfErr result IsRoomFault }
 {
     let name = text_of(drv_name(drv))?;

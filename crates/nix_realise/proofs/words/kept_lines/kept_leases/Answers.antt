@@ -7,8 +7,8 @@ use Rattle.nix_realise.proofs.EventPlaces.{events_within}
 use Rattle.nix_realise.specs.private.Leases.{derivation_of}
 use Rattle.nix_realise.proofs.words.kept_lines.kept_leases.Goals as goal
 
-pub push_kept-requires-clause-within : goal.push_kept-requires-clause-within
-push_kept-requires-clause-within g c =
+pub push_kept-requires : goal.push_kept-requires
+push_kept-requires g c =
     let run = c.args.book.now.run in
     let history = c.args.book.now.history in
     let items = c.events-event-items.result.now in

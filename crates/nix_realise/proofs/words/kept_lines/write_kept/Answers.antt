@@ -5,8 +5,9 @@ use Rattle.nix_realise.proofs.words.kept_lines.write_kept.Goals as goal
 
 pub leases-preserved : goal.leases-preserved
 leases-preserved c =
-    line_more (kept_line c.args.store_dir.now) c.args.leases.now c.leases.lease-index c.lease-item.result c.leases.out.items _ _
+    let line = kept_line c.args.run.now c.args.build_dir.now in
+    line_more line c.args.leases.now c.leases.lease-index c.lease-item.result c.leases.out.items _ _
     c.leases-test.true
     (c.in_ok-write_kept_line.ensures
-    ∙ ap (λ k. c.leases.out.items ++ kept_line c.args.store_dir.now k) c.lease-item.is)
+    ∙ ap (λ k. c.leases.out.items ++ line k) c.lease-item.is)
     c.leases.invariant

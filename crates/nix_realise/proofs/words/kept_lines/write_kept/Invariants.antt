@@ -6,5 +6,5 @@ use Rattle.nix_realise.proofs.words.kept_lines.write_kept.Given as goal
 -- what is written, and the lines of the folders that are left
 abbrev pub invariant-leases : goal.invariant-leases
 invariant-leases l =
-    l.out.items ++ flat_map (kept_line l.store_dir) (drop l.lease-index l.leases)
-    ≡ l.initial.out.items ++ flat_map (kept_line l.store_dir) l.leases
+    l.out.items ++ flat_map (kept_line l.run l.build_dir) (drop l.lease-index l.leases)
+    ≡ l.initial.out.items ++ flat_map (kept_line l.run l.build_dir) l.leases
