@@ -18,8 +18,8 @@ use Rattle.valid_table.specs.PathInfos.{NarInfo, PathInfo}
 use Rattle.build_outcome.specs.declared.job.Answer.{Answer}
 use Rattle.build_outcome.specs.declared.job.Job.{Job}
 use Rattle.build_outcome.specs.declared.reason.Reason.{Reason}
-use Rattle.build_outcome.specs.declared.reason.Reason.TheVariants.{ExitStatus, NoStart, MissingOutput, NotFlatFile, HashMismatch, OutputCycle, TooLarge, ReadFault, OutOfMemory, Killed, NotAllowed, BadSpecifier}
-use Rattle.build_outcome.specs.Verdicts.{AreOutputsThere, AreRead, AreRecords, HasForm, HasOneVerdict, IsCyclic, IsFaulty, IsFirstFault, IsFirstNumber, IsNarOf, IsRecordDigest, IsRecordNar, IsRecordOf, IsTaken, IsTreeFault, IsUnreadAt, IsVerdict, outputs_of, tree_at}
+use Rattle.build_outcome.specs.declared.reason.Reason.TheVariants.{ExitStatus, NoStart, MissingOutput, NotFlatFile, HashMismatch, OutputCycle, TooLarge, ReadFault, OutOfMemory, Killed, BadMode, NotAllowed, BadSpecifier, BadAttributes, BadGraph, UnknownNar}
+use Rattle.build_outcome.specs.Verdicts.{AreOutputsThere, AreRead, AreRecords, HasBadMode, HasForm, HasOneVerdict, HaveGoodModes, IsCyclic, IsFaulty, IsFirstFault, IsFirstNumber, IsNarOf, IsRecordDigest, IsRecordNar, IsRecordOf, IsTaken, IsTreeFault, IsUnreadAt, IsVerdict, outputs_of, tree_at}
 use Rattle.build_outcome.proofs.Archives.{one_archive}
 use Rattle.build_outcome.proofs.FixedDigests.{one_digest_by}
 use Rattle.build_outcome.proofs.Verdicts.{TreeFault, mismatched, not_flat, one_tree, too_large, tree_fault_cases}
@@ -122,8 +122,11 @@ module _ (job : Job) (permitted : List (List ℕ)) (answer : Answer) where
     missing : (n : ℕ) → answer.status ≡ Some (pos 0) → AreRead job answer
         → IsFirstNumber (λ m. tree_at answer m ≡ None) (length job.outputs.items) n
         → Outcome (Err (MissingOutput n))
-    faulty : (why : Reason) → AreOutputsThere job answer → IsFirstFault job answer why
-        → Outcome (Err why)
+    shared : (n : ℕ) → AreOutputsThere job answer
+        → IsFirstNumber (HasBadMode job answer) (length job.outputs.items) n
+        → Outcome (Err (BadMode n))
+    faulty : (why : Reason) → AreOutputsThere job answer → HaveGoodModes job answer
+        → IsFirstFault job answer why → Outcome (Err why)
     cyclic : (infos : List PathInfo) → IsTaken job answer → AreRecords job permitted answer infos
         → IsCyclic (outputs_of job) infos → Outcome (Err OutputCycle)
     well : (infos : List PathInfo) → IsTaken job answer → AreRecords job permitted answer infos
@@ -136,19 +139,28 @@ module _ (job : Job) (permitted : List (List ℕ)) (answer : Answer) where
   outcome_of (Err (ExitStatus n)) (ended, apart) = exited n ended apart
   outcome_of (Err ReadFault) (ended, (n, within, is)) = unread n ended within is
   outcome_of (Err (MissingOutput n)) (ended, read, first) = missing n ended read first
-  outcome_of (Err TooLarge) (there, fault) = faulty TooLarge there fault
-  outcome_of (Err NotFlatFile) (there, fault) = faulty NotFlatFile there fault
-  outcome_of (Err HashMismatch) (there, fault) = faulty HashMismatch there fault
+  outcome_of (Err (BadMode n)) (there, first) = shared n there first
+  outcome_of (Err TooLarge) (there, good, fault) = faulty TooLarge there good fault
+  outcome_of (Err NotFlatFile) (there, good, fault) = faulty NotFlatFile there good fault
+  outcome_of (Err HashMismatch) (there, good, fault) = faulty HashMismatch there good fault
   outcome_of (Err OutputCycle) (taken, (infos, records, round)) = cyclic infos taken records round
   outcome_of (Err NoStart) none = absurd none
   outcome_of (Err OutOfMemory) none = absurd none
   outcome_of (Err (NotAllowed output place)) none = absurd none
   outcome_of (Err (BadSpecifier output)) none = absurd none
+  outcome_of (Err BadAttributes) none = absurd none
+  outcome_of (Err BadGraph) none = absurd none
+  outcome_of (Err (UnknownNar place)) none = absurd none
 
-  -- the first output without a tree, and the first faulty one, are among the outputs
+  -- the first output without a tree, that with a bad mode, and the first faulty one are among the
+  -- outputs
   missing_within : (n : ℕ) → IsFirstNumber (λ m. tree_at answer m ≡ None)
       (length job.outputs.items) n → n < length job.outputs.items
   missing_within n first = search (rules, number_within)
+
+  shared_within : (n : ℕ) → IsFirstNumber (HasBadMode job answer) (length job.outputs.items) n
+      → n < length job.outputs.items
+  shared_within n first = search (rules, number_within)
 
   faulty_within : (why : Reason) (fault : IsFirstFault job answer why)
       → fault.0 < length job.outputs.items
@@ -180,7 +192,8 @@ module _ (job : Job) (permitted : List (List ℕ)) (answer : Answer) where
   one _ _ (killed e) (exited n2 e2 apart2) = absurd (none_or_some _ _ e e2)
   one _ _ (killed e) (unread n2 e2 within2 is2) = absurd (none_or_some _ _ e e2)
   one _ _ (killed e) (missing n2 e2 read2 first2) = absurd (none_or_some _ _ e e2)
-  one _ _ (killed e) (faulty why2 there2 fault2) = absurd (none_or_some _ _ e there2.0)
+  one _ _ (killed e) (shared n2 there2 first2) = absurd (none_or_some _ _ e there2.0)
+  one _ _ (killed e) (faulty why2 there2 good2 fault2) = absurd (none_or_some _ _ e there2.0)
   one _ _ (killed e) (cyclic infos2 taken2 records2 round2) = absurd (none_or_some _ _ e taken2.0.0)
   one _ _ (killed e) (well infos2 taken2 records2 acyclic2) = absurd (none_or_some _ _ e taken2.0.0)
   one _ _ (exited n e apart) (killed e2) = absurd (none_or_some _ _ e2 e)
@@ -188,7 +201,9 @@ module _ (job : Job) (permitted : List (List ℕ)) (answer : Answer) where
       ap (λ k. Err (ExitStatus k)) (some_is_one _ n _ e e2)
   one _ _ (exited n e apart) (unread n2 e2 within2 is2) = absurd (apart (some_is_one _ n _ e e2))
   one _ _ (exited n e apart) (missing n2 e2 read2 first2) = absurd (apart (some_is_one _ n _ e e2))
-  one _ _ (exited n e apart) (faulty why2 there2 fault2) =
+  one _ _ (exited n e apart) (shared n2 there2 first2) =
+      absurd (apart (some_is_one _ n _ e there2.0))
+  one _ _ (exited n e apart) (faulty why2 there2 good2 fault2) =
       absurd (apart (some_is_one _ n _ e there2.0))
   one _ _ (exited n e apart) (cyclic infos2 taken2 records2 round2) =
       absurd (apart (some_is_one _ n _ e taken2.0.0))
@@ -198,7 +213,8 @@ module _ (job : Job) (permitted : List (List ℕ)) (answer : Answer) where
   one _ _ (unread n e within is) (exited n2 e2 apart2) = absurd (apart2 (some_is_one _ n2 _ e2 e))
   one _ _ (unread n e within is) (unread n2 e2 within2 is2) = refl
   one _ _ (unread n e within is) (missing n2 e2 read2 first2) = absurd (read2 n within is)
-  one _ _ (unread n e within is) (faulty why2 there2 fault2) = absurd (there2.2 n within is)
+  one _ _ (unread n e within is) (shared n2 there2 first2) = absurd (there2.2 n within is)
+  one _ _ (unread n e within is) (faulty why2 there2 good2 fault2) = absurd (there2.2 n within is)
   one _ _ (unread n e within is) (cyclic infos2 taken2 records2 round2) =
       absurd (taken2.0.2 n within is)
   one _ _ (unread n e within is) (well infos2 taken2 records2 acyclic2) =
@@ -208,23 +224,42 @@ module _ (job : Job) (permitted : List (List ℕ)) (answer : Answer) where
   one _ _ (missing n e read first) (unread n2 e2 within2 is2) = absurd (read n2 within2 is2)
   one _ _ (missing n e read first) (missing n2 e2 read2 first2) =
       ap (λ k. Err (MissingOutput k)) (one_number (λ m. tree_at answer m ≡ None) _ n _ first first2)
-  one _ _ (missing n e read first) (faulty why2 there2 fault2) =
+  one _ _ (missing n e read first) (shared n2 there2 first2) =
+      absurd (there2.1 n (missing_within n first) first.is)
+  one _ _ (missing n e read first) (faulty why2 there2 good2 fault2) =
       absurd (there2.1 n (missing_within n first) first.is)
   one _ _ (missing n e read first) (cyclic infos2 taken2 records2 round2) =
       absurd (taken2.0.1 n (missing_within n first) first.is)
   one _ _ (missing n e read first) (well infos2 taken2 records2 acyclic2) =
       absurd (taken2.0.1 n (missing_within n first) first.is)
-  one _ _ (faulty why there fault) (killed e2) = absurd (none_or_some _ _ e2 there.0)
-  one _ _ (faulty why there fault) (exited n2 e2 apart2) =
+  one _ _ (shared n there first) (killed e2) = absurd (none_or_some _ _ e2 there.0)
+  one _ _ (shared n there first) (exited n2 e2 apart2) =
       absurd (apart2 (some_is_one _ n2 _ e2 there.0))
-  one _ _ (faulty why there fault) (unread n2 e2 within2 is2) = absurd (there.2 n2 within2 is2)
-  one _ _ (faulty why there fault) (missing n2 e2 read2 first2) =
+  one _ _ (shared n there first) (unread n2 e2 within2 is2) = absurd (there.2 n2 within2 is2)
+  one _ _ (shared n there first) (missing n2 e2 read2 first2) =
       absurd (there.1 n2 (missing_within n2 first2) first2.is)
-  one _ _ (faulty why there fault) (faulty why2 there2 fault2) = ap Err (one_fault _ _ fault fault2)
-  one _ _ (faulty why there fault) (cyclic infos2 taken2 records2 round2) =
-      absurd (taken2.1 fault.0 why (faulty_within why fault) fault.2)
-  one _ _ (faulty why there fault) (well infos2 taken2 records2 acyclic2) =
-      absurd (taken2.1 fault.0 why (faulty_within why fault) fault.2)
+  one _ _ (shared n there first) (shared n2 there2 first2) =
+      ap (λ k. Err (BadMode k)) (one_number (HasBadMode job answer) _ n _ first first2)
+  one _ _ (shared n there first) (faulty why2 there2 good2 fault2) =
+      absurd (good2 n (shared_within n first) first.is)
+  one _ _ (shared n there first) (cyclic infos2 taken2 records2 round2) =
+      absurd (taken2.1 n (shared_within n first) first.is)
+  one _ _ (shared n there first) (well infos2 taken2 records2 acyclic2) =
+      absurd (taken2.1 n (shared_within n first) first.is)
+  one _ _ (faulty why there good fault) (killed e2) = absurd (none_or_some _ _ e2 there.0)
+  one _ _ (faulty why there good fault) (exited n2 e2 apart2) =
+      absurd (apart2 (some_is_one _ n2 _ e2 there.0))
+  one _ _ (faulty why there good fault) (unread n2 e2 within2 is2) = absurd (there.2 n2 within2 is2)
+  one _ _ (faulty why there good fault) (missing n2 e2 read2 first2) =
+      absurd (there.1 n2 (missing_within n2 first2) first2.is)
+  one _ _ (faulty why there good fault) (shared n2 there2 first2) =
+      absurd (good n2 (shared_within n2 first2) first2.is)
+  one _ _ (faulty why there good fault) (faulty why2 there2 good2 fault2) =
+      ap Err (one_fault _ _ fault fault2)
+  one _ _ (faulty why there good fault) (cyclic infos2 taken2 records2 round2) =
+      absurd (taken2.2 fault.0 why (faulty_within why fault) fault.2)
+  one _ _ (faulty why there good fault) (well infos2 taken2 records2 acyclic2) =
+      absurd (taken2.2 fault.0 why (faulty_within why fault) fault.2)
   one _ _ (cyclic infos taken records round) (killed e2) = absurd (none_or_some _ _ e2 taken.0.0)
   one _ _ (cyclic infos taken records round) (exited n2 e2 apart2) =
       absurd (apart2 (some_is_one _ n2 _ e2 taken.0.0))
@@ -232,8 +267,10 @@ module _ (job : Job) (permitted : List (List ℕ)) (answer : Answer) where
       absurd (taken.0.2 n2 within2 is2)
   one _ _ (cyclic infos taken records round) (missing n2 e2 read2 first2) =
       absurd (taken.0.1 n2 (missing_within n2 first2) first2.is)
-  one _ _ (cyclic infos taken records round) (faulty why2 there2 fault2) =
-      absurd (taken.1 fault2.0 why2 (faulty_within why2 fault2) fault2.2)
+  one _ _ (cyclic infos taken records round) (shared n2 there2 first2) =
+      absurd (taken.1 n2 (shared_within n2 first2) first2.is)
+  one _ _ (cyclic infos taken records round) (faulty why2 there2 good2 fault2) =
+      absurd (taken.2 fault2.0 why2 (faulty_within why2 fault2) fault2.2)
   one _ _ (cyclic infos taken records round) (cyclic infos2 taken2 records2 round2) = refl
   one _ _ (cyclic infos taken records round) (well infos2 taken2 records2 acyclic2) =
       absurd (acyclic2 (subst (IsCyclic (outputs_of job)) (one_list _ _ records records2) round))
@@ -244,8 +281,10 @@ module _ (job : Job) (permitted : List (List ℕ)) (answer : Answer) where
       absurd (taken.0.2 n2 within2 is2)
   one _ _ (well infos taken records acyclic) (missing n2 e2 read2 first2) =
       absurd (taken.0.1 n2 (missing_within n2 first2) first2.is)
-  one _ _ (well infos taken records acyclic) (faulty why2 there2 fault2) =
-      absurd (taken.1 fault2.0 why2 (faulty_within why2 fault2) fault2.2)
+  one _ _ (well infos taken records acyclic) (shared n2 there2 first2) =
+      absurd (taken.1 n2 (shared_within n2 first2) first2.is)
+  one _ _ (well infos taken records acyclic) (faulty why2 there2 good2 fault2) =
+      absurd (taken.2 fault2.0 why2 (faulty_within why2 fault2) fault2.2)
   one _ _ (well infos taken records acyclic) (cyclic infos2 taken2 records2 round2) =
       absurd (acyclic (subst (IsCyclic (outputs_of job)) (one_list _ _ records2 records) round2))
   one _ _ (well infos taken records acyclic) (well infos2 taken2 records2 acyclic2) =

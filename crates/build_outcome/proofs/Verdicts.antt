@@ -15,8 +15,8 @@ use Rattle.valid_table.specs.PathInfos.{PathInfo}
 use Rattle.build_outcome.specs.declared.job.Answer.{Answer}
 use Rattle.build_outcome.specs.declared.job.Job.{Job}
 use Rattle.build_outcome.specs.declared.reason.Reason.{Reason}
-use Rattle.build_outcome.specs.declared.reason.Reason.TheVariants.{ExitStatus, NoStart, MissingOutput, NotFlatFile, HashMismatch, OutputCycle, TooLarge, ReadFault, OutOfMemory, Killed, NotAllowed, BadSpecifier}
-use Rattle.build_outcome.specs.Verdicts.{AreOutputsThere, AreRead, AreRecords, HasForm, IsCyclic, IsExamining, IsFaulty, IsFirstFault, IsRecordAt, IsRecordOf, IsTaken, IsTreeFault, IsVerdict, MayBeTaken, outputs_of, tree_at}
+use Rattle.build_outcome.specs.declared.reason.Reason.TheVariants.{ExitStatus, NoStart, MissingOutput, NotFlatFile, HashMismatch, OutputCycle, TooLarge, ReadFault, OutOfMemory, Killed, BadMode, NotAllowed, BadSpecifier, BadAttributes, BadGraph, UnknownNar}
+use Rattle.build_outcome.specs.Verdicts.{AreOutputsThere, AreRead, AreRecords, HasBadMode, HasForm, HaveGoodModes, IsCyclic, IsExamining, IsFaulty, IsFirstFault, IsRecordAt, IsRecordOf, IsTaken, IsTreeFault, IsVerdict, MayBeTaken, outputs_of, tree_at}
 
 -- What is known once the first `count` outputs were looked at: none of them is missing.
 abbrev pub ThereSoFar : Answer → ℕ → Type 0
@@ -46,15 +46,16 @@ sound_more job answer count tree before at taken n why below faulty =
     (eq-or-lt_of_le {n = n} {m = count} (omega arith))
 
 pub is_taken : (job : Job) (answer : Answer) (count : ℕ) → count ≡ length job.outputs.items
-    → AreOutputsThere job answer → SoundSoFar job answer count → IsTaken job answer
-is_taken job answer count all there sound =
-    (there, λ n why below. sound n why (omega arith))
+    → AreOutputsThere job answer → HaveGoodModes job answer → SoundSoFar job answer count
+    → IsTaken job answer
+is_taken job answer count all there good sound =
+    (there, good, λ n why below. sound n why (omega arith))
 
 -- what lies at an output that is taken isn't at fault
 pub taken_at : (job : Job) (answer : Answer) (n : ℕ) (tree : Tree) → IsTaken job answer
     → n < length job.outputs.items → tree_at answer n ≡ Some tree
     → (why : Reason) → IsTreeFault job.profile job.kind tree why → ⊥
-taken_at job answer n tree taken below at why fault = taken.1 n why below (tree, at, fault)
+taken_at job answer n tree taken below at why fault = taken.2 n why below (tree, at, fault)
 
 -- Records of the first `count` outputs.
 pub record RecordsSoFar (job : Job) (permitted : List (List ℕ)) (answer : Answer)
@@ -125,8 +126,12 @@ tree_fault_cases profile Addressed tree OutputCycle fault = absurd fault
 tree_fault_cases profile Addressed tree ReadFault fault = absurd fault
 tree_fault_cases profile Addressed tree OutOfMemory fault = absurd fault
 tree_fault_cases profile Addressed tree Killed fault = absurd fault
+tree_fault_cases profile Addressed tree (BadMode n) fault = absurd fault
 tree_fault_cases profile Addressed tree (NotAllowed output place) fault = absurd fault
 tree_fault_cases profile Addressed tree (BadSpecifier output) fault = absurd fault
+tree_fault_cases profile Addressed tree BadAttributes fault = absurd fault
+tree_fault_cases profile Addressed tree BadGraph fault = absurd fault
+tree_fault_cases profile Addressed tree (UnknownNar place) fault = absurd fault
 tree_fault_cases profile (Fixed method declared) tree (ExitStatus n) fault = absurd fault
 tree_fault_cases profile (Fixed method declared) tree NoStart fault = absurd fault
 tree_fault_cases profile (Fixed method declared) tree (MissingOutput n) fault = absurd fault
@@ -134,15 +139,19 @@ tree_fault_cases profile (Fixed method declared) tree OutputCycle fault = absurd
 tree_fault_cases profile (Fixed method declared) tree ReadFault fault = absurd fault
 tree_fault_cases profile (Fixed method declared) tree OutOfMemory fault = absurd fault
 tree_fault_cases profile (Fixed method declared) tree Killed fault = absurd fault
+tree_fault_cases profile (Fixed method declared) tree (BadMode n) fault = absurd fault
 tree_fault_cases profile (Fixed method declared) tree (NotAllowed output place) fault = absurd fault
 tree_fault_cases profile (Fixed method declared) tree (BadSpecifier output) fault = absurd fault
+tree_fault_cases profile (Fixed method declared) tree BadAttributes fault = absurd fault
+tree_fault_cases profile (Fixed method declared) tree BadGraph fault = absurd fault
+tree_fault_cases profile (Fixed method declared) tree (UnknownNar place) fault = absurd fault
 
 -- a fault of a tree after trees that are taken is the first
 pub first_fault : (job : Job) (permitted : List (List ℕ)) (answer : Answer) (count : ℕ)
     (tree : Tree) (why : Reason) → count < length job.outputs.items → AreOutputsThere job answer
-    → SoundSoFar job answer count → tree_at answer count ≡ Some tree
+    → HaveGoodModes job answer → SoundSoFar job answer count → tree_at answer count ≡ Some tree
     → IsTreeFault job.profile job.kind tree why → IsVerdict job permitted answer (Err why)
-first_fault job permitted answer count tree why below there sound at fault =
+first_fault job permitted answer count tree why below there good sound at fault =
     by why (tree_fault_cases _ _ _ _ fault) (
       count,
       first_number (λ m. (reason : Reason) × IsFaulty job answer reason m)
@@ -153,9 +162,9 @@ first_fault job permitted answer count tree why below there sound at fault =
   where
     by : (reason : Reason) → TreeFault job.profile job.kind tree reason
         → IsFirstFault job answer reason → IsVerdict job permitted answer (Err reason)
-    by _ (too_large not_fit) first = (there, first)
-    by _ (not_flat method declared is may no_form) first = (there, first)
-    by _ (mismatched method declared is may form) first = (there, first)
+    by _ (too_large not_fit) first = (there, good, first)
+    by _ (not_flat method declared is may no_form) first = (there, good, first)
+    by _ (mismatched method declared is may form) first = (there, good, first)
 
 -- the first output at which nothing lies
 pub first_missing : (job : Job) (permitted : List (List ℕ)) (answer : Answer) (count : ℕ) → count
@@ -164,6 +173,29 @@ pub first_missing : (job : Job) (permitted : List (List ℕ)) (answer : Answer) 
     → tree_at answer count ≡ None
     → IsVerdict job permitted answer (Err (MissingOutput count))
 first_missing job permitted answer count below ended read there none = search (rules, first_number)
+
+-- None of the first `count` outputs has a bad mode.
+abbrev pub GoodSoFar : Job → Answer → ℕ → Type 0
+GoodSoFar job answer count = (n : ℕ) → n < count → HasBadMode job answer n → ⊥
+
+pub good_more : (job : Job) (answer : Answer) (count : ℕ) → GoodSoFar job answer count
+    → (HasBadMode job answer count → ⊥) → GoodSoFar job answer (count + 1)
+good_more job answer count before good n below bad =
+    ⊎_elim
+    (λ e. good (subst (λ k. HasBadMode job answer k) e bad))
+    (λ less. before n less bad)
+    (eq-or-lt_of_le {n = n} {m = count} (omega arith))
+
+pub have_good_modes : (job : Job) (answer : Answer) (count : ℕ) → count ≡ length job.outputs.items
+    → GoodSoFar job answer count → HaveGoodModes job answer
+have_good_modes job answer count all good n below = good n (omega arith)
+
+-- the first output with a bad mode
+pub first_bad_mode : (job : Job) (permitted : List (List ℕ)) (answer : Answer) (count : ℕ)
+    → count < length job.outputs.items → AreOutputsThere job answer → GoodSoFar job answer count
+    → HasBadMode job answer count → IsVerdict job permitted answer (Err (BadMode count))
+first_bad_mode job permitted answer count below there good bad =
+    (there, first_number (HasBadMode job answer) _ _ below bad good)
 
 -- the verdict where no fault was found, by whether there is a cycle
 pub cycle_found : (job : Job) (permitted : List (List ℕ)) (answer : Answer) (infos : List PathInfo)

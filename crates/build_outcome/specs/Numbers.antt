@@ -1,7 +1,7 @@
 -- The numbers of reasons in the table of faults.
 use Rattle.std.specs.Prelude.{ℕ}
 use Rattle.build_outcome.specs.declared.reason.Reason.{Reason}
-use Rattle.build_outcome.specs.declared.reason.Reason.TheVariants.{ExitStatus, NoStart, MissingOutput, NotFlatFile, HashMismatch, OutputCycle, TooLarge, ReadFault, OutOfMemory, Killed, NotAllowed, BadSpecifier}
+use Rattle.build_outcome.specs.declared.reason.Reason.TheVariants.{ExitStatus, NoStart, MissingOutput, NotFlatFile, HashMismatch, OutputCycle, TooLarge, ReadFault, OutOfMemory, Killed, BadMode, NotAllowed, BadSpecifier, BadAttributes, BadGraph, UnknownNar}
 
 -- a reason's number
 abbrev pub reason_number_of : Reason → ℕ
@@ -15,5 +15,9 @@ reason_number_of TooLarge = 56
 reason_number_of ReadFault = 57
 reason_number_of OutOfMemory = 58
 reason_number_of Killed = 59
+reason_number_of (BadMode output) = 81
 reason_number_of (NotAllowed output place) = 84
 reason_number_of (BadSpecifier output) = 85
+reason_number_of BadAttributes = 79
+reason_number_of BadGraph = 80
+reason_number_of (UnknownNar place) = 86

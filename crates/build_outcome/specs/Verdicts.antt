@@ -1,7 +1,8 @@
 -- *Verdict*: what becomes of a job by what its builder left behind (Nix manual, "Building";
 -- Dolstra's thesis, section 5.5.1; the order of the reasons is this product's own).
-use Rattle.std.specs.Prelude.{◌≡◌, ◌≢◌, ◌⊎◌, ◌<◌, ◌^◌, ⊤, ℕ, pos, All, Option, Some, None, IfSome, List, length, map, Contains, Result, Ok, Err, slice_get}
+use Rattle.std.specs.Prelude.{◌≡◌, ◌≢◌, ◌⊎◌, ◌<◌, ◌^◌, ⊤, ℕ, pos, All, IsTrue, Option, Some, None, IfSome, List, length, map, Contains, Result, Ok, Err, slice_get}
 use Rattle.std.specs.List.{range_with_len}
+use Rattle.std.specs.Option.{option_map}
 use Rattle.md5.specs.Md5.{md5}
 use Rattle.sha1.specs.Sha1.{sha1}
 use Rattle.sha2.specs.Sha256.{sha256}
@@ -31,8 +32,9 @@ use Rattle.valid_table.specs.PathInfos.{NarInfo, PathInfo}
 use Rattle.build_outcome.specs.declared.job.Answer.{Answer}
 use Rattle.build_outcome.specs.declared.job.Job.{Job}
 use Rattle.build_outcome.specs.declared.job.JobOutput.{JobOutput}
+use Rattle.build_outcome.specs.declared.job.LeftOutput.{LeftOutput}
 use Rattle.build_outcome.specs.declared.reason.Reason.{Reason}
-use Rattle.build_outcome.specs.declared.reason.Reason.TheVariants.{ExitStatus, MissingOutput, NotFlatFile, HashMismatch, OutputCycle, TooLarge, ReadFault, OutOfMemory, Killed}
+use Rattle.build_outcome.specs.declared.reason.Reason.TheVariants.{ExitStatus, MissingOutput, NotFlatFile, HashMismatch, OutputCycle, TooLarge, ReadFault, OutOfMemory, Killed, BadMode}
 
 -- the digest of some bytes by an algorithm (RFC 1321; FIPS 180-4)
 abbrev pub digest_by : Algorithm → Bytes → Digest
@@ -148,14 +150,23 @@ IsTreeFault profile (Fixed method declared) tree HashMismatch = MayBeTaken profi
     × (found ≢ declared))
 IsTreeFault profile kind tree reason = ⊥
 
--- the tree at the output with this number, counted from 0; an answer that ends before it has none
--- there
-abbrev pub tree_at : Answer → ℕ → Option Tree
-tree_at answer n = joined (slice_get answer.trees.items n)
+-- what lies at the output with this number, counted from 0; an answer that ends before it has
+-- nothing there
+abbrev pub left_at : Answer → ℕ → Option LeftOutput
+left_at answer n = joined (slice_get answer.outputs.items n)
   where
-    joined : Option (Option Tree) → Option Tree
-    joined (Some tree) = tree
+    joined : Option (Option LeftOutput) → Option LeftOutput
+    joined (Some left) = left
     joined None = None
+
+-- the tree at the output with this number
+abbrev pub tree_at : Answer → ℕ → Option Tree
+tree_at answer n = option_map (λ (left : LeftOutput). left.tree) (left_at answer n)
+
+-- the group of what lies at the output with this number, or others, may write it
+abbrev pub OthersMayWriteAt : Answer → ℕ → Type 0
+OthersMayWriteAt answer n = (left : LeftOutput) × (left_at answer n ≡ Some left)
+    × IsTrue left.others_may_write
 
 -- the number is the first below a count for which something holds
 abbrev pub IsFirstNumber : (Holds : ℕ → Type 0) → (count n : ℕ) → Type 0
@@ -175,6 +186,15 @@ AreOutputsThere job answer = (answer.status ≡ Some (pos 0))
     × ((n : ℕ) → n < length job.outputs.items → tree_at answer n ≡ None → ⊥)
     × AreRead job answer
 
+-- the profile doesn't take the mode of what lies at the output with this number: under `nix` nobody
+-- but its owner may write it
+abbrev pub HasBadMode : Job → Answer → ℕ → Type 0
+HasBadMode job answer n = (job.profile ≡ Nix) × OthersMayWriteAt answer n
+
+-- the profile takes the modes of what lies at the outputs' paths
+abbrev pub HaveGoodModes : Job → Answer → Type 0
+HaveGoodModes job answer = (n : ℕ) → n < length job.outputs.items → HasBadMode job answer n → ⊥
+
 -- what lies at the output with this number isn't taken, for this reason
 abbrev pub IsFaulty : Job → Answer → Reason → ℕ → Type 0
 IsFaulty job answer reason n = (tree : Tree) × (tree_at answer n ≡ Some tree)
@@ -188,7 +208,7 @@ IsFirstFault job answer reason =
 
 -- what lies at each output's path is taken
 abbrev pub IsTaken : Job → Answer → Type 0
-IsTaken job answer = AreOutputsThere job answer
+IsTaken job answer = AreOutputsThere job answer × HaveGoodModes job answer
     × ((n : ℕ) (why : Reason) → n < length job.outputs.items → IsFaulty job answer why n → ⊥)
 
 -- a record is that of what lies at the output with this number
@@ -229,12 +249,14 @@ IsVerdict job permitted answer (Err ReadFault) = (answer.status ≡ Some (pos 0)
 IsVerdict job permitted answer (Err (MissingOutput n)) = (answer.status ≡ Some (pos 0))
     × AreRead job answer
     × IsFirstNumber (λ m. tree_at answer m ≡ None) (length job.outputs.items) n
+IsVerdict job permitted answer (Err (BadMode n)) = AreOutputsThere job answer
+    × IsFirstNumber (HasBadMode job answer) (length job.outputs.items) n
 IsVerdict job permitted answer (Err TooLarge) = AreOutputsThere job answer
-    × IsFirstFault job answer TooLarge
+    × HaveGoodModes job answer × IsFirstFault job answer TooLarge
 IsVerdict job permitted answer (Err NotFlatFile) = AreOutputsThere job answer
-    × IsFirstFault job answer NotFlatFile
+    × HaveGoodModes job answer × IsFirstFault job answer NotFlatFile
 IsVerdict job permitted answer (Err HashMismatch) = AreOutputsThere job answer
-    × IsFirstFault job answer HashMismatch
+    × HaveGoodModes job answer × IsFirstFault job answer HashMismatch
 IsVerdict job permitted answer (Err OutputCycle) =
     IsTaken job answer
     × ((infos : List PathInfo) × AreRecords job permitted answer infos

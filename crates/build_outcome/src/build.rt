@@ -1,11 +1,12 @@
 //! Builders, and the calls by which a builder hears of the jobs of its worker.
-ghost use Rattle.std.specs.Prelude.{◌≡◌, ◌⊎◌, Result, Err};
+ghost use Rattle.std.specs.Prelude.{◌≡◌, ◌⊎◌, IfErr, Result, Err};
 ghost use Rattle.build_outcome.specs.declared.job.Answer.{Answer};
 ghost use Rattle.build_outcome.specs.declared.job.Job.{Job};
 ghost use Rattle.build_outcome.specs.declared.reason.Reason.{Reason};
 ghost use Rattle.build_outcome.specs.declared.reason.Reason.TheVariants.{OutOfMemory};
 
 use crate::job::{Answer, Job};
+use crate::prepared::Prepared;
 use crate::reason::Reason;
 
 /// Builds what a job asks for.
@@ -14,10 +15,19 @@ pub trait Build {
     // at the outputs' paths, or the reason why there is none.
     ghost may: { Job → Result Answer Reason → Type 0 };
 
-    /// Builds a job, whose lease has this number. Answers the exit status with what lies at each
-    /// output's path, or the reason why there is no answer; `OutOfMemory` where memory was refused.
-    fn run(&self, number: u64, job: &Job) -> Result<Answer, Reason>
-        ensures { (result ≡ Err OutOfMemory) ⊎ may job.now result };
+    /// Builds a job, whose lease has this number, by what was prepared for its start. Answers the
+    /// exit status with what lies at each output's path, or the reason why there is no answer;
+    /// `OutOfMemory` where memory was refused. Where nothing could be prepared, nothing is built,
+    /// and the reason for that is answered.
+    fn run(
+        &self,
+        number: u64,
+        job: &Job,
+        prepared: &Result<Prepared, Reason>,
+    ) -> Result<Answer, Reason>
+        ensures outcome { (result ≡ Err OutOfMemory) ⊎ may job.now result }
+        ensures unprepared { IfErr prepared.now
+            (λ why. (result ≡ Err OutOfMemory) ⊎ (result ≡ Err why)) };
 }
 
 /// Hears of the jobs that a worker runs. This is no part of building, and nothing is promised of

@@ -1,6 +1,6 @@
 //! What a builder is given, and what it answers.
-ghost use Rattle.std.specs.Prelude.{◌≡◌, MatchOption, None, Some};
-ghost use Rattle.build_outcome.specs.Verdicts.{tree_at};
+ghost use Rattle.std.specs.Prelude.{◌≡◌, ◌↔◌, IsTrue, MatchOption, None, Some};
+ghost use Rattle.build_outcome.specs.Verdicts.{OthersMayWriteAt, left_at, tree_at};
 
 use drv_graph::{Kind, Profile};
 use nix_drv::EnvEntry;
@@ -37,24 +37,56 @@ pub struct Job {
     pub seeds: Vec<StorePath>,
 }
 
+/// What lies at an output's path.
+#[derive(Debug, Drop)]
+pub struct LeftOutput {
+    /// The file, the folder with all that is in it, or the link.
+    pub tree: Tree,
+    /// Whether, by the mode that the builder left it, its group or others may write the file or the
+    /// folder itself: the bits 0022. What is in the folder has modes of its own, which are not
+    /// asked for. Of a link, whose mode says nothing, it is false.
+    pub others_may_write: bool,
+}
+
 /// What a builder left behind.
 #[derive(Debug, Drop)]
 pub struct Answer {
     /// Its exit status, none where a signal ended it.
     pub status: Option<i32>,
     /// What lies at each output's path, in the job's order.
-    pub trees: Vec<Option<Tree>>,
+    pub outputs: Vec<Option<LeftOutput>>,
 }
 
 impl Answer {
     // What lies at the output with this number, if anything.
+    fn left_at(&self, n: usize) -> Option<&LeftOutput>
+        ensures { MatchOption result (left_at self.now n ≡ None)
+            (λ left. left_at self.now n ≡ Some left.now) }
+    {
+        match self.outputs.get(n) {
+            Some(Some(left)) => Some(left),
+            _ => None,
+        }
+    }
+
+    // The tree at the output with this number, if anything lies there.
     pub(crate) fn tree_at(&self, n: usize) -> Option<&Tree>
         ensures { MatchOption result (tree_at self.now n ≡ None)
             (λ tree. tree_at self.now n ≡ Some tree.now) }
     {
-        match self.trees.get(n) {
-            Some(Some(tree)) => Some(tree),
-            _ => None,
+        match self.left_at(n) {
+            Some(left) => Some(&left.tree),
+            None => None,
+        }
+    }
+
+    // Whether the group of what lies at the output with this number, or others, may write it.
+    pub(crate) fn others_may_write(&self, n: usize) -> bool
+        ensures { IsTrue result ↔ OthersMayWriteAt self.now n }
+    {
+        match self.left_at(n) {
+            Some(left) => left.others_may_write,
+            None => false,
         }
     }
 }

@@ -3,6 +3,7 @@
 //! | Module | What is in it |
 //! |---|---|
 //! | `job` | what a builder is given, and what it answers |
+//! | `prepared` | what is prepared for a builder's start |
 //! | `build` | builders, which build jobs and hear of them |
 //! | `verdict`, `checked` | the verdict on an answer, and the records that it gives |
 //! | `taking` | whether an output's tree is taken, by its size, its form and its digest |
@@ -23,6 +24,7 @@ mod digest;
 mod job;
 pub mod laws;
 mod links;
+mod prepared;
 mod reason;
 mod sums;
 mod taking;
@@ -37,6 +39,7 @@ pub use checks::roots::{OutputRoots, output_roots};
 pub use checks::testing::test_outputs;
 pub use checks::tokens::{is_space, tokens_of};
 pub use cycle::is_cyclic;
-pub use job::{Answer, Job, JobOutput};
+pub use job::{Answer, Job, JobOutput, LeftOutput};
+pub use prepared::{AttributeTexts, Prepared, PreparedFile};
 pub use reason::Reason;
 pub use verdict::examine;

@@ -29,12 +29,22 @@ pub enum Reason {
     OutOfMemory,
     /// A signal ended the builder.
     Killed,
+    /// The group of the output with this number, counted from 0, or others may write it, and the
+    /// profile is `nix`.
+    BadMode(usize),
     /// The output with the first number, counted from 0, refers to a path to which it may not: the
     /// one with the second number, counted from 0, among the permitted paths in rising order.
     NotAllowed(usize, usize),
     /// A check of the output with this number, counted from 0, lists what is neither a path of the
     /// store folder nor the name of an output.
     BadSpecifier(usize),
+    /// The structured attributes are not what Nix takes.
+    BadAttributes,
+    /// `exportReferencesGraph` asks for what it may not.
+    BadGraph,
+    /// The archive of a path is asked for and not known: of the one with this number, counted from
+    /// 0, among the permitted paths in rising order.
+    UnknownNar(usize),
 }
 
 impl Reason {
@@ -53,8 +63,12 @@ impl Reason {
             Reason::ReadFault => 57,
             Reason::OutOfMemory => 58,
             Reason::Killed => 59,
+            Reason::BadMode(_) => 81,
             Reason::NotAllowed(_, _) => 84,
             Reason::BadSpecifier(_) => 85,
+            Reason::BadAttributes => 79,
+            Reason::BadGraph => 80,
+            Reason::UnknownNar(_) => 86,
         }
     }
 }

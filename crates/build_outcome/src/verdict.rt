@@ -3,7 +3,7 @@ ghost use Rattle.std.specs.Prelude.{◌≡◌, ◌↔◌, ℕ, List, Ok, Err, po
 ghost use Rattle.nix_names.specs.Rising.{IsRising};
 ghost use Rattle.ref_scan.specs.declared.tree.Tree.{Tree as ATree};
 ghost use Rattle.build_outcome.specs.declared.job.JobOutput.{JobOutput};
-ghost use Rattle.build_outcome.specs.Verdicts.{AreOutputsThere, AreRead, AreRecords, HasArchive, IsCyclic, IsExamining, IsRecordDigest, IsRecordNar, IsRecordOf, IsTaken, IsTreeFault, IsVerdict, NeedsArchive, outputs_of};
+ghost use Rattle.build_outcome.specs.Verdicts.{AreOutputsThere, AreRead, AreRecords, HasArchive, HasBadMode, HaveGoodModes, IsCyclic, IsExamining, IsRecordDigest, IsRecordNar, IsRecordOf, IsTaken, IsTreeFault, IsVerdict, NeedsArchive, outputs_of};
 ghost use Rattle.build_outcome.specs.private.Summing.{AreSums, IsOutputSum};
 
 use crate::checked::Checked;
@@ -27,8 +27,9 @@ use valid_table::{Nar, Record};
 ///
 /// Else the first of these that holds: `Killed`; `ExitStatus` with a status that isn't 0;
 /// `ReadFault` where archives are asked for and what lies at an output has none of fewer than 2^63
-/// bytes; `MissingOutput` with the first output at which nothing lies; for the first output at
-/// which one of them holds, `TooLarge`, which is of the profile `plain`, or of a fixed output
+/// bytes; `MissingOutput` with the first output at which nothing lies; `BadMode`, which is of the
+/// profile `nix`, with the first output whose group, or others, may write it; for the first output
+/// at which one of them holds, `TooLarge`, which is of the profile `plain`, or of a fixed output
 /// `NotFlatFile` or `HashMismatch`; `OutputCycle` where two different outputs lead to each other by
 /// references among the outputs. Archives are asked for under the profile `nix`, and under `plain`
 /// where the archive of a fixed output is declared. Under `nix` a file that its owner may execute
@@ -52,6 +53,7 @@ pub fn examine(
     ensures { IsExamining job.now permitted.now answer result }
 {
     let sums = check_complete(alloc, job, &answer)?;
+    check_modes(job, &answer)?;
     check_trees(job, &answer, &sums)?;
     let records = records_of(alloc, job, permitted, &answer, &sums)?;
     if refer_in_cycle(alloc, job, &records)? {
@@ -129,9 +131,35 @@ fn check_there(job: &Job, answer: &Answer) -> Result<(), Reason>
     Ok(())
 }
 
+// Whether the profile takes the mode of what lies at each output's path.
+fn check_modes(job: &Job, answer: &Answer) -> Result<(), Reason>
+    requires { AreOutputsThere job.now answer.now }
+    ensures good { OnOk result (HaveGoodModes job.now answer.now) }
+    ensures err { IfErr result (λ why. (permitted : List (List ℕ))
+        → IsVerdict job.now permitted answer.now (Err why)) }
+{
+    for n in 0..job.outputs.len() {
+        if has_bad_mode(job, answer, n) {
+            return Err(Reason::BadMode(n));
+        }
+    }
+    Ok(())
+}
+
+// Whether the profile doesn't take the mode of what lies at the output with this number.
+fn has_bad_mode(job: &Job, answer: &Answer, n: usize) -> bool
+    ensures { IsTrue result ↔ HasBadMode job.now answer.now n }
+{
+    match job.profile {
+        Profile::Plain => false,
+        Profile::Nix => answer.others_may_write(n),
+    }
+}
+
 // Whether what lies at each output's path is taken. Takes no memory.
 fn check_trees(job: &Job, answer: &Answer, sums: &[Option<OutputSum>]) -> Result<(), Reason>
     requires there { AreOutputsThere job.now answer.now }
+    requires good { HaveGoodModes job.now answer.now }
     requires sums { AreSums job.now answer.now sums.now }
     ensures taken { OnOk result (IsTaken job.now answer.now) }
     ensures err { IfErr result (λ why. (permitted : List (List ℕ))

@@ -10,10 +10,9 @@ use Rattle.nix_drv.specs.Parts.{entry_of}
 use Rattle.nix_drv.specs.declared.derivation.EnvEntry.{EnvEntry}
 use Rattle.nix_names.specs.Names.{same_bytes}
 use Rattle.drv_graph.specs.Nodes.{Node}
-use Rattle.drv_graph.specs.declared.profile.Profile.{Profile}
 use Rattle.valid_table.specs.declared.entry.Entry.{Entry}
 use Rattle.run_report.specs.Listing.{IsMarked}
-use Rattle.run_states.specs.Runs.{Run, Terms, left_out_of, standing_at, terms_of}
+use Rattle.run_states.specs.Runs.{Run, Terms, left_out, standing_at, terms_of}
 use Rattle.run_states.specs.StateTables.{AreStandings, AreWanted}
 use Rattle.run_states.specs.declared.precondition.Precondition.{Precondition}
 use Rattle.run_states.specs.declared.precondition.Precondition.TheVariants.{Free}
@@ -73,21 +72,21 @@ marks_are run opening wanted standings marks are_standings are_wanted is d = (to
         )
 
 -- an entry that asks for nothing that is left out is passed over
-pub key_passed : (profile : Profile) (other : List ℕ) (env : List EnvEntry) (i : ℕ) (d : EnvEntry)
+pub key_passed : (other : List ℕ) (env : List EnvEntry) (i : ℕ) (d : EnvEntry)
     → i < length env
-    → list_any (same_bytes (get_or env i d).key.items) (left_out_of profile) ≡ false
-    → first_left_out profile other (map entry_of (drop (i + 1) env))
-    ≡ first_left_out profile other (map entry_of (drop i env))
-key_passed profile other env i d below none =
+    → list_any (same_bytes (get_or env i d).key.items) left_out ≡ false
+    → first_left_out other (map entry_of (drop (i + 1) env))
+    ≡ first_left_out other (map entry_of (drop i env))
+key_passed other env i d below none =
     let next : drop i env ≡ get_or env i d ∷ drop (i + 1) env = rw add-one (drop-cons env i d below) in
     rw (next, none) refl
 
 -- and the key of the first other one is found
-pub key_found : (profile : Profile) (other : List ℕ) (env : List EnvEntry) (i : ℕ) (d : EnvEntry)
+pub key_found : (other : List ℕ) (env : List EnvEntry) (i : ℕ) (d : EnvEntry)
     → i < length env
-    → list_any (same_bytes (get_or env i d).key.items) (left_out_of profile) ≡ true
-    → (get_or env i d).key.items ≡ first_left_out profile other (map entry_of (drop i env))
-key_found profile other env i d below one =
+    → list_any (same_bytes (get_or env i d).key.items) left_out ≡ true
+    → (get_or env i d).key.items ≡ first_left_out other (map entry_of (drop i env))
+key_found other env i d below one =
     let next : drop i env ≡ get_or env i d ∷ drop (i + 1) env = rw add-one (drop-cons env i d below) in
     rw (next, one) refl
 

@@ -4,7 +4,7 @@ use Rattle.std.specs.List.{AllZip}
 use Rattle.drv_graph.specs.declared.profile.Profile.TheVariants.{Plain}
 use Rattle.nix_drv.specs.Derivation.{EnvEntry}
 use Rattle.process_build.specs.Setups.{IsFileOf, IsFilled, IsFilledEntry}
-use Rattle.process_build.specs.Setups.{PlainSetupsArePlain, builder_under, entries_in_files, entries_under, entry}
+use Rattle.process_build.specs.Setups.{PlainSetupsArePlain, builder_under, entries_under, entry, files_under}
 use Rattle.process_build.specs.Setups.{entry_of_var, filled_outputs, name_under, text_bytes}
 use Rattle.process_build.specs.Setups.IsFilled.{at_end, kept, replaced}
 
@@ -33,7 +33,7 @@ none_from_none R [] zip = refl
 none_from_none R (y ∷ ys) zip = absurd zip
 
 pub plain_setups : PlainSetupsArePlain
-plain_setups around job setup plain is =
+plain_setups around job prepared setup plain is =
     let outputs = job.outputs.items in
     record {
       builder = is.builder
@@ -48,12 +48,12 @@ plain_setups around job setup plain is =
       env =
           same_values (λ (e : EnvEntry) filled. IsFilledEntry [] e (entry_of_var filled)) (λ e. e)
           entry_of_var (λ x y filled. ap₂ entry (unfilled filled.0) (unfilled filled.1))
-          (entries_under Plain around job) setup.env.items
+          (entries_under Plain around job prepared) setup.env.items
           (subst (λ p. AllZip (λ e filled. IsFilledEntry (filled_outputs p outputs) e
-          (entry_of_var filled)) (entries_under p around job) setup.env.items) plain is.env)
-          ∙ map_same (entries_under Plain around job);
+          (entry_of_var filled)) (entries_under p around job prepared) setup.env.items) plain is.env)
+          ∙ map_same (entries_under Plain around job prepared);
       files =
           none_from_none (IsFileOf []) setup.files.items
-          (subst (λ p. AllZip (IsFileOf (filled_outputs p outputs)) (entries_in_files p job)
+          (subst (λ p. AllZip (IsFileOf (filled_outputs p outputs)) (files_under p job prepared)
           setup.files.items) plain is.files);
     }

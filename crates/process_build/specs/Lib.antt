@@ -1,5 +1,6 @@
 -- What public contracts cite, and what that rests on.
 pub mod Contents
+pub mod Ends
 pub mod Errors
 pub mod Folders
 pub mod Leases

@@ -17,6 +17,9 @@ use Rattle.drv_graph.specs.declared.profile.Profile.TheVariants.{Nix, Plain}
 use Rattle.build_outcome.specs.Tokens.{tokens}
 use Rattle.build_outcome.specs.declared.job.Job.{Job}
 use Rattle.build_outcome.specs.declared.job.JobOutput.{JobOutput}
+use Rattle.build_outcome.specs.declared.prepared.Prepared.{Prepared}
+use Rattle.build_outcome.specs.declared.prepared.Prepared.TheVariants.{Entries, Structured}
+use Rattle.build_outcome.specs.declared.prepared.PreparedFile.{PreparedFile}
 use Rattle.process_build.specs.declared.process.builtins.OwnBuiltin.{OwnBuiltin}
 use Rattle.process_build.specs.declared.process.setup.Setup.{Setup}
 use Rattle.process_build.specs.declared.process.setup.SetupFile.{SetupFile}
@@ -121,6 +124,12 @@ entries_at_last =
 abbrev pub caller_entry : (caller : List EnvEntry) → Name → EnvEntry
 caller_entry caller name = entry name (or_empty (value_of name caller))
 
+-- the names of the caller's variables that the builder of a fixed output gets: the tokens of
+-- `impureEnvVars`, or those of structured attributes
+abbrev pub impure_names : Job → Prepared → List Name
+impure_names job (Entries files) = tokens_under (codes "impureEnvVars") job
+impure_names job (Structured texts) = map string_bytes texts.impure.items
+
 -- the entries of fixed outputs alone: their digests are checked, so they may depend on the caller
 abbrev pub fixed_entries : Kind → (names : List Name) → (caller : List EnvEntry) → List EnvEntry
 fixed_entries (Fixed method digest) names caller =
@@ -143,29 +152,73 @@ entry_under_nix folder files e =
     then entry (e.key ++ codes "Path") (folder ++ codes "/" ++ file_name_of e.key)
     else e
 
--- the entries of a builder's environment in the order in which they are set, before they are filled
-abbrev pub entries_under : Profile → Surroundings → Job → List EnvEntry
-entries_under Plain around job =
-    entries_before around.store_dir.now ++ own_entries job ++ entries_after around.folder.now
-entries_under Nix around job =
-    entries_before around.store_dir.now ++ entries_of_cores around.cores
-    ++ map (entry_under_nix around.folder.now (tokens_under (codes "passAsFile") job))
-    (own_entries job)
-    ++ entries_after around.folder.now
-    ++ fixed_entries job.kind (tokens_under (codes "impureEnvVars") job)
-    (map entry_of around.caller.now)
-    ++ entries_at_last
+-- what is set for the entries of the derivation under `nix`; nothing where its attributes are
+-- structured
+abbrev pub attribute_entries : (folder : Bytes) → Job → Prepared → List EnvEntry
+attribute_entries folder job (Entries files) =
+    map (entry_under_nix folder (tokens_under (codes "passAsFile") job)) (own_entries job)
+attribute_entries folder job (Structured texts) = []
 
--- the entries whose values go into files: under `nix` those whose keys are tokens of `passAsFile`
-abbrev pub entries_in_files : Profile → Job → List EnvEntry
-entries_in_files Plain job = []
-entries_in_files Nix job =
+-- the name of the file with the structured attributes for a shell
+abbrev pub shell_name : Name
+shell_name = codes ".attrs.sh"
+
+-- the name of the file with the structured attributes as JSON
+abbrev pub json_name : Name
+json_name = codes ".attrs.json"
+
+-- the entries that tell the paths of both, where the attributes are structured
+abbrev pub text_entries : (folder : Bytes) → Prepared → List EnvEntry
+text_entries folder (Entries files) = []
+text_entries folder (Structured texts) =
+    entry (codes "NIX_ATTRS_SH_FILE") (folder ++ codes "/" ++ shell_name)
+    ∷ entry (codes "NIX_ATTRS_JSON_FILE") (folder ++ codes "/" ++ json_name) ∷ []
+
+-- the entries of a builder's environment in the order in which they are set, before they are filled
+abbrev pub entries_under : Profile → Surroundings → Job → Prepared → List EnvEntry
+entries_under Plain around job prepared =
+    entries_before around.store_dir.now ++ own_entries job ++ entries_after around.folder.now
+entries_under Nix around job prepared =
+    entries_before around.store_dir.now ++ entries_of_cores around.cores
+    ++ attribute_entries around.folder.now job prepared
+    ++ entries_after around.folder.now
+    ++ fixed_entries job.kind (impure_names job prepared) (map entry_of around.caller.now)
+    ++ entries_at_last
+    ++ text_entries around.folder.now prepared
+
+-- the entries whose values go into files: those whose keys are tokens of `passAsFile`
+abbrev pub entries_in_files : Job → List EnvEntry
+entries_in_files job =
     filter (λ e. is_among (tokens_under (codes "passAsFile") job) e.key) (own_entries job)
 
--- the file has the value of an entry, filled, and its name is that of the entry's key
-abbrev pub IsFileOf : List JobOutput → EnvEntry → SetupFile → Type 0
-IsFileOf outputs e file = (string_bytes file.name ≡ file_name_of e.key)
-    × IsFilled outputs e.value (raw_bytes file.contents)
+-- a file of a builder before it is filled: its name, with a text that is filled, or with bytes that
+-- stay as they are
+pub data FileText : Type 0 where
+  Filled : (name : Name) (text : Bytes) → FileText
+  Kept : (name : Name) (bytes : Bytes) → FileText
+
+-- the file that gets the value of an entry
+abbrev pub file_of_entry : EnvEntry → FileText
+file_of_entry e = Filled (file_name_of e.key) e.value
+
+-- the file that was prepared for `exportReferencesGraph`
+abbrev pub file_of_graph : PreparedFile → FileText
+file_of_graph file = Kept (string_bytes file.name) file.contents.items
+
+-- the files that lie in a builder's folder before it is started: none under `plain`
+abbrev pub files_under : Profile → Job → Prepared → List FileText
+files_under Plain job prepared = []
+files_under Nix job (Entries files) =
+    map file_of_entry (entries_in_files job) ++ map file_of_graph files.items
+files_under Nix job (Structured texts) =
+    Filled json_name texts.json.items ∷ Filled shell_name texts.shell.items ∷ []
+
+-- the file has this name and these bytes, filled where they are a text
+abbrev pub IsFileOf : List JobOutput → FileText → SetupFile → Type 0
+IsFileOf outputs (Filled name text) file = (text_bytes file.name ≡ name)
+    × IsFilled outputs text (raw_bytes file.contents)
+IsFileOf outputs (Kept name bytes) file = (text_bytes file.name ≡ name)
+    × (raw_bytes file.contents ≡ bytes)
 
 -- the text of a builtin builder, and the path of the program that is started for it, as an entry
 abbrev pub entry_of_builtin : OwnBuiltin → EnvEntry
@@ -188,8 +241,10 @@ abbrev pub name_under : Profile → (builder : Bytes) → Name
 name_under Plain builder = builder
 name_under Nix builder = after_last (λ byte. byte == 47) builder
 
--- A builder is started with this: the texts of its job under the rules of the job's profile.
-pub record IsSetup (around : Surroundings) (job : Job) (setup : Setup) : Type 0 where
+-- A builder is started with this: the texts of its job, and what was prepared for it, under the
+-- rules of the job's profile.
+pub record IsSetup (around : Surroundings) (job : Job) (prepared : Prepared) (setup : Setup)
+    : Type 0 where
   pub builder : setup.builder.now
       ≡ builder_under job.profile around.builtins.now job.builder.items
   pub name : setup.name.now ≡ name_under job.profile
@@ -197,9 +252,9 @@ pub record IsSetup (around : Surroundings) (job : Job) (setup : Setup) : Type 0 
   pub args : AllZip (λ arg filled. IsFilled (filled_outputs job.profile job.outputs.items)
       arg.items (text_bytes filled)) job.args.items setup.args.items
   pub env : AllZip (λ e filled. IsFilledEntry (filled_outputs job.profile job.outputs.items)
-      e (entry_of_var filled)) (entries_under job.profile around job) setup.env.items
+      e (entry_of_var filled)) (entries_under job.profile around job prepared) setup.env.items
   pub files : AllZip (IsFileOf (filled_outputs job.profile job.outputs.items))
-      (entries_in_files job.profile job) setup.files.items
+      (files_under job.profile job prepared) setup.files.items
 
 -- a text that can be given to a process: UTF-8 without a zero byte
 abbrev pub IsProcessText : Bytes → Type 0
@@ -233,19 +288,19 @@ HasNoEntry outputs entries = (one : EnvEntry) × (filled : EnvEntry) × Contains
     × IsFilledEntry outputs one filled × ¬ (IsProcessEntry filled)
 
 -- no process can be started with what the builder of a job is to be given
-abbrev pub CannotBeGiven : Surroundings → Job → Type 0
-CannotBeGiven around job =
+abbrev pub CannotBeGiven : Surroundings → Job → Prepared → Type 0
+CannotBeGiven around job prepared =
     (¬ (IsProcessText (builder_under job.profile around.builtins.now job.builder.items)))
     ⊎ (¬ (IsProcessText (name_under job.profile
     (builder_under job.profile around.builtins.now job.builder.items))))
     ⊎ HasNoText (filled_outputs job.profile job.outputs.items)
     (map (λ arg. arg.items) job.args.items)
     ⊎ HasNoEntry (filled_outputs job.profile job.outputs.items)
-    (entries_under job.profile around job)
+    (entries_under job.profile around job prepared)
 
--- Under `plain` a builder is started with the texts of its job as they stand: under its own text, with
--- its arguments, with its entries between those of the store folder and of the build folder, and
--- with no files.
+-- Under `plain` a builder is started with the texts of its job as they stand, whatever was prepared:
+-- under its own text, with its arguments, with its entries between those of the store folder and of
+-- the build folder, and with no files.
 pub record IsPlainSetup (around : Surroundings) (job : Job) (setup : Setup) : Type 0 where
   pub builder : setup.builder.now ≡ job.builder.items
   pub name : setup.name.now ≡ job.builder.items
@@ -255,5 +310,5 @@ pub record IsPlainSetup (around : Surroundings) (job : Job) (setup : Setup) : Ty
   pub files : setup.files.items ≡ []
 
 abbrev pub PlainSetupsArePlain : Type 0
-PlainSetupsArePlain = (around : Surroundings) (job : Job) (setup : Setup)
-    → job.profile ≡ Plain → IsSetup around job setup → IsPlainSetup around job setup
+PlainSetupsArePlain = (around : Surroundings) (job : Job) (prepared : Prepared) (setup : Setup)
+    → job.profile ≡ Plain → IsSetup around job prepared setup → IsPlainSetup around job setup

@@ -20,7 +20,7 @@ use Rattle.valid_table.specs.declared.entry.Entry.{Entry}
 use Rattle.run_report.specs.Forecasts.{foretold}
 use Rattle.run_report.specs.declared.listing.Listed.{Listed}
 use Rattle.run_states.specs.declared.state.State.{State}
-use Rattle.run_states.proofs.OwnStandings.{drv_is}
+use Rattle.run_report.proofs.PlanDrvs.{drv_is}
 use Rattle.run_report.proofs.RunReports.{by_path_moved, marks_told, same_texts}
 use Rattle.run_states.proofs.Tests.{is_among, is_found, same_test}
 use Rattle.run_states.proofs.Wanting.{Marks, none_marked}

@@ -1,9 +1,12 @@
 pub mod Drawn
 pub mod Foretelling
 pub mod Held
+pub mod LineTexts
 pub mod Listings
+pub mod NamedPaths
 pub mod OneReport
 pub mod Passing
+pub mod PlanDrvs
 pub mod RunReports
 pub mod Spared
 pub mod Telling

@@ -1,5 +1,5 @@
 -- There is one report.
-use Rattle.std.proofs.Common.{◌≡◌, ◌∙◌, ⊎_elim, ℕ, List, [], ◌∷◌, ◌++◌, map, refl, sym, ap, subst, rules}
+use Rattle.std.proofs.Common.{◌≡◌, ◌∙◌, ⊎_elim, ℕ, Option, List, [], ◌∷◌, ◌++◌, map, refl, sym, ap, subst, rules}
 use Rattle.std.specs.Prelude.{◌↔◌, Contains, flat_map}
 use Rattle.nix_names.specs.Rising.{IsRising}
 use Rattle.nix_names.proofs.RisingLists.{IsBelow, below_trans, first_below, not_below_itself, rising_later}
@@ -63,9 +63,25 @@ one_list key (x ∷ xs) (y ∷ ys) rises rises' same =
     )) in
     ap (λ d. d ∷ xs) first ∙ ap (λ ds. y ∷ ds) rest
 
-pub one_report : (graph : Graph) (is_wanted : ℕ → Type 0) (state : ℕ → State) (a b : List ℕ)
-    → IsReport graph is_wanted state a → IsReport graph is_wanted state b → a ≡ b
-one_report graph is_wanted state a b of_a of_b =
+-- the same texts of each of some numbers
+pub lines_alike : (f g : ℕ → List ℕ) (numbers : List ℕ)
+    → ((d : ℕ) → Contains numbers d → f d ≡ g d) → flat_map f numbers ≡ flat_map g numbers
+lines_alike f g [] each = refl
+lines_alike f g (d ∷ ds) each =
+    ap (λ (l : List ℕ). l ++ flat_map f ds) (each d (Contains-first d ds))
+    ∙ ap (λ (l : List ℕ). g d ++ l)
+    (lines_alike f g ds (λ e has. each e (Contains-later d ds e has)))
+
+-- of each wanted derivation one path is named
+abbrev pub NamesOne : (is_wanted : ℕ → Type 0) → (is_named : ℕ → Option (List ℕ) → Type 0) → Type 0
+NamesOne is_wanted is_named = (d : ℕ) (m n : Option (List ℕ)) → is_wanted d → is_named d m
+    → is_named d n → m ≡ n
+
+pub one_report : (graph : Graph) (is_wanted : ℕ → Type 0)
+    (is_named : ℕ → Option (List ℕ) → Type 0) (state : ℕ → State) (a b : List ℕ)
+    → NamesOne is_wanted is_named → IsReport graph is_wanted is_named state a
+    → IsReport graph is_wanted is_named state b → a ≡ b
+one_report graph is_wanted is_named state a b one of_a of_b =
     let same : of_a.wanted ≡ of_b.wanted =
     one_list (path_at graph.nodes) _ _ of_a.by_path.rising of_b.by_path.rising
     (λ d. (
@@ -73,6 +89,11 @@ one_report graph is_wanted state a b of_a of_b =
       λ has. (of_a.by_path.just d).1 ((of_b.by_path.just d).0 has),
     )) in
     of_a.is_text
-    ∙ ap (λ (ds : List ℕ). flat_map (line_at graph.nodes state) ds
+    ∙ ap (λ (l : List ℕ). l ++ flat_map (outputs_at graph.nodes state) graph.roots)
+    (lines_alike (line_at graph.nodes of_a.named state) (line_at graph.nodes of_b.named state)
+    of_a.wanted (λ d has. let is = (of_a.by_path.just d).0 has in
+    ap (λ (n : Option (List ℕ)). line_at graph.nodes (λ _. n) state d)
+    (one d (of_a.named d) (of_b.named d) is (of_a.are_named d is) (of_b.are_named d is))))
+    ∙ ap (λ (ds : List ℕ). flat_map (line_at graph.nodes of_b.named state) ds
     ++ flat_map (outputs_at graph.nodes state) graph.roots) same
     ∙ sym of_b.is_text

@@ -1,13 +1,15 @@
 -- The report of a course is that of its run, and what else tells of the derivations by path.
-use Rattle.std.proofs.Common.{◌≡◌, ℕ, List, [], ◌∷◌, length, refl, rules}
+use Rattle.std.proofs.Common.{◌≡◌, ◌∙◌, ◌<◌, ℕ, Option, List, [], ◌∷◌, ◌++◌, length, refl, sym, ap, subst, rules}
 use Rattle.std.specs.Prelude.{◌↔◌, Bool, flat_map}
 use Rattle.drv_graph.specs.Nodes.{Node}
 use Rattle.drv_graph.specs.Plans.{Graph}
 use Rattle.valid_table.specs.declared.entry.Entry.{Entry}
 use Rattle.run_states.specs.StateTables.{AreWanted, StateTable, course_state}
 use Rattle.run_report.specs.Listing.{IsMarked}
-use Rattle.run_report.specs.Reports.{AreByPath, IsReportIn, IsReportOf, IsTold}
+use Rattle.run_report.specs.NamedPaths.{IsNamedIn, named_at}
+use Rattle.run_report.specs.Reports.{AreByPath, IsReport, IsReportIn, IsReportOf, IsTold, IsWantedIn, outputs_at, told_at}
 use Rattle.run_report.specs.declared.tense.Tense.{Tense}
+use Rattle.run_report.specs.declared.tense.Tense.TheVariants.{Past}
 use Rattle.run_states.specs.Runs.{History, IsWanted, Run, state_in}
 use Rattle.run_states.specs.declared.state.State.{State}
 use Rattle.run_states.proofs.Wanting.{marked_within}
@@ -33,16 +35,66 @@ by_path_moved nodes is_wanted is_wanted' numbers same by_path = search rules
 
 -- what is told of a plan, in other words for the same
 pub told_moved : (tense : Tense) (graph : Graph) (is_wanted is_wanted' : ℕ → Type 0)
-    (state state' : ℕ → State) (text : List ℕ) → ((d : ℕ) → is_wanted d ↔ is_wanted' d)
-    → ((d : ℕ) → state d ≡ state' d) → IsTold tense graph is_wanted state text
-    → IsTold tense graph is_wanted' state' text
-told_moved tense graph is_wanted is_wanted' state state' text wanted_same states_same told =
-    search (rules, by_path_moved, same_texts)
+    (is_named is_named' : ℕ → Option (List ℕ) → Type 0) (state state' : ℕ → State)
+    (text : List ℕ) → ((d : ℕ) → is_wanted d ↔ is_wanted' d)
+    → ((d : ℕ) (named : Option (List ℕ)) → is_wanted d → is_named d named → is_named' d named)
+    → ((d : ℕ) → state d ≡ state' d) → IsTold tense graph is_wanted is_named state text
+    → IsTold tense graph is_wanted' is_named' state' text
+told_moved tense graph is_wanted is_wanted' is_named is_named' state state' text wanted_same
+    named_same states_same told = record {
+      wanted = told.wanted;
+      by_path = by_path_moved graph.nodes is_wanted is_wanted' told.wanted wanted_same
+          told.by_path;
+      named = told.named;
+      are_named = λ d is.
+          let was = (wanted_same d).1 is in
+          named_same d (told.named d) was (told.are_named d was);
+      is_text = told.is_text ∙ texts;
+    }
+  where
+    texts : flat_map (told_at tense graph.nodes told.named state) told.wanted
+        ++ flat_map (outputs_at graph.nodes state) graph.roots
+        ≡ flat_map (told_at tense graph.nodes told.named state') told.wanted
+        ++ flat_map (outputs_at graph.nodes state') graph.roots
+    texts =
+        ap (λ (l : List ℕ). l ++ flat_map (outputs_at graph.nodes state) graph.roots)
+        (same_texts (told_at tense graph.nodes told.named state)
+        (told_at tense graph.nodes told.named state') told.wanted
+        (λ d. ap (λ (s : State). told_at tense graph.nodes told.named (λ _. s) d)
+        (states_same d)))
+        ∙ ap (λ (l : List ℕ). flat_map (told_at tense graph.nodes told.named state') told.wanted
+        ++ l)
+        (same_texts (outputs_at graph.nodes state) (outputs_at graph.nodes state') graph.roots
+        (λ d. ap (λ (s : State). outputs_at graph.nodes (λ _. s) d) (states_same d)))
 
--- where a course says of each derivation of a run whether it is wanted, and has its state
-pub report_in : (run : Run) (history : History) (course : StateTable) (text : List ℕ) → course.graph
-    ≡ run.graph → AreWanted run history.opening course.wanted
-    → ((d : ℕ) → course_state course d ≡ state_in run history d) → IsReportOf course text
-    → IsReportIn run history text
-report_in run history course text graph_is are_wanted states report =
-    search (rules, told_moved, marks_told)
+-- where a course says of each derivation of a run whether it is wanted, and has its state, and a
+-- list has the path that the line of each names
+pub report_in : (run : Run) (history : History) (course : StateTable)
+    (named : List (Option (List ℕ))) (text : List ℕ) → course.graph ≡ run.graph
+    → AreWanted run history.opening course.wanted
+    → ((d : ℕ) → course_state course d ≡ state_in run history d)
+    → ((d : ℕ) → d < length course.graph.nodes
+    → IsNamedIn course.graph history.entries d (course_state course d) (named_at named d))
+    → IsReportOf course named text → IsReportIn run history text
+report_in run history course named text graph_is are_wanted states are_named report =
+    subst (λ (g : Graph). IsReport g (IsWanted run history.opening)
+    (λ d path. IsNamedIn g history.entries d (state_in run history d) path)
+    (state_in run history) text) graph_is
+    (told_moved Past course.graph (IsWantedIn course) (IsWanted run history.opening)
+    (λ d path. path ≡ named_at named d)
+    (λ d path. IsNamedIn course.graph history.entries d (state_in run history d) path)
+    (course_state course) (state_in run history) text wanted named_in states report)
+  where
+    wanted : (d : ℕ) → IsWantedIn course d ↔ IsWanted run history.opening d
+    wanted d =
+        subst (λ (g : Graph). IsMarked course.wanted (length g.nodes) d
+        ↔ IsWanted run history.opening d) (sym graph_is)
+        (marks_told run history.opening course.wanted are_wanted d)
+
+    named_in : (d : ℕ) (path : Option (List ℕ)) → IsWantedIn course d → path ≡ named_at named d
+        → IsNamedIn course.graph history.entries d (state_in run history d) path
+    named_in d path is at =
+        subst (λ (n : Option (List ℕ)). IsNamedIn course.graph history.entries d
+        (state_in run history d) n) (sym at)
+        (subst (λ (s : State). IsNamedIn course.graph history.entries d s (named_at named d))
+        (states d) (are_named d is.0))

@@ -4,16 +4,16 @@ use Rattle.std.specs.Prelude.{Contains, flat_map, slice_get}
 use Rattle.std.proofs.lemmas.Grind.{flat_map-append}
 use Rattle.std.proofs.lemmas.List.{append-nil}
 use Rattle.std.proofs.lemmas.List.Folds.{flat_map-map}
-use Rattle.nix_names.proofs.Lists.{Contains-first, Contains-later}
 use Rattle.drv_graph.specs.Nodes.{Node}
 use Rattle.drv_graph.specs.PlanNodes.{output_paths_of}
 use Rattle.run_report.specs.Reports.{lines_if_some, line_of, outputs_at, path_line, told_at}
 use Rattle.run_states.specs.Runs.{IsWanted, state_in, wanted_root}
+use Rattle.run_report.proofs.NamedPaths.{one_report_in}
 use Rattle.run_states.specs.States.{is_good}
 use Rattle.run_report.specs.Words.{refusal_words}
 use Rattle.run_states.specs.declared.state.State.{State}
 use Rattle.run_states.specs.declared.state.State.TheVariants.{Done, Refused, Reused}
-use Rattle.run_report.proofs.OneReport.{one_report}
+use Rattle.run_report.proofs.OneReport.{lines_alike}
 use Rattle.run_states.proofs.StateLaws.{all_same}
 use Rattle.run_report.specs.Forecasts.{foretold}
 use Rattle.run_report.specs.Truths.{Build, ForecastLine, Output, Refuse, ReportsComeTrue, Reuse, WholeComesTrue, telling}
@@ -49,11 +49,12 @@ line_alone : (tell : ForecastLine → List ℕ) (line : ForecastLine)
     → tell line ≡ flat_map tell (line ∷ [])
 line_alone tell line = sym (append-nil (tell line))
 
-told_line : (tense : Tense) (nodes : List Node) (node : Node) (s : State) → IsClosed s
-    → line_of tense nodes node s ≡ flat_map (telling tense) (told nodes node s)
-told_line tense nodes node s (inl is) = search (rules, nodes, told, line_alone)
-told_line tense nodes node s (inr (inl is)) = search (rules, nodes, told, line_alone)
-told_line tense nodes node s (inr (inr (cause, is))) = search (rules, nodes, told, line_alone)
+told_line : (tense : Tense) (nodes : List Node) (named : Option (List ℕ)) (node : Node) (s : State)
+    → IsClosed s
+    → line_of tense nodes named node s ≡ flat_map (telling tense) (told nodes node s)
+told_line tense nodes named node s (inl is) = search (rules, nodes, told, line_alone)
+told_line tense nodes named node s (inr (inl is)) = search (rules, nodes, told, line_alone)
+told_line tense nodes named node s (inr (inr (cause, is))) = search (rules, nodes, told, line_alone)
 
 told_outputs : (tense : Tense) (paths : List (List ℕ)) (good : Bool)
     → (if good then flat_map (path_line (codes "output ")) paths else [])
@@ -79,38 +80,33 @@ told_of_all tell texts lines (d ∷ ds) each =
     ∙ ap (λ (l : List ℕ). flat_map tell (lines d) ++ l) (told_of_all tell texts lines ds each)
     ∙ sym (flat_map-append tell (lines d) (flat_map lines ds))
 
--- texts of the same for each of some numbers
-texts_alike : (f g : ℕ → List ℕ) (numbers : List ℕ)
-    → ((d : ℕ) → Contains numbers d → f d ≡ g d) → flat_map f numbers ≡ flat_map g numbers
-texts_alike f g [] each = refl
-texts_alike f g (d ∷ ds) each =
-    ap (λ (l : List ℕ). l ++ flat_map f ds) (each d (Contains-first d ds))
-    ∙ ap (λ (l : List ℕ). g d ++ l)
-    (texts_alike f g ds (λ e has. each e (Contains-later d ds e has)))
-
 -- a text in closed states
-module _ (tense : Tense) (nodes : List Node) (state : ℕ → State) where
-  line_here : (d : ℕ) → IsClosed (state d)
-      → told_at tense nodes state d ≡ flat_map (telling tense) (lines_at nodes state d)
-  line_here d closed = search (rules, told_of_node, told, told_line)
+module _ (tense : Tense) (nodes : List Node) (named : ℕ → Option (List ℕ)) (state : ℕ → State)
+  where
+    line_here : (d : ℕ) → IsClosed (state d)
+        → told_at tense nodes named state d ≡ flat_map (telling tense) (lines_at nodes state d)
+    line_here d closed =
+        told_of_node (telling tense) (λ node. line_of tense nodes (named d) node (state d))
+        (λ node. told nodes node (state d)) (slice_get nodes d)
+        (λ node. told_line tense nodes (named d) node (state d) closed)
 
-  outputs_here : (d : ℕ) → outputs_at nodes state d
-      ≡ flat_map (telling tense) (outputs_told_at nodes state d)
-  outputs_here d = search (rules, told_of_node, outputs_told, told_outputs)
+    outputs_here : (d : ℕ) → outputs_at nodes state d
+        ≡ flat_map (telling tense) (outputs_told_at nodes state d)
+    outputs_here d = search (rules, told_of_node, outputs_told, told_outputs)
 
-  pub text_here : (wanted roots : List ℕ) → ((d : ℕ) → IsClosed (state d))
-      → flat_map (told_at tense nodes state) wanted ++ flat_map (outputs_at nodes state) roots
-      ≡ flat_map (telling tense)
-      (flat_map (lines_at nodes state) wanted ++ flat_map (outputs_told_at nodes state) roots)
-  text_here wanted roots closed =
-      ap (λ (l : List ℕ). l ++ flat_map (outputs_at nodes state) roots)
-      (told_of_all (telling tense) (told_at tense nodes state) (lines_at nodes state) wanted
-      (λ d. line_here d (closed d)))
-      ∙ ap (λ (l : List ℕ). flat_map (telling tense) (flat_map (lines_at nodes state) wanted) ++ l)
-      (told_of_all (telling tense) (outputs_at nodes state) (outputs_told_at nodes state) roots
-      outputs_here)
-      ∙ sym (flat_map-append (telling tense) (flat_map (lines_at nodes state) wanted)
-      (flat_map (outputs_told_at nodes state) roots))
+    pub text_here : (wanted roots : List ℕ) → ((d : ℕ) → IsClosed (state d))
+        → flat_map (told_at tense nodes named state) wanted ++ flat_map (outputs_at nodes state) roots
+        ≡ flat_map (telling tense)
+        (flat_map (lines_at nodes state) wanted ++ flat_map (outputs_told_at nodes state) roots)
+    text_here wanted roots closed =
+        ap (λ (l : List ℕ). l ++ flat_map (outputs_at nodes state) roots)
+        (told_of_all (telling tense) (told_at tense nodes named state) (lines_at nodes state) wanted
+        (λ d. line_here d (closed d)))
+        ∙ ap (λ (l : List ℕ). flat_map (telling tense) (flat_map (lines_at nodes state) wanted) ++ l)
+        (told_of_all (telling tense) (outputs_at nodes state) (outputs_told_at nodes state) roots
+        outputs_here)
+        ∙ sym (flat_map-append (telling tense) (flat_map (lines_at nodes state) wanted)
+        (flat_map (outputs_told_at nodes state) roots))
 
 -- ---- a run's report
 
@@ -119,6 +115,7 @@ reports_come_true run history ended none text report forecast is_report =
     let nodes = run.graph.nodes in
     let roots = run.graph.roots in
     let wanted = forecast.wanted in
+    let named = is_report.named in
     let before = foretold run history.opening in
     let after = state_in run history in
     let closed : (d : ℕ) → IsClosed (before d) =
@@ -128,20 +125,27 @@ reports_come_true run history ended none text report forecast is_report =
     record {
       lines = flat_map (lines_at nodes before) wanted
           ++ flat_map (outputs_told_at nodes before) roots;
-      is_forecast = forecast.is_text ∙ text_here Future nodes before wanted roots closed;
+      is_forecast = forecast.is_text
+          ∙ text_here Future nodes forecast.named before wanted roots closed;
       is_report =
-          one_report run.graph (IsWanted run history.opening) after report
-          (flat_map (told_at Past nodes after) wanted
+          one_report_in run history report
+          (flat_map (told_at Past nodes named after) wanted
           ++ flat_map (outputs_at nodes after) roots) is_report
-          (record { wanted = wanted; by_path = forecast.by_path; is_text = refl })
+          (record {
+            wanted = wanted;
+            by_path = forecast.by_path;
+            named = named;
+            are_named = is_report.are_named;
+            is_text = refl;
+          })
           ∙ ap (λ (l : List ℕ). l ++ flat_map (outputs_at nodes after) roots)
-          (texts_alike (told_at Past nodes after) (told_at Past nodes before) wanted
-          (λ d has. ap (λ s. told_at Past nodes (λ _. s) d)
+          (lines_alike (told_at Past nodes named after) (told_at Past nodes named before) wanted
+          (λ d has. ap (λ s. told_at Past nodes named (λ _. s) d)
           (same d ((forecast.by_path.just d).0 has))))
-          ∙ ap (λ (l : List ℕ). flat_map (told_at Past nodes before) wanted ++ l)
-          (texts_alike (outputs_at nodes after) (outputs_at nodes before) roots
+          ∙ ap (λ (l : List ℕ). flat_map (told_at Past nodes named before) wanted ++ l)
+          (lines_alike (outputs_at nodes after) (outputs_at nodes before) roots
           (λ d has. ap (λ s. outputs_at nodes (λ _. s) d) (same d (wanted_root d has))))
-          ∙ text_here Past nodes before wanted roots closed;
+          ∙ text_here Past nodes named before wanted roots closed;
     }
 
 pub whole_comes_true : WholeComesTrue

@@ -1,8 +1,8 @@
 -- *Forecast*: the state in which each derivation of a plan ends, if each builder that is started
 -- makes its outputs, and the text that tells it (this product's own).
-use Rattle.std.specs.Prelude.{◌≡◌, ◌<◌, ◌⊎◌, Bool, ℕ, List, []}
+use Rattle.std.specs.Prelude.{◌≡◌, ◌<◌, ◌⊎◌, Bool, ℕ, Option, None, List, []}
 use Rattle.std.specs.List.{list_all, slice_index_or}
-use Rattle.nix_names.specs.Bytes.{Bytes}
+use Rattle.nix_names.specs.Bytes.{Bytes, Path}
 use Rattle.drv_graph.specs.SoundGraphs.{IsSound}
 use Rattle.valid_table.specs.declared.entry.Entry.{Entry}
 use Rattle.run_states.specs.Runs.{IsWanted, Run, rows_of}
@@ -43,9 +43,13 @@ forecast rows d = built_table rows (λ i. slice_index_or (states_by (built_table
 abbrev pub foretold : Run → (opening : List Entry) → ℕ → State
 foretold run opening d = forecast (rows_of run opening []) d
 
+-- the line of a derivation names no path
+abbrev pub IsUnnamed : ℕ → (named : Option Path) → Type 0
+IsUnnamed d named = named ≡ None
+
 -- the text is the forecast of a run that opens with these entries
 abbrev pub IsForecast : Run → (opening : List Entry) → (text : Bytes) → Type 0
-IsForecast run opening text = IsTold Future run.graph (IsWanted run opening)
+IsForecast run opening text = IsTold Future run.graph (IsWanted run opening) IsUnnamed
     (foretold run opening) text
 
 -- whether each root is foretold to be built or reused

@@ -10,6 +10,7 @@ use Rattle.drv_graph.specs.Plans.{Graph}
 use Rattle.run_states.specs.StateTables.{StateTable, course_state}
 use Rattle.run_states.specs.Runs.{History, IsWanted, Run, state_in}
 use Rattle.run_states.specs.States.{is_good}
+use Rattle.run_report.specs.NamedPaths.{IsNamedIn, named_at}
 use Rattle.run_report.specs.Words.{reason_words, refusal_words}
 use Rattle.run_report.specs.declared.tense.Tense.{Tense}
 use Rattle.run_report.specs.declared.tense.Tense.TheVariants.{Past, Future}
@@ -42,16 +43,16 @@ abbrev pub refused_word : Tense → Bytes
 refused_word Past = codes "refused "
 refused_word Future = codes "refuse "
 
--- the line of a derivation of a plan, which has these nodes; none while it is Blocked, Ready or
--- Building
-abbrev pub line_of : Tense → List Node → Node → State → Bytes
-line_of tense nodes node Done = path_line (built_word tense) node.path
-line_of tense nodes node Reused = path_line (reused_word tense) node.path
-line_of tense nodes node (Failed reason) = why_line (failed_word tense) node.path
-    (reason_words node.drv None reason)
-line_of tense nodes node (Refused cause) = why_line (refused_word tense) node.path
+-- the line of a derivation of a plan, which has these nodes, where it names this path; none while
+-- it is Blocked, Ready or Building
+abbrev pub line_of : Tense → List Node → (named : Option Path) → Node → State → Bytes
+line_of tense nodes named node Done = path_line (built_word tense) node.path
+line_of tense nodes named node Reused = path_line (reused_word tense) node.path
+line_of tense nodes named node (Failed reason) = why_line (failed_word tense) node.path
+    (reason_words node.drv named reason)
+line_of tense nodes named node (Refused cause) = why_line (refused_word tense) node.path
     (refusal_words nodes node.drv cause)
-line_of tense nodes node state = []
+line_of tense nodes named node state = []
 
 -- a line for each output of a derivation that is built or reused, in its text's order
 abbrev pub output_lines : Node → State → Bytes
@@ -63,14 +64,15 @@ abbrev pub lines_if_some : (Node → Bytes) → Option Node → Bytes
 lines_if_some lines (Some node) = lines node
 lines_if_some lines None = []
 
--- the line of the derivation with this number
-abbrev pub told_at : Tense → List Node → (state : ℕ → State) → ℕ → Bytes
-told_at tense nodes state d =
-    lines_if_some (λ node. line_of tense nodes node (state d)) (slice_get nodes d)
+-- the line of the derivation with this number, where each line names these paths
+abbrev pub told_at : Tense → List Node → (named : ℕ → Option Path) → (state : ℕ → State) → ℕ
+    → Bytes
+told_at tense nodes named state d =
+    lines_if_some (λ node. line_of tense nodes (named d) node (state d)) (slice_get nodes d)
 
 -- its line in a report
-abbrev pub line_at : List Node → (state : ℕ → State) → ℕ → Bytes
-line_at nodes state = told_at Past nodes state
+abbrev pub line_at : List Node → (named : ℕ → Option Path) → (state : ℕ → State) → ℕ → Bytes
+line_at nodes named state = told_at Past nodes named state
 
 -- the lines of the outputs of the derivation with this number
 abbrev pub outputs_at : List Node → (state : ℕ → State) → ℕ → Bytes
@@ -85,32 +87,37 @@ pub record AreByPath (nodes : List Node) (is_wanted : ℕ → Type 0) (numbers :
   pub just : (d : ℕ) → Contains numbers d ↔ is_wanted d
   pub rising : IsRising (map (path_at nodes) numbers)
 
--- The text tells of a plan, of which these derivations are wanted, in these states: the lines of
--- the wanted ones, by path, then the lines of each root's outputs, in the order of the roots.
-pub record IsTold (tense : Tense) (graph : Graph) (is_wanted : ℕ → Type 0) (state : ℕ → State)
-    (text : Bytes) : Type 0 where
+-- The text tells of a plan, of which these derivations are wanted, in these states, where each
+-- line names such a path: the lines of the wanted ones, by path, then the lines of each root's
+-- outputs, in the order of the roots.
+pub record IsTold (tense : Tense) (graph : Graph) (is_wanted : ℕ → Type 0)
+    (is_named : ℕ → Option Path → Type 0) (state : ℕ → State) (text : Bytes) : Type 0 where
   pub wanted : List ℕ
   pub by_path : AreByPath graph.nodes is_wanted wanted
-  pub is_text : text ≡ flat_map (told_at tense graph.nodes state) wanted
+  pub named : ℕ → Option Path
+  pub are_named : (d : ℕ) → is_wanted d → is_named d (named d)
+  pub is_text : text ≡ flat_map (told_at tense graph.nodes named state) wanted
       ++ flat_map (outputs_at graph.nodes state) graph.roots
 
 -- the text is the report of such a plan
-abbrev pub IsReport : Graph → (is_wanted : ℕ → Type 0) → (state : ℕ → State) → (text : Bytes)
-    → Type 0
-IsReport graph is_wanted state text = IsTold Past graph is_wanted state text
+abbrev pub IsReport : Graph → (is_wanted : ℕ → Type 0) → (is_named : ℕ → Option Path → Type 0)
+    → (state : ℕ → State) → (text : Bytes) → Type 0
+IsReport graph is_wanted is_named state text = IsTold Past graph is_wanted is_named state text
 
 -- a derivation of a course is wanted
 abbrev pub IsWantedIn : StateTable → ℕ → Type 0
 IsWantedIn course d = (d < length course.graph.nodes)
     × (slice_index_or course.wanted d false ≡ true)
 
--- the text is the report of a course
-abbrev pub IsReportOf : StateTable → (text : Bytes) → Type 0
-IsReportOf course text = IsReport course.graph (IsWantedIn course) (course_state course) text
+-- the text is the report of a course, where each line names the path that a list has for it
+abbrev pub IsReportOf : StateTable → (named : List (Option Path)) → (text : Bytes) → Type 0
+IsReportOf course named text = IsReport course.graph (IsWantedIn course)
+    (λ d path. path ≡ named_at named d) (course_state course) text
 
 -- the text is the report of a run with this history
 abbrev pub IsReportIn : Run → History → (text : Bytes) → Type 0
 IsReportIn run history text = IsReport run.graph (IsWanted run history.opening)
+    (λ d path. IsNamedIn run.graph history.entries d (state_in run history d) path)
     (state_in run history) text
 
 -- a run with this history has one report

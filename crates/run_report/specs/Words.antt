@@ -8,7 +8,7 @@ use Rattle.nix_drv.specs.Strings.{string_text}
 use Rattle.drv_graph.specs.Nodes.{Node, paths_of}
 use Rattle.drv_graph.specs.PlanNodes.{output_paths_of}
 use Rattle.build_outcome.specs.declared.reason.Reason.{Reason}
-use Rattle.build_outcome.specs.declared.reason.Reason.TheVariants.{ExitStatus, NoStart, MissingOutput, NotFlatFile, HashMismatch, OutputCycle, TooLarge, ReadFault, OutOfMemory, Killed, NotAllowed, BadSpecifier}
+use Rattle.build_outcome.specs.declared.reason.Reason.TheVariants.{ExitStatus, NoStart, MissingOutput, NotFlatFile, HashMismatch, OutputCycle, TooLarge, ReadFault, OutOfMemory, Killed, BadMode, NotAllowed, BadSpecifier, BadAttributes, BadGraph, UnknownNar}
 use Rattle.run_states.specs.Systems.{required_features}
 use Rattle.run_states.specs.declared.state.Refusal.{Refusal}
 use Rattle.run_states.specs.declared.state.Refusal.TheVariants.{WrongSystem, Unsupported, MissingFeature, MissingSource, InputNotRealised, PartlyValid}
@@ -39,8 +39,8 @@ spelled_features drv = map string_text (required_features drv)
 abbrev pub output_words : Drv → (output : ℕ) → Bytes
 output_words drv output = text_or_number (slice_get (spelled_names drv) output) output
 
--- why the building of a derivation failed; of a path to which an output may not refer its place is
--- told where no path is named
+-- why the building of a derivation failed; of a path to which an output may not refer, or whose
+-- archive is not known, its place is told where no path is named
 abbrev pub reason_words : Drv → (named : Option Path) → Reason → Bytes
 reason_words drv named (ExitStatus status) =
     with_value (codes "ExitStatus") (signed_decimal status)
@@ -54,10 +54,15 @@ reason_words drv named TooLarge = codes "TooLarge"
 reason_words drv named ReadFault = codes "ReadFault"
 reason_words drv named OutOfMemory = codes "OutOfMemory"
 reason_words drv named Killed = codes "Killed"
+reason_words drv named (BadMode output) = with_value (codes "BadMode") (output_words drv output)
 reason_words drv named (NotAllowed output place) = with_value (codes "NotAllowed")
     (output_words drv output ++ codes "," ++ text_or_number named place)
 reason_words drv named (BadSpecifier output) =
     with_value (codes "BadSpecifier") (output_words drv output)
+reason_words drv named BadAttributes = codes "BadAttributes"
+reason_words drv named BadGraph = codes "BadGraph"
+reason_words drv named (UnknownNar place) =
+    with_value (codes "UnknownNar") (text_or_number named place)
 
 -- why a derivation of a plan, which has these nodes, is not begun
 abbrev pub refusal_words : List Node → Drv → Refusal → Bytes

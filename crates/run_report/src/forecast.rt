@@ -1,5 +1,5 @@
 //! What is foretold of a plan before anything is built.
-ghost use Rattle.std.specs.Prelude.{◌≡◌, ◌<◌, IfOk, length};
+ghost use Rattle.std.specs.Prelude.{◌≡◌, ◌<◌, IfOk, None, length};
 ghost use Rattle.run_report.specs.Forecasts.{IsForecast, foretold, is_whole};
 ghost use Rattle.run_report.specs.Pictures.{IsPicture};
 
@@ -8,6 +8,7 @@ use crate::picture::picture_of;
 use crate::report::{States, told};
 use crate::tense::Tense;
 use drv_graph::Plan;
+use nix_names::StorePath;
 use run_states::{State, System, standings_of, wanted_of};
 use std::alloc::{AllocError, Global};
 use std::marker::Model;
@@ -44,12 +45,19 @@ impl States for Forecast {
 
     ghost states = { λ f. foretold f.run f.entries };
 
+    ghost names = { λ _ _. None };
+
     fn plan(&self) -> &Plan {
         Forecast::plan(self)
     }
 
     fn state(&self, d: usize) -> State {
         Forecast::state(self, d)
+    }
+
+    // Nothing that is foretold names a path.
+    fn named(&self, _: usize) -> Option<&StorePath> {
+        None
     }
 }
 

@@ -34,7 +34,7 @@ pub fn write_path_line(word: &[u8], path: &StorePath, out: &mut Vec<u8>) -> Resu
 
 /// Adds a line of a word, with the space after it, the path of a derivation of a plan, and why it
 /// is refused. An error where memory is refused, and no other; a part may be written then. Costs
-/// time in proportion to the line.
+/// time in proportion to the line, and for a missing feature to the environment.
 pub fn write_refused(
     word: &[u8],
     plan: &Plan,

@@ -1,11 +1,14 @@
 //! What is told of a plan, in either tense: a line for each wanted derivation, and the outputs of
 //! the roots. And the report of a run.
-ghost use Rattle.std.specs.Prelude.{◌≡◌, ◌<◌, ◌++◌, ℕ, IfOk, None, OnOk, flat_map, length};
+ghost use Rattle.std.specs.Prelude.{◌≡◌, ◌<◌, ◌++◌, ℕ, IfOk, OnOk, Option, codes, flat_map, length};
+ghost use Rattle.std.specs.Option.{option_map};
+ghost use Rattle.nix_names.specs.Bytes.{Path};
 ghost use Rattle.drv_graph.specs.Plans.{Graph};
 ghost use Rattle.drv_graph.specs.SoundGraphs.{IsSound};
 ghost use Rattle.run_states.specs.StateTables.{course_state};
 ghost use Rattle.run_report.specs.Listing.{AreWithin, IsMarked};
-ghost use Rattle.run_report.specs.Reports.{IsReportOf, IsTold, outputs_at, told_at, why_line};
+ghost use Rattle.run_report.specs.NamedPaths.{named_at};
+ghost use Rattle.run_report.specs.Reports.{IsReportOf, IsTold, outputs_at, told_at};
 ghost use Rattle.run_report.specs.Words.{reason_words};
 ghost use Rattle.run_report.specs.declared.listing.Listed.{Listed};
 ghost use Rattle.run_states.specs.declared.state.State.{State};
@@ -21,13 +24,16 @@ use nix_names::StorePath;
 use run_states::{State, StateTable};
 use std::alloc::{AllocError, Global};
 
-// A plan whose derivations have states.
+// A plan whose derivations have states, and lines that may name paths.
 pub(crate) trait States {
     // The plan.
     ghost graph: { Self → Graph };
 
     // The state of each derivation, by its number.
     ghost states: { Self → ℕ → State };
+
+    // The path that the line of each derivation names, by its number.
+    ghost names: { Self → ℕ → Option Path };
 
     // The plan.
     fn plan(&self) -> &Plan
@@ -37,32 +43,62 @@ pub(crate) trait States {
     fn state(&self, d: usize) -> State
         requires { d < length (graph self.now).nodes }
         ensures { result ≡ states self.now d };
+
+    // The path that the line of the derivation with this number names, if it names one.
+    fn named(&self, d: usize) -> Option<&StorePath>
+        ensures { option_map (λ path. path.now) result ≡ names self.now d };
 }
 
-impl States for StateTable {
-    ghost graph = { λ course. course.graph };
+// A course, and the path that the line of each derivation names.
+#[derive(Drop)]
+struct Course<'a> {
+    states: &'a StateTable,
+    named: &'a [Option<StorePath>],
+}
 
-    ghost states = { course_state };
+impl<'a> States for Course<'a> {
+    ghost graph = { λ course. course.states.now.graph };
+
+    ghost states = { λ course. course_state course.states.now };
+
+    ghost names = { λ course. named_at course.named.now };
 
     fn plan(&self) -> &Plan {
-        StateTable::plan(self)
+        self.states.plan()
     }
 
     fn state(&self, d: usize) -> State {
-        StateTable::state(self, d)
+        self.states.state(d)
+    }
+
+    fn named(&self, d: usize) -> Option<&StorePath> {
+        match self.named.get(d) {
+            Some(Some(path)) => Some(path),
+            _ => None,
+        }
     }
 }
 
 /// The report of a course. For each wanted derivation, by path, a line `built P`, `reused P`,
 /// `failed P: WHY` or `refused P: WHY`, or none while it is Blocked, Ready or Building. Then for
 /// each root that was built or reused, in the order of the roots, a line `output O` for each of its
-/// outputs. An error where memory is refused, and no other. Costs one sort of the wanted
-/// derivations by path, and else time in proportion to the plan's derivations and the text.
-pub fn report_of(alloc: Global, course: &StateTable) -> Result<Vec<u8>, AllocError>
-    ensures { IfOk result (λ text. IsReportOf course.now text.items) }
+/// outputs. Where a derivation failed since an output refers to a path to which it may not, WHY
+/// names the path that `named` has at its number, and where that has none, its place. An error
+/// where memory is refused, and no other. Costs one sort of the wanted derivations by path, and
+/// else time in proportion to the plan's derivations and the text.
+pub fn report_of(
+    alloc: Global,
+    course: &StateTable,
+    named: &[Option<StorePath>],
+) -> Result<Vec<u8>, AllocError>
+    ensures { IfOk result (λ text. IsReportOf course.now named.now text.items) }
 {
     let wanted = course.wanted_marks(alloc)?;
-    told(alloc, course, &wanted, Tense::Past)
+    let states = Course {
+        states: course,
+        named,
+    };
+    told(alloc, &states, &wanted, Tense::Past)
 }
 
 // What is told of a plan in these states, of which these derivations are wanted.
@@ -74,7 +110,8 @@ pub(crate) fn told<S: States>(
 ) -> Result<Vec<u8>, AllocError>
     requires { length wanted.now ≡ length (S.graph states.now).nodes }
     ensures { IfOk result (λ text. IsTold tense (S.graph states.now)
-        (IsMarked wanted.now (length (S.graph states.now).nodes)) (S.states states.now) text.items) }
+        (IsMarked wanted.now (length (S.graph states.now).nodes))
+        (λ d path. path ≡ S.names states.now d) (S.states states.now) text.items) }
 {
     let listed = marked_by_path(alloc, states.plan(), wanted)?;
     let mut text = Vec::new(alloc);
@@ -93,12 +130,16 @@ fn write_lines<S: States>(
     requires { AreWithin (length (S.graph states.now).nodes) listed.now }
     ensures { OnOk result (out.new.items ≡ out.old.items
         ++ flat_map
-        (λ (l : Listed). told_at tense (S.graph states.now).nodes (S.states states.now) l.number)
+        (λ (l : Listed). told_at tense (S.graph states.now).nodes (S.names states.now)
+        (S.states states.now) l.number)
         listed.now) }
 {
     'listed: for one in listed {
-        let state = states.state(one.number);
-        write_line(tense, states.plan(), one.number, state, out)?;
+        let outcome = Outcome {
+            state: states.state(one.number),
+            named: states.named(one.number),
+        };
+        write_line(tense, states.plan(), one.number, outcome, out)?;
     }
     Ok(())
 }
@@ -130,41 +171,51 @@ fn write_root(plan: &Plan, number: usize, state: State, out: &mut Vec<u8>) -> Re
     }
 }
 
+// What is told of a derivation: its state, and the path that its line names, if it names one.
+struct Outcome<'a> {
+    state: State,
+    named: Option<&'a StorePath>,
+}
+
 // Adds the line of a derivation, if it has one.
 fn write_line(
     tense: Tense,
     plan: &Plan,
     number: usize,
-    state: State,
+    outcome: Outcome<'_>,
     out: &mut Vec<u8>,
 ) -> Result<(), AllocError>
     requires { number < length plan.now.nodes }
     ensures { OnOk result (out.new.items ≡ out.old.items
-        ++ told_at tense plan.now.nodes (λ _. state) number) }
+        ++ told_at tense plan.now.nodes (λ _. option_map (λ path. path.now) outcome.entry.named)
+        (λ _. outcome.entry.state) number) }
 {
     let path = plan.path(number);
     let drv = plan.drv(number);
+    let Outcome { state, named } = outcome;
     match state {
         State::Done => write_path_line(tense.built(), path, out),
         State::Reused => write_path_line(tense.reused(), path, out),
-        State::Failed(reason) => write_failed(tense.failed(), path, drv, reason, out),
+        State::Failed(reason) => {
+            write_line_start(tense.failed(), path, out)?;
+            write_failure(drv, named, reason, out)
+        }
         State::Refused(cause) => write_refused(tense.refused(), plan, path, drv, cause, out),
         State::Building(_) | State::Ready | State::Blocked => Ok(()),
     }
 }
 
-// Adds the line of a derivation that fails.
-fn write_failed(
-    word: &[u8],
-    path: &StorePath,
+// Adds why a derivation fails, and the end of its line.
+fn write_failure(
     drv: &Derivation,
+    named: Option<&StorePath>,
     reason: Reason,
     out: &mut Vec<u8>,
 ) -> Result<(), AllocError>
     ensures { OnOk result (out.new.items ≡ out.old.items
-        ++ why_line word.now path.now (reason_words drv.now None reason)) }
+        ++ reason_words drv.now (option_map (λ path. path.now) named.entry) reason
+        ++ codes "\n") }
 {
-    write_line_start(word, path, out)?;
-    write_reason(drv, None, reason, out)?;
+    write_reason(drv, named, reason, out)?;
     out.extend_from_slice(b"\n")
 }

@@ -40,13 +40,18 @@ pub(crate) fn write_reason(
         Reason::ReadFault => write_name(b"ReadFault", out),
         Reason::OutOfMemory => write_name(b"OutOfMemory", out),
         Reason::Killed => write_name(b"Killed", out),
+        Reason::BadMode(output) => write_with_output(b"BadMode", drv, output, out),
         Reason::NotAllowed(output, place) => write_not_allowed(drv, output, named, place, out),
         Reason::BadSpecifier(output) => write_with_output(b"BadSpecifier", drv, output, out),
+        Reason::BadAttributes => write_name(b"BadAttributes", out),
+        Reason::BadGraph => write_name(b"BadGraph", out),
+        Reason::UnknownNar(place) => write_unknown_nar(named, place, out),
     }
 }
 
 /// Adds why a derivation of a plan is not begun: the cause's name, and its value in parentheses. An
-/// error where memory is refused, and no other; a part may be written then.
+/// error where memory is refused, and no other; a part may be written then. For a missing feature
+/// takes memory for it, and for structured attributes, which are read again.
 pub fn write_refusal(
     plan: &Plan,
     drv: &Derivation,
@@ -97,6 +102,21 @@ fn write_not_allowed(
     out.extend_from_slice(b"NotAllowed")?;
     out.extend_from_slice(b"(")?;
     write_reference(drv, output, named, place, out)?;
+    out.extend_from_slice(b")")
+}
+
+// Adds that the archive of a path is not known.
+fn write_unknown_nar(
+    named: Option<&StorePath>,
+    place: usize,
+    out: &mut Vec<u8>,
+) -> Result<(), AllocError>
+    ensures { OnOk result (out.new.items ≡ out.old.items ++ with_value (codes "UnknownNar")
+        (text_or_number (option_map (λ path. path.now) named.entry) place)) }
+{
+    out.extend_from_slice(b"UnknownNar")?;
+    out.extend_from_slice(b"(")?;
+    write_path_or_place(named, place, out)?;
     out.extend_from_slice(b")")
 }
 
@@ -151,8 +171,9 @@ fn write_missing_feature(
     ensures { OnOk result (out.new.items ≡ out.old.items
         ++ with_text (codes "MissingFeature") (spelled_features drv.now) feature) }
 {
-    match required_feature(drv, feature) {
-        Some(found) => write_with_string(b"MissingFeature", found, out),
+    let alloc = *out.allocator();
+    match required_feature(alloc, drv, feature)? {
+        Some(found) => write_with_string(b"MissingFeature", &found, out),
         None => write_with_number(b"MissingFeature", feature, out),
     }
 }

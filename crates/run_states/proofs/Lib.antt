@@ -1,5 +1,7 @@
 pub mod Agendas
 pub mod Aside
+pub mod Attributes
+pub mod Causes
 pub mod ClosedStates
 pub mod CountedNews
 pub mod Counts

@@ -1,22 +1,35 @@
 -- What look-ups tell of a system, and of what a derivation asks of it.
-use Rattle.std.proofs.Common.{◌≡◌, ◌∙◌, ℕ, Bool, true, false, Decides, List, [], ◌∷◌, ◌++◌, ◌||◌, ◌&&◌, Option, Some, ap, codes, cond, drop, length, map, refl, sym, take, rules}
-use Rattle.std.specs.Prelude.{Vec, find}
+use Rattle.std.proofs.Common.{◌≡◌, ◌∙◌, ◌+◌, ℕ, Bool, true, false, Decides, List, [], ◌∷◌, ◌++◌, ◌||◌, ◌&&◌, Option, Some, None, ap, codes, cond, drop, length, map, refl, sym, take, rules}
+use Rattle.std.specs.Prelude.{Vec, find, not}
 use Rattle.std.specs.declared.alloc.Global.{Global}
 use Rattle.std.specs.Cmp.Lexicographic.{bytes_decides, pointwise_decides}
-use Rattle.std.specs.List.{list_any}
+use Rattle.std.specs.List.{list_any, position, prefix_len}
+use Rattle.std.proofs.lemmas.List.{length-map}
 use Rattle.std.specs.Option.{option_map}
 use Rattle.nix_names.specs.Names.{same_bytes}
 use Rattle.nix_names.proofs.Tests.{both_parts}
-use Rattle.nix_drv.specs.Derivation.{Drv}
+use Rattle.nix_drv.specs.Derivation.{Drv, EnvEntry}
 use Rattle.nix_drv.specs.Parts.{bytes_of, entry_of}
 use Rattle.nix_drv.specs.declared.derivation.EnvEntry.{EnvEntry as EnvEntryStruct}
-use Rattle.run_states.specs.Systems.{Platform, features_text, has_program, offers, same_platform, value_or_empty}
+use Rattle.run_states.specs.Structured.{value_of}
+use Rattle.run_states.specs.Systems.{Platform, has_program, offers, same_platform}
 
 -- a test of some made elements
 pub any_mapped : {X Y : Type 0} (p : Y → Bool) (h : X → Y) (xs : List X) → list_any p (map h xs)
     ≡ list_any (λ x. p (h x)) xs
 any_mapped p h [] = refl
 any_mapped p h (x ∷ xs) = ap (λ b. p (h x) || b) (any_mapped p h xs)
+
+-- how many made elements pass from the front on, and the place of the first that passes
+prefix_mapped : {X Y : Type 0} (p : Y → Bool) (h : X → Y) (xs : List X)
+    → prefix_len (λ x. p (h x)) xs ≡ prefix_len p (map h xs)
+prefix_mapped p h [] = refl
+prefix_mapped p h (x ∷ xs) = ap (λ n. cond (p (h x)) (1 + n) 0) (prefix_mapped p h xs)
+
+pub position_mapped : {X Y : Type 0} (p : Y → Bool) (h : X → Y) (xs : List X)
+    → position (λ x. p (h x)) xs ≡ position p (map h xs)
+position_mapped p h xs =
+    rw (prefix_mapped (λ y. not (p y)) h xs, length-map xs h) refl
 
 -- the first of some made elements
 find_step : {X Y : Type 0} (h : X → Y) (b : Bool) (x : X) (found : Option Y) (other : Option X)
@@ -25,18 +38,24 @@ find_step : {X Y : Type 0} (h : X → Y) (b : Bool) (x : X) (found : Option Y) (
 find_step h true x found other is = refl
 find_step h false x found other is = is
 
+mapped_twice : {X Y Z : Type 0} (g : Y → Z) (h : X → Y) (found : Option X)
+    → option_map (λ x. g (h x)) found ≡ option_map g (option_map h found)
+mapped_twice g h None = refl
+mapped_twice g h (Some x) = refl
+
 pub find_mapped : {X Y : Type 0} (p : Y → Bool) (h : X → Y) (xs : List X) → find p (map h xs)
     ≡ option_map h (find (λ x. p (h x)) xs)
 find_mapped p h [] = refl
 find_mapped p h (x ∷ xs) = find_step h (p (h x)) x _ _ (find_mapped p h xs)
 
--- the text in which a derivation asks for features, by the environment as it is lent
-pub text_told : (drv : Drv) (env : List EnvEntryStruct) (found : Option EnvEntryStruct)
-    → map entry_of env ≡ drv.env
-    → found
-    ≡ find (λ (e : EnvEntryStruct). same_bytes e.key.items (codes "requiredSystemFeatures")) env
-    → value_or_empty (option_map entry_of found) ≡ features_text drv
-text_told drv env found lent is = search (rules, find_mapped)
+-- the value of an entry, by the environment as it is lent
+pub value_told : (drv : Drv) (key : List ℕ) (env : List EnvEntryStruct)
+    (found : Option EnvEntryStruct) → map entry_of env ≡ drv.env
+    → found ≡ find (λ (e : EnvEntryStruct). same_bytes e.key.items key) env
+    → option_map (λ (e : EnvEntryStruct). e.value.items) found ≡ value_of key drv
+value_told drv key env found lent is =
+    rw (sym lent, find_mapped (λ (e : EnvEntry). same_bytes e.key key) entry_of env, sym is)
+    (mapped_twice (λ (e : EnvEntry). e.value) entry_of found)
 
 -- whether a system offers a feature, by its features as they are lent
 pub offer_told : (system : Platform) (feature : List ℕ) (features : List (Vec ℕ Global))

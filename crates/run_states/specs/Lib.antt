@@ -13,6 +13,7 @@ pub mod PlanLaws
 pub mod Runs
 pub mod States
 pub mod Steps
+pub mod Structured
 pub mod Systems
 pub mod UserSpans
 pub mod Users

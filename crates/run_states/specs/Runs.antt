@@ -2,6 +2,7 @@
 -- product's own; Nix manual, "Building").
 use Rattle.std.specs.Prelude.{◌≡◌, ◌||◌, ◌&&◌, ◌==◌, not, Bool, true, false, ℕ, zero, suc, Option, Some, None, List, [], ◌∷◌, length, filter, map, codes, slice_get, Contains, if◌then◌else◌}
 use Rattle.std.specs.List.{list_any, list_all, position, position_or_len, range_with_len}
+use Rattle.serde_json.specs.Data.{Members}
 use Rattle.nix_names.specs.Bytes.{Path, Name}
 use Rattle.nix_names.specs.Names.{same_bytes}
 use Rattle.nix_drv.specs.Derivation.{Drv, EnvEntry, Output}
@@ -12,7 +13,8 @@ use Rattle.drv_graph.specs.PlanNodes.{output_paths_of}
 use Rattle.drv_graph.specs.Plans.{Graph}
 use Rattle.valid_table.specs.Entries.{registered, paths_registered as registered_paths}
 use Rattle.valid_table.specs.declared.entry.Entry.{Entry}
-use Rattle.run_states.specs.Systems.{Platform, has_program, is_builtin, missing_feature}
+use Rattle.run_states.specs.Structured.{asks_for_checks, have_checks, listed_features}
+use Rattle.run_states.specs.Systems.{Platform, first_missing, is_builtin, lacks_program, missing_feature}
 use Rattle.run_states.specs.States.{Rows, phase_of, state}
 use Rattle.drv_graph.specs.Twins.{are_twins_at}
 use Rattle.run_states.specs.declared.state.Event.{Event}
@@ -47,21 +49,16 @@ pub record History : Type 0 where
 abbrev pub is_valid : List Entry → Path → Bool
 is_valid entries path = list_any (same_bytes path) (registered_paths (registered entries))
 
--- keys of the environment that ask for what is left out under both profiles
-abbrev pub left_out_of_both : List Name
-left_out_of_both = codes "__json" ∷ codes "exportReferencesGraph" ∷ []
-
--- keys of the environment that ask for what is left out: under `plain` also `passAsFile`, and those
--- of the checks of references
-abbrev pub left_out_of : Profile → List Name
-left_out_of Plain = codes "passAsFile" ∷ codes "allowedReferences" ∷ codes "allowedRequisites"
-    ∷ codes "disallowedReferences" ∷ codes "disallowedRequisites" ∷ left_out_of_both
-left_out_of Nix = left_out_of_both
+-- keys of the environment that ask for what is left out under `plain`: files, structured attributes,
+-- graphs of references, and the checks of references
+abbrev pub left_out : List Name
+left_out = codes "passAsFile" ∷ codes "__json" ∷ codes "exportReferencesGraph"
+    ∷ codes "allowedReferences" ∷ codes "allowedRequisites" ∷ codes "disallowedReferences"
+    ∷ codes "disallowedRequisites" ∷ []
 
 -- whether a derivation has one of those keys
-abbrev pub has_left_out : Profile → Drv → Bool
-has_left_out profile drv =
-    list_any (λ (e : EnvEntry). list_any (same_bytes e.key) (left_out_of profile)) drv.env
+abbrev pub has_left_out : Drv → Bool
+has_left_out drv = list_any (λ (e : EnvEntry). list_any (same_bytes e.key) left_out) drv.env
 
 -- whether a declared hash of a derivation is that of a whole tree
 abbrev pub has_tree : Drv → Bool
@@ -80,11 +77,10 @@ is_for terms drv = is_for_under terms.profile terms.system drv
 
 -- whether a derivation asks for what is left out: under `plain` a builtin builder, one of those
 -- keys, or the hash of a whole tree; under `nix` a builtin builder for which there is no program,
--- or one of those keys
+-- or checks in structured attributes
 abbrev pub is_unsupported_under : Profile → Platform → Drv → Bool
-is_unsupported_under Plain system drv = is_builtin drv || has_left_out Plain drv || has_tree drv
-is_unsupported_under Nix system drv = (is_builtin drv && not (has_program system drv))
-    || has_left_out Nix drv
+is_unsupported_under Plain system drv = is_builtin drv || has_left_out drv || has_tree drv
+is_unsupported_under Nix system drv = lacks_program system drv || asks_for_checks drv
 
 -- whether a derivation asks a run for what is left out
 abbrev pub is_unsupported : Terms → Drv → Bool
@@ -109,6 +105,19 @@ or_else None other = other
 abbrev pub cause_at : (ℕ → Refusal) → Option ℕ → Option Refusal
 cause_at cause (Some n) = Some (cause n)
 cause_at cause None = None
+
+-- the first cause that lies in what a derivation asks for: something left out, a feature that the
+-- system doesn't offer
+abbrev pub demand_cause : Profile → Platform → Drv → Option Refusal
+demand_cause profile system drv =
+    or_else (if is_unsupported_under profile system drv then Some Unsupported else None)
+    (cause_at MissingFeature (missing_feature_under profile system drv))
+
+-- the same under `nix` of a derivation with structured attributes, where its builder is supported
+abbrev pub structured_cause : Platform → Option Members → Option Refusal
+structured_cause system attributes =
+    or_else (if have_checks attributes then Some Unsupported else None)
+    (cause_at MissingFeature (first_missing system (listed_features attributes)))
 
 -- the first cause for which a derivation can't be begun, after these entries: another system,
 -- something left out, a feature that the system doesn't offer, an output that is valid while

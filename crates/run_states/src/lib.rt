@@ -3,6 +3,7 @@
 //! | Module | What is in it |
 //! |---|---|
 //! | `system`, `features` | what a run builds for, and the features that a derivation asks for |
+//! | `structured` | structured attributes of a derivation |
 //! | `state` | why a derivation is not begun, its state, and events |
 //! | `precondition` | what is known of a derivation before anything is begun |
 //! | `state_table` | the state of each derivation of a plan |
@@ -24,6 +25,7 @@ mod propagate;
 mod state;
 mod state_table;
 mod states;
+mod structured;
 mod system;
 mod twins;
 mod users;

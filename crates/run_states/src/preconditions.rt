@@ -1,14 +1,16 @@
 //! The standings of a plan's derivations, before anything is begun.
-ghost use Rattle.std.specs.Prelude.{◌≡◌, ◌<◌, ◌&&◌, IfOk, IfSome, codes, length, not, slice_get, vec_capacity};
+ghost use Rattle.std.specs.Prelude.{◌≡◌, ◌<◌, ◌&&◌, ◌||◌, IfOk, IfSome, codes, length, not, slice_get, vec_capacity};
 ghost use Rattle.std.specs.List.{list_all, list_any, position};
 ghost use Rattle.nix_names.specs.Names.{same_bytes};
-ghost use Rattle.drv_graph.specs.declared.profile.Profile.TheVariants.{Plain};
 ghost use Rattle.run_states.specs.StateTables.{AreStandings};
-ghost use Rattle.run_states.specs.Runs.{is_for_under, is_unsupported_under, is_valid, left_out_of, left_out_of_both, missing_feature_under, own_cause, standing_at};
+ghost use Rattle.run_states.specs.Runs.{demand_cause, has_left_out, has_tree, is_for_under, is_valid, left_out, own_cause, standing_at, structured_cause};
+ghost use Rattle.run_states.specs.Structured.{attributes_of_text};
+ghost use Rattle.run_states.specs.Systems.{is_builtin};
 
-use crate::features::missing_feature;
+use crate::features::{missing_listed, missing_token};
 use crate::precondition::Precondition;
 use crate::state::Refusal;
+use crate::structured::{JSON_KEY, attributes_of, listed_features, value_of};
 use crate::system::{System, is_builtin};
 use drv_graph::{Plan, Profile};
 use nix_drv::{Derivation, EnvEntry, Output};
@@ -20,7 +22,7 @@ use valid_table::Journal;
 /// where memory is refused, and no other. Costs a look-up by hash for each output, up to two where
 /// not all are valid, and for each source, and a few comparisons for each entry of an environment;
 /// under `nix` also one for each pair of a feature that a derivation asks for and one that the
-/// system offers.
+/// system offers, and one pass over structured attributes, with memory for them until it is over.
 pub fn standings_of(
     alloc: Global,
     plan: &Plan,
@@ -34,48 +36,57 @@ pub fn standings_of(
 {
     let mut standings = Vec::with_capacity(alloc, plan.len())?;
     for d in 0..plan.len() {
-        standings.push_reserved(standing_of(plan, d, journal, system));
+        standings.push_reserved(standing_of(alloc, plan, d, journal, system)?);
     }
     Ok(standings)
 }
 
 // The standing of the derivation with this number.
-fn standing_of(plan: &Plan, d: usize, journal: &Journal, system: &System) -> Precondition
+fn standing_of(
+    alloc: Global,
+    plan: &Plan,
+    d: usize,
+    journal: &Journal,
+    system: &System,
+) -> Result<Precondition, AllocError>
     requires { d < length plan.now.nodes }
-    ensures { result ≡ standing_at (record { profile = plan.now.profile; system = system.now })
-        journal.now.entries (slice_get plan.now.nodes d) }
+    ensures { IfOk result (λ standing. standing
+        ≡ standing_at (record { profile = plan.now.profile; system = system.now })
+        journal.now.entries (slice_get plan.now.nodes d)) }
 {
     if are_all_valid(journal, plan.output_paths(d)) {
-        return Precondition::AllValid;
+        return Ok(Precondition::AllValid);
     }
-    match own_cause(plan, d, journal, system) {
-        Some(cause) => Precondition::Hindered(cause),
-        None => Precondition::Free,
+    match own_cause(alloc, plan, d, journal, system)? {
+        Some(cause) => Ok(Precondition::Hindered(cause)),
+        None => Ok(Precondition::Free),
     }
 }
 
 // The first cause for which the derivation with this number can't be begun.
-fn own_cause(plan: &Plan, d: usize, journal: &Journal, system: &System) -> Option<Refusal>
+fn own_cause(
+    alloc: Global,
+    plan: &Plan,
+    d: usize,
+    journal: &Journal,
+    system: &System,
+) -> Result<Option<Refusal>, AllocError>
     requires { d < length plan.now.nodes }
-    ensures { IfSome (slice_get plan.now.nodes d)
-        (λ node. result ≡ own_cause (record { profile = plan.now.profile; system = system.now })
-        journal.now.entries node.drv) }
+    ensures { IfOk result (λ cause. IfSome (slice_get plan.now.nodes d) (λ node. cause
+        ≡ own_cause (record { profile = plan.now.profile; system = system.now })
+        journal.now.entries node.drv)) }
 {
     let drv = plan.drv(d);
     if !is_for(plan.profile(), system, drv) {
-        return Some(Refusal::WrongSystem);
+        return Ok(Some(Refusal::WrongSystem));
     }
-    if is_unsupported(plan.profile(), system, drv) {
-        return Some(Refusal::Unsupported);
-    }
-    if let Some(feature) = feature_missing(plan.profile(), system, drv) {
-        return Some(Refusal::MissingFeature(feature));
+    if let Some(cause) = demand_cause(alloc, plan.profile(), system, drv)? {
+        return Ok(Some(cause));
     }
     if let Some(output) = first_valid(journal, plan.output_paths(d)) {
-        return Some(Refusal::PartlyValid(output));
+        return Ok(Some(Refusal::PartlyValid(output)));
     }
-    let source = first_missing(journal, plan.sources(d))?;
-    Some(Refusal::MissingSource(source))
+    Ok(first_missing(journal, plan.sources(d)).map(Refusal::MissingSource))
 }
 
 // Whether a derivation is for the system; under `nix` one with a builtin builder is for any, and no
@@ -97,34 +108,58 @@ fn is_for_named(system: &System, name: &[u8]) -> bool
     name == system.name() && name != b"builtin".as_slice()
 }
 
-// Whether a derivation asks for what is left out.
+// The first cause that lies in what a derivation asks for.
+fn demand_cause(
+    alloc: Global,
+    profile: Profile,
+    system: &System,
+    drv: &Derivation,
+) -> Result<Option<Refusal>, AllocError>
+    ensures { IfOk result (λ cause. cause ≡ demand_cause profile system.now drv.now) }
+{
+    match profile {
+        Profile::Plain if is_unsupported(drv) => Ok(Some(Refusal::Unsupported)),
+        Profile::Plain => Ok(None),
+        Profile::Nix if system.lacks_program(drv) => Ok(Some(Refusal::Unsupported)),
+        Profile::Nix => match value_of(drv, JSON_KEY) {
+            Some(json) => structured_cause(alloc, system, json),
+            None => Ok(missing_token(system, drv).map(Refusal::MissingFeature)),
+        },
+    }
+}
+
+// The first cause that lies in structured attributes, which are this text.
+fn structured_cause(
+    alloc: Global,
+    system: &System,
+    json: &[u8],
+) -> Result<Option<Refusal>, AllocError>
+    ensures { IfOk result (λ cause. cause
+        ≡ structured_cause system.now (attributes_of_text json.now)) }
+{
+    let Some(attributes) = attributes_of(alloc, json)? else {
+        return Ok(None);
+    };
+    if attributes.has_checks() {
+        return Ok(Some(Refusal::Unsupported));
+    }
+    let features = listed_features(alloc, &attributes)?;
+    Ok(missing_listed(system, &features).map(Refusal::MissingFeature))
+}
+
+// Whether a derivation asks for what is left out under `plain`.
 #[tactic(auto, using(crate::proofs::OwnStandings::keys_told, crate::proofs::OwnStandings::trees_told))]
-fn is_unsupported(profile: Profile, system: &System, drv: &Derivation) -> bool
-    ensures { result ≡ is_unsupported_under profile system.now drv.now }
+fn is_unsupported(drv: &Derivation) -> bool
+    ensures { result ≡ (is_builtin drv.now || has_left_out drv.now || has_tree drv.now) }
 {
-    let left_out = has_left_out(profile, drv.env());
-    match profile {
-        Profile::Plain => is_builtin(drv) || left_out || has_tree(drv.outputs()),
-        Profile::Nix => is_builtin(drv) && !system.has_program(drv) || left_out,
-    }
+    is_builtin(drv) || has_left_out(drv.env()) || has_tree(drv.outputs())
 }
 
-// The number of the first feature that a derivation asks for and the system doesn't offer.
-fn feature_missing(profile: Profile, system: &System, drv: &Derivation) -> Option<usize>
-    ensures { result ≡ missing_feature_under profile system.now drv.now }
+// Whether a key of an environment asks for what is left out under `plain`.
+fn has_left_out(env: &[EnvEntry]) -> bool
+    ensures { result ≡ list_any (λ e. list_any (same_bytes e.key.items) left_out) env.now }
 {
-    match profile {
-        Profile::Plain => None,
-        Profile::Nix => missing_feature(system, drv),
-    }
-}
-
-// Whether a key of an environment asks for what is left out.
-fn has_left_out(profile: Profile, env: &[EnvEntry]) -> bool
-    ensures { result ≡ list_any (λ e. list_any (same_bytes e.key.items) (left_out_of profile))
-        env.now }
-{
-    env.iter().any(|entry| is_left_out(profile, &entry.key))
+    env.iter().any(|entry| is_left_out(&entry.key))
 }
 
 // Whether an output is a whole tree with a declared hash.
@@ -136,34 +171,18 @@ fn has_tree(outputs: &[Output]) -> bool
         .any(|output| output.algo.as_slice() == b"r:sha256".as_slice())
 }
 
-/// Whether a key of an environment asks for what is left out under a profile. Costs a few
+/// Whether a key of an environment asks for what is left out under `plain`. Costs a few
 /// comparisons.
-pub fn is_left_out(profile: Profile, key: &[u8]) -> bool
-    ensures { result ≡ list_any (same_bytes key.now) (left_out_of profile) }
-{
-    match profile {
-        Profile::Plain => is_left_out_of_plain(key),
-        Profile::Nix => is_left_out_of_both(key),
-    }
-}
-
-// Whether a key asks for what is left out under `plain`.
-fn is_left_out_of_plain(key: &[u8]) -> bool
-    ensures { result ≡ list_any (same_bytes key.now) (left_out_of Plain) }
+pub fn is_left_out(key: &[u8]) -> bool
+    ensures { result ≡ list_any (same_bytes key.now) left_out }
 {
     key == b"passAsFile".as_slice()
+        || key == b"__json".as_slice()
+        || key == b"exportReferencesGraph".as_slice()
         || key == b"allowedReferences".as_slice()
         || key == b"allowedRequisites".as_slice()
         || key == b"disallowedReferences".as_slice()
         || key == b"disallowedRequisites".as_slice()
-        || is_left_out_of_both(key)
-}
-
-// Whether a key asks for what is left out under both profiles.
-fn is_left_out_of_both(key: &[u8]) -> bool
-    ensures { result ≡ list_any (same_bytes key.now) left_out_of_both }
-{
-    key == b"__json".as_slice() || key == b"exportReferencesGraph".as_slice()
 }
 
 // Whether all of the paths are valid.

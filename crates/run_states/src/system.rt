@@ -2,7 +2,7 @@
 ghost use Rattle.std.specs.Prelude.{◌≡◌, IfOk, [], map, nat_eq};
 ghost use Rattle.std.specs.Cmp.Lexicographic.{pointwise};
 ghost use Rattle.nix_drv.specs.Parts.{bytes_of};
-ghost use Rattle.run_states.specs.Systems.{has_program, is_builtin, offers};
+ghost use Rattle.run_states.specs.Systems.{has_program, is_builtin, lacks_program, offers};
 
 use nix_drv::Derivation;
 use std::alloc::{AllocError, Global};
@@ -89,8 +89,16 @@ impl System {
             .any(|offered| feature == offered.as_slice())
     }
 
+    /// Whether the builder of a derivation is a builtin one for which the run has no program. Costs
+    /// a comparison for each program.
+    pub fn lacks_program(&self, drv: &Derivation) -> bool
+        ensures { result ≡ lacks_program self.now drv.now }
+    {
+        is_builtin(drv) && !self.has_program(drv)
+    }
+
     // Whether the run has a program for the builder of a derivation, which is a builtin one.
-    pub(crate) fn has_program(&self, drv: &Derivation) -> bool
+    fn has_program(&self, drv: &Derivation) -> bool
         ensures { result ≡ has_program self.now drv.now }
     {
         match drv.builder().strip_prefix(BUILTIN_MARK) {

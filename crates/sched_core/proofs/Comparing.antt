@@ -18,7 +18,7 @@ use Rattle.build_outcome.specs.Jobs.{IsJob, seeds_of}
 use Rattle.sched_core.specs.private.SameJobs.{HasRecipe, MakesAt}
 use Rattle.build_outcome.specs.declared.job.Job.{Job}
 use Rattle.build_outcome.specs.declared.job.JobOutput.{JobOutput}
-use Rattle.run_states.proofs.OwnStandings.{drv_is}
+use Rattle.run_report.proofs.PlanDrvs.{drv_is}
 use Rattle.nix_names.proofs.Lists.{element_at, same_element}
 
 -- ---- lists, element by element

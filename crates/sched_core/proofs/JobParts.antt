@@ -15,7 +15,7 @@ use Rattle.build_outcome.specs.Jobs.{IsJob, seeds_of}
 use Rattle.sched_core.specs.private.Seeding.{named_texts, output_texts}
 use Rattle.build_outcome.specs.declared.job.Job.{Job}
 use Rattle.build_outcome.specs.declared.job.JobOutput.{JobOutput}
-use Rattle.run_states.proofs.OwnStandings.{drv_is}
+use Rattle.run_report.proofs.PlanDrvs.{drv_is}
 use Rattle.sched_core.proofs.SeedParts.{read_at, take_next}
 use Rattle.nix_names.proofs.Lists.{element_at}
 

@@ -6,6 +6,7 @@ use Rattle.std.proofs.lemmas.Bool.{cases_lt}
 use Rattle.std.proofs.lemmas.List.{get_or_past}
 use Rattle.std.proofs.lemmas.Option.{slice_get_past}
 use Rattle.sched_core.specs.private.Booking.{IsRunKept, run_over}
+use Rattle.sched_core.specs.private.Naming.{AreNamed}
 use Rattle.sched_core.proofs.Keeping.{has_begun}
 use Rattle.run_states.specs.StateTables.{CanBegin, IsRunSettled, IsUnsettled}
 use Rattle.run_states.specs.Systems.{Platform}
@@ -176,9 +177,11 @@ begun_told system history course given room kept d number = (
 
 pub report_told : (system : Platform) (history : History) (course : StateTable) (given room : ℕ)
     → IsRunKept system history course given room
-    → (text : List ℕ) → IsReportOf course text → IsReportIn (run_over course system) history text
-report_told system history course given room kept text report =
-    search (rules, report_in, states_told)
+    → (named : List (Option (List ℕ))) (text : List ℕ) → AreNamed course history.entries named
+    → IsReportOf course named text → IsReportIn (run_over course system) history text
+report_told system history course given room kept named text are_named report =
+    report_in (run_over course system) history course named text refl kept.wanted
+    (states_told _ _ _ _ _ kept) are_named report
 
 -- ---- along how many edges users were told
 

@@ -4,10 +4,12 @@ pub mod Comparing
 pub mod DoneEntries
 pub mod Ending
 pub mod ExaminedRecords
+pub mod FailedStates
 pub mod Followed
 pub mod JobParts
 pub mod Keeping
 pub mod KeptStates
+pub mod Naming
 pub mod Permitting
 pub mod Registrable
 pub mod SeedParts

@@ -32,7 +32,7 @@ verdicts_are_registrable graph d job node permitted answer infos of at (taken, r
               let below = slice_get_within infos place.0 info place.1 in
               let fixed = one_kind of.node.drv _ _ of.kind kind in
               let fault = λ (why : Reason) (h : IsTreeFault job.profile job.kind is_record.0 why).
-              taken.1 place.0 why (omega (arith, records.count)) (is_record.0, is_record.1, h) in
+              taken.2 place.0 why (omega (arith, records.count)) (is_record.0, is_record.1, h) in
               taken_fixed _ _ is_record.0 _ _ _ fixed fault is_record.2.digest;
         };
         acyclic = λ cyclic.

@@ -22,7 +22,7 @@ use Rattle.drv_graph.specs.PlanNodes.{drvs_of, output_paths_of}
 use Rattle.drv_graph.proofs.Numbers.{numbers_length}
 use Rattle.build_outcome.specs.Jobs.{named_outputs, paths_named, paths_of_found, seeds_of}
 use Rattle.run_states.proofs.PlanInputs.{numbers_are}
-use Rattle.run_states.proofs.OwnStandings.{drv_is}
+use Rattle.run_report.proofs.PlanDrvs.{drv_is}
 use Rattle.run_states.proofs.Seeds.{found_by_number}
 use Rattle.nix_names.proofs.Lists.{Contains-from_get, element_at}
 

@@ -2,5 +2,6 @@
 pub mod Booking
 pub mod Dones
 pub mod Following
+pub mod Naming
 pub mod SameJobs
 pub mod Seeding

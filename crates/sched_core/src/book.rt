@@ -16,6 +16,7 @@ ghost use Rattle.build_outcome.specs.declared.reason.Reason.TheVariants.{OutOfMe
 use crate::is_job::is_job;
 use crate::job_of::job_of;
 use crate::lease::Lease;
+use crate::named_paths::named_paths;
 use crate::permitted::permitted_to;
 use crate::prepared_entry::PreparedEntry;
 use crate::run_start::RunStart;
@@ -288,15 +289,20 @@ impl<O: Outlet> Book<O> {
     /// The report of the run, which is settled. For each wanted derivation, by path, it has a line:
     /// `built P`, `reused P`, `failed P: WHY` or `refused P: WHY`. Then for each root that was
     /// built or reused, in the order of the roots, it has a line `output O` for each of its
-    /// outputs. Answers `NoMemory` where memory is refused, and no other fault. Costs one sort of
-    /// the wanted derivations by path, and else time in proportion to the plan's derivations and
-    /// the text.
+    /// outputs. Where a derivation failed since an output refers to a path to which it may not, WHY
+    /// names that path, which `Reason::NotAllowed` gives by its place in the list of `permitted`,
+    /// or the place where the list has no such place. Answers `NoMemory` where memory is refused,
+    /// and no other fault. Costs one sort of the wanted derivations by path, for each derivation
+    /// that failed so what `permitted` costs, and else time in proportion to the plan's derivations
+    /// and the text.
     pub fn report(&self) -> Result<Vec<u8>, BookFault>
         requires { IsRunSettled self.now.run self.now.history }
         ensures ok { IfOk result (λ text. IsReportIn self.now.run self.now.history text.items) }
         ensures err { IfErr result (λ fault. fault ≡ NoMemory) }
     {
-        let text = report_of(*self.events.allocator(), &self.states)?;
+        let alloc = *self.events.allocator();
+        let named = named_paths(alloc, &self.states, &self.journal)?;
+        let text = report_of(alloc, &self.states, &named)?;
         Ok(text)
     }
 

@@ -6,6 +6,7 @@
 //! | `book`, `lease` | the book, and derivations that it gave out to be built |
 //! | `run_start` | the states and the list of events that a book opens with |
 //! | `permitted`, `union` | to what outputs may refer |
+//! | `named_paths` | the paths that the lines of a report name |
 //! | `done_entry`, `prepared_entry` | the entry of a derivation that was built |
 //! | `job_of`, `seeds_of` | the job of a derivation, and the paths that it is built from |
 //! | `is_job`, `has_seeds` | whether a job is that of a derivation |
@@ -19,6 +20,7 @@ mod is_job;
 mod job_of;
 pub mod laws;
 mod lease;
+mod named_paths;
 mod permitted;
 mod prepared_entry;
 mod run_start;
@@ -26,7 +28,9 @@ mod seeds_of;
 mod union;
 
 pub use book::Book;
-pub use build_outcome::{Answer, Build, Checked, Job, JobOutput, LeaseObserver, Reason, examine};
+pub use build_outcome::{
+    Answer, Build, Checked, Job, JobOutput, LeaseObserver, LeftOutput, Reason, examine,
+};
 pub use lease::Lease;
 pub use permitted::permitted_beside;
 pub use run_report::{

@@ -4,13 +4,16 @@ use Rattle.std.proofs.Common.{◌≡◌, ◌↔◌, inl, inr, ℕ, List, [], ◌
 use Rattle.std.specs.Prelude.{Contains}
 use Rattle.std.proofs.lemmas.List.Elements.{Contains-append_left}
 use Rattle.valid_table.specs.Closure.{LeadsByReferences, Reaches}
+use Rattle.valid_table.specs.Entries.{registered}
 use Rattle.valid_table.specs.PathInfos.{PathInfo}
 use Rattle.valid_table.specs.Valid.{AreReferencesValid, IsOnce, IsValid, Registers}
+use Rattle.valid_table.specs.declared.entry.Entry.{Entry}
 use Rattle.valid_table.specs.declared.entry.Registration.{Registration}
 use Rattle.valid_table.proofs.ClosureLaws.{leads_before, leads_behind, registers_from_valid}
 use Rattle.valid_table.proofs.Following.{one_info}
 use Rattle.run_states.specs.Legal.{MayRefer}
 use Rattle.run_states.proofs.Dones.{reached_is_valid}
+use Rattle.run_report.proofs.NamedPaths.{ReferAlike}
 use Rattle.valid_table.proofs.Reaching.{valid_from_registers}
 
 -- all that a path reaches among some registrations has the same record among others
@@ -59,6 +62,17 @@ may_refer_there all other seeds outputs carried path may =
       ),
     ))
     (λ own. inr own) may
+
+-- and wherever each path has the same records
+pub refer_alike : (entries other : List Entry)
+    → ((path : List ℕ) (info : PathInfo) → Registers (registered entries) path info
+    ↔ Registers (registered other) path info) → ReferAlike entries other
+refer_alike entries other same seeds outputs path = (
+  may_refer_there (registered entries) (registered other) seeds outputs
+      (λ seed has to info reaches is. (same to info).0 is) path,
+  may_refer_there (registered other) (registered entries) seeds outputs
+      (λ seed has to info reaches is. (same to info).1 is) path,
+)
 
 -- what may be referred to is valid, but for outputs
 pub referred_valid : (registrations : List Registration) (seeds outputs : List (List ℕ))

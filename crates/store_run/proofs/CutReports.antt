@@ -1,5 +1,5 @@
 -- The lines of two reports that tell of the same derivations.
-use Rattle.std.proofs.Common.{◌≡◌, ◌∙◌, ◌⊎◌, inl, inr, ℕ, Bool, true, false, cond, List, [], ◌∷◌, ◌++◌, map, refl, sym, ap, subst}
+use Rattle.std.proofs.Common.{◌≡◌, ◌∙◌, ◌⊎◌, inl, inr, ℕ, Bool, true, false, cond, List, Option, [], ◌∷◌, ◌++◌, map, refl, sym, ap, subst}
 use Rattle.std.specs.Prelude.{◌↔◌, Contains, filter, flat_map}
 use Rattle.std.proofs.lemmas.Bool.{false≢true}
 use Rattle.std.proofs.lemmas.List.{append-nil}
@@ -11,7 +11,7 @@ use Rattle.drv_graph.specs.Nodes.{Node}
 use Rattle.drv_graph.specs.Plans.{Graph}
 use Rattle.drv_graph.specs.declared.profile.Profile.TheVariants.{Plain}
 use Rattle.run_report.specs.Reports.{AreByPath, line_at, path_at}
-use Rattle.run_report.proofs.OneReport.{one_report}
+use Rattle.run_report.proofs.OneReport.{lines_alike, one_report}
 use Rattle.run_states.specs.States.{is_bad}
 use Rattle.run_states.specs.declared.state.State.{State}
 
@@ -75,54 +75,60 @@ module _ (key : ℕ → List ℕ) (test : ℕ → Bool) where
 
 -- ---- lines
 
-pub lines_agree : (f g : ℕ → List ℕ) (xs : List ℕ) → ((x : ℕ) → Contains xs x → f x ≡ g x)
-    → flat_map f xs ≡ flat_map g xs
-lines_agree f g [] same = refl
-lines_agree f g (x ∷ xs) same =
-    let here = same x (Contains-first x xs) in
-    let rest = lines_agree f g xs (λ y has. same y (Contains-later x xs y has)) in
-    rw (here, rest) refl
-
 -- two lists by path, of the same derivations, have the same lines
-module _ (nodes : List Node) (state : ℕ → State) where
+module _ (nodes : List Node) (named : ℕ → Option (List ℕ)) (state : ℕ → State) where
   abbrev plan : Graph
   plan = record { profile = Plain; nodes = nodes; roots = [] }
 
   abbrev lines : List ℕ → List ℕ
-  lines numbers = flat_map (line_at nodes state) numbers
+  lines numbers = flat_map (line_at nodes named state) numbers
+
+  -- a line names the path of its number
+  abbrev is_its : (d : ℕ) → (path : Option (List ℕ)) → Type 0
+  is_its d path = path ≡ named d
 
   lines_of_same : (xs ys : List ℕ) → IsRising (map (path_at nodes) xs)
       → IsRising (map (path_at nodes) ys) → ((d : ℕ) → Contains ys d ↔ Contains xs d)
       → lines xs ≡ lines ys
   lines_of_same xs ys rises rises' same =
       sym (append-nil (lines xs))
-      ∙ one_report plan (Contains xs) state (lines xs ++ []) (lines ys ++ [])
+      ∙ one_report plan (Contains xs) is_its state (lines xs ++ []) (lines ys ++ [])
+      (λ d m n has is other. is ∙ sym other)
       (record {
         wanted = xs;
         by_path = record { just = λ d. (λ has. has, λ has. has); rising = rises };
+        named = named;
+        are_named = λ d has. refl;
         is_text = refl;
       })
       (record {
         wanted = ys;
         by_path = record { just = same; rising = rises' };
+        named = named;
+        are_named = λ d has. refl;
         is_text = refl;
       })
       ∙ append-nil (lines ys)
 
--- the bad ones among two lists of wanted derivations, where the same are bad, in the same states
-pub bad_lines_same : (nodes : List Node) (f g : ℕ → State) (is_wanted was_wanted : ℕ → Type 0)
-    (xs ys : List ℕ) → AreByPath nodes is_wanted xs → AreByPath nodes was_wanted ys
+-- the bad ones among two lists of wanted derivations, where the same are bad, in the same states,
+-- and the line of such a one names the same path
+pub bad_lines_same : (nodes : List Node) (named others : ℕ → Option (List ℕ)) (f g : ℕ → State)
+    (is_wanted was_wanted : ℕ → Type 0) (xs ys : List ℕ) → AreByPath nodes is_wanted xs
+    → AreByPath nodes was_wanted ys
     → ((d : ℕ) (s : State) → is_bad s ≡ true
     → (is_wanted d × (f d ≡ s)) ↔ (was_wanted d × (g d ≡ s)))
-    → flat_map (line_at nodes f) (filter (λ d. is_bad (f d)) xs)
-    ≡ flat_map (line_at nodes g) (filter (λ d. is_bad (g d)) ys)
-bad_lines_same nodes f g is_wanted was_wanted xs ys of_xs of_ys same =
-    lines_of_same nodes f bad_xs bad_ys
+    → ((d : ℕ) → is_wanted d → was_wanted d → f d ≡ g d → named d ≡ others d)
+    → flat_map (line_at nodes named f) (filter (λ d. is_bad (f d)) xs)
+    ≡ flat_map (line_at nodes others g) (filter (λ d. is_bad (g d)) ys)
+bad_lines_same nodes named others f g is_wanted was_wanted xs ys of_xs of_ys same names =
+    lines_of_same nodes named f bad_xs bad_ys
     (rising_filter (path_at nodes) (λ d. is_bad (f d)) xs of_xs.rising)
     (rising_filter (path_at nodes) (λ d. is_bad (g d)) ys of_ys.rising)
     (λ d. (back d, there d))
-    ∙ lines_agree (line_at nodes f) (line_at nodes g) bad_ys
-    (λ d has. ap (λ (s : State). line_at nodes (λ e. s) d) (one_state d has))
+    ∙ lines_alike (line_at nodes named f) (line_at nodes others g) bad_ys
+    (λ d has. ap (λ (s : State). line_at nodes named (λ e. s) d) (both d has).1
+    ∙ ap (λ (n : Option (List ℕ)). line_at nodes (λ e. n) g d)
+    (names d (both d has).0 (wanted_behind d has) (both d has).1))
   where
     bad_xs : List ℕ
     bad_xs = filter (λ d. is_bad (f d)) xs
@@ -137,15 +143,15 @@ bad_lines_same nodes f g is_wanted was_wanted xs ys of_xs of_ys same =
         ((of_xs.just d).0 (filter_of (λ e. is_bad (f e)) xs d has), refl) in
         filter_has (λ e. is_bad (g e)) ys d ((of_ys.just d).1 is.0) (ap is_bad is.1 ∙ bad)
 
+    wanted_behind : (d : ℕ) → Contains bad_ys d → was_wanted d
+    wanted_behind d has = (of_ys.just d).0 (filter_of (λ e. is_bad (g e)) ys d has)
+
+    both : (d : ℕ) → Contains bad_ys d → is_wanted d × (f d ≡ g d)
+    both d has =
+        (same d (g d) (filter_is (λ e. is_bad (g e)) ys d has)).1 (wanted_behind d has, refl)
+
     back : (d : ℕ) → Contains bad_ys d → Contains bad_xs d
     back d has =
         let bad = filter_is (λ e. is_bad (g e)) ys d has in
-        let is = (same d (g d) bad).1
-        ((of_ys.just d).0 (filter_of (λ e. is_bad (g e)) ys d has), refl) in
+        let is = both d has in
         filter_has (λ e. is_bad (f e)) xs d ((of_xs.just d).1 is.0) (ap is_bad is.1 ∙ bad)
-
-    one_state : (d : ℕ) → Contains bad_ys d → f d ≡ g d
-    one_state d has =
-        let bad = filter_is (λ e. is_bad (g e)) ys d has in
-        ((same d (g d) bad).1
-        ((of_ys.just d).0 (filter_of (λ e. is_bad (g e)) ys d has), refl)).1

@@ -1,10 +1,11 @@
 -- What the jobs of the two derivations come to.
 use Rattle.std.proofs.Common.{◌≡◌, ◌∙◌, ◌<◌, ◌^◌, inl, ℕ, zero, suc, true, false, List, [], ◌∷◌, length, map, Some, None, Result, Ok, Err, ap, refl, sym, subst, arith, rules}
-use Rattle.std.specs.Prelude.{codes, pos, slice_get}
+use Rattle.std.specs.Prelude.{IsTrue, codes, pos, slice_get}
 use Rattle.std.specs.declared.alloc.Global.{Global}
 use Rattle.std.specs.declared.vec.Vec.{Vec}
 use Rattle.std.proofs.Math.Nat.{le_refl}
 use Rattle.std.proofs.lemmas.List.{length-map}
+use Rattle.std.proofs.lemmas.Option.{same_Some}
 use Rattle.nix_names.specs.Names.{same_bytes}
 use Rattle.nix_names.specs.declared.digest.Algorithm.{Algorithm}
 use Rattle.nix_names.specs.declared.digest.Algorithm.TheVariants.{Sha256}
@@ -27,16 +28,17 @@ use Rattle.ref_scan.specs.declared.tree.Tree.{Tree, File, Pieces, Executable, Li
 use Rattle.valid_table.specs.PathInfos.{PathInfo}
 use Rattle.valid_table.specs.declared.entry.Registration.{Registration}
 use Rattle.build_outcome.specs.Jobs.{IsJob, seeds_of}
-use Rattle.build_outcome.specs.Verdicts.{IsCyclic, IsRecordAt, IsRecordDigest, IsRecordNar, IsRecordOf, IsTreeFault, IsUnread, IsVerdict, NeedsArchive, OutputRefersTo, file_digest_of, flat_digest, outputs_of, tree_at}
+use Rattle.build_outcome.specs.Verdicts.{IsCyclic, IsRecordAt, IsRecordDigest, IsRecordNar, IsRecordOf, IsTreeFault, IsUnread, IsVerdict, NeedsArchive, OthersMayWriteAt, OutputRefersTo, file_digest_of, flat_digest, left_at, outputs_of, tree_at}
 use Rattle.build_outcome.specs.declared.job.Answer.{Answer}
 use Rattle.build_outcome.specs.declared.job.Job.{Job}
 use Rattle.build_outcome.specs.declared.job.JobOutput.{JobOutput}
+use Rattle.build_outcome.specs.declared.job.LeftOutput.{LeftOutput}
 use Rattle.build_outcome.specs.declared.reason.Reason.{Reason}
-use Rattle.build_outcome.specs.declared.reason.Reason.TheVariants.{BadSpecifier, ExitStatus, HashMismatch, Killed, MissingOutput, NoStart, NotAllowed, NotFlatFile, OutOfMemory, OutputCycle, ReadFault, TooLarge}
+use Rattle.build_outcome.specs.declared.reason.Reason.TheVariants.{BadMode, BadSpecifier, ExitStatus, HashMismatch, Killed, MissingOutput, NoStart, NotAllowed, NotFlatFile, OutOfMemory, OutputCycle, ReadFault, TooLarge, BadAttributes, BadGraph, UnknownNar}
 use Rattle.build_outcome.proofs.TestedVerdicts.{has_one_tested_verdict}
 use Rattle.store_run.specs.Builders.{IsVerdictOn}
 use Rattle.store_run.specs.Scheduling.{HasOneOutcome}
-use Rattle.store_run.specs.ScheduleExample.{IsEmptyFolder, Leaves, Recipe, both, drv_alone, failing, left, making, may_leave, out_alone, right}
+use Rattle.store_run.specs.ScheduleExample.{IsEmptyFolder, Leaves, Recipe, both, drv_alone, failing, left, making, may_leave, out_alone, owned, right}
 use Rattle.store_run.proofs.AlonePlans.{kind_alone, out_short}
 use Rattle.store_run.proofs.SameTests.{plain_tested}
 use Rattle.store_run.proofs.SameVerdicts.{said_of}
@@ -103,8 +105,12 @@ no_fault tree is OutputCycle none = none
 no_fault tree is ReadFault none = none
 no_fault tree is OutOfMemory none = none
 no_fault tree is Killed none = none
+no_fault tree is (BadMode n) none = none
 no_fault tree is (NotAllowed output place) none = none
 no_fault tree is (BadSpecifier output) none = none
+no_fault tree is BadAttributes none = none
+no_fault tree is BadGraph none = none
+no_fault tree is (UnknownNar place) none = none
 
 -- ---- records without references
 
@@ -123,17 +129,38 @@ module _ (info : PathInfo) (none : info.references ≡ []) where
 
 -- ---- the verdicts
 
-pub tree_first : (answer : Answer) (tree : Tree) → answer.trees.items ≡ Some tree ∷ []
+pub tree_first : (answer : Answer) (tree : Tree) → answer.outputs.items ≡ Some (owned tree) ∷ []
     → tree_at answer 0 ≡ Some tree
-tree_first answer tree trees = rw trees refl
+tree_first answer tree leaves = rw leaves refl
+
+-- what only its owner may write
+left_first : (answer : Answer) (tree : Tree) → answer.outputs.items ≡ Some (owned tree) ∷ []
+    → left_at answer 0 ≡ Some (owned tree)
+left_first answer tree leaves = rw leaves refl
+
+left_later : (answer : Answer) (tree : Tree) (n : ℕ)
+    → answer.outputs.items ≡ Some (owned tree) ∷ [] → left_at answer (suc n) ≡ None
+left_later answer tree n leaves = rw leaves refl
+
+pub owned_one : (answer : Answer) (tree : Tree) → answer.outputs.items ≡ Some (owned tree) ∷ []
+    → (n : ℕ) → OthersMayWriteAt answer n → ⊥
+owned_one answer tree leaves zero (left, at, may) =
+    let same : left ≡ owned tree =
+    same_Some left (owned tree) (sym at ∙ left_first answer tree leaves) in
+    let never : IsTrue false =
+    subst (λ (l : LeftOutput). IsTrue l.others_may_write) same may in
+    absurd cc
+owned_one answer tree leaves (suc n) (left, at, may) =
+    let clash = sym (left_later answer tree n leaves) ∙ at in absurd cc
 
 -- on one tree, that is read and taken, at the one output of a job
 module _ (job : Job) (one_output : length job.outputs.items ≡ 1) (answer : Answer) (tree : Tree)
-    (status : answer.status ≡ Some (pos 0)) (trees : answer.trees.items ≡ Some tree ∷ [])
+    (status : answer.status ≡ Some (pos 0))
+    (leaves : answer.outputs.items ≡ Some (owned tree) ∷ [])
     (sound : (why : Reason) → IsTreeFault job.profile job.kind tree why → ⊥)
     (read : IsUnread job tree → ⊥) where
   taken_at : (n : ℕ) → n < length job.outputs.items → tree_at answer n ≡ Some tree
-  taken_at zero low = tree_first answer tree trees
+  taken_at zero low = tree_first answer tree leaves
   taken_at (suc n) low = search rules
 
   pub one_verdict : (permitted : List (List ℕ)) (info : PathInfo) → info.references ≡ []
@@ -148,6 +175,7 @@ module _ (job : Job) (one_output : length job.outputs.items ≡ 1) (answer : Ans
             let same : unread.0 ≡ tree = let both_at = sym unread.1 ∙ taken_at n low in cc in
             read (subst (IsUnread job) same unread.2),
       ),
+      λ n low bad. owned_one answer tree leaves n bad.1,
       λ n why low fault.
           let same : fault.0 ≡ tree = let both_at = sym fault.1 ∙ taken_at n low in cc in
           sound why (subst (λ (t : Tree). IsTreeFault job.profile job.kind t why) same fault.2),
@@ -324,7 +352,7 @@ left_is_job =
     refl refl refl (kind_alone _) refl
 
 pub left_answer : Answer
-left_answer = record { status = Some (pos 1); trees = vec_of [] (omega arith) }
+left_answer = record { status = Some (pos 1); outputs = vec_of [] (omega arith) }
 
 abbrev no_members : Tree
 no_members = Dir' (vec_of [] (omega arith)) end_of-Member
@@ -332,7 +360,7 @@ no_members = Dir' (vec_of [] (omega arith)) end_of-Member
 pub right_answer : Answer
 right_answer = record {
   status = Some (pos 0);
-  trees = vec_of (Some no_members ∷ []) (omega arith);
+  outputs = vec_of (Some (owned no_members) ∷ []) (omega arith);
 }
 
 pub left_leaves : Leaves true left_answer

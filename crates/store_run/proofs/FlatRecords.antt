@@ -98,7 +98,7 @@ supported_declares_none : (system : Platform) (drv : Drv) (digest : Digest)
     → HasKind drv (Fixed Recursive digest) → Takes Plain (Fixed Recursive digest) → ⊥
 supported_declares_none system drv digest supported has_kind taken =
     false≢true
-    (sym (last_fails (is_builtin drv) (has_left_out Plain drv) (has_tree drv) supported)
+    (sym (last_fails (is_builtin drv) (has_left_out drv) (has_tree drv) supported)
     ∙ tree_told drv digest has_kind taken)
 
 module _ (dir : List ℕ) (gives : List ℕ → SourceAnswer → Type 0) (roots : List (List ℕ)) (run : Run)

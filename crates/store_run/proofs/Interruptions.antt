@@ -9,6 +9,7 @@ use Rattle.build_outcome.specs.declared.job.Job.{Job}
 use Rattle.build_outcome.specs.declared.reason.Reason.{Reason}
 use Rattle.build_outcome.specs.declared.reason.Reason.TheVariants.{OutOfMemory}
 use Rattle.run_report.specs.Reports.{outputs_at}
+use Rattle.run_report.proofs.OneReport.{lines_alike}
 use Rattle.run_states.specs.Runs.{History, IsWanted, Run, state_in, wanted_root}
 use Rattle.run_states.specs.States.{Phase, Idle, Begun, Ended, Broken, is_bad, is_done, is_good, phase_of}
 use Rattle.run_states.specs.declared.state.State.{State}
@@ -21,7 +22,8 @@ use Rattle.store_run.specs.Interruptions.{AnyInterruption, CameToSame, CutsAreOn
 use Rattle.store_run.specs.OneThread.{IsOneThread}
 use Rattle.store_run.specs.Scheduling.{AreAlike, IsEndedRun, IsWholeRun}
 use Rattle.store_run.proofs.CutOpenings.{ended_or_not, told, was_wanted}
-use Rattle.store_run.proofs.CutReports.{bad_lines_same, lines_agree}
+use Rattle.store_run.proofs.AlikeNames.{one_in_both}
+use Rattle.store_run.proofs.CutReports.{bad_lines_same}
 use Rattle.store_run.proofs.CutStates.{bad_same, built_reused, good_or_bad, same_good, seen_wanted, spared_good, still_wanted, whole_memory, whole_settled}
 use Rattle.store_run.proofs.CutsJoined.{IsJoined, IsSamePhase, joined, over, unbuilt_by}
 use Rattle.store_run.proofs.GivenOutcomes.{IsOver, answered_from, given_in, outcomes_in, whole_by}
@@ -279,11 +281,13 @@ module _ (may : Job → Result Answer Reason → Type 0) (run : Run) (cut again 
     came_to_same = record {
       records = alike.records;
       bad = bad_same_both;
-      lines = λ a b one two. bad_lines_same run.graph.nodes (state_in run again)
-          (state_in run other) (IsWanted run again.opening) (IsWanted run other.opening) one.wanted
-          two.wanted one.by_path two.by_path bad_same_both;
+      lines = λ a b one two. bad_lines_same run.graph.nodes one.named two.named
+          (state_in run again) (state_in run other) (IsWanted run again.opening)
+          (IsWanted run other.opening) one.wanted two.wanted one.by_path two.by_path bad_same_both
+          (λ d is was same. one_in_both run again other alike.records d same (one.named d)
+          (two.named d) (one.are_named d is) (two.are_named d was));
       roots = roots_same;
-      outputs = lines_agree (outputs_at run.graph.nodes (state_in run again))
+      outputs = lines_alike (outputs_at run.graph.nodes (state_in run again))
           (outputs_at run.graph.nodes (state_in run other)) run.graph.roots
           (λ d root. outputs_same d (roots_same d root));
       built = λ d is wanted. built_or_reused d is.1;

@@ -1,4 +1,5 @@
 pub mod Alike
+pub mod AlikeNames
 pub mod AlonePlans
 pub mod Answered
 pub mod Bases
@@ -31,6 +32,7 @@ pub mod SameOutcomes
 pub mod SameTests
 pub mod SameVerdicts
 pub mod Standings
+pub mod Starting
 pub mod StorePlans
 pub mod Telling
 pub mod ToldRuns

@@ -16,11 +16,11 @@ use Rattle.ref_scan.specs.declared.tree.Tree.{Tree}
 use Rattle.valid_table.specs.PathInfos.{NarInfo, PathInfo}
 use Rattle.valid_table.specs.declared.entry.Registration.{Registration}
 use Rattle.build_outcome.specs.Checks.{IsTestedVerdict}
-use Rattle.build_outcome.specs.Verdicts.{AreOutputsThere, AreRead, AreRecords, HasForm, IsDigestBy, IsFaulty, IsFirstFault, IsRecordDigest, IsRecordNar, IsRecordOf, IsTaken, IsTreeFault, IsUnread, IsUnreadAt, IsVerdict, MayBeTaken, flat_digest, tree_at}
+use Rattle.build_outcome.specs.Verdicts.{AreOutputsThere, AreRead, AreRecords, HasBadMode, HasForm, HaveGoodModes, IsDigestBy, IsFaulty, IsFirstFault, IsRecordDigest, IsRecordNar, IsRecordOf, IsTaken, IsTreeFault, IsUnread, IsUnreadAt, IsVerdict, MayBeTaken, flat_digest, tree_at}
 use Rattle.build_outcome.specs.declared.job.Answer.{Answer}
 use Rattle.build_outcome.specs.declared.job.Job.{Job}
 use Rattle.build_outcome.specs.declared.reason.Reason.{Reason}
-use Rattle.build_outcome.specs.declared.reason.Reason.TheVariants.{ExitStatus, NoStart, MissingOutput, NotFlatFile, HashMismatch, OutputCycle, TooLarge, ReadFault, OutOfMemory, Killed, NotAllowed, BadSpecifier}
+use Rattle.build_outcome.specs.declared.reason.Reason.TheVariants.{ExitStatus, NoStart, MissingOutput, NotFlatFile, HashMismatch, OutputCycle, TooLarge, ReadFault, OutOfMemory, Killed, BadMode, NotAllowed, BadSpecifier, BadAttributes, BadGraph, UnknownNar}
 use Rattle.store_run.specs.Builders.{IsVerdictOn}
 use Rattle.store_run.specs.SameOutcomes.{AllowedIsOne, AreSameAnswers, AreSameOutcomes, AreSameTrees, HaveSameBytes}
 use Rattle.store_run.proofs.SameTests.{one_for_both}
@@ -77,8 +77,12 @@ fault_there profile Addressed tree other same OutputCycle fault = absurd fault
 fault_there profile Addressed tree other same ReadFault fault = absurd fault
 fault_there profile Addressed tree other same OutOfMemory fault = absurd fault
 fault_there profile Addressed tree other same Killed fault = absurd fault
+fault_there profile Addressed tree other same (BadMode n) fault = absurd fault
 fault_there profile Addressed tree other same (NotAllowed output place) fault = absurd fault
 fault_there profile Addressed tree other same (BadSpecifier output) fault = absurd fault
+fault_there profile Addressed tree other same BadAttributes fault = absurd fault
+fault_there profile Addressed tree other same BadGraph fault = absurd fault
+fault_there profile Addressed tree other same (UnknownNar place) fault = absurd fault
 fault_there profile (Fixed method digest) tree other same (ExitStatus n) fault = absurd fault
 fault_there profile (Fixed method digest) tree other same NoStart fault = absurd fault
 fault_there profile (Fixed method digest) tree other same (MissingOutput n) fault = absurd fault
@@ -86,9 +90,16 @@ fault_there profile (Fixed method digest) tree other same OutputCycle fault = ab
 fault_there profile (Fixed method digest) tree other same ReadFault fault = absurd fault
 fault_there profile (Fixed method digest) tree other same OutOfMemory fault = absurd fault
 fault_there profile (Fixed method digest) tree other same Killed fault = absurd fault
+fault_there profile (Fixed method digest) tree other same (BadMode n) fault = absurd fault
 fault_there profile (Fixed method digest) tree other same (NotAllowed output place) fault =
     absurd fault
 fault_there profile (Fixed method digest) tree other same (BadSpecifier output) fault =
+    absurd fault
+fault_there profile (Fixed method digest) tree other same BadAttributes fault =
+    absurd fault
+fault_there profile (Fixed method digest) tree other same BadGraph fault =
+    absurd fault
+fault_there profile (Fixed method digest) tree other same (UnknownNar place) fault =
     absurd fault
 
 unread_there : (job : Job) (tree other : Tree) → HaveSameBytes tree other → IsUnread job tree
@@ -130,7 +141,11 @@ trees_back None (Some other) same = absurd same
 trees_back (Some tree) None same = absurd same
 
 answers_back : (answer other : Answer) → AreSameAnswers answer other → AreSameAnswers other answer
-answers_back answer other same = search (rules, trees_back)
+answers_back answer other same = record {
+  status = sym same.status;
+  trees = λ n. trees_back _ _ (same.trees n);
+  modes = λ n. ((same.modes n).1, (same.modes n).0);
+}
 
 none_same : (o p : Option Tree) → o ≡ None → AreSameTrees o p → p ≡ None
 none_same None None is same = refl
@@ -151,6 +166,9 @@ module _ (job : Job) (answer other : Answer) (same : AreSameAnswers answer other
   its_tree : (n : ℕ) (tree : Tree) → tree_at answer n ≡ Some tree
       → (its : Tree) × (tree_at other n ≡ Some its) × HaveSameBytes tree its
   its_tree n tree at = some_same tree (tree_at answer n) (tree_at other n) at (same.trees n)
+
+  mode_there : (n : ℕ) → HasBadMode job answer n → HasBadMode job other n
+  mode_there n (nix, may) = (nix, (same.modes n).0 may)
 
   faulty_there : (n : ℕ) (why : Reason) → IsFaulty job answer why n → IsFaulty job other why n
   faulty_there n why (tree, at, fault) =
@@ -186,6 +204,9 @@ module _ (job : Job) (answer other : Answer) (same : AreSameAnswers answer other
     read_too read,
   )
 
+  good_too : HaveGoodModes job answer → HaveGoodModes job other
+  good_too good n low bad = good n low (mode_there job other answer back n bad)
+
   first_too : (reason : Reason) → IsFirstFault job answer reason → IsFirstFault job other reason
   first_too reason first = (
     first.0,
@@ -200,7 +221,8 @@ module _ (job : Job) (answer other : Answer) (same : AreSameAnswers answer other
   taken_too : IsTaken job answer → IsTaken job other
   taken_too taken = (
     there_too taken.0,
-    λ n why low faulty. taken.1 n why low (faulty_there job other answer back n why faulty),
+    good_too taken.1,
+    λ n why low faulty. taken.2 n why low (faulty_there job other answer back n why faulty),
   )
 
   verdict_there : (permitted : List (List ℕ)) (verdict : Result (List PathInfo) Reason)
@@ -217,15 +239,26 @@ module _ (job : Job) (answer other : Answer) (same : AreSameAnswers answer other
     first_same (λ m. tree_at answer m ≡ None) (λ m. tree_at other m ≡ None)
         (missing_there job answer other same) (missing_there job other answer back) _ n first,
   )
-  verdict_there permitted (Err TooLarge) is = (there_too is.0, first_too TooLarge is.1)
-  verdict_there permitted (Err NotFlatFile) is = (there_too is.0, first_too NotFlatFile is.1)
-  verdict_there permitted (Err HashMismatch) is = (there_too is.0, first_too HashMismatch is.1)
+  verdict_there permitted (Err (BadMode n)) (there, first) = (
+    there_too there,
+    first_same (HasBadMode job answer) (HasBadMode job other) (mode_there job answer other same)
+        (mode_there job other answer back) _ n first,
+  )
+  verdict_there permitted (Err TooLarge) (there, good, fault) =
+      (there_too there, good_too good, first_too TooLarge fault)
+  verdict_there permitted (Err NotFlatFile) (there, good, fault) =
+      (there_too there, good_too good, first_too NotFlatFile fault)
+  verdict_there permitted (Err HashMismatch) (there, good, fault) =
+      (there_too there, good_too good, first_too HashMismatch fault)
   verdict_there permitted (Err OutputCycle) (taken, (infos, records, round)) =
       (taken_too taken, (infos, records_there job answer other same permitted infos records, round))
   verdict_there permitted (Err NoStart) is = absurd is
   verdict_there permitted (Err OutOfMemory) is = absurd is
   verdict_there permitted (Err (NotAllowed output place)) is = absurd is
   verdict_there permitted (Err (BadSpecifier output)) is = absurd is
+  verdict_there permitted (Err BadAttributes) is = absurd is
+  verdict_there permitted (Err BadGraph) is = absurd is
+  verdict_there permitted (Err (UnknownNar place)) is = absurd is
 
   -- the tests are of the records
   tested_there : (registrations : List Registration) (permitted : List (List ℕ))

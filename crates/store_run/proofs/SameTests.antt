@@ -23,7 +23,7 @@ use Rattle.build_outcome.specs.declared.job.Answer.{Answer}
 use Rattle.build_outcome.specs.declared.job.Job.{Job}
 use Rattle.build_outcome.specs.declared.job.JobOutput.{JobOutput}
 use Rattle.build_outcome.specs.declared.reason.Reason.{Reason}
-use Rattle.build_outcome.specs.declared.reason.Reason.TheVariants.{ExitStatus, NoStart, MissingOutput, NotFlatFile, HashMismatch, OutputCycle, TooLarge, ReadFault, OutOfMemory, Killed, NotAllowed, BadSpecifier}
+use Rattle.build_outcome.specs.declared.reason.Reason.TheVariants.{ExitStatus, NoStart, MissingOutput, NotFlatFile, HashMismatch, OutputCycle, TooLarge, ReadFault, OutOfMemory, Killed, BadMode, NotAllowed, BadSpecifier, BadAttributes, BadGraph, UnknownNar}
 use Rattle.build_outcome.proofs.TestedVerdicts.{has_one_tested_verdict}
 use Rattle.store_run.proofs.SameVerdicts.{all_weaker, counts, first_same, verdict_too}
 
@@ -220,6 +220,9 @@ module _ (registrations : List Registration) (job again : Job)
     ),
   )
   test_fault_too (OfFixed n) (BadSpecifier output) fault = absurd fault
+  test_fault_too (OfFixed n) BadAttributes fault = absurd fault
+  test_fault_too (OfFixed n) BadGraph fault = absurd fault
+  test_fault_too (OfFixed n) (UnknownNar place) fault = absurd fault
   test_fault_too (OfFixed n) (ExitStatus status) fault = absurd fault
   test_fault_too (OfFixed n) NoStart fault = absurd fault
   test_fault_too (OfFixed n) (MissingOutput output) fault = absurd fault
@@ -230,6 +233,7 @@ module _ (registrations : List Registration) (job again : Job)
   test_fault_too (OfFixed n) ReadFault fault = absurd fault
   test_fault_too (OfFixed n) OutOfMemory fault = absurd fault
   test_fault_too (OfFixed n) Killed fault = absurd fault
+  test_fault_too (OfFixed n) (BadMode output) fault = absurd fault
   test_fault_too (Of n check) (ExitStatus status) fault = absurd fault
   test_fault_too (Of n check) NoStart fault = absurd fault
   test_fault_too (Of n check) (MissingOutput output) fault = absurd fault
@@ -240,6 +244,10 @@ module _ (registrations : List Registration) (job again : Job)
   test_fault_too (Of n check) ReadFault fault = absurd fault
   test_fault_too (Of n check) OutOfMemory fault = absurd fault
   test_fault_too (Of n check) Killed fault = absurd fault
+  test_fault_too (Of n check) (BadMode output) fault = absurd fault
+  test_fault_too (Of n check) BadAttributes fault = absurd fault
+  test_fault_too (Of n check) BadGraph fault = absurd fault
+  test_fault_too (Of n check) (UnknownNar place) fault = absurd fault
 
 -- ---- verdicts
 

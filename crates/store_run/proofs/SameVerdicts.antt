@@ -6,11 +6,11 @@ use Rattle.drv_graph.specs.declared.kinds.Kind.{Kind}
 use Rattle.drv_graph.specs.declared.profile.Profile.{Profile}
 use Rattle.ref_scan.specs.declared.tree.Tree.{Tree}
 use Rattle.valid_table.specs.PathInfos.{PathInfo}
-use Rattle.build_outcome.specs.Verdicts.{AreOutputsThere, AreRead, AreRecords, IsCyclic, IsFaulty, IsFirstFault, IsFirstNumber, IsRecordDigest, IsRecordNar, IsRecordOf, IsTaken, IsTreeFault, IsUnreadAt, IsVerdict, NeedsArchive, outputs_of, tree_at}
+use Rattle.build_outcome.specs.Verdicts.{AreOutputsThere, AreRead, AreRecords, HasBadMode, HaveGoodModes, IsCyclic, IsFaulty, IsFirstFault, IsFirstNumber, IsRecordDigest, IsRecordNar, IsRecordOf, IsTaken, IsTreeFault, IsUnreadAt, IsVerdict, NeedsArchive, outputs_of, tree_at}
 use Rattle.build_outcome.specs.declared.job.Answer.{Answer}
 use Rattle.build_outcome.specs.declared.job.Job.{Job}
 use Rattle.build_outcome.specs.declared.reason.Reason.{Reason}
-use Rattle.build_outcome.specs.declared.reason.Reason.TheVariants.{ExitStatus, NoStart, MissingOutput, NotFlatFile, HashMismatch, OutputCycle, TooLarge, ReadFault, OutOfMemory, Killed, NotAllowed, BadSpecifier}
+use Rattle.build_outcome.specs.declared.reason.Reason.TheVariants.{ExitStatus, NoStart, MissingOutput, NotFlatFile, HashMismatch, OutputCycle, TooLarge, ReadFault, OutOfMemory, Killed, BadMode, NotAllowed, BadSpecifier, BadAttributes, BadGraph, UnknownNar}
 
 -- ---- firsts
 
@@ -45,6 +45,9 @@ module _ (job again : Job) (kinds : job.kind ≡ again.kind)
   unread_too answer n (tree, at, (needs, none)) =
       (tree, at, (said_too (λ (p : Profile) (k : Kind). NeedsArchive p k) needs, none))
 
+  mode_too : (answer : Answer) (n : ℕ) → HasBadMode job answer n → HasBadMode again answer n
+  mode_too answer n (nix, may) = (sym profiles ∙ nix, may)
+
   record_too : (permitted : List (List ℕ)) (tree : Tree) (info : PathInfo)
       → IsRecordOf job permitted tree info → IsRecordOf again permitted tree info
   record_too permitted tree info is = record {
@@ -74,6 +77,12 @@ module _ (job again : Job) (outputs : outputs_of job ≡ outputs_of again)
   there_too (status, there, read) =
       (status, λ n low none. there n (within n low) none, read_too read)
 
+  mode_back : (n : ℕ) → HasBadMode again answer n → HasBadMode job answer n
+  mode_back = mode_too again job (sym kinds) (sym profiles) answer
+
+  good_too : HaveGoodModes job answer → HaveGoodModes again answer
+  good_too good n low bad = good n (within n low) (mode_back n bad)
+
   first_too : (reason : Reason) → IsFirstFault job answer reason
       → IsFirstFault again answer reason
   first_too reason (n, first, faulty) = (
@@ -89,8 +98,9 @@ module _ (job again : Job) (outputs : outputs_of job ≡ outputs_of again)
   )
 
   taken_too : IsTaken job answer → IsTaken again answer
-  taken_too (there, sound) = (
+  taken_too (there, good, sound) = (
     there_too there,
+    good_too good,
     λ n why low faulty. sound n why (within n low) (faulty_back why n faulty),
   )
 
@@ -125,9 +135,18 @@ module _ (job again : Job) (outputs : outputs_of job ≡ outputs_of again)
     read_too read,
     subst (λ count. IsFirstNumber (λ m. tree_at answer m ≡ None) count n) counts first,
   )
-  verdict_too permitted (Err TooLarge) is = (there_too is.0, first_too TooLarge is.1)
-  verdict_too permitted (Err NotFlatFile) is = (there_too is.0, first_too NotFlatFile is.1)
-  verdict_too permitted (Err HashMismatch) is = (there_too is.0, first_too HashMismatch is.1)
+  verdict_too permitted (Err (BadMode n)) (there, first) = (
+    there_too there,
+    subst (λ count. IsFirstNumber (HasBadMode again answer) count n) counts
+        (first_same (HasBadMode job answer) (HasBadMode again answer)
+        (mode_too job again kinds profiles answer) mode_back (length job.outputs.items) n first),
+  )
+  verdict_too permitted (Err TooLarge) (there, good, fault) =
+      (there_too there, good_too good, first_too TooLarge fault)
+  verdict_too permitted (Err NotFlatFile) (there, good, fault) =
+      (there_too there, good_too good, first_too NotFlatFile fault)
+  verdict_too permitted (Err HashMismatch) (there, good, fault) =
+      (there_too there, good_too good, first_too HashMismatch fault)
   verdict_too permitted (Err OutputCycle) is = (
     taken_too is.0,
     (
@@ -140,3 +159,6 @@ module _ (job again : Job) (outputs : outputs_of job ≡ outputs_of again)
   verdict_too permitted (Err OutOfMemory) is = absurd is
   verdict_too permitted (Err (NotAllowed output place)) is = absurd is
   verdict_too permitted (Err (BadSpecifier output)) is = absurd is
+  verdict_too permitted (Err BadAttributes) is = absurd is
+  verdict_too permitted (Err BadGraph) is = absurd is
+  verdict_too permitted (Err (UnknownNar place)) is = absurd is

@@ -5,7 +5,7 @@ use Rattle.valid_table.specs.Valid.{IsJournal}
 use Rattle.valid_table.specs.declared.entry.Entry.{Entry}
 use Rattle.valid_table.proofs.JournalLists.{closed_references_valid}
 use Rattle.run_states.specs.Legal.{IsLegal}
-use Rattle.run_report.specs.Reports.{IsReport, IsReportIn}
+use Rattle.run_report.specs.Reports.{IsReportIn}
 use Rattle.run_states.specs.Runs.{History, IsWanted, Run, state_in}
 use Rattle.run_states.specs.States.{Broken, Idle, phase_of}
 use Rattle.build_outcome.specs.declared.job.Answer.{Answer}
@@ -14,12 +14,14 @@ use Rattle.build_outcome.specs.declared.reason.Reason.{Reason}
 use Rattle.build_outcome.specs.declared.reason.Reason.TheVariants.{OutOfMemory}
 use Rattle.run_states.specs.declared.state.State.{State}
 use Rattle.run_states.specs.declared.state.State.TheVariants.{Failed}
-use Rattle.run_report.proofs.OneReport.{one_report}
+use Rattle.run_report.proofs.NamedPaths.{names_in, one_report_in}
+use Rattle.run_report.proofs.RunReports.{told_moved}
 use Rattle.run_states.proofs.Registering.{entries_are_journal}
 use Rattle.run_states.proofs.Seeds.{opened_with}
 use Rattle.store_run.specs.OneThread.{HadTurns}
-use Rattle.store_run.specs.Scheduling.{AlikeReportTheSame, AnySchedule, HasOneOutcome, IsWholeRun, OneReport, RealisedIsEnded, RealisedIsWhole, SameReports, WholeRunsAreAlike}
+use Rattle.store_run.specs.Scheduling.{AlikeReportTheSame, AreAlike, AnySchedule, HasOneOutcome, IsWholeRun, OneReport, RealisedIsEnded, RealisedIsWhole, SameReports, WholeRunsAreAlike}
 use Rattle.store_run.proofs.Alike.{IsAccounted, are_alike}
+use Rattle.store_run.proofs.AlikeNames.{names_alike}
 use Rattle.store_run.proofs.Telling.{begun_is, broke_is, drv_paths, from_is, made_is}
 use Rattle.store_run.proofs.ToldRuns.{IsTold, told_begin, told_done, told_fail, told_from, told_opening}
 use Rattle.store_run.proofs.Turns.{turned_is, turned_settled}
@@ -102,31 +104,37 @@ any_schedule may run history other whole one =
     whole.end.settled (turned_settled may run whole.end.plan history.opening other one)
     turned.opening_is
 
--- the report follows from the states
+-- the report follows from the states and the records
+pub alike_report_the_same : AlikeReportTheSame
+alike_report_the_same run history other alike opening text =
+    (moved history other alike opening, moved other history back (sym opening))
+  where
+    back : AreAlike run other history
+    back = record {
+      states = λ d. sym (alike.states d);
+      records = λ path info. ((alike.records path info).1, (alike.records path info).0);
+    }
+
+    moved : (one two : History) → AreAlike run one two → two.opening ≡ one.opening
+        → IsReportIn run one text → IsReportIn run two text
+    moved one two alike same =
+        told_moved _ run.graph (IsWanted run one.opening) (IsWanted run two.opening)
+        (names_in run one) (names_in run two) (state_in run one) (state_in run two) text
+        (λ d. (
+          subst (λ (opens : List Entry). IsWanted run opens d) (sym same),
+          subst (λ (opens : List Entry). IsWanted run opens d) same,
+        ))
+        (λ d named wanted is. names_alike run one two alike.records d (alike.states d) named is)
+        alike.states
+
+-- so there is one
 pub one_report_of : (may : Job → Result Answer Reason → Type 0) → OneReport may
 one_report_of may run history other a b whole one of_a of_b =
     let alike = any_schedule may run history other whole one in
     let turned = turned_is may _ whole.end.plan _ _ _
     one in
-    let states : state_in run other ≡ state_in run history = λ i d. sym (alike.states d) i in
-    let there : IsReport run.graph (IsWanted run history.opening) (state_in run history) b =
-    subst (λ (s : ℕ → State). IsReport run.graph (IsWanted run history.opening) s b) states
-    (subst (λ (opens : List Entry). IsReport run.graph (IsWanted run opens) (state_in run other) b)
-    turned.opening_is of_b) in
-    one_report _ (IsWanted run history.opening) (state_in run history) a b of_a there
-
--- so does whatever is a report
-pub alike_report_the_same : AlikeReportTheSame
-alike_report_the_same run history other alike opening text = (there, back)
-  where
-    states : state_in run history ≡ state_in run other
-    states = λ i d. alike.states d i
-
-    there : IsReportIn run history text → IsReportIn run other text
-    there is = search (rules, states)
-
-    back : IsReportIn run other text → IsReportIn run history text
-    back is = search (rules, states)
+    one_report_in run history a b of_a
+    ((alike_report_the_same run history other alike turned.opening_is b).1 of_b)
 
 pub same_reports : (may : Job → Result Answer Reason → Type 0) → SameReports may
 same_reports may run history other whole one =

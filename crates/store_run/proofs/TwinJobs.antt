@@ -28,17 +28,17 @@ use Rattle.ref_scan.specs.Trees.{Fits, joined, pieces_among}
 use Rattle.ref_scan.specs.declared.tree.Tree.{Tree, File, Pieces, Executable, Link, Dir', Row_of-Member, end_of-Member, more_of-Member}
 use Rattle.valid_table.specs.PathInfos.{PathInfo}
 use Rattle.build_outcome.specs.Jobs.{IsJob}
-use Rattle.build_outcome.specs.Verdicts.{HasArchive, IsFlatFile, IsRecordDigest, IsRecordNar, IsRecordOf, IsTreeFault, IsVerdict, NeedsArchive, digest_by, file_digest_of, tree_at}
+use Rattle.build_outcome.specs.Verdicts.{HasArchive, IsFlatFile, IsRecordDigest, IsRecordNar, IsRecordOf, IsTreeFault, IsVerdict, NeedsArchive, OthersMayWriteAt, digest_by, file_digest_of, left_at, tree_at}
 use Rattle.build_outcome.specs.declared.job.Answer.{Answer}
 use Rattle.build_outcome.specs.declared.job.Job.{Job}
 use Rattle.build_outcome.specs.declared.reason.Reason.{Reason}
-use Rattle.build_outcome.specs.declared.reason.Reason.TheVariants.{BadSpecifier, ExitStatus, HashMismatch, Killed, MissingOutput, NoStart, NotAllowed, NotFlatFile, OutOfMemory, OutputCycle, ReadFault, TooLarge}
+use Rattle.build_outcome.specs.declared.reason.Reason.TheVariants.{BadMode, BadSpecifier, ExitStatus, HashMismatch, Killed, MissingOutput, NoStart, NotAllowed, NotFlatFile, OutOfMemory, OutputCycle, ReadFault, TooLarge, BadAttributes, BadGraph, UnknownNar}
 use Rattle.store_run.specs.SameOutcomes.{AllowsOneOutcome, AreSameAnswers, AreSameTrees, HaveSameBytes}
 use Rattle.store_run.specs.Scheduling.{HasOneOutcome}
-use Rattle.store_run.specs.ScheduleExample.{IsEmptyFolder, Leaves, right}
+use Rattle.store_run.specs.ScheduleExample.{IsEmptyFolder, Leaves, owned, right}
 use Rattle.store_run.specs.TwinExample.{IsEmptyFile, LeavesWith, empty_digest, failing_twin, first_twin, making_twin, may_leave_file, of_empty, out_empty, script, second_twin, three}
 use Rattle.store_run.proofs.AlonePlans.{one_of, store}
-use Rattle.store_run.proofs.ExampleJobs.{empty_digest_of, empty_fits, is_job_of, is_job_of_right, job_of, job_of_right, left_answer, left_leaves, one_verdict, right_answer, right_leaves, tree_first, vec_of}
+use Rattle.store_run.proofs.ExampleJobs.{empty_digest_of, empty_fits, is_job_of, is_job_of_right, job_of, job_of_right, left_answer, left_leaves, one_verdict, owned_one, right_answer, right_leaves, tree_first, vec_of}
 use Rattle.store_run.proofs.SameOutcomes.{allowed_is_one}
 use Rattle.store_run.proofs.SameVerdicts.{said_of}
 use Rattle.store_run.proofs.TwinPlans.{empty_kind, kind_empty, output_short, src_named}
@@ -90,8 +90,12 @@ no_file_fault tree is OutputCycle none = none
 no_file_fault tree is ReadFault none = none
 no_file_fault tree is OutOfMemory none = none
 no_file_fault tree is Killed none = none
+no_file_fault tree is (BadMode n) none = none
 no_file_fault tree is (NotAllowed output place) none = none
 no_file_fault tree is (BadSpecifier output) none = none
+no_file_fault tree is BadAttributes none = none
+no_file_fault tree is BadGraph none = none
+no_file_fault tree is (UnknownNar place) none = none
 
 module _ (job : Job) (plain : job.profile ≡ Plain) (kind : job.kind ≡ empty_kind) where
   record_of_file : (permitted : List (List ℕ)) (tree : Tree) → IsEmptyFile tree
@@ -191,17 +195,32 @@ module _ (d : ℕ) (node : Node) (at : slice_get three.graph.nodes d ≡ Some no
 
 -- ---- one outcome for each
 
-tree_later : (answer : Answer) (tree : Tree) (n : ℕ) → answer.trees.items ≡ Some tree ∷ []
-    → tree_at answer (suc n) ≡ None
-tree_later answer tree n trees = rw trees refl
+tree_later : (answer : Answer) (tree : Tree) (n : ℕ)
+    → answer.outputs.items ≡ Some (owned tree) ∷ [] → tree_at answer (suc n) ≡ None
+tree_later answer tree n leaves = rw leaves refl
 
-tree_none : (answer : Answer) (n : ℕ) → answer.trees.items ≡ [] → tree_at answer n ≡ None
-tree_none answer n trees = rw trees refl
+tree_none : (answer : Answer) (n : ℕ) → answer.outputs.items ≡ [] → tree_at answer n ≡ None
+tree_none answer n none = rw none refl
+
+left_none : (answer : Answer) (n : ℕ) → answer.outputs.items ≡ [] → left_at answer n ≡ None
+left_none answer n none = rw none refl
+
+owned_none : (answer : Answer) (n : ℕ) → answer.outputs.items ≡ [] → OthersMayWriteAt answer n → ⊥
+owned_none answer n none (left, at, may) =
+    let clash = sym (left_none answer n none) ∙ at in absurd cc
 
 -- two answers with one tree each, of the same bytes
-same_one : (x y : Answer) (a b : Tree) → x.status ≡ y.status → x.trees.items ≡ Some a ∷ []
-    → y.trees.items ≡ Some b ∷ [] → HaveSameBytes a b → AreSameAnswers x y
-same_one x y a b status at_x at_y same = record { status = status; trees = each }
+same_one : (x y : Answer) (a b : Tree) → x.status ≡ y.status
+    → x.outputs.items ≡ Some (owned a) ∷ [] → y.outputs.items ≡ Some (owned b) ∷ []
+    → HaveSameBytes a b → AreSameAnswers x y
+same_one x y a b status at_x at_y same = record {
+  status = status;
+  trees = each;
+  modes = λ n. (
+    λ may. absurd (owned_one x a at_x n may),
+    λ may. absurd (owned_one y b at_y n may),
+  );
+}
   where
     each : (n : ℕ) → AreSameTrees (tree_at x n) (tree_at y n)
     each zero = search (rules, tree_first)
@@ -308,7 +327,17 @@ same_folders a b is is' = record {
 }
 
 none_twice : (x y : Answer) → Leaves true x → Leaves true y → AreSameAnswers x y
-none_twice x y one other = search (rules, tree_none)
+none_twice x y one other = record {
+  status = one.0 ∙ sym other.0;
+  trees = each;
+  modes = λ n. (
+    λ may. absurd (owned_none x n one.1 may),
+    λ may. absurd (owned_none y n other.1 may),
+  );
+}
+  where
+    each : (n : ℕ) → AreSameTrees (tree_at x n) (tree_at y n)
+    each n = search (rules, tree_none)
 
 file_twice : (x y : Answer) → LeavesWith true false x → LeavesWith true false y
     → AreSameAnswers x y
@@ -358,7 +387,7 @@ second_is_job =
 pub second_answer : Answer
 second_answer = record {
   status = Some (pos 0);
-  trees = vec_of (Some (File (vec_of [] (omega arith))) ∷ []) (omega arith);
+  outputs = vec_of (Some (owned (File (vec_of [] (omega arith)))) ∷ []) (omega arith);
 }
 
 pub second_leaves : LeavesWith true false second_answer

@@ -71,7 +71,7 @@ GivesBuilt may history outcomes job outcome = may job outcome
 abbrev pub bad_lines : (run : Run) (history : History) (text : Bytes)
     → IsReportIn run history text → Bytes
 bad_lines run history text report =
-    flat_map (line_at run.graph.nodes (state_in run history))
+    flat_map (line_at run.graph.nodes report.named (state_in run history))
     (filter (λ d. is_bad (state_in run history d)) report.wanted)
 
 -- the lines `output` of a report

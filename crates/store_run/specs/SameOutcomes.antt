@@ -8,7 +8,7 @@ use Rattle.drv_graph.specs.declared.profile.Profile.{Profile}
 use Rattle.ref_scan.specs.Trees.{Fits, pieces}
 use Rattle.ref_scan.specs.declared.tree.Tree.{Tree}
 use Rattle.build_outcome.specs.Jobs.{IsJob}
-use Rattle.build_outcome.specs.Verdicts.{HasArchive, IsFlatFile, file_digest_of, tree_at}
+use Rattle.build_outcome.specs.Verdicts.{HasArchive, IsFlatFile, OthersMayWriteAt, file_digest_of, tree_at}
 use Rattle.build_outcome.specs.declared.job.Answer.{Answer}
 use Rattle.build_outcome.specs.declared.job.Job.{Job}
 use Rattle.build_outcome.specs.declared.reason.Reason.{Reason}
@@ -32,10 +32,12 @@ AreSameTrees (Some tree) (Some other) = HaveSameBytes tree other
 AreSameTrees None (Some other) = ⊥
 AreSameTrees (Some tree) None = ⊥
 
--- Two answers are the same, trees of the same bytes counting as one.
+-- Two answers are the same, trees of the same bytes counting as one. At each output others than its
+-- owner may write what lies there by both, or by neither.
 pub record AreSameAnswers (answer other : Answer) : Type 0 where
   pub status : answer.status ≡ other.status
   pub trees : (n : ℕ) → AreSameTrees (tree_at answer n) (tree_at other n)
+  pub modes : (n : ℕ) → OthersMayWriteAt answer n ↔ OthersMayWriteAt other n
 
 -- two outcomes are the same: two answers that are, or one reason
 abbrev pub AreSameOutcomes : Result Answer Reason → Result Answer Reason → Type 0

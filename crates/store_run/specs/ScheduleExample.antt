@@ -19,6 +19,7 @@ use Rattle.run_states.specs.Runs.{History, Run}
 use Rattle.run_states.specs.States.{Begun, phase_of}
 use Rattle.build_outcome.specs.declared.job.Answer.{Answer}
 use Rattle.build_outcome.specs.declared.job.Job.{Job}
+use Rattle.build_outcome.specs.declared.job.LeftOutput.{LeftOutput}
 use Rattle.run_states.specs.declared.state.Event.{Event}
 use Rattle.run_states.specs.declared.state.Event.TheVariants.{Begin, Done as Finish, Fail}
 use Rattle.build_outcome.specs.declared.reason.Reason.{Reason}
@@ -102,12 +103,16 @@ two_files = record {
 abbrev pub IsEmptyFolder : Tree → Type 0
 IsEmptyFolder tree = pieces tree ≡ []
 
+-- a tree that only its owner may write
+abbrev pub owned : Tree → LeftOutput
+owned tree = record { tree = tree; others_may_write = false }
+
 -- what a program leaves behind: a program that fails ends with status 1 and leaves nothing, any
--- other ends with status 0 and leaves an empty folder at one output
+-- other ends with status 0 and leaves an empty folder at one output, which only its owner may write
 abbrev pub Leaves : (fails : Bool) → Answer → Type 0
-Leaves true answer = (answer.status ≡ Some (pos 1)) × (answer.trees.items ≡ [])
+Leaves true answer = (answer.status ≡ Some (pos 1)) × (answer.outputs.items ≡ [])
 Leaves false answer = (answer.status ≡ Some (pos 0))
-    × ((folder : Tree) × IsEmptyFolder folder × (answer.trees.items ≡ Some folder ∷ []))
+    × ((folder : Tree) × IsEmptyFolder folder × (answer.outputs.items ≡ Some (owned folder) ∷ []))
 
 -- the outcomes of a job: `/bin/false` fails, and every other builder makes an empty folder
 abbrev pub may_leave : Job → Result Answer Reason → Type 0

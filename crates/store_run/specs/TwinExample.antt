@@ -30,7 +30,7 @@ use Rattle.build_outcome.specs.declared.job.Job.{Job}
 use Rattle.run_states.specs.declared.state.Event.TheVariants.{Begin, Done as Finish, Fail}
 use Rattle.build_outcome.specs.declared.reason.Reason.{Reason}
 use Rattle.build_outcome.specs.declared.reason.Reason.TheVariants.{ExitStatus}
-use Rattle.store_run.specs.ScheduleExample.{Leaves, Recipe, drv_alone, made, right, text_of}
+use Rattle.store_run.specs.ScheduleExample.{Leaves, Recipe, drv_alone, made, owned, right, text_of}
 
 -- the SHA-256 digest of an empty file
 abbrev pub empty_digest : Digest
@@ -114,10 +114,10 @@ abbrev pub IsEmptyFile : Tree → Type 0
 IsEmptyFile tree = IsFlatFile Nix tree × (pieces tree ≡ [] ∷ [])
 
 -- what a job leaves behind: where that script is an argument, it ends with status 0 and leaves an
--- empty file at one output; else what its program leaves
+-- empty file at one output, which only its owner may write; else what its program leaves
 abbrev pub LeavesWith : (has_script fails : Bool) → Answer → Type 0
 LeavesWith true fails answer = (answer.status ≡ Some (pos 0))
-    × ((file : Tree) × IsEmptyFile file × (answer.trees.items ≡ Some file ∷ []))
+    × ((file : Tree) × IsEmptyFile file × (answer.outputs.items ≡ Some (owned file) ∷ []))
 LeavesWith false fails answer = Leaves fails answer
 
 -- the outcomes of a job: its arguments and its builder alone decide them

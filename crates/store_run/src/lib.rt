@@ -5,6 +5,7 @@
 //! | `job_verdict` | what a worker finds of a job, and how a lease ends |
 //! | `shared` | what the workers of a run share: the book, and why the run stops |
 //! | `turn` | what a worker is to do next, and whom it wakes |
+//! | `start` | what is prepared for the start of a job's builder, by the list that a reader sees |
 //! | `verdict`, `requisites` | the verdict on a job's outcome, by the list that a reader sees |
 //! | `refusal` | refusals of a reader and of a book, as values that only their calls make |
 //! | `monitor` | a lock and a condition, whose calls a test can hear |
@@ -36,6 +37,7 @@ mod refusal;
 mod requisites;
 mod run;
 mod shared;
+mod start;
 mod turn;
 mod verdict;
 mod worker;

@@ -4,6 +4,7 @@ ghost use mathlib.Core.List.{IsPrefix};
 ghost use Rattle.valid_table.specs.Closure.{IsClosure};
 ghost use Rattle.valid_table.specs.Entries.{registered};
 ghost use Rattle.valid_table.specs.Valid.{IsValid};
+ghost use Rattle.valid_view.specs.Answers.{AreRecords};
 ghost use Rattle.valid_view.specs.Shown.{IsShowable};
 ghost use Rattle.valid_view.specs.declared.fault.ViewFault.TheVariants.{NotValid};
 ghost use Rattle.sched_core.specs.Books.{AreSeedsValid, IsBeginning, IsBooksLease, IsFailing, IsFinishFault, IsFinishing, IsSameRun, MayAllRefer};
@@ -19,7 +20,7 @@ use nix_names::StorePath;
 use sched_core::{Book, BookFault, Checked, Job, Lease, Reason};
 use std::alloc::{AllocError, Global};
 use std::marker::Model;
-use valid_table::Outlet;
+use valid_table::{Outlet, Registration};
 use valid_view::{ListId, ViewFault, ViewReader};
 
 // Evidence that a call of a reader or of a book was refused, or memory. A contract sees the fault
@@ -75,6 +76,27 @@ pub(crate) fn closure<J: ListId>(
 {
     match reader.closure(alloc, roots) {
         Ok(reached) => Ok(reached),
+        Err(fault) => Err(of_reader(fault)),
+    }
+}
+
+// The records of the closure of some paths that are valid by what the reader was told of or saw, by
+// the list that it sees now. Refused where memory is, or where the view is gone.
+pub(crate) fn records<J: ListId>(
+    alloc: Global,
+    reader: &mut ViewReader<J>,
+    roots: &[StorePath],
+) -> Result<Vec<Registration>, RefusedCall>
+    requires { AreKnownValid reader.old roots.now }
+    ensures told { reader.new.told ≡ reader.old.told }
+    ensures later { IsPrefix reader.old.seen reader.new.seen }
+    ensures showable { OnOk result (IsShowable reader.new.seen) }
+    ensures records { IfOk result
+        (λ rows. AreRecords (registered reader.new.seen) roots.now rows.items) }
+    ensures err { IfErr result IsUnseen }
+{
+    match reader.records(alloc, roots) {
+        Ok(rows) => Ok(rows),
         Err(fault) => Err(of_reader(fault)),
     }
 }

@@ -7,11 +7,12 @@ ghost use Rattle.store_run.specs.ScheduleExample.{both, in_turn, may_leave, side
 ghost use Rattle.store_run.specs.Scheduling.{AreAlike};
 
 use crate::plans::{Host, Made, SYSTEM, store_dir};
+use build_outcome::Prepared;
 use drv_graph::Plan;
 use nix_names::parse_path;
 use ref_scan::Tree;
 use run_states::System;
-use sched_core::{Answer, Book, Build, Job, LeaseObserver, Reason};
+use sched_core::{Answer, Book, Build, Job, LeaseObserver, LeftOutput, Reason};
 use std::alloc::{AllocError, Global};
 use std::marker::Brand;
 use std::sync::Wait;
@@ -35,7 +36,8 @@ const RIGHT_TEXT: &[u8] =
 const REPORT: &[u8] =
     b"failed /nix/store/jbgzpvl5d32l046pn5l2g0zdhnnw9lvb-left.drv: ExitStatus(1)\nbuilt /nix/store/m03z95idp2zpb6jp4mgsl7hrcw1lprr8-right.drv\noutput /nix/store/p97i2xxx6v7p6xyy2x3cky78y1s290zm-right\n";
 
-/// A builder for which `/bin/false` fails, and any other program makes an empty folder.
+/// A builder for which `/bin/false` fails, and any other program makes an empty folder, which only
+/// its owner may write.
 #[derive(Drop)]
 struct Program {
     alloc: Global,
@@ -44,18 +46,30 @@ struct Program {
 impl Build for Program {
     ghost may = { may_leave };
 
-    fn run(&self, _number: u64, job: &Job) -> Result<Answer, Reason> {
+    // Its jobs ask for nothing that could not be prepared, but where memory was refused.
+    fn run(
+        &self,
+        _number: u64,
+        job: &Job,
+        prepared: &Result<Prepared, Reason>,
+    ) -> Result<Answer, Reason> {
+        if prepared.is_err() {
+            return Err(Reason::OutOfMemory);
+        }
         if job.builder.as_slice() == b"/bin/false".as_slice() {
             return Ok(Answer {
                 status: Some(1),
-                trees: Vec::new(self.alloc),
+                outputs: Vec::new(self.alloc),
             });
         }
-        let mut trees = Vec::new(self.alloc);
-        trees.push(Some(Tree::Dir(Vec::new(self.alloc))))?;
+        let mut outputs = Vec::new(self.alloc);
+        outputs.push(Some(LeftOutput {
+            tree: Tree::Dir(Vec::new(self.alloc)),
+            others_may_write: false,
+        }))?;
         Ok(Answer {
             status: Some(0),
-            trees,
+            outputs,
         })
     }
 }

@@ -3,6 +3,7 @@
 ghost use Rattle.std.specs.Prelude.{⊤};
 
 use crate::plans::left;
+use build_outcome::Prepared;
 use sched_core::{Answer, Build, Job, LeaseObserver, Reason};
 use std::alloc::Global;
 use std::sync::{Mutex, Wait};
@@ -165,8 +166,16 @@ impl<R: Wait> Listen for Worker<'_, R> {
 impl<R: Wait + Clock> Build for Worker<'_, R> {
     ghost may = { λ job outcome. ⊤ };
 
-    fn run(&self, number: u64, job: &Job) -> Result<Answer, Reason> {
+    fn run(
+        &self,
+        number: u64,
+        job: &Job,
+        prepared: &Result<Prepared, Reason>,
+    ) -> Result<Answer, Reason> {
         self.note(Act::Runs(job.derivation, number));
+        if let Err(why) = prepared {
+            return Err(*why);
+        }
         for (lease, act, times) in self.behaviour.gates {
             if *lease == number && !awaits(self.rt, self.log, *act, *times) {
                 return Err(Reason::ExitStatus(99));

@@ -117,8 +117,12 @@ fn failed_for_each_reason(rt: HostRuntime) -> Result<(), Fail> {
         Reason::ReadFault,
         Reason::OutOfMemory,
         Reason::Killed,
+        Reason::BadMode(0),
         Reason::NotAllowed(0, 1),
         Reason::BadSpecifier(0),
+        Reason::BadAttributes,
+        Reason::BadGraph,
+        Reason::UnknownNar(0),
     ] {
         let mut behaviour = by(1, u64::MAX, &[]);
         behaviour.reason = reason;

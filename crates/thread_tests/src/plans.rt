@@ -3,7 +3,7 @@ use drv_graph::Plan;
 use nix_drv::{ListSource, ListedFile, read, references, text_path};
 use nix_names::{StoreDir, StorePath, make_path};
 use ref_scan::Tree;
-use sched_core::{Answer, Job};
+use sched_core::{Answer, Job, LeftOutput};
 use sha2::{Digest, Sha256};
 use std::alloc::{AllocError, Global};
 use std::process::Abort;
@@ -172,10 +172,13 @@ pub(crate) fn random_plan(alloc: Global, count: usize) -> Result<Plan, Fail> {
 
 /// The answer of a builder that leaves an empty file at each output.
 pub(crate) fn left(alloc: Global, job: &Job) -> Result<Answer, AllocError> {
-    let mut trees = Vec::new(alloc);
+    let mut outputs = Vec::new(alloc);
     for _ in &job.outputs {
-        trees.push(Some(Tree::File(Vec::new(alloc))))?;
+        outputs.push(Some(LeftOutput {
+            tree: Tree::File(Vec::new(alloc)),
+            others_may_write: false,
+        }))?;
     }
     let status = Some(0);
-    Ok(Answer { status, trees })
+    Ok(Answer { status, outputs })
 }

@@ -1,5 +1,5 @@
 -- What a reader of a view knows, and what it is answered.
-use Rattle.std.specs.Prelude.{◌≡◌, ◌⊎◌, ◌<◌, List, All, length, Result, Ok, Err}
+use Rattle.std.specs.Prelude.{◌≡◌, ◌⊎◌, ◌<◌, List, All, length, map, Result, Ok, Err}
 use Rattle.std.specs.Global.{Vec}
 use Rattle.nix_names.specs.Bytes.{Path}
 use Rattle.nix_names.specs.Firsts.{IsFirst}
@@ -50,3 +50,19 @@ IsViewClosing registrations roots (Err (NotValid path)) =
     IsFirst (IsValid registrations) (IsNotValid registrations) roots path
 IsViewClosing registrations roots (Err NoMemory) = Unit {0}
 IsViewClosing registrations roots (Err (NoView why)) = Unit {0}
+
+-- These are the records of the closure of some roots, in rising order of their paths.
+pub record AreRecords (registrations : List Registration) (roots : List Path)
+    (rows : List Registration) : Type 0 where
+  pub closure : IsClosure registrations roots (map (λ (r : Registration). r.path) rows)
+  pub known : All (λ (r : Registration). Registers registrations r.path r.info) rows
+
+-- what is answered where the records of the closure of some roots are asked for
+abbrev pub IsViewRecords : List Registration → (roots : List Path)
+    → Result (Vec Registration) ViewFault → Type 0
+IsViewRecords registrations roots (Ok rows) = All (IsValid registrations) roots
+    × AreRecords registrations roots rows.items
+IsViewRecords registrations roots (Err (NotValid path)) =
+    IsFirst (IsValid registrations) (IsNotValid registrations) roots path
+IsViewRecords registrations roots (Err NoMemory) = Unit {0}
+IsViewRecords registrations roots (Err (NoView why)) = Unit {0}

@@ -1,8 +1,9 @@
 //! A reader of a view.
-ghost use Rattle.std.specs.Prelude.{◌≡◌, ◌⊎◌, Ok};
+ghost use Rattle.std.specs.Prelude.{◌≡◌, ◌⊎◌, All, IfOk, Ok, map};
 ghost use mathlib.Core.List.{IsPrefix};
 ghost use Rattle.valid_table.specs.Entries.{registered};
-ghost use Rattle.valid_view.specs.Answers.{IfGone, IsLook, IsUnreached, IsViewClosing, WhereSeen};
+ghost use Rattle.valid_table.specs.Valid.{IsValid, Registers};
+ghost use Rattle.valid_view.specs.Answers.{IfGone, IsLook, IsUnreached, IsViewClosing, IsViewRecords, WhereSeen};
 ghost use Rattle.valid_view.specs.Shown.{IsShowable};
 
 use crate::fault::ViewFault;
@@ -12,9 +13,9 @@ use crate::reading::IdleReader;
 use crate::seen::Seen;
 use core::mem::replace_with;
 use nix_names::StorePath;
-use std::alloc::Global;
+use std::alloc::{AllocError, Global};
 use std::marker::Model;
-use valid_table::{Table, TableFault};
+use valid_table::{Registration, Table, TableFault};
 
 /// A reader of the view with this name: it asks without a lock, and never waits. A contract sees
 /// the list of entries that was shown when the reader last asked, and the longest list that it was
@@ -105,6 +106,28 @@ impl<J: ListId> ViewReader<J> {
         self.seen().was_shown();
         answer
     }
+
+    /// The records of the closure of the roots by the list that is shown now, in strictly rising
+    /// order of paths. Answers `NotValid` with the first root that is not valid by that list,
+    /// `NoMemory` where memory is refused, `NoView` where the writer is gone. Costs as `closure`
+    /// does, and a look-up by hash and a shared copy of the record for each path.
+    pub fn records(
+        &mut self,
+        alloc: Global,
+        roots: &[StorePath],
+    ) -> Result<Vec<Registration>, ViewFault>
+        ensures told { self.new.told ≡ self.old.told }
+        ensures later { IsPrefix self.old.seen self.new.seen }
+        ensures known { WhereSeen result
+            (IsPrefix self.old.told self.new.seen × IsShowable self.new.seen) }
+        ensures gone { IfGone result (IsUnreached self.old.seen self.old.told self.new.seen) }
+        ensures shown { J.Showing.shown J.book self.new.seen }
+        ensures answer { IsViewRecords (registered self.new.seen) roots.now result }
+    {
+        let answer = replace_with(&mut self.idle, (&self.told, alloc, roots), records);
+        self.seen().was_shown();
+        answer
+    }
 }
 
 // What a reader finds about a path.
@@ -147,6 +170,26 @@ fn closure<J: ListId>(
     }
 }
 
+// What a reader finds about the records of the closure of some roots.
+fn records<J: ListId>(
+    idle: IdleReader<J>,
+    asked: (&Prefix<J>, Global, &[StorePath]),
+) -> (IdleReader<J>, Result<Vec<Registration>, ViewFault>)
+    ensures later { IsPrefix idle result.0 }
+    ensures known { WhereSeen result.1
+        (IsPrefix asked.entry.0.now result.0 × IsShowable result.0) }
+    ensures gone { IfGone result.1 (IsUnreached idle asked.entry.0.now result.0) }
+    ensures answer { IsViewRecords (registered result.0) asked.entry.2.now result.1 }
+{
+    match idle.enter(asked.0) {
+        Ok(busy) => {
+            let answer = records_in(asked.1, busy.table(), asked.2);
+            (busy.leave(), answer)
+        }
+        Err((idle, why)) => (idle, Err(ViewFault::NoView(why))),
+    }
+}
+
 // What a table says about a path.
 fn seen_in(table: &Table, path: &StorePath) -> Seen
     ensures { IsLook table.now.registrations path.now (Ok result) }
@@ -171,5 +214,57 @@ fn closure_in(
         Err(TableFault::NotValid(path)) => Err(ViewFault::NotValid(path)),
         Err(TableFault::NoMemory) => Err(ViewFault::NoMemory),
         Err(_) => unreachable!(),
+    }
+}
+
+// The records of the closure of some roots in a table.
+fn records_in(
+    alloc: Global,
+    table: &Table,
+    roots: &[StorePath],
+) -> Result<Vec<Registration>, ViewFault>
+    ensures answer { IsViewRecords table.now.registrations roots.now result }
+    ensures reached { IfGone result ⊥ }
+{
+    let paths = match closure_in(alloc, table, roots) {
+        Ok(paths) => paths,
+        Err(fault) => return Err(fault),
+    };
+    match records_of(alloc, table, &paths) {
+        Ok(rows) => Ok(rows),
+        Err(_) => Err(ViewFault::NoMemory),
+    }
+}
+
+// The records of some valid paths in a table, in the order of the paths.
+fn records_of(
+    alloc: Global,
+    table: &Table,
+    paths: &[StorePath],
+) -> Result<Vec<Registration>, AllocError>
+    requires valid { All (IsValid table.now.registrations) paths.now }
+    ensures paths { IfOk result (λ rows. map (λ r. r.path) rows.items ≡ paths.now) }
+    ensures known { IfOk result
+        (λ rows. All (λ r. Registers table.now.registrations r.path r.info) rows.items) }
+{
+    let mut rows = Vec::with_capacity(alloc, paths.len())?;
+    'paths: for path in paths {
+        rows.push_reserved(record_of(alloc, table, path)?);
+    }
+    Ok(rows)
+}
+
+// The record of a valid path in a table.
+fn record_of(alloc: Global, table: &Table, path: &StorePath) -> Result<Registration, AllocError>
+    requires valid { IsValid table.now.registrations path.now }
+    ensures path { IfOk result (λ r. r.path ≡ path.now) }
+    ensures known { IfOk result (λ r. Registers table.now.registrations r.path r.info) }
+{
+    match table.get(path) {
+        Some(info) => Ok(Registration {
+            path: path.copy(alloc)?,
+            info: info.copy(alloc)?,
+        }),
+        None => unreachable!(),
     }
 }

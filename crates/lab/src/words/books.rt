@@ -6,8 +6,9 @@
 //! What a builder leaves is a status, or `killed`, and a tree for each output: `-` where nothing
 //! lies, `file:TEXT`, `zeros:N` for a file of N bytes, `parts:A:B` for a file in these pieces, or
 //! `folder:N` for a folder of N empty files of one name; `program:A:B` is a file in pieces that its
-//! owner may execute. The last tree stands for those that are left out. A kind is a digest by a
-//! method, or another word, and has `nix/` before it under that profile.
+//! owner may execute. It has `open:` before it where others than its owner may write it. The last
+//! tree stands for those that are left out. A kind is a digest by a method, or another word, and has
+//! `nix/` before it under that profile.
 ghost use Rattle.std.specs.Prelude.{IfOk};
 ghost use Rattle.nix_names.specs.Rising.{IsRising};
 ghost use Rattle.build_outcome.specs.Verdicts.{IsExamining};
@@ -26,8 +27,8 @@ use nix_names::{MethodDigest, StorePath};
 use ref_scan::Tree;
 use run_states::System;
 use sched_core::{
-    Answer, Book, BookFault, Checked, Job, JobOutput, Lease, Reason, examine as verdict_on,
-    permitted_beside,
+    Answer, Book, BookFault, Checked, Job, JobOutput, Lease, LeftOutput, Reason,
+    examine as verdict_on, permitted_beside,
 };
 use session::take_session;
 use std::alloc::{AllocError, Global};
@@ -160,6 +161,19 @@ impl Outlet for Counting<'_> {
 }
 
 // What lies at an output, by a word.
+fn left(world: &World, word: &[u8]) -> Result<Option<LeftOutput>, AllocError> {
+    let (first, rest) = halves(word, b':');
+    let others_may_write = first == b"open".as_slice();
+    match tree(world, if others_may_write { rest } else { word })? {
+        Some(tree) => Ok(Some(LeftOutput {
+            tree,
+            others_may_write,
+        })),
+        None => Ok(None),
+    }
+}
+
+// The tree at an output, by a word.
 fn tree(world: &World, word: &[u8]) -> Result<Option<Tree>, AllocError> {
     let (kind, rest) = halves(word, b':');
     let count = number_of(rest).unwrap_or(0);
@@ -180,15 +194,15 @@ pub(crate) fn status_of(word: &[u8]) -> Option<i32> {
 
 /// The answer of a builder at so many outputs, by the words of its status and of its trees.
 pub(crate) fn answer(world: &World, words: &[&[u8]], count: usize) -> Result<Answer, AllocError> {
-    let mut trees = Vec::new(world.alloc);
+    let mut outputs = Vec::new(world.alloc);
     for place in 0..count.max(words.len().saturating_sub(1)) {
-        trees.push(match words.iter().skip(1).nth(place).or(words.last()) {
-            Some(word) => tree(world, word)?,
+        outputs.push(match words.iter().skip(1).nth(place).or(words.last()) {
+            Some(word) => left(world, word)?,
             None => None,
         })?;
     }
     let status = words.first().and_then(|word| status_of(word));
-    Ok(Answer { status, trees })
+    Ok(Answer { status, outputs })
 }
 
 /// The paths in a list of words with commas between them; none where it is `-`.

@@ -1,5 +1,5 @@
 -- What is answered when a builder has ended, and what may be a part of its outputs.
-use Rattle.std.specs.Prelude.{◌≡◌, ◌≢◌, ◌⊎◌, ℕ, Bool, true, false, ⊤, bit_and, [], Option, Some, None, Result, Ok, Err, length, pos}
+use Rattle.std.specs.Prelude.{◌≡◌, ◌≢◌, ◌⊎◌, ℕ, Bool, true, false, ⊤, bit_and, Option, Some, None, Result, Ok, Err}
 use Rattle.std.specs.Fs.{IsDir, IsFile, IsSymlink}
 use Rattle.std.specs.Process.{exit_code}
 use Rattle.std.specs.declared.fs.FileType.{FileType}
@@ -12,14 +12,13 @@ use Rattle.process_build.specs.declared.disk.outputs.FileKind.{FileKind}
 use Rattle.process_build.specs.declared.disk.outputs.FileKind.TheVariants as kind
 use Rattle.ref_scan.specs.declared.tree.Tree.{Tree, Pieces, Executable, Link, Dir'}
 use Rattle.build_outcome.specs.declared.job.Answer.{Answer}
-use Rattle.build_outcome.specs.declared.job.Job.{Job}
 use Rattle.build_outcome.specs.declared.reason.Reason.{Reason}
 use Rattle.build_outcome.specs.declared.reason.Reason.TheVariants.{NoStart, OutOfMemory, ReadFault, TooLarge}
 
 -- the answer of what a builder left behind: the exit status of its process, and what lies at the
 -- outputs' paths
 abbrev pub answer_of : EndedBuild → Answer
-answer_of left = record { status = exit_code left.ended.status; trees = left.trees }
+answer_of left = record { status = exit_code left.ended.status; outputs = left.outputs }
 
 -- whether a builder may have run, by what it left, or by the reason why it left nothing
 abbrev pub may_have_run : Result EndedBuild Reason → Bool
@@ -40,17 +39,6 @@ IsRunFault reason = (reason ≡ OutOfMemory) ⊎ (reason ≡ NoStart) ⊎ (reaso
 abbrev pub IsReadingFault : Reason → Type 0
 IsReadingFault reason = (reason ≡ OutOfMemory) ⊎ (reason ≡ ReadFault) ⊎ (reason ≡ TooLarge)
 
--- An answer to a job: where the exit status is 0, a tree or none for each output; else no entry at
--- all.
-pub record IsAnswerOf (job : Job) (answer : Answer) : Type 0 where
-  pub of_good : answer.status ≡ Some (pos 0) → length answer.trees.items ≡ length job.outputs.items
-  pub of_bad : answer.status ≢ Some (pos 0) → answer.trees.items ≡ []
-
--- the outcomes of a job that a process builds: an answer, or one of three reasons
-abbrev pub MayEnd : Job → Result Answer Reason → Type 0
-MayEnd job (Ok answer) = IsAnswerOf job answer
-MayEnd job (Err reason) = (reason ≡ NoStart) ⊎ (reason ≡ ReadFault) ⊎ (reason ≡ TooLarge)
-
 -- the kind of a file, by its mode
 abbrev pub type_in : (mode : ℕ) → FileType
 type_in mode = record { bits = bit_and mode 0o170000 }
@@ -58,6 +46,11 @@ type_in mode = record { bits = bit_and mode 0o170000 }
 -- the owner of a file may execute it, by its mode
 abbrev pub IsExecutable : (mode : ℕ) → Type 0
 IsExecutable mode = bit_and mode 0o100 ≢ 0
+
+-- the group of a file or a folder, or others, may write it, by its mode: one of the bits 0022 is set
+-- (Nix 2.8, `local-derivation-goal.cc`: `registerOutputs`). The mode of a symbolic link says nothing.
+abbrev pub OthersMayWrite : (mode : ℕ) → Type 0
+OthersMayWrite mode = (bit_and mode 0o022 ≢ 0) × ¬ (IsSymlink (type_in mode))
 
 -- the part of an output that lies at a path, by its mode: a file, a folder, or under `nix` a
 -- symbolic link; anything else is a read fault. Under `nix` a file that its owner may execute is

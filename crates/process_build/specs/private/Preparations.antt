@@ -16,6 +16,7 @@ use Rattle.process_build.specs.declared.process.options.OwnOptions.{OwnOptions}
 use Rattle.process_build.specs.declared.process.processes.Preparation.{Preparation}
 use Rattle.process_build.specs.declared.process.surroundings.Surroundings.{Surroundings}
 use Rattle.build_outcome.specs.declared.job.Job.{Job}
+use Rattle.build_outcome.specs.declared.prepared.Prepared.{Prepared}
 
 -- the log of the derivation with this number: none without a folder of logs
 abbrev pub IsLogOf : OwnOptions → (derivation : ℕ) → Option LogPath → Type 0
@@ -44,10 +45,11 @@ pub record AreAround (own : OwnOptions) (folder : BuildFolder) (caller : List En
   pub caller_is : map entry_of around.caller.now ≡ caller
   pub builtins : around.builtins.now ≡ own.builtins.items
 
--- What is made for a job whose builder runs in a folder: its setup and its log.
+-- What is made for a job whose builder runs in a folder: its setup, by what was prepared for it,
+-- and its log.
 pub record IsPreparationOf (own : OwnOptions) (folder : BuildFolder) (caller : List EnvEntry)
-    (job : Job) (preparation : Preparation) : Type 0 where
+    (job : Job) (prepared : Prepared) (preparation : Preparation) : Type 0 where
   pub around : Surroundings
   pub are_around : AreAround own folder caller around
-  pub setup : IsSetup around job preparation.setup
+  pub setup : IsSetup around job prepared preparation.setup
   pub log : IsLogOf own job.derivation preparation.log

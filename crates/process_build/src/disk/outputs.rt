@@ -5,8 +5,9 @@ ghost use Rattle.std.specs.Fs.{metadata_mode};
 ghost use Rattle.std.specs.Io.KnownBytes.{Consumes, IsAtEnd, ReadConsumes};
 ghost use Rattle.drv_graph.specs.declared.profile.Profile.TheVariants.{Nix, Plain};
 ghost use Rattle.process_build.specs.private.Answers.{IsExecutable, IsKindAt, IsKindOf, IsNoKind};
-ghost use Rattle.process_build.specs.private.Answers.{IsReadAs, IsReadingFault};
+ghost use Rattle.process_build.specs.private.Answers.{IsReadAs, IsReadingFault, OthersMayWrite};
 ghost use Rattle.process_build.specs.Contents.{IsAllowed};
+ghost use Rattle.build_outcome.specs.declared.job.LeftOutput.{LeftOutput};
 ghost use Rattle.ref_scan.specs.declared.tree.Member.{Member};
 ghost use Rattle.process_build.specs.Contents.{child_of, IsMoreThan, IsWhole};
 ghost use Rattle.ref_scan.specs.Trees.{joined};
@@ -16,7 +17,7 @@ ghost use Rattle.build_outcome.specs.declared.reason.Reason.TheVariants.{TooLarg
 use crate::disk::canonical::make_canonical;
 use crate::failures::is_made_again;
 use crate::reasons::read_fault;
-use build_outcome::{Job, Reason};
+use build_outcome::{Job, LeftOutput, Reason};
 use drv_graph::Profile;
 use ref_scan::{MAX_DEPTH, MAX_ENTRIES, MAX_FILE_BYTES, Member, Tree};
 use std::alloc::{AllocError, Global};
@@ -32,26 +33,33 @@ const MAX_PIECE: usize = 65_536;
 // The bit of a mode by which the owner may execute a file.
 pub(crate) const OWNER_EXECUTES: u32 = 0o100;
 
+// The bits of a mode by which its group, and others, may write a file or a folder.
+const OTHERS_WRITE: u32 = 0o022;
+
 // How many bytes of a folder's names are read at once; there is room for any name.
 const NAMES_AT_ONCE: usize = 4_096;
 
 /// What lies at the path of each output of a job, in the job's order, `None` where nothing does; or
-/// the first fault. A folder's entries are read in the byte order of their names. Under the profile
-/// `nix` outputs may have symbolic links, none of which is followed, files that their owner may
-/// execute are told from others, nothing is limited, and files and folders get their canonical modes
-/// and time before they are read. Under `plain` a link is a `ReadFault`, and what passes the limits
-/// of an output is `TooLarge`.
-pub fn read_outputs<R: Files + AllocGlobal>(rt: &R, job: &Job) -> Result<Vec<Option<Tree>>, Reason>
-    ensures trees { IfOk result (λ trees. length trees.items ≡ length job.now.outputs.items) }
-    ensures plain { IfOk result (λ trees.
-        All (λ tree. IfSome tree (IsAllowed job.now.profile)) trees.items) }
+/// the first fault. A folder's entries are read in the byte order of their names. Whether others
+/// than its owner may write an output is told by the mode that the builder left it, before that is
+/// changed. Under the profile `nix` outputs may have symbolic links, none of which is followed,
+/// files that their owner may execute are told from others, nothing is limited, and files and
+/// folders get their canonical modes and time before they are read. Under `plain` a link is a
+/// `ReadFault`, and what passes the limits of an output is `TooLarge`.
+pub fn read_outputs<R: Files + AllocGlobal>(
+    rt: &R,
+    job: &Job,
+) -> Result<Vec<Option<LeftOutput>>, Reason>
+    ensures count { IfOk result (λ left. length left.items ≡ length job.now.outputs.items) }
+    ensures plain { IfOk result (λ left. All (λ output. IfSome output
+        (λ (o : LeftOutput). IsAllowed job.now.profile o.tree)) left.items) }
     ensures bad { IfErr result IsReadingFault }
 {
-    let mut trees = Vec::new(rt.alloc());
+    let mut left = Vec::new(rt.alloc());
     for output in &job.outputs {
-        trees.push(read_output(rt, output.path.as_str(), job.profile)?)?;
+        left.push(read_output(rt, output.path.as_str(), job.profile)?)?;
     }
-    Ok(trees)
+    Ok(left)
 }
 
 // What lies at a path, if anything does.
@@ -59,19 +67,44 @@ fn read_output<R: Files + AllocGlobal>(
     rt: &R,
     path: &str,
     profile: Profile,
-) -> Result<Option<Tree>, Reason>
-    ensures plain { IfOk result (λ tree. IfSome tree (IsAllowed profile)) }
+) -> Result<Option<LeftOutput>, Reason>
+    ensures plain { IfOk result (λ left. IfSome left
+        (λ (o : LeftOutput). IsAllowed profile o.tree)) }
     ensures bad { IfErr result IsReadingFault }
 {
     let found = fs::symlink_metadata(rt, path);
+    let others_may_write = others_may_write_at(&found);
     make_canonical(rt, path, &found, profile)?;
     match kind_of(found, profile)? {
         Some(kind) => {
             let mut reader = Reader::new(rt, profile);
-            Ok(Some(reader.tree(kind, path, most_below(profile), profile)?))
+            let tree = reader.tree(kind, path, most_below(profile), profile)?;
+            Ok(Some(LeftOutput {
+                tree,
+                others_may_write,
+            }))
         }
         None => Ok(None),
     }
+}
+
+// Whether something was found at a path, by the system's answer, and others than its owner may
+// write it.
+fn others_may_write_at(asked: &io::Result<Metadata>) -> bool
+    ensures { IfOk asked.now (λ found. IsTrue result ↔ OthersMayWrite (metadata_mode found)) }
+{
+    match asked {
+        Ok(found) => others_may_write(found),
+        Err(_) => false,
+    }
+}
+
+// Whether the group of what was found, or others, may write it. Of a link, whose mode says nothing,
+// that is false.
+fn others_may_write(found: &Metadata) -> bool
+    ensures { IsTrue result ↔ OthersMayWrite (metadata_mode found.now) }
+{
+    found.permissions().mode() & OTHERS_WRITE != 0 && !found.is_symlink()
 }
 
 /// What an output may have.

@@ -6,7 +6,7 @@ use crate::process::builders::Builders;
 use crate::process::drv_paths::DrvPaths;
 use crate::process::lease::RunningLease;
 use crate::process::options::BuildOptions;
-use build_outcome::{Answer, Build, Job, LeaseObserver, Reason};
+use build_outcome::{Answer, Build, Job, LeaseObserver, Prepared, Reason};
 use std::alloc::{AllocError, Global};
 use std::cell::Cell;
 use std::io::Write;
@@ -28,12 +28,17 @@ impl<R: Wait + Clock + AllocGlobal, B: Build, W: Write> Build for Watched<'_, R,
     ghost may = { B.may };
 
     /// Tells the line that a job begins, and builds it as the builder does.
-    fn run(&self, number: u64, job: &Job) -> Result<Answer, Reason> {
+    fn run(
+        &self,
+        number: u64,
+        job: &Job,
+        prepared: &Result<Prepared, Reason>,
+    ) -> Result<Answer, Reason> {
         let drv = self.drvs.get(job.derivation);
         let running = RunningLease::of(self.rt.alloc(), drv, number, now(self.rt));
         self.number.set(number);
         self.progress.begin(self.rt, running, self.unsettled.get());
-        self.builder.run(number, job)
+        self.builder.run(number, job, prepared)
     }
 }
 

@@ -4,7 +4,7 @@ use crate::observe::trace::Trace;
 use crate::process::builders::Builders;
 use crate::process::lease::LeaseTimes;
 use crate::process::options::BuildOptions;
-use build_outcome::{Answer, Build, Job, LeaseObserver, Reason};
+use build_outcome::{Answer, Build, Job, LeaseObserver, Prepared, Reason};
 use std::alloc::{AllocError, Global};
 use std::cell::Cell;
 use std::sync::Wait;
@@ -23,12 +23,17 @@ impl<R: Wait + Clock + AllocGlobal, B: Build> Build for Traced<'_, R, B> {
     ghost may = { B.may };
 
     /// Builds a job as the builder does, and notes when that was.
-    fn run(&self, number: u64, job: &Job) -> Result<Answer, Reason> {
+    fn run(
+        &self,
+        number: u64,
+        job: &Job,
+        prepared: &Result<Prepared, Reason>,
+    ) -> Result<Answer, Reason> {
         let Some(trace) = self.trace else {
-            return self.builder.run(number, job);
+            return self.builder.run(number, job, prepared);
         };
         let start = trace.time(self.rt);
-        let outcome = self.builder.run(number, job);
+        let outcome = self.builder.run(number, job, prepared);
         let end = trace.time(self.rt);
         trace.note(self.rt, LeaseTimes::of(number, self.worker, start, end));
         outcome

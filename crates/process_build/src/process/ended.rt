@@ -3,8 +3,7 @@ ghost use Rattle.std.specs.Prelude.{◌≡◌, IfOk, Some};
 ghost use Rattle.std.specs.Process.{child_status, exit_code};
 ghost use Rattle.process_build.specs.private.Answers.{answer_of};
 
-use build_outcome::Answer;
-use ref_scan::Tree;
+use build_outcome::{Answer, LeftOutput};
 use std::io;
 use std::process::{Child, ExitStatus, OpenProcess};
 
@@ -35,15 +34,15 @@ impl ProcessEnd {
 #[derive(Drop)]
 pub struct EndedBuild {
     ended: ProcessEnd,
-    trees: Vec<Option<Tree>>,
+    outputs: Vec<Option<LeftOutput>>,
 }
 
 impl EndedBuild {
-    /// These trees, of a builder that ended so.
-    pub fn by(ended: ProcessEnd, trees: Vec<Option<Tree>>) -> EndedBuild
-        ensures { result ≡ record { ended = ended; trees = trees } }
+    /// What lies at the outputs' paths, of a builder that ended so.
+    pub fn by(ended: ProcessEnd, outputs: Vec<Option<LeftOutput>>) -> EndedBuild
+        ensures { result ≡ record { ended = ended; outputs = outputs } }
     {
-        EndedBuild { ended, trees }
+        EndedBuild { ended, outputs }
     }
 
     /// The answer to the builder's job.
@@ -52,7 +51,7 @@ impl EndedBuild {
     {
         Answer {
             status: self.ended.code(),
-            trees: self.trees,
+            outputs: self.outputs,
         }
     }
 }

@@ -1,17 +1,19 @@
 //! The entries of a builder's environment, before their placeholders are replaced.
 ghost use Rattle.std.specs.Prelude.{◌≡◌, ◌++◌, ◌∷◌, [], IfErr, IfOk, OnOk, codes, map, string_bytes};
 ghost use Rattle.nix_drv.specs.Parts.{entry_of};
-ghost use Rattle.process_build.specs.Setups.{caller_entry, entries_after, entries_at_last, entries_before};
-ghost use Rattle.process_build.specs.Setups.{entries_of_cores, entries_under, entry, entry_under_nix};
-ghost use Rattle.process_build.specs.Setups.{file_name_of, fixed_entries, tokens_under};
+ghost use Rattle.process_build.specs.Setups.{attribute_entries, caller_entry, entries_after};
+ghost use Rattle.process_build.specs.Setups.{entries_at_last, entries_before, entries_of_cores};
+ghost use Rattle.process_build.specs.Setups.{entries_under, entry, entry_under_nix, file_name_of};
+ghost use Rattle.process_build.specs.Setups.{fixed_entries, impure_names, text_entries, tokens_under};
 ghost use Rattle.process_build.specs.private.RawVars.{entry_of_raw, entry_of_setting};
 ghost use Rattle.build_outcome.specs.declared.reason.Reason.TheVariants.{OutOfMemory};
 
+use crate::process::caller::impure_names;
 use crate::process::placeholders::digits_of;
 use crate::process::surroundings::Surroundings;
 use crate::process::texts::RawText;
 use crate::process::values::{is_among, value_in};
-use build_outcome::{Job, Reason, tokens_of};
+use build_outcome::{Job, Prepared, Reason, tokens_of};
 use drv_graph::{Kind, Profile};
 use nix_drv::EnvEntry;
 use sha2::{Digest, Sha256};
@@ -22,6 +24,12 @@ const NO_PATH: &str = "/path-not-set";
 
 // A home that isn't there.
 const NO_HOME: &str = "/homeless-shelter";
+
+/// The name of the file with the structured attributes for a shell.
+pub const SHELL_NAME: &str = ".attrs.sh";
+
+/// The name of the file with the structured attributes as JSON.
+pub const JSON_NAME: &str = ".attrs.json";
 
 /// A variable whose texts are known beforehand.
 #[derive(Clone, Copy)]
@@ -56,14 +64,15 @@ pub fn entries_of<'a>(
     alloc: Global,
     around: &Surroundings<'a>,
     job: &'a Job,
+    prepared: &'a Prepared,
 ) -> Result<Vec<RawVar<'a>>, Reason>
     ensures entries { IfOk result (λ entries. map entry_of_raw entries.items
-        ≡ entries_under job.now.profile around.now job.now) }
+        ≡ entries_under job.now.profile around.now job.now prepared.now) }
     ensures refused { IfErr result (λ reason. reason ≡ OutOfMemory) }
 {
     match job.profile {
         Profile::Plain => plain_entries(alloc, around, job),
-        Profile::Nix => nix_entries(alloc, around, job),
+        Profile::Nix => nix_entries(alloc, around, job, prepared),
     }
 }
 
@@ -108,25 +117,26 @@ fn nix_entries<'a>(
     alloc: Global,
     around: &Surroundings<'a>,
     job: &'a Job,
+    prepared: &'a Prepared,
 ) -> Result<Vec<RawVar<'a>>, Reason>
     ensures entries { IfOk result (λ entries. map entry_of_raw entries.items
         ≡ entries_before around.now.store_dir.now ++ entries_of_cores around.now.cores
-        ++ map (entry_under_nix around.now.folder.now (tokens_under (codes "passAsFile") job.now))
-        (map entry_of job.now.env.items)
+        ++ attribute_entries around.now.folder.now job.now prepared.now
         ++ entries_after around.now.folder.now
-        ++ fixed_entries job.now.kind (tokens_under (codes "impureEnvVars") job.now)
+        ++ fixed_entries job.now.kind (impure_names job.now prepared.now)
         (map entry_of around.now.caller.now)
-        ++ entries_at_last) }
+        ++ entries_at_last
+        ++ text_entries around.now.folder.now prepared.now) }
     ensures refused { IfErr result (λ reason. reason ≡ OutOfMemory) }
 {
-    let files = names_of_files(alloc, job)?;
     let mut entries = Vec::new(alloc);
     push_settings(&mut entries, &settings_before(around.store_dir))?;
     entries.push(cores_var(alloc, around.cores)?)?;
-    push_own(alloc, &mut entries, around.folder, &files, &job.env)?;
+    push_attributes(alloc, &mut entries, around.folder, job, prepared)?;
     push_settings(&mut entries, &settings_after(around.folder))?;
-    push_fixed(alloc, &mut entries, around.caller, job)?;
+    push_fixed(alloc, &mut entries, around.caller, job, prepared)?;
     push_settings(&mut entries, &settings_at_last())?;
+    push_text_paths(alloc, &mut entries, around.folder, prepared)?;
     Ok(entries)
 }
 
@@ -200,6 +210,27 @@ fn setting_var<'a>(setting: &EnvVar<'a>) -> RawVar<'a>
     }
 }
 
+// Adds what is set for a derivation's own entries, and nothing where its attributes are structured.
+fn push_attributes<'a>(
+    alloc: Global,
+    entries: &mut Vec<RawVar<'a>>,
+    folder: &str,
+    job: &'a Job,
+    prepared: &Prepared,
+) -> Result<(), Reason>
+    ensures own { OnOk result (map entry_of_raw entries.new.items ≡ map entry_of_raw entries.old.items
+        ++ attribute_entries folder.now job.now prepared.now) }
+    ensures refused { IfErr result (λ reason. reason ≡ OutOfMemory) }
+{
+    match prepared {
+        Prepared::Entries(_) => {
+            let files = names_of_files(alloc, job)?;
+            push_own(alloc, entries, folder, &files, &job.env)
+        }
+        Prepared::Structured(_) => Ok(()),
+    }
+}
+
 // Adds what is set for a derivation's own entries, where the values under these names go into files
 // of a folder.
 fn push_own<'a>(
@@ -261,16 +292,17 @@ fn push_fixed<'a>(
     entries: &mut Vec<RawVar<'a>>,
     caller: &'a [EnvEntry],
     job: &'a Job,
+    prepared: &'a Prepared,
 ) -> Result<(), AllocError>
     ensures { OnOk result (map entry_of_raw entries.new.items ≡ map entry_of_raw entries.old.items
-        ++ fixed_entries job.now.kind (tokens_under (codes "impureEnvVars") job.now)
+        ++ fixed_entries job.now.kind (impure_names job.now prepared.now)
         (map entry_of caller.now)) }
 {
     match job.kind {
         Kind::Addressed => Ok(()),
         Kind::Fixed(_, _) => {
             push_settings(entries, &[EnvVar::new("NIX_OUTPUT_CHECKED", "1")])?;
-            let names = tokens_of(alloc, value_in(&job.env, b"impureEnvVars"))?;
+            let names = impure_names(alloc, job, prepared)?;
             push_callers(entries, &names, caller)
         }
     }
@@ -299,4 +331,41 @@ fn caller_var<'a>(name: &'a [u8], caller: &'a [EnvEntry]) -> RawVar<'a>
         key: RawText::Lent(name),
         value: RawText::Lent(value_in(caller, name)),
     }
+}
+
+// Adds the variables that tell where structured attributes lie, and nothing where they are none.
+fn push_text_paths(
+    alloc: Global,
+    entries: &mut Vec<RawVar<'_>>,
+    folder: &str,
+    prepared: &Prepared,
+) -> Result<(), AllocError>
+    ensures { OnOk result (map entry_of_raw entries.new.items ≡ map entry_of_raw entries.old.items
+        ++ text_entries folder.now prepared.now) }
+{
+    match prepared {
+        Prepared::Entries(_) => Ok(()),
+        Prepared::Structured(_) => {
+            entries.push(path_var(alloc, "NIX_ATTRS_SH_FILE", folder, SHELL_NAME)?)?;
+            entries.push(path_var(alloc, "NIX_ATTRS_JSON_FILE", folder, JSON_NAME)?)?;
+            Ok(())
+        }
+    }
+}
+
+// The variable with this key that tells the path of the file with this name in a folder.
+fn path_var<'a>(
+    alloc: Global,
+    key: &'a str,
+    folder: &str,
+    name: &str,
+) -> Result<RawVar<'a>, AllocError>
+    ensures { IfOk result (λ var. entry_of_raw var
+        ≡ entry key.now (folder.now ++ codes "/" ++ name.now)) }
+{
+    let path = format!(in alloc; "{folder}/{name}")?;
+    Ok(RawVar {
+        key: RawText::Lent(key.as_bytes()),
+        value: RawText::Made(path.into_bytes()),
+    })
 }

@@ -1,12 +1,15 @@
 //! A builder that runs a job's program as a process.
-ghost use Rattle.std.specs.Prelude.{◌≡◌, ◌⊎◌, IfErr, IfOk, Some, map, option_map, slice_get, string_bytes};
+ghost use Rattle.std.specs.Prelude.{◌≡◌, ◌⊎◌, Err, IfErr, IfOk, Some, map, option_map, slice_get};
+ghost use Rattle.std.specs.Prelude.{string_bytes};
 ghost use Rattle.nix_drv.specs.Parts.{entry_of};
-ghost use Rattle.process_build.specs.private.Answers.{answer_of, may_have_run, IsAnswerOf, IsReadingFault};
+ghost use Rattle.process_build.specs.Ends.{IsAnswerOf};
+ghost use Rattle.process_build.specs.private.Answers.{answer_of, may_have_run, IsReadingFault};
 ghost use Rattle.process_build.specs.private.Answers.{IsRoomFault, IsRunFault};
 ghost use Rattle.process_build.specs.Options.{AreOptionsOf};
 ghost use Rattle.process_build.specs.private.Preparations.{AreAround, IsFolderOf, IsLogOf};
 ghost use Rattle.process_build.specs.private.Preparations.{IsPreparationOf};
 ghost use Rattle.process_build.specs.private.BuilderCalls.{Runs};
+ghost use Rattle.build_outcome.specs.declared.reason.Reason.TheVariants.{OutOfMemory};
 
 use crate::disk::cleanup::Cleanup;
 use crate::disk::folders::BuildFolder;
@@ -22,7 +25,7 @@ use crate::process::setup::{Setup, SetupFile};
 use crate::process::start::{command, run_command};
 use crate::process::surroundings::Surroundings;
 use crate::reasons::{no_start, reason_before_start};
-use build_outcome::{Answer, Build, Job, LeaseObserver, Reason};
+use build_outcome::{Answer, Build, Job, LeaseObserver, Prepared, Reason};
 use drv_graph::Profile;
 use nix_drv::EnvEntry;
 use nix_names::StorePath;
@@ -113,19 +116,35 @@ where
 }
 
 impl<R: Files + Logs + Env + AllocGlobal, P: Processes> Build for ProcessBuild<'_, R, P> {
-    ghost use Rattle.process_build.specs.private.Answers.{MayEnd};
+    ghost use Rattle.process_build.specs.Ends.{MayAnswer, MayEnd};
 
     // No more is promised of what a builder does.
-    ghost may = { MayEnd };
+    ghost may = { MayAnswer };
 
     /// Builds a job. `NoStart` where it has a text that no process can be started with, which
     /// leaves all files as they are, or where making room for the builder, its log or its start
     /// fails. `ReadFault` where its end can't be waited for. `ReadFault` and `TooLarge` where an
-    /// output can't be read or passes a limit. `OutOfMemory` where memory was refused.
-    fn run(&self, number: u64, job: &Job) -> Result<Answer, Reason> {
-        let caller = caller_entries(self.rt, job)?;
+    /// output can't be read or passes a limit. `OutOfMemory` where memory was refused. Where nothing
+    /// could be prepared, the reason for that, and all files stay as they are.
+    fn run(
+        &self,
+        number: u64,
+        job: &Job,
+        prepared: &Result<Prepared, Reason>,
+    ) -> Result<Answer, Reason>
+        ensures outcome { (result ≡ Err OutOfMemory) ⊎ MayAnswer job.now result }
+        ensures unprepared { IfErr prepared.now
+            (λ why. (result ≡ Err OutOfMemory) ⊎ (result ≡ Err why)) }
+        ensures prepared { IfOk prepared.now
+            (λ _. (result ≡ Err OutOfMemory) ⊎ MayEnd job.now result) }
+    {
+        let prepared = match prepared {
+            Ok(prepared) => prepared,
+            Err(why) => return Err(*why),
+        };
+        let caller = caller_entries(self.rt, job, prepared)?;
         let folder = self.folder_of(number, job)?;
-        let preparation = self.prepare_or_remove(&folder, &caller, job)?;
+        let preparation = self.prepare_or_remove(&folder, &caller, job, prepared)?;
         let mut clearing = Cleanup::new(self.rt, self.options.store_dir());
         let left = self.build(preparation, &folder, job, &mut clearing);
         self.leave(folder, may_have_run(&left));
@@ -227,13 +246,14 @@ impl<R: Files + Logs + AllocGlobal, P: Processes> ProcessBuild<'_, R, P> {
         folder: &'j BuildFolder,
         caller: &'j [EnvEntry],
         job: &'j Job,
+        prepared: &'j Prepared,
     ) -> Result<Preparation<'j>, Reason>
-        ensures ok { IfOk result
-            (IsPreparationOf self.now.options folder.now (map entry_of caller.now) job.now) }
+        ensures ok { IfOk result (IsPreparationOf self.now.options folder.now
+            (map entry_of caller.now) job.now prepared.now) }
         ensures err { IfErr result IsRoomFault }
     {
         let around = self.around(folder, caller);
-        let setup = Setup::of(self.rt.alloc(), &around, job)?;
+        let setup = Setup::of(self.rt.alloc(), &around, job, prepared)?;
         let log = self.log_of(job)?;
         Ok(Preparation { setup, log })
     }
@@ -244,12 +264,13 @@ impl<R: Files + Logs + AllocGlobal, P: Processes> ProcessBuild<'_, R, P> {
         folder: &'j BuildFolder,
         caller: &'j [EnvEntry],
         job: &'j Job,
+        prepared: &'j Prepared,
     ) -> Result<Preparation<'j>, Reason>
-        ensures ok { IfOk result
-            (IsPreparationOf self.now.options folder.now (map entry_of caller.now) job.now) }
+        ensures ok { IfOk result (IsPreparationOf self.now.options folder.now
+            (map entry_of caller.now) job.now prepared.now) }
         ensures err { IfErr result IsRoomFault }
     {
-        match self.prepare(folder, caller, job) {
+        match self.prepare(folder, caller, job, prepared) {
             Ok(preparation) => Ok(preparation),
             Err(reason) => {
                 self.give_back(folder, job.profile);
@@ -305,14 +326,14 @@ impl<R: Files + Logs + AllocGlobal, P: Processes> ProcessBuild<'_, R, P> {
     {
         self.make_room(folder, &preparation.setup.files, job, clearing)?;
         let alloc = self.rt.alloc();
-        let outputs = OutputStreams::to(self.rt, self.rt, preparation.log.as_ref())?;
-        let mut command = self.command(&preparation.setup, folder, outputs)?;
+        let streams = OutputStreams::to(self.rt, self.rt, preparation.log.as_ref())?;
+        let mut command = self.command(&preparation.setup, folder, streams)?;
         let ended = run_command(self.processes, &mut command)?;
-        let trees = match ended.code() {
+        let outputs = match ended.code() {
             Some(0) => read_outputs(self.rt, job)?,
             _ => Vec::new(alloc),
         };
-        Ok(EndedBuild::by(ended, trees))
+        Ok(EndedBuild::by(ended, outputs))
     }
 
     // The command that runs a builder with its setup in a folder, with these outputs, by the runner of

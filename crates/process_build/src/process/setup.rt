@@ -1,5 +1,6 @@
 //! What a builder is started with.
-ghost use Rattle.std.specs.Prelude.{◌≡◌, ◌≢◌, ◌⊎◌, ◌==◌, [], All, IfErr, IfOk, false, filter, map};
+ghost use Rattle.std.specs.Prelude.{◌≡◌, ◌≢◌, ◌⊎◌, ◌==◌, ◌++◌, ◌∷◌, [], All, IfErr, IfOk, List, OnOk};
+ghost use Rattle.std.specs.Prelude.{false, filter, map};
 ghost use Rattle.std.specs.List.{AllZip, after_last, list_any};
 ghost use Rattle.nix_names.specs.Bytes.{Bytes};
 ghost use Rattle.nix_drv.specs.Derivation.{EnvEntry as AnEntry};
@@ -7,23 +8,29 @@ ghost use Rattle.nix_drv.specs.Parts.{entry_of};
 ghost use Rattle.process_build.specs.Setups.{CanBeGiven, CannotBeGiven, HasNoEntry, HasNoText, IsFileOf};
 ghost use Rattle.process_build.specs.Setups.{IsFilled, IsFilledEntry, IsProcessEntry, IsProcessKey};
 ghost use Rattle.process_build.specs.Setups.{IsProcessText, IsSetup, entries_in_files, entry};
-ghost use Rattle.process_build.specs.Setups.{entry_of_var, filled_outputs, is_among, name_under, raw_bytes};
-ghost use Rattle.process_build.specs.Setups.{text_bytes};
+ghost use Rattle.process_build.specs.Setups.{entry_of_var, file_of_entry, file_of_graph, files_under};
+ghost use Rattle.process_build.specs.Setups.{filled_outputs, is_among, json_name, name_under, raw_bytes};
+ghost use Rattle.process_build.specs.Setups.{shell_name, text_bytes};
+ghost use Rattle.process_build.specs.Setups.{FileText};
+ghost use Rattle.process_build.specs.Setups.FileText.{Filled};
+ghost use Rattle.build_outcome.specs.declared.job.JobOutput.{JobOutput as AnOutput};
 ghost use Rattle.process_build.specs.private.Placeholders.{AreMade};
 ghost use Rattle.process_build.specs.private.RawVars.{entry_of_raw};
 ghost use Rattle.build_outcome.specs.declared.reason.Reason.TheVariants.{NoStart, OutOfMemory};
 
 use crate::process::builtins::builder_of;
-use crate::process::entries::{RawVar, entries_of, file_name, names_of_files};
+use crate::process::entries::{
+    JSON_NAME, RawVar, SHELL_NAME, entries_of, file_name, names_of_files,
+};
 use crate::process::placeholders::Placeholders;
 use crate::process::surroundings::Surroundings;
 use crate::process::texts::{RawText, Text, text_of};
 use crate::process::values::is_among;
-use build_outcome::{Job, JobOutput, Reason};
+use build_outcome::{AttributeTexts, Job, JobOutput, Prepared, PreparedFile, Reason};
 use drv_graph::Profile;
 use memchr::memrchr;
 use nix_drv::EnvEntry;
-use std::alloc::Global;
+use std::alloc::{AllocError, Global};
 
 /// A variable of a builder's environment.
 #[derive(Drop)]
@@ -38,7 +45,7 @@ pub struct SetupVar<'a> {
 #[derive(Drop)]
 pub struct SetupFile<'a> {
     /// Its name in the folder.
-    pub name: String,
+    pub name: Text<'a>,
     /// The bytes that are in it.
     pub contents: RawText<'a>,
 }
@@ -59,23 +66,28 @@ pub struct Setup<'a> {
 }
 
 impl<'a> Setup<'a> {
-    /// What the builder of a job is started with, by the rules of the job's profile. `NoStart` where
-    /// some of it can't be given to a process. Costs a pass over all texts, a copy of each that has
-    /// a placeholder, and a SHA-256 for each output and each file.
-    pub fn of(alloc: Global, around: &Surroundings<'a>, job: &'a Job) -> Result<Setup<'a>, Reason>
-        ensures setup { IfOk result (IsSetup around.now job.now) }
+    /// What the builder of a job is started with, by what was prepared for it and the rules of the
+    /// job's profile. `NoStart` where some of it can't be given to a process. Costs a pass over all
+    /// texts, a copy of each that has a placeholder, and a SHA-256 for each output and each file.
+    pub fn of(
+        alloc: Global,
+        around: &Surroundings<'a>,
+        job: &'a Job,
+        prepared: &'a Prepared,
+    ) -> Result<Setup<'a>, Reason>
+        ensures setup { IfOk result (IsSetup around.now job.now prepared.now) }
         ensures given { IfOk result CanBeGiven }
         ensures refused { IfErr result (λ reason. (reason ≡ OutOfMemory)
-            ⊎ ((reason ≡ NoStart) × CannotBeGiven around.now job.now)) }
+            ⊎ ((reason ≡ NoStart) × CannotBeGiven around.now job.now prepared.now)) }
     {
         let text = builder_of(around.builtins, job);
         let builder = text_of(text)?;
         let name = text_of(name_of(job.profile, text))?;
         let placeholders = Placeholders::of(alloc, filled_outputs(job))?;
         let args = args_of(alloc, &placeholders, &job.args)?;
-        let entries = entries_of(alloc, around, job)?;
+        let entries = entries_of(alloc, around, job, prepared)?;
         let env = env_of(alloc, &placeholders, &entries)?;
-        let files = files_of(alloc, &placeholders, job)?;
+        let files = files_of(alloc, &placeholders, job, prepared)?;
         Ok(Setup {
             builder,
             name,
@@ -219,19 +231,37 @@ fn files_of<'a>(
     alloc: Global,
     placeholders: &Placeholders<'_>,
     job: &'a Job,
+    prepared: &'a Prepared,
 ) -> Result<Vec<SetupFile<'a>>, Reason>
     requires { AreMade placeholders.now }
     ensures files { IfOk result (λ files. AllZip (IsFileOf placeholders.now.outputs.now)
-        (entries_in_files job.now.profile job.now) files.items) }
+        (files_under job.now.profile job.now prepared.now) files.items) }
     ensures refused { IfErr result (λ reason. reason ≡ OutOfMemory) }
 {
-    match job.profile {
-        Profile::Plain => Ok(Vec::new(alloc)),
-        Profile::Nix => {
-            let names = names_of_files(alloc, job)?;
-            files_named(alloc, placeholders, &names, &job.env)
+    match (job.profile, prepared) {
+        (Profile::Plain, _) => Ok(Vec::new(alloc)),
+        (Profile::Nix, Prepared::Entries(graphs)) => {
+            let mut files = files_of_entries(alloc, placeholders, job)?;
+            push_graphs(&mut files, graphs)?;
+            Ok(files)
         }
+        (Profile::Nix, Prepared::Structured(texts)) => files_of_texts(alloc, placeholders, texts),
     }
+}
+
+// The files of those entries whose keys `passAsFile` names.
+fn files_of_entries<'a>(
+    alloc: Global,
+    placeholders: &Placeholders<'_>,
+    job: &'a Job,
+) -> Result<Vec<SetupFile<'a>>, Reason>
+    requires { AreMade placeholders.now }
+    ensures files { IfOk result (λ files. AllZip (IsFileOf placeholders.now.outputs.now)
+        (map file_of_entry (entries_in_files job.now)) files.items) }
+    ensures refused { IfErr result (λ reason. reason ≡ OutOfMemory) }
+{
+    let names = names_of_files(alloc, job)?;
+    files_named(alloc, placeholders, &names, &job.env)
 }
 
 // The files of those entries whose keys are among these names.
@@ -243,7 +273,8 @@ fn files_named<'a>(
 ) -> Result<Vec<SetupFile<'a>>, Reason>
     requires { AreMade placeholders.now }
     ensures files { IfOk result (λ files. AllZip (IsFileOf placeholders.now.outputs.now)
-        (filter (λ e. is_among (map (λ n. n.now) names.now) e.key) (map entry_of entries.now))
+        (map file_of_entry
+        (filter (λ e. is_among (map (λ n. n.now) names.now) e.key) (map entry_of entries.now)))
         files.items) }
     ensures refused { IfErr result (λ reason. reason ≡ OutOfMemory) }
 {
@@ -263,10 +294,73 @@ fn file_of<'a>(
     entry: &'a EnvEntry,
 ) -> Result<SetupFile<'a>, Reason>
     requires { AreMade placeholders.now }
-    ensures file { IfOk result (IsFileOf placeholders.now.outputs.now (entry_of entry.now)) }
+    ensures file { IfOk result
+        (IsFileOf placeholders.now.outputs.now (file_of_entry (entry_of entry.now))) }
     ensures refused { IfErr result (λ reason. reason ≡ OutOfMemory) }
 {
     let name = file_name(alloc, &entry.key)?;
     let contents = placeholders.fill(alloc, &RawText::Lent(&entry.value))?;
-    Ok(SetupFile { name, contents })
+    Ok(SetupFile {
+        name: Text::Made(name),
+        contents,
+    })
+}
+
+// Adds the files that were prepared for `exportReferencesGraph`, as they are.
+fn push_graphs<'a>(
+    files: &mut Vec<SetupFile<'a>>,
+    graphs: &'a [PreparedFile],
+) -> Result<(), AllocError>
+    ensures { OnOk result ((outputs : List AnOutput) (texts : List FileText)
+        → AllZip (IsFileOf outputs) texts files.old.items
+        → AllZip (IsFileOf outputs) (texts ++ map file_of_graph graphs.now) files.new.items) }
+{
+    for graph in graphs {
+        files.push(file_of_graph(graph))?;
+    }
+    Ok(())
+}
+
+// The file that was prepared, as it is.
+fn file_of_graph(graph: &PreparedFile) -> SetupFile<'_>
+    ensures { IsFileOf [] (file_of_graph graph.now) result }
+{
+    SetupFile {
+        name: Text::Lent(graph.name.as_str()),
+        contents: RawText::Lent(&graph.contents),
+    }
+}
+
+// The files of structured attributes.
+fn files_of_texts<'a>(
+    alloc: Global,
+    placeholders: &Placeholders<'_>,
+    texts: &'a AttributeTexts,
+) -> Result<Vec<SetupFile<'a>>, Reason>
+    requires { AreMade placeholders.now }
+    ensures files { IfOk result (λ files. AllZip (IsFileOf placeholders.now.outputs.now)
+        (Filled json_name texts.now.json.items ∷ Filled shell_name texts.now.shell.items ∷ [])
+        files.items) }
+    ensures refused { IfErr result (λ reason. reason ≡ OutOfMemory) }
+{
+    let mut files = Vec::new(alloc);
+    files.push(filled_file(alloc, placeholders, JSON_NAME, &texts.json)?)?;
+    files.push(filled_file(alloc, placeholders, SHELL_NAME, &texts.shell)?)?;
+    Ok(files)
+}
+
+// The file with this name that has a text, filled.
+fn filled_file<'a>(
+    alloc: Global,
+    placeholders: &Placeholders<'_>,
+    name: &'a str,
+    text: &'a [u8],
+) -> Result<SetupFile<'a>, AllocError>
+    requires { AreMade placeholders.now }
+    ensures { IfOk result (IsFileOf placeholders.now.outputs.now (Filled name.now text.now)) }
+{
+    Ok(SetupFile {
+        name: Text::Lent(name),
+        contents: placeholders.fill(alloc, &RawText::Lent(text))?,
+    })
 }

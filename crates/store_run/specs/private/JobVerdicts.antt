@@ -67,13 +67,16 @@ IsToldAs (view.NotValid path) fault = ⊥
 
 -- What is found of an outcome by a list: of an answer, its verdict, for which memory may be
 -- refused, or why that could not be had; of any other outcome, the reason why there is no answer.
+-- Where memory or the view was refused before a builder ran, that refusal is found, as of a builder
+-- to whom memory was refused.
 abbrev pub IsFoundBy : (seen : List Entry) → Job → Result Answer Reason → JobVerdict → Type 0
 IsFoundBy seen job (Ok answer) (Examined verdict) = (verdict ≡ Err OutOfMemory)
     ⊎ IsSeenVerdict seen job answer verdict
 IsFoundBy seen job (Ok answer) (Refused fault) = IsUnseen fault
 IsFoundBy seen job (Ok answer) (Unanswered why) = ⊥
 IsFoundBy seen job (Err reason) (Unanswered why) = why ≡ reason
-IsFoundBy seen job (Err reason) other = ⊥
+IsFoundBy seen job (Err reason) (Refused fault) = (reason ≡ OutOfMemory) × IsUnseen fault
+IsFoundBy seen job (Err reason) (Examined verdict) = ⊥
 
 -- What may be found of a job by a list: what is found of an outcome that a builder may give, or of
 -- the reason that memory was refused to the builder.

@@ -18,4 +18,4 @@ pub returns-clause-taken : goal.returns-clause-taken
 returns-clause-taken c =
     is_taken c.args.job.now c.args.answer.now c.loop-n.n
     (omega (arith, c.loop-n-test.false, c.len-n-end.ensures, c.loop-n.auto.n-end)) c.requires.there
-    c.loop-n.invariant
+    c.requires.good c.loop-n.invariant

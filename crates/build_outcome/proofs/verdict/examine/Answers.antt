@@ -8,6 +8,12 @@ returns-in_err-sums c =
     let p = err_from_is_err_and c.from_residual.result c.from_residual.ensures.1 in
     rw (p.1, p.2) (c.in_err-sums.ensures.err c.args.permitted.now)
 
+pub returns-in_err-check_modes : goal.returns-in_err-check_modes
+returns-in_err-check_modes c =
+    let p = err_from_is_err_and c.from_residual-in_err-check_modes.result
+    c.from_residual-in_err-check_modes.ensures.1 in
+    rw (p.1, p.2) (inr (c.in_err-check_modes.ensures.err c.args.permitted.now))
+
 pub returns-in_err-check_trees : goal.returns-in_err-check_trees
 returns-in_err-check_trees c =
     let p = err_from_is_err_and c.from_residual-in_err-check_trees.result

@@ -269,8 +269,12 @@ impl Desk<'_> {
 fn reason_of(word: &[u8]) -> Reason {
     match word {
         b"Killed" => Reason::Killed,
+        b"BadMode" => Reason::BadMode(1),
         b"NotAllowed" => Reason::NotAllowed(1, 1),
         b"BadSpecifier" => Reason::BadSpecifier(1),
+        b"BadAttributes" => Reason::BadAttributes,
+        b"BadGraph" => Reason::BadGraph,
+        b"UnknownNar" => Reason::UnknownNar(1),
         word => status_of(word).map_or(Reason::OutOfMemory, Reason::ExitStatus),
     }
 }

@@ -1,43 +1,56 @@
-use Rattle.std.proofs.Common.{◌≡◌, ◌∙◌, IfSome, ap, rules, subst, sym}
-use Rattle.std.specs.Prelude.{slice_get}
-use Rattle.run_states.specs.Runs.{cause_at, is_unsupported_under, missing_feature_under, own_cause}
-use Rattle.run_states.specs.declared.state.Refusal.TheVariants.{MissingSource}
-use Rattle.run_states.proofs.OwnStandings.{last_cause}
+use Rattle.std.proofs.Common.{◌≡◌, ◌∙◌, Some, None, rules, sym, true}
+use Rattle.nix_drv.specs.Derivation.{Drv}
+use Rattle.drv_graph.specs.PlanNodes.{output_paths_of}
+use Rattle.run_states.specs.Runs.{Terms, cause_at, demand_cause, is_for, own_cause}
+use Rattle.run_states.specs.declared.state.Refusal.TheVariants.{MissingSource, PartlyValid}
+use Rattle.run_states.proofs.Causes.{at_node, demanded, of_node, partly, unsourced}
 use Rattle.run_states.proofs.preconditions.own_cause.Goals as goal
 
-pub returns-in_err-source : goal.returns-in_err-source
-returns-in_err-source c =
-    rw c.from_residual.ensures
-    (subst (λ found. IfSome (slice_get c.args.plan.now.nodes c.args.d)
-    (λ node. cause_at MissingSource found
-    ≡ own_cause (record { profile = c.args.plan.now.profile; system = c.args.system.now })
-    c.args.journal.now.entries node.drv)) c.in_err-source.was
-    (last_cause (record { profile = c.args.plan.now.profile; system = c.args.system.now })
-    c.args.journal.now.entries c.args.plan.now.nodes c.args.d
-    c.drv-drv.result.now c.output_paths.result.now c.sources.result.now c.first_missing.result
-    c.drv-drv.ensures c.output_paths.ensures.value c.sources.ensures (search rules)
-    (ap (λ p. is_unsupported_under p c.args.system.now c.drv-drv.result.now)
-    (sym c.profile-2.ensures)
-    ∙ sym c.is_unsupported.ensures ∙ c.if-is_unsupported.false)
-    (ap (λ p. missing_feature_under p c.args.system.now c.drv-drv.result.now)
-    (sym c.profile-3.ensures)
-    ∙ (sym c.feature_missing.ensures ∙ search rules)) (search rules)
-    c.first_missing.ensures))
+pub returns-in-Some : goal.returns-in-Some
+returns-in-Some c =
+    let nodes = c.args.plan.now.nodes in
+    let entries = c.args.journal.now.entries in
+    let terms : Terms = record { profile = c.args.plan.now.profile; system = c.args.system.now } in
+    let drv = c.drv-drv.result.now in
+    let here : is_for terms drv ≡ true = search rules in
+    let asked : Some c.in-Some.cause ≡ demand_cause terms.profile terms.system drv = search rules in
+    at_node (λ (d : Drv). Some c.in-Some.cause ≡ own_cause terms entries d) nodes c.args.d drv
+    c.drv-drv.ensures (demanded terms entries drv c.in-Some.cause here asked)
+
+pub returns-in-Some-first_valid : goal.returns-in-Some-first_valid
+returns-in-Some-first_valid c =
+    let nodes = c.args.plan.now.nodes in
+    let entries = c.args.journal.now.entries in
+    let terms : Terms = record { profile = c.args.plan.now.profile; system = c.args.system.now } in
+    let drv = c.drv-drv.result.now in
+    let outputs = c.output_paths.result.now in
+    let n = c.in-Some-first_valid.output in
+    let here : is_for terms drv ≡ true = search rules in
+    let none : None ≡ demand_cause terms.profile terms.system drv = search rules in
+    let are : outputs ≡ output_paths_of drv = of_node (λ (d : Drv). outputs ≡ output_paths_of d)
+    nodes c.args.d drv c.drv-drv.ensures c.output_paths.ensures.value in
+    at_node (λ (d : Drv). Some (PartlyValid n) ≡ own_cause terms entries d) nodes c.args.d drv
+    c.drv-drv.ensures
+    (partly terms entries drv outputs n here none are
+    (sym c.in-Some-first_valid.is ∙ c.first_valid.ensures))
 
 pub returns : goal.returns
 returns c =
-    subst (λ found. IfSome (slice_get c.args.plan.now.nodes c.args.d)
-    (λ node. cause_at MissingSource found
-    ≡ own_cause (record { profile = c.args.plan.now.profile; system = c.args.system.now })
-    c.args.journal.now.entries node.drv)) c.in_ok-source.was
-    (last_cause (record { profile = c.args.plan.now.profile; system = c.args.system.now })
-    c.args.journal.now.entries c.args.plan.now.nodes c.args.d
-    c.drv-drv.result.now c.output_paths.result.now c.sources.result.now c.first_missing.result
-    c.drv-drv.ensures c.output_paths.ensures.value c.sources.ensures (search rules)
-    (ap (λ p. is_unsupported_under p c.args.system.now c.drv-drv.result.now)
-    (sym c.profile-2.ensures)
-    ∙ sym c.is_unsupported.ensures ∙ c.if-is_unsupported.false)
-    (ap (λ p. missing_feature_under p c.args.system.now c.drv-drv.result.now)
-    (sym c.profile-3.ensures)
-    ∙ (sym c.feature_missing.ensures ∙ search rules)) (search rules)
-    c.first_missing.ensures)
+    let nodes = c.args.plan.now.nodes in
+    let entries = c.args.journal.now.entries in
+    let terms : Terms = record { profile = c.args.plan.now.profile; system = c.args.system.now } in
+    let drv = c.drv-drv.result.now in
+    let outputs = c.output_paths.result.now in
+    let sources = c.sources.result.now in
+    let here : is_for terms drv ≡ true = search rules in
+    let none : None ≡ demand_cause terms.profile terms.system drv = search rules in
+    let are : outputs ≡ output_paths_of drv = of_node (λ (d : Drv). outputs ≡ output_paths_of d)
+    nodes c.args.d drv c.drv-drv.ensures c.output_paths.ensures.value in
+    let given : sources ≡ drv.sources = of_node (λ (d : Drv). sources ≡ d.sources)
+    nodes c.args.d drv c.drv-drv.ensures c.sources.ensures in
+    let cause : c.map.result ≡ cause_at MissingSource c.first_missing.result = search rules in
+    at_node (λ (d : Drv). c.map.result ≡ own_cause terms entries d) nodes c.args.d drv
+    c.drv-drv.ensures
+    (cause
+    ∙ unsourced terms entries drv outputs sources c.first_missing.result here none are
+    (search rules) given c.first_missing.ensures)

@@ -1,7 +1,4 @@
-use Rattle.std.proofs.Common.{subst, sym}
-use Rattle.sched_core.specs.Books.{AreSeedsValid}
 use Rattle.store_run.proofs.worker.build.Goals as goal
 
-pub verdict-found-requires : goal.verdict-found-requires
-verdict-found-requires g c =
-    subst (AreSeedsValid c.learn.new.reader.told) (sym c.job-2.ensures) c.learn.ensures.seeds
+pub found_of-found-requires : goal.found_of-found-requires
+found_of-found-requires g c = c.learn.ensures.seeds

@@ -6,5 +6,5 @@ use Rattle.nix_realise.proofs.words.cause_lines.first_left_out.Given as goal
 -- what is found among the entries that are left is what is found among all
 abbrev pub invariant-entries : goal.invariant-entries
 invariant-entries l =
-    first_left_out l.profile l.other (map entry_of (drop l.entry-index l.env))
-    ≡ first_left_out l.profile l.other (map entry_of l.env)
+    first_left_out l.other (map entry_of (drop l.entry-index l.env))
+    ≡ first_left_out l.other (map entry_of l.env)

@@ -6,9 +6,7 @@ use Rattle.nix_drv.specs.Derivation.{EnvEntry}
 use Rattle.nix_drv.specs.Parts.{entry_of}
 use Rattle.drv_graph.specs.declared.kinds.Kind.{Kind}
 use Rattle.drv_graph.specs.declared.kinds.Kind.TheVariants.{Fixed}
-use Rattle.build_outcome.specs.Tokens.{tokens}
-use Rattle.process_build.specs.Setups.{caller_entry, entry, fixed_entries, or_empty, tokens_under}
-use Rattle.process_build.specs.Setups.{value_of}
+use Rattle.process_build.specs.Setups.{caller_entry, entry, fixed_entries, impure_names}
 use Rattle.process_build.proofs.Mapped.{if_ok}
 use Rattle.process_build.proofs.process.entries.push_fixed.Goals as goal
 
@@ -29,10 +27,7 @@ pub returns-in_ok-names-in-Fixed : goal.returns-in_ok-names-in-Fixed
 returns-in_ok-names-in-Fixed c =
     if_ok c.push_callers.result _ _
     (λ done all. fixed_behind c.args.job.now.kind c.in-Fixed.field-0 c.in-Fixed.field-1
-    (tokens_under (codes "impureEnvVars") c.args.job.now) _ (map entry_of c.args.caller.now) _ _ _ _
+    (impure_names c.args.job.now c.args.prepared.now) _ (map entry_of c.args.caller.now) _ _ _ _
     c.in-Fixed.is c.in_ok-push_settings-in-Fixed.ensures all (ap (λ e. e ∷ []) c.new.ensures)
-    (ap (map (λ n. n.now)) c.deref-in-Fixed.ensures.value ∙ c.in_ok-names-in-Fixed.ensures
-    ∙ ap tokens (c.value_in.ensures
-    ∙ ap (λ own. or_empty (value_of (codes "impureEnvVars") (map entry_of own)))
-    c.deref.ensures.value)))
+    (ap (map (λ n. n.now)) c.deref.ensures.value ∙ c.in_ok-names-in-Fixed.ensures))
     c.push_callers.ensures

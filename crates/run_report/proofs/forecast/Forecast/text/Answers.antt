@@ -12,7 +12,7 @@ pub returns : goal.returns
 returns c =
     IfOk-weaker c.told.result _ _
     (λ text is. rw (← c.self.view_is)
-    (told_moved _ _ _ _ _ _ text.items
-    (marks_told _ _ _ c.self.invariant.are_wanted) (λ d. refl)
+    (told_moved _ _ _ _ _ _ _ _ text.items
+    (marks_told _ _ _ c.self.invariant.are_wanted) (λ d named is none. none) (λ d. refl)
     (rw (← c.self.view_is, c.deref.ensures.value) at is)))
     c.told.ensures

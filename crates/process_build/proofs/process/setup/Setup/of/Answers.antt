@@ -1,7 +1,7 @@
 use Rattle.std.proofs.Common.{◌∙◌, ap, map, subst}
 use Rattle.std.specs.List.{AllZip}
-use Rattle.process_build.specs.Setups.{IsFileOf, IsFilled, IsFilledEntry, entries_in_files, entries_under}
-use Rattle.process_build.specs.Setups.{entry_of_var, name_under, text_bytes}
+use Rattle.process_build.specs.Setups.{IsFileOf, IsFilled, IsFilledEntry, entries_under}
+use Rattle.process_build.specs.Setups.{entry_of_var, files_under, name_under, text_bytes}
 use Rattle.process_build.specs.private.RawVars.{entry_of_raw}
 use Rattle.process_build.proofs.process.setup.Setup.of.Goals as goal
 
@@ -21,12 +21,13 @@ returns-clause-setup c =
           c.in_ok-args.args.items) c.deref.ensures.value c.in_ok-args.ensures.filled);
       env =
           subst (λ o. AllZip (λ e filled. IsFilledEntry o e (entry_of_var filled))
-          (entries_under job.profile c.args.around.now job) c.in_ok-env.env.items) outputs
+          (entries_under job.profile c.args.around.now job c.args.prepared.now)
+          c.in_ok-env.env.items) outputs
           (subst (λ l. AllZip (λ e filled. IsFilledEntry held e (entry_of_var filled)) l
           c.in_ok-env.env.items)
           (ap (map entry_of_raw) c.deref-2.ensures.value ∙ c.in_ok-entries.ensures.entries)
           c.in_ok-env.ensures.filled);
       files =
-          subst (λ o. AllZip (IsFileOf o) (entries_in_files job.profile job) c.in_ok-files.files.items)
-          outputs c.in_ok-files.ensures.files;
+          subst (λ o. AllZip (IsFileOf o) (files_under job.profile job c.args.prepared.now)
+          c.in_ok-files.files.items) outputs c.in_ok-files.ensures.files;
     }

@@ -1,0 +1,12 @@
+pub mod Closures
+pub mod Files
+pub mod Finds
+pub mod GoodPairs
+pub mod GraphsSet
+pub mod Lacking
+pub mod Names
+pub mod Preparings
+pub mod Taken
+pub mod TextsAsked
+pub mod TokenPairs
+pub mod Told

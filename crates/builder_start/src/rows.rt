@@ -1,0 +1,184 @@
+//! The records of the paths that a job is built from.
+ghost use Rattle.std.specs.Prelude.{◌≡◌, ◌↔◌, All, Contains, IfOk, IsTrue, List, MatchOption, ℕ, map, option_map};
+ghost use Rattle.nix_names.specs.Rising.{IsRising};
+ghost use Rattle.nix_names.specs.StorePaths.{IsDrvPath};
+ghost use Rattle.valid_table.specs.Entries.{paths_registered};
+ghost use Rattle.valid_table.specs.Valid.{AreReferencesValid, IsNotValid, IsValid};
+ghost use Rattle.builder_start.specs.Graphs.{IsGraph};
+ghost use Rattle.builder_start.specs.Entries.{is_cut, is_within, root_of};
+
+use nix_names::{StorePath, is_drv_name};
+use std::alloc::{AllocError, Global};
+use std::marker::Model;
+use valid_table::{Entry, Outputs, Registration, Table};
+
+// The records of the paths that a job is built from, in rising order of paths. Each reference in
+// them is the path of one of them. A contract sees their list.
+#[derive(Drop)]
+pub(crate) struct Rows {
+    rows: Vec<Registration>,
+    table: Table,
+}
+
+impl Model for Rows {
+    ghost use Rattle.std.specs.Prelude.{List, ◌≡◌};
+    ghost use Rattle.nix_names.specs.Rising.{IsRising};
+    ghost use Rattle.valid_table.specs.Entries.{paths_registered};
+    ghost use Rattle.valid_table.specs.declared.entry.Registration.{Registration};
+
+    ghost Value = { List Registration };
+
+    ghost view = { λ r. r.rows.items };
+
+    ghost invariant = { λ r. (r.table.registrations ≡ r.rows.items)
+        × IsRising (paths_registered r.rows.items) };
+}
+
+impl Rows {
+    // These records. Costs a copy of each record that shares what is known, and a look-up by hash
+    // for each path and reference.
+    pub(crate) fn new(alloc: Global, rows: Vec<Registration>) -> Result<Rows, AllocError>
+        requires rising { IsRising (paths_registered rows.items) }
+        requires closed { AreReferencesValid rows.items }
+        ensures { IfOk result (λ r. r ≡ rows.items) }
+    {
+        let table = table_of(alloc, copy_rows(alloc, &rows)?)?;
+        Ok(Rows { rows, table })
+    }
+
+    // The records, by path.
+    pub(crate) fn as_slice(&self) -> &[Registration]
+        ensures value { result.now ≡ self.now }
+        ensures rising { IsRising (paths_registered result.now) }
+    {
+        &self.rows
+    }
+
+    // The records of the closure of some paths, by path. Costs as `Table::closure` does, and a
+    // look-up by hash and a copy of the record for each path.
+    pub(crate) fn graph(
+        &self,
+        alloc: Global,
+        roots: &[StorePath],
+    ) -> Result<Vec<Registration>, AllocError>
+        requires { All (IsValid self.now) roots.now }
+        ensures { IfOk result (λ graph. IsGraph self.now roots.now graph.items) }
+    {
+        // The roots are valid, so want of memory is the only fault.
+        match self.table.closure(alloc, roots) {
+            Ok(paths) => records_of(alloc, &self.table, &paths),
+            Err(_) => Err(AllocError),
+        }
+    }
+
+    // The path that a text is, where it is that of a record.
+    pub(crate) fn path_at(&self, text: &[u8]) -> Option<&StorePath>
+        ensures { MatchOption result (IsNotValid self.now text.now)
+            (λ path. (path.now ≡ text.now) × IsValid self.now path.now) }
+    {
+        let of_text = |row: &&Registration| row.path.text() == text;
+        match self.rows.iter().find(of_text) {
+            Some(row) => Some(&row.path),
+            None => None,
+        }
+    }
+
+    // The first path of a record, by path, that a text is or is below.
+    pub(crate) fn root_of(&self, text: &[u8]) -> Option<&StorePath>
+        ensures { option_map (λ path. path.now) result ≡ root_of self.now text.now }
+    {
+        let of_text = |row: &&Registration| is_within(row.path.text(), text);
+        match self.rows.iter().find(of_text) {
+            Some(row) => Some(&row.path),
+            None => None,
+        }
+    }
+}
+
+// The table of these records.
+fn table_of(alloc: Global, rows: Vec<Registration>) -> Result<Table, AllocError>
+    requires rising { IsRising (paths_registered rows.items) }
+    requires closed { AreReferencesValid rows.items }
+    ensures { IfOk result (λ table. table.registrations ≡ rows.items) }
+{
+    let mut table = Table::new(alloc);
+    let Some(first) = rows.first() else {
+        return Ok(table);
+    };
+    let some = first.path.copy(alloc)?;
+    table.reserve(rows.len())?;
+    table.register_reserved(Entry::Done(some, Outputs::new(rows)));
+    table.reserve(0)?;
+    Ok(table)
+}
+
+// Copies of the records.
+fn copy_rows(alloc: Global, rows: &[Registration]) -> Result<Vec<Registration>, AllocError>
+    ensures { IfOk result (λ copied. copied.items ≡ rows.now) }
+{
+    let mut copied = Vec::with_capacity(alloc, rows.len())?;
+    'rows: for row in rows {
+        copied.push_reserved(row.copy(alloc)?);
+    }
+    Ok(copied)
+}
+
+// The records of some valid paths in a table, in the order of the paths.
+fn records_of(
+    alloc: Global,
+    table: &Table,
+    paths: &[StorePath],
+) -> Result<Vec<Registration>, AllocError>
+    requires { All (IsValid table.now.registrations) paths.now }
+    ensures paths { IfOk result (λ found. paths_registered found.items ≡ paths.now) }
+    ensures known { IfOk result (λ found. All (Contains table.now.registrations) found.items) }
+{
+    let mut found = Vec::with_capacity(alloc, paths.len())?;
+    'paths: for path in paths {
+        found.push_reserved(record_of(alloc, table, path)?);
+    }
+    Ok(found)
+}
+
+// The record of a valid path in a table.
+fn record_of(alloc: Global, table: &Table, path: &StorePath) -> Result<Registration, AllocError>
+    requires { IsValid table.now.registrations path.now }
+    ensures path { IfOk result (λ r. r.path ≡ path.now) }
+    ensures known { IfOk result (λ r. Contains table.now.registrations r) }
+{
+    match table.get(path) {
+        Some(info) => Ok(Registration {
+            path: path.copy(alloc)?,
+            info: info.copy(alloc)?,
+        }),
+        None => unreachable!(),
+    }
+}
+
+// Whether a text is a path, or that path with a slash and more behind it.
+fn is_within(path: &[u8], text: &[u8]) -> bool
+    ensures { result ≡ is_within path.now text.now }
+{
+    match text.strip_prefix(path) {
+        Some(rest) => is_cut(rest),
+        None => false,
+    }
+}
+
+// Whether nothing stands there, or a slash first.
+fn is_cut(text: &[u8]) -> bool
+    ensures { result ≡ is_cut text.now }
+{
+    match text.first() {
+        Some(byte) => *byte == b'/',
+        None => true,
+    }
+}
+
+// Whether some path of a graph is that of a derivation's file.
+pub(crate) fn has_drv(graph: &[Registration]) -> bool
+    ensures { IsTrue result
+        ↔ ((path : List ℕ) × Contains (paths_registered graph.now) path × IsDrvPath path) }
+{
+    graph.iter().any(|row| is_drv_name(row.path.name()))
+}

@@ -1,0 +1,85 @@
+//! The paths that the lines of a report name.
+ghost use Rattle.std.specs.Prelude.{◌≡◌, ◌<◌, All, IfErr, IfOk, IfSome, length, slice_get};
+ghost use Rattle.valid_table.specs.Entries.{registered};
+ghost use Rattle.valid_table.specs.Valid.{IsValid};
+ghost use Rattle.build_outcome.specs.Jobs.{seeds_of};
+ghost use Rattle.run_report.specs.NamedPaths.{IsNamedIn, IsPermittedAt};
+ghost use Rattle.run_states.specs.StateTables.{course_state};
+ghost use Rattle.run_states.specs.declared.fault.BookFault.TheVariants.{NoMemory};
+ghost use Rattle.sched_core.specs.private.Naming.{AreNamed, HadSeeds};
+
+use crate::job_of::job_of;
+use crate::permitted::permitted_to;
+use build_outcome::Reason;
+use drv_graph::Plan;
+use nix_names::StorePath;
+use run_states::{BookFault, State, StateTable};
+use std::alloc::Global;
+use valid_table::Journal;
+
+// The path that the line of each derivation names, at its number: where it failed since an output
+// refers to a path to which it may not, that path. Costs a step for each derivation, and for each
+// that failed so a copy of its parts, the closure of its seeds, and a copy of each path of that.
+pub(crate) fn named_paths(
+    alloc: Global,
+    states: &StateTable,
+    journal: &Journal,
+) -> Result<Vec<Option<StorePath>>, BookFault>
+    requires { HadSeeds states.now journal.now.entries }
+    ensures ok { IfOk result (λ named. AreNamed states.now journal.now.entries named.items) }
+    ensures err { IfErr result (λ fault. fault ≡ NoMemory) }
+{
+    let mut named = Vec::with_capacity(alloc, states.plan().len())?;
+    for d in 0..states.plan().len() {
+        named.push_reserved(named_path(alloc, states, journal, d)?);
+    }
+    Ok(named)
+}
+
+// The path that the line of the derivation with this number names.
+fn named_path(
+    alloc: Global,
+    states: &StateTable,
+    journal: &Journal,
+    d: usize,
+) -> Result<Option<StorePath>, BookFault>
+    requires within { d < length states.now.graph.nodes }
+    requires seeds { HadSeeds states.now journal.now.entries }
+    ensures ok { IfOk result
+        (IsNamedIn states.now.graph journal.now.entries d (course_state states.now d)) }
+    ensures err { IfErr result (λ fault. fault ≡ NoMemory) }
+{
+    match states.state(d) {
+        State::Failed(Reason::NotAllowed(_, place)) => {
+            permitted_at(alloc, states.plan(), journal, d, place)
+        }
+        State::Failed(Reason::UnknownNar(place)) => {
+            permitted_at(alloc, states.plan(), journal, d, place)
+        }
+        _ => Ok(None),
+    }
+}
+
+// The path at a place among those that are permitted to the derivation with this number, in rising
+// order; none past their end.
+fn permitted_at(
+    alloc: Global,
+    plan: &Plan,
+    journal: &Journal,
+    d: usize,
+    place: usize,
+) -> Result<Option<StorePath>, BookFault>
+    requires within { d < length plan.now.nodes }
+    requires seeds { IfSome (slice_get plan.now.nodes d)
+        (λ node. All (IsValid (registered journal.now.entries))
+        (seeds_of plan.now.nodes node.drv)) }
+    ensures ok { IfOk result (IsPermittedAt plan.now journal.now.entries d place) }
+    ensures err { IfErr result (λ fault. fault ≡ NoMemory) }
+{
+    let job = job_of(alloc, plan, d)?;
+    let permitted = permitted_to(alloc, journal, &job)?;
+    match permitted.get(place) {
+        Some(path) => Ok(Some(path.copy(alloc)?)),
+        None => Ok(None),
+    }
+}
