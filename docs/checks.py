@@ -46,7 +46,7 @@ def undocumented(crates):
 def listed(crates):
     """What is wrong with the table of files in DEFINITIONS.md: a file on which public contracts rest
     and that it lacks, or its order."""
-    row = r"(?m)^\[`[^`]*`\]\(\.\./crates/(\w+)/specs/([\w/]+)\.antt\) \| \S"
+    row = r"(?m)^\[`[^`]*`\]\(\.\./crates/(\w+)/specs/([\w/]+)\.antt\) \|"
     order = re.findall(row, (TOP / "docs/DEFINITIONS.md").read_text())
     for crate, file in sorted(relied_on(crates) - {*order}):
         yield f"DEFINITIONS.md does not list {crate}/specs/{file}.antt"

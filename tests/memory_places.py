@@ -91,6 +91,36 @@ process_build/src/observe/counts.rt new | unsettled : usize :: MAX # no size: no
 process_build/src/observe/time.rt micros_of | unwrap_or ( u64 :: MAX )
     # no size: the greatest time that is told
 ref_scan/src/index.rt sieve_of | vec ! [ in alloc ; NONE ; slots ] # at most 1,048,576
+valid_view/src/reader.rt records_in | Err ( _ ) => Err ( ViewFault :: NoMemory )
+    # the fault of a call whose only fault is AllocError
+builder_start/src/rows.rt graph | Err ( _ ) => Err ( AllocError ) ,
+    # the roots are valid, so the only fault of the call is want of memory
+builder_start/src/graphs.rt graph_of
+    | paths_of ( alloc , rows , texts ) else { return Err ( AllocError ) ; }
+    # the texts are paths of the records, so the only fault is want of memory
+structured_attrs/src/attributes.rt json_text | with_capacity ( alloc , 128 ) # room to begin with
+structured_attrs/src/decimal.rt float_text
+    | if ! x . is_finite ( ) { return Err ( AllocError ) ; }
+    # never reached: no value of JSON is such a double
+structured_attrs/src/decimal.rt float_text
+    | if ! are_trimmed ( & decimal . digits ) { return Err ( AllocError ) ; }
+    # never reached, since ryu gives such digits; its contract does not say so
+structured_attrs/src/decimal.rt float_text
+    | if ! is_text_of ( & text , x ) { return Err ( AllocError ) ; }
+    # never reached, since the digits are those of the double; no contract says so
+structured_attrs/src/decimal.rt push_zeros | vec ! [ in * out . allocator ( ) ; "" ; n ]
+    # at most 15 zeros
+structured_attrs/src/decimal.rt point_of
+    | Point :: Behind ( u32 :: try_from ( before - behind ) . unwrap_or ( u32 :: MAX ) )
+    # no size: no double has such an exponent
+structured_attrs/src/decimal.rt point_of
+    | Point :: Before ( u32 :: try_from ( behind - before ) . unwrap_or ( u32 :: MAX ) ) # the same
+structured_attrs/src/graph.rt hash_text
+    | to_base32 ( alloc , & nar . hash ( ) ) else { return Err ( AllocError ) ; }
+    # the only fault of the call is want of memory
+structured_attrs/src/writing.rt write_number | _ => Err ( AllocError ) , # never reached
+structured_attrs/src/writing.rt write_float | _ => Err ( AllocError ) ,
+    # never reached, since the text is a numeral; no contract says so
 build_outcome/src/links.rt no_links | with_capacity ( alloc , count ) # a list for each output
 run_states/src/users.rt open
     | vec ! [ in alloc ; Edge { user : 0 , place : 0 } ; pairs_in ( plan , twins ) ]

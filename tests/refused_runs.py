@@ -1,5 +1,6 @@
 """The scenes of `refused-calls` and `refused-growths` for `plan` and `realise`."""
 
+import json
 import os
 import re
 import shutil
@@ -13,6 +14,8 @@ SCRIPTS = {
     " : > junk/deep/f; : > junk/g",
     "third": "mkdir junk $dev; : > junk/f; echo d > $dev/d; echo third > $out",
 }
+# The placeholder of `out`.
+PLACEHOLDER = "/1rz4g4znpzjwh1xymhjpm42vipw92pr73vdgl6xs1hycac8kf2n9"
 OUTPUTS = {"first": ["out"], "second": ["out"], "third": ["dev", "out"]}
 REASONS = '(NoStart|ReadFault|MissingOutput\\("out"\\)|ExitStatus\\(\\d+\\)|OutOfMemory|Killed)'
 OWN = re.compile(
@@ -27,13 +30,14 @@ class Plan(Scene):
     scripts, options, entries = SCRIPTS, (), ()
     # Whether the first derivation is realised before, and those that are built then.
     is_begun, builds = False, ()
+    users = ("second",)  # Those that use the first.
     good = lambda self: (0, self.report(dict.fromkeys(SCRIPTS, "build")), "")
 
     def prepare(self):
         self.drv, self.paths = {}, {}
         for name, script in self.scripts.items():
-            inputs = [(self.drv["first"], "out")] if name == "second" else []
-            text = draft(script, OUTPUTS[name], inputs, more=self.entries)
+            inputs = [(self.drv["first"], "out")] if name in self.users else []
+            text = draft(script, OUTPUTS[name], inputs, more=self.entries_of(name))
             self.drv[name], outputs = self.put(name, text)
             self.paths[name] = [outputs[output] for output in OUTPUTS[name]]
         self.old_files[JOURNAL] = FIRST_LINE + f"A {self.store}/{'a' * 32}-x -\n"
@@ -43,6 +47,10 @@ class Plan(Scene):
             run([self.program, "realise", "--store-dir", self.store, self.drv["first"]])
             for path in (str(self.journal), *self.paths["first"]):
                 self.old_files[os.path.basename(path)] = open(path).read()
+
+    def entries_of(self, name):
+        """What the environment of a derivation has besides."""
+        return self.entries
 
     def command(self):
         places = {"TRACE": self.folder / "trace", "LOGS": self.logs, "BUILD": self.build}
@@ -326,6 +334,28 @@ class RealiseUnderNix(RealiseByRunner):
         return is_made and name == "EEXIST" or super().passes(call, name)
 
 
+class RealiseOfGraphs(Realise):
+    """`realise` of what asks for graphs of references: the second by structured attributes."""
+
+    name, has_calls, users = "realise of graphs", False, ("second", "third")
+    options = (*Realise.options, *"--profile nix --build-dir BUILD".split())
+    scripts = {**SCRIPTS, "second": f"/bin/cat .attrs.json .attrs.sh > {PLACEHOLDER}"}
+    scripts["third"] = "echo d > $dev; /bin/cat graph > $out"
+
+    def lay(self):
+        shutil.rmtree(self.build, ignore_errors=True)
+        self.build.mkdir()
+        super().lay()
+
+    def entries_of(self, name):
+        path = "".join(self.paths.get("first", ()))
+        graph = {"exportReferencesGraph": {"graph": [path]}, "impureEnvVars": ["X"]}
+        graph |= {"requiredSystemFeatures": ["big-parallel"], "list": ["a", 1, True, None]}
+        if name == "second":
+            return (("__json", json.dumps(graph)),)
+        return (("exportReferencesGraph", f"graph {path}"),) if name == "third" else ()
+
+
 class RealiseFailing(RealiseByRunner):
     """`realise` with logs, a runner and kept folders, where a builder fails."""
 
@@ -348,6 +378,7 @@ SCENES = [
     variant(Realise, "realise by two", options=("--jobs", "2")),
     RealiseByRunner,
     RealiseUnderNix,
+    RealiseOfGraphs,
     variant(Plan, "plan of what is begun", **BEGUN),
     variant(Realise, "realise of what is begun", **BEGUN, builds={"second", "third"}),
     variant(Realise, "realise, traced, shown", options=TRACED, has_calls=False, is_shown=True),
