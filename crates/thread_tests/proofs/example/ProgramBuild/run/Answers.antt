@@ -22,4 +22,7 @@ returns c =
     let answer : Answer = record { status = Some (pos 0); outputs = c.push.new.self } in
     let leaves : Leaves false answer =
     (refl, (Dir c.new-2.result, empty_dir c.new-2.result c.new-2.ensures.items, items)) in
-    inr (subst (λ (fails : Bool). Leaves fails answer) other leaves)
+    record {
+      outcome = inr (subst (λ (fails : Bool). Leaves fails answer) other leaves);
+      unprepared = search rules;
+    }
