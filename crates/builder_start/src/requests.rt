@@ -1,7 +1,6 @@
 //! The paths of which structured attributes ask for graphs.
 ghost use Rattle.std.specs.Prelude.{◌≡◌, ◌++◌, ◌⊎◌, ◌↔◌, ℕ, List, All, Contains, IfErr, IfOk, OnOk, Some, map, slice_get};
 ghost use Rattle.nix_names.specs.Bytes.{Path};
-ghost use Rattle.nix_names.specs.Rising.{IsRising};
 ghost use Rattle.valid_table.specs.Entries.{paths_registered};
 ghost use Rattle.valid_table.specs.Valid.{IsValid};
 ghost use Rattle.structured_attrs.specs.Graphs.{shown_request};
@@ -11,7 +10,7 @@ ghost use Rattle.builder_start.specs.private.Shown.{IsWhy, texts_of};
 
 use crate::rows::{Rows, has_drv};
 use build_outcome::{Job, JobOutput, Reason};
-use nix_names::StorePath;
+use nix_names::{StorePath, sort_paths};
 use std::alloc::{AllocError, Global};
 use structured_attrs::GraphRequest;
 use valid_table::Registration;
@@ -102,7 +101,7 @@ fn namable(alloc: Global, job: &Job, rows: &Rows) -> Result<Vec<StorePath>, Allo
 {
     let mut paths = paths_of_rows(alloc, rows.as_slice())?;
     add_outputs(alloc, &job.outputs, &mut paths)?;
-    Ok(by_path(paths))
+    Ok(sort_paths(paths))
 }
 
 // Adds the paths of outputs.
@@ -129,15 +128,4 @@ fn paths_of_rows(alloc: Global, rows: &[Registration]) -> Result<Vec<StorePath>,
         paths.push(row.path.copy(alloc)?)?;
     }
     Ok(paths)
-}
-
-// The same paths, once each, by path.
-fn by_path(paths: Vec<StorePath>) -> Vec<StorePath>
-    ensures rising { IsRising result.items }
-    ensures same { (path : Path) → Contains result.items path ↔ Contains paths.items path }
-{
-    let mut sorted = paths;
-    sorted.sort_unstable();
-    sorted.dedup();
-    sorted
 }

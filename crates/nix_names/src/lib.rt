@@ -5,6 +5,7 @@
 //! | `base32` | bytes as base-32 text and back |
 //! | `store_dir` | the folder that a store's paths stand in |
 //! | `store_path` | store paths: parsed, lent, copied, compared |
+//! | `path_order` | paths in rising order |
 //! | `making` | the path of a type, an inner digest, a folder and a name |
 //! | `name` | the bytes of names and components |
 //! | `digest` | digests of a file's bytes, and their text |
@@ -21,6 +22,7 @@ mod making;
 mod method;
 mod name;
 pub mod path_laws;
+mod path_order;
 mod store_dir;
 mod store_path;
 
@@ -30,5 +32,6 @@ pub use fault::NameFault;
 pub use making::{fold20, make_named_path, make_path};
 pub use method::{Method, MethodDigest};
 pub use name::{is_drv_name, is_name};
+pub use path_order::sort_paths;
 pub use store_dir::StoreDir;
 pub use store_path::{StorePath, known_path, parse_path};

@@ -1,19 +1,8 @@
-//! Paths in rising order, and where a path stands among them.
+//! Where a path stands among paths in rising order.
 ghost use Rattle.std.specs.Prelude.{◌≡◌, ◌↔◌, Contains, IsTrue, List, MatchOption, Some, slice_get, ℕ};
 ghost use Rattle.nix_names.specs.Rising.{IsRising};
 
 use nix_names::StorePath;
-
-// The same paths, once each, by path. Costs one sort.
-pub(crate) fn by_path(paths: Vec<StorePath>) -> Vec<StorePath>
-    ensures rising { IsRising result.items }
-    ensures same { (path : List ℕ) → Contains result.items path ↔ Contains paths.items path }
-{
-    let mut sorted = paths;
-    sorted.sort_unstable();
-    sorted.dedup();
-    sorted
-}
 
 // The place of a path among paths in rising order. Costs a binary search.
 pub(crate) fn place_among(paths: &[StorePath], path: &StorePath) -> Option<usize>

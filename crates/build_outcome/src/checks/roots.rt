@@ -8,12 +8,11 @@ ghost use Rattle.build_outcome.specs.private.RootPaths.{AddsOutside, IsMetPath, 
 
 use crate::checked::Checked;
 use crate::checks::reach::reached_from;
-use crate::checks::rising::by_path;
 use crate::job::Job;
 use crate::links::{each_once, links_by, place_of};
 use crate::verdict::paths_of;
 use indexmap::IndexSet;
-use nix_names::StorePath;
+use nix_names::{StorePath, sort_paths};
 use std::alloc::{AllocError, Global};
 use valid_table::Record;
 
@@ -67,8 +66,8 @@ fn roots_among(
     let met = paths_met(alloc, &keys, outputs, &marks)?;
     let outside = paths_outside(alloc, &keys, outputs, records, &marks)?;
     Ok(OutputRoots {
-        own: by_path(met),
-        outside: by_path(outside),
+        own: sort_paths(met),
+        outside: sort_paths(outside),
     })
 }
 

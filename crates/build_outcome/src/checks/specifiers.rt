@@ -5,10 +5,9 @@ ghost use Rattle.nix_names.specs.StorePaths.{IsPathOf};
 ghost use Rattle.build_outcome.specs.Tokens.{tokens};
 ghost use Rattle.build_outcome.specs.private.Listing.{AddsNamed, AddsSpecified, IsWithoutSlash, TellsListed, TellsPath};
 
-use crate::checks::rising::by_path;
 use crate::checks::tokens::tokens_of;
 use crate::job::{Job, JobOutput};
-use nix_names::{NameFault, StoreDir, StorePath, parse_path};
+use nix_names::{NameFault, StoreDir, StorePath, parse_path, sort_paths};
 use std::alloc::{AllocError, Global};
 
 // The paths that a list names for the output at `own`, in rising order; none where a specifier in
@@ -29,7 +28,7 @@ pub(crate) fn paths_listed(
             return Ok(None);
         }
     }
-    Ok(Some(by_path(named)))
+    Ok(Some(sort_paths(named)))
 }
 
 // Adds the paths that a specifier names for an output in this folder. Whether there are any.

@@ -1,6 +1,5 @@
 //! The paths that are verified.
 ghost use Rattle.std.specs.Prelude.{◌≡◌, ◌↔◌, ◌++◌, All, Contains, IfErr, IfOk, MatchOption, OnOk, map};
-ghost use Rattle.nix_names.specs.Rising.{IsRising};
 ghost use Rattle.valid_table.specs.Entries.{paths_registered, registered};
 ghost use Rattle.valid_table.specs.Valid.{IsValid};
 ghost use Rattle.nix_realise.specs.Verifying.{AreAsked, words_of};
@@ -8,7 +7,7 @@ ghost use Rattle.nix_realise.specs.private.Asking.{IsNotAsked, IsStrayWord};
 
 use crate::cli::run_error::RunError;
 use command_line::VerifyRequest;
-use nix_names::StorePath;
+use nix_names::{StorePath, sort_paths};
 use std::alloc::{AllocError, Global};
 use valid_table::{Journal, Registration};
 
@@ -31,9 +30,9 @@ pub fn asked_paths<'a>(
         return Err(RunError::NotValid(word));
     }
     if named.is_empty() {
-        return Ok(by_path(valid_paths(alloc, journal)?));
+        return Ok(sort_paths(valid_paths(alloc, journal)?));
     }
-    Ok(by_path(named))
+    Ok(sort_paths(named))
 }
 
 // The first of some words whose path is not valid, if there is one.
@@ -74,15 +73,4 @@ fn push_paths(
         paths.push(registration.path.copy(alloc)?)?;
     }
     Ok(())
-}
-
-// The same paths, once each, by path.
-fn by_path(paths: Vec<StorePath>) -> Vec<StorePath>
-    ensures rising { IsRising result.items }
-    ensures same { (path : _) → Contains result.items path ↔ Contains paths.items path }
-{
-    let mut sorted = paths;
-    sorted.sort_unstable();
-    sorted.dedup();
-    sorted
 }

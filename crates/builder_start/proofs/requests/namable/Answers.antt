@@ -7,10 +7,10 @@ use Rattle.builder_start.proofs.requests.namable.Goals as goal
 pub returns : goal.returns
 returns c =
     namable_found c.args.rows.now c.args.job.now c.add_outputs.new.paths.items
-    c.by_path.result.items
+    c.sort_paths.result.items
     (c.in_ok-add_outputs.ensures
     ∙ ap (λ (ps : List (List ℕ)). ps ++ map (λ (o : JobOutput). o.path) c.deref.result.now)
     (c.in_ok-paths.ensures ∙ ap paths_registered c.as_slice.ensures.value)
     ∙ ap (λ (os : List JobOutput). paths_registered c.args.rows.now ++ map (λ (o : JobOutput). o.path) os)
     c.deref.ensures.value)
-    c.by_path.ensures.rising c.by_path.ensures.same
+    c.sort_paths.ensures.rising c.sort_paths.ensures.same

@@ -50,5 +50,5 @@ returns c =
     c.index-outputs-n.result
     c.in_ok-keys.ensures c.in_ok-links.ensures c.in-Some.ensures
     (slice_get_read _ _ _ _ refl c.requires.within c.index-outputs-n.is)
-    reached _ _ _ _ met outside c.by_path.ensures.rising c.by_path.ensures.same
-    c.by_path-2.ensures.rising c.by_path-2.ensures.same
+    reached _ _ _ _ met outside c.sort_paths.ensures.rising c.sort_paths.ensures.same
+    c.sort_paths-2.ensures.rising c.sort_paths-2.ensures.same

@@ -30,4 +30,4 @@ returns c =
     c.loop-specifier.specifier-index _ c.loop-specifier-test.false same in
     listed_all _ _ _ _ _
     (subst (λ l. AreListedSoFar c.args.job.now c.args.own.now l c.loop-specifier.named.items) all
-    c.loop-specifier.invariant) c.by_path.ensures.rising c.by_path.ensures.same
+    c.loop-specifier.invariant) c.sort_paths.ensures.rising c.sort_paths.ensures.same

@@ -10,15 +10,15 @@ pub returns-then-is_empty-clause-ok : goal.returns-then-is_empty-clause-ok
 returns-then-is_empty-clause-ok c =
     let none : length c.args.named.items ≡ 0 = search rules in
     (all_asked (words_of c.args.request.now) c.args.journal.now c.in_ok-valid_paths.field-0.items
-    c.by_path.result.items (sym c.requires ∙ no_items c.args.named.items none)
-    c.in_ok-valid_paths.ensures c.by_path.ensures.rising c.by_path.ensures.same).0
+    c.sort_paths.result.items (sym c.requires ∙ no_items c.args.named.items none)
+    c.in_ok-valid_paths.ensures c.sort_paths.ensures.rising c.sort_paths.ensures.same).0
 
 pub returns-then-is_empty-clause-valid : goal.returns-then-is_empty-clause-valid
 returns-then-is_empty-clause-valid c =
     let none : length c.args.named.items ≡ 0 = search rules in
     (all_asked (words_of c.args.request.now) c.args.journal.now c.in_ok-valid_paths.field-0.items
-    c.by_path.result.items (sym c.requires ∙ no_items c.args.named.items none)
-    c.in_ok-valid_paths.ensures c.by_path.ensures.rising c.by_path.ensures.same).1
+    c.sort_paths.result.items (sym c.requires ∙ no_items c.args.named.items none)
+    c.in_ok-valid_paths.ensures c.sort_paths.ensures.rising c.sort_paths.ensures.same).1
 
 pub returns-clause-ok : goal.returns-clause-ok
 returns-clause-ok c =
@@ -27,8 +27,8 @@ returns-clause-ok c =
     subst (All (IsValid (registered c.args.journal.now.entries))) c.deref-2.ensures.value
     c.in_default.ensures in
     let asked =
-    named_asked c.args.named.items c.args.journal.now c.by_path-2.result.items some valid
-    c.by_path-2.ensures.rising c.by_path-2.ensures.same in
+    named_asked c.args.named.items c.args.journal.now c.sort_paths-2.result.items some valid
+    c.sort_paths-2.ensures.rising c.sort_paths-2.ensures.same in
     rw (← c.requires) asked.0
 
 pub returns-clause-valid : goal.returns-clause-valid
@@ -37,5 +37,5 @@ returns-clause-valid c =
     let valid : All (IsValid (registered c.args.journal.now.entries)) c.args.named.items =
     subst (All (IsValid (registered c.args.journal.now.entries))) c.deref-2.ensures.value
     c.in_default.ensures in
-    (named_asked c.args.named.items c.args.journal.now c.by_path-2.result.items some valid
-    c.by_path-2.ensures.rising c.by_path-2.ensures.same).1
+    (named_asked c.args.named.items c.args.journal.now c.sort_paths-2.result.items some valid
+    c.sort_paths-2.ensures.rising c.sort_paths-2.ensures.same).1

@@ -2,7 +2,7 @@ use Rattle.std.proofs.Common.{subst, sym}
 use Rattle.std.proofs.lemmas.List.Filters.{dedup_is}
 use Rattle.nix_names.specs.Rising.{IsRising}
 use Rattle.nix_names.proofs.RisingLists.{members_of_dedup, rising_dedup}
-use Rattle.nix_realise.proofs.verifying.asked_paths.by_path.Goals as goal
+use Rattle.nix_names.proofs.path_order.sort_paths.Goals as goal
 
 pub returns-clause-rising : goal.returns-clause-rising
 returns-clause-rising c =
