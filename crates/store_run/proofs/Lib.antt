@@ -32,6 +32,7 @@ pub mod SameOutcomes
 pub mod SameTests
 pub mod SameVerdicts
 pub mod Standings
+pub mod Starts
 pub mod Starting
 pub mod StorePlans
 pub mod Telling

@@ -13,7 +13,7 @@ use Rattle.build_outcome.specs.declared.prepared.Prepared.{Prepared}
 use Rattle.build_outcome.specs.declared.reason.Reason.{Reason}
 use Rattle.build_outcome.specs.declared.reason.Reason.TheVariants.{OutOfMemory}
 use Rattle.builder_start.specs.Preparing.{IsPrepared, IsUnprepared}
-use Rattle.store_run.specs.private.Starts.{IsPreparing}
+use Rattle.store_run.specs.Starts.{IsPreparing}
 
 -- ---- the records of a closure
 

@@ -11,6 +11,7 @@ pub mod RunJournals
 pub mod SameOutcomes
 pub mod ScheduleExample
 pub mod Scheduling
+pub mod Starts
 pub mod TwinExample
 pub mod Workers
 pub mod private

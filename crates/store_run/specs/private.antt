@@ -3,4 +3,3 @@ pub mod Ending
 pub mod JobVerdicts
 pub mod Looking
 pub mod Sharing
-pub mod Starts

@@ -15,6 +15,7 @@ ghost use Rattle.store_run.specs.RunJournals.{EntriesGoOn, JournalsOfRunsAreRead
 ghost use Rattle.store_run.specs.SameOutcomes.{AllowedIsOne};
 ghost use Rattle.store_run.specs.ScheduleExample.{Overlap, both, in_turn, left, may_leave, right, side_by_side, two_files};
 ghost use Rattle.store_run.specs.Scheduling.{AlikeReportTheSame, AnySchedule, HasOneThread, IsWholeRun, OneReport, RealisedIsEnded, RealisedIsWhole, SameReports, WholeRunsAreAlike};
+ghost use Rattle.store_run.specs.Starts.{SetupIsShared};
 ghost use Rattle.store_run.specs.TwinExample.{first_twin, freed, may_leave_file, one_by_one, second_twin, three, three_files, tried_again, waiting};
 
 use nix_drv::DrvSource;
@@ -83,6 +84,13 @@ pub fn any_interruption<B: Build>()
 /// number of times.
 pub fn cuts_are_one<B: Build>()
     ensures { CutsAreOne B.may }
+{}
+
+/// What a builder is started with is the same by any two lists of entries that begin with a list in
+/// which all that its job is built from is valid: by what its worker's reader saw, and by each
+/// journal that goes on from there.
+pub fn setup_is_shared()
+    ensures { SetupIsShared }
 {}
 
 /// In a legal history the entries are those that it opened with, and then the whole entries of its

@@ -3,7 +3,7 @@ ghost use Rattle.std.specs.Prelude.{◌≡◌, IfErr, IfOk};
 ghost use mathlib.Core.List.{IsPrefix};
 ghost use Rattle.sched_core.specs.Books.{AreSeedsValid};
 ghost use Rattle.store_run.specs.private.JobVerdicts.{IsUnseen};
-ghost use Rattle.store_run.specs.private.Starts.{IsStart};
+ghost use Rattle.store_run.specs.Starts.{IsStart};
 
 use crate::refusal::{RefusedCall, records};
 use build_outcome::Prepared;

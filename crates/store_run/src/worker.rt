@@ -2,7 +2,7 @@
 ghost use Rattle.std.specs.Prelude.{IfSome};
 ghost use Rattle.sched_core.specs.Books.{AreSeedsValid};
 ghost use Rattle.store_run.specs.private.JobVerdicts.{IsToldOfSeeds, MayBeFound};
-ghost use Rattle.store_run.specs.private.Starts.{IsStart};
+ghost use Rattle.store_run.specs.Starts.{IsStart};
 
 use crate::basis::Basis;
 use crate::job_verdict::{JobVerdict, LeaseEnd};

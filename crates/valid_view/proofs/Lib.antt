@@ -4,5 +4,6 @@ pub mod Prefixes
 pub mod Reached
 pub mod RecordsFound
 pub mod SharedClosures
+pub mod SharedRecords
 pub mod ShownTables
 pub mod Showable

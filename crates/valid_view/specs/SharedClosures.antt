@@ -7,6 +7,8 @@ use Rattle.valid_table.specs.Entries.{registered}
 use Rattle.valid_table.specs.PathInfos.{PathInfo}
 use Rattle.valid_table.specs.Valid.{IsValid, Registers}
 use Rattle.valid_table.specs.declared.entry.Entry.{Entry}
+use Rattle.valid_table.specs.declared.entry.Registration.{Registration}
+use Rattle.valid_view.specs.Answers.{AreRecords}
 use Rattle.valid_view.specs.Shown.{IsShowable}
 
 -- where paths are valid in a list, their closure is the same in each two lists that begin with it
@@ -16,6 +18,13 @@ ClosureIsShared = (common a b : List Entry) (roots all : List Path) → IsShowab
     → IsShowable b → IsPrefix common a → IsPrefix common b
     → All (IsValid (registered common)) roots
     → IsClosure (registered a) roots all → IsClosure (registered b) roots all
+
+-- then so are the records of their closure
+abbrev pub RecordsAreShared : Type 0
+RecordsAreShared = (common a b : List Entry) (roots : List Path) (rows : List Registration)
+    → IsShowable a → IsShowable b → IsPrefix common a → IsPrefix common b
+    → All (IsValid (registered common)) roots
+    → AreRecords (registered a) roots rows → AreRecords (registered b) roots rows
 
 -- what is valid in a list is valid in each list that begins with it and may be shown, and has there
 -- the record that it had and no other

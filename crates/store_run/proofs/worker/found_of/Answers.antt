@@ -2,7 +2,7 @@ use Rattle.std.proofs.Common.{Err, inl, refl, subst, sym}
 use Rattle.sched_core.specs.Books.{AreSeedsValid}
 use Rattle.build_outcome.specs.declared.job.Job.{Job}
 use Rattle.build_outcome.specs.declared.reason.Reason.TheVariants.{OutOfMemory}
-use Rattle.store_run.specs.private.Starts.{IsStart}
+use Rattle.store_run.specs.Starts.{IsStart}
 use Rattle.store_run.proofs.worker.found_of.Goals as goal
 
 pub start-requires : goal.start-requires
