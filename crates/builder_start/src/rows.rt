@@ -1,5 +1,5 @@
 //! The records of the paths that a job is built from.
-ghost use Rattle.std.specs.Prelude.{◌≡◌, ◌↔◌, All, Contains, IfOk, IsTrue, List, MatchOption, ℕ, map, option_map};
+ghost use Rattle.std.specs.Prelude.{◌≡◌, ◌↔◌, All, Contains, IfOk, IsTrue, List, MatchOption, ℕ, option_map};
 ghost use Rattle.nix_names.specs.Rising.{IsRising};
 ghost use Rattle.nix_names.specs.StorePaths.{IsDrvPath};
 ghost use Rattle.valid_table.specs.Entries.{paths_registered};
