@@ -1,5 +1,5 @@
 //! The records of the paths that a job is built from.
-ghost use Rattle.std.specs.Prelude.{◌≡◌, ◌↔◌, All, Contains, IfOk, IsTrue, List, MatchOption, ℕ, map, option_map};
+ghost use Rattle.std.specs.Prelude.{◌≡◌, ◌↔◌, All, Contains, IfOk, IsTrue, List, MatchOption, ℕ, option_map};
 ghost use Rattle.nix_names.specs.Rising.{IsRising};
 ghost use Rattle.nix_names.specs.StorePaths.{IsDrvPath};
 ghost use Rattle.valid_table.specs.Entries.{paths_registered};
@@ -66,7 +66,7 @@ impl Rows {
     {
         // The roots are valid, so want of memory is the only fault.
         match self.table.closure(alloc, roots) {
-            Ok(paths) => records_of(alloc, &self.table, &paths),
+            Ok(paths) => self.table.records(alloc, &paths),
             Err(_) => Err(AllocError),
         }
     }
@@ -121,38 +121,6 @@ fn copy_rows(alloc: Global, rows: &[Registration]) -> Result<Vec<Registration>, 
         copied.push_reserved(row.copy(alloc)?);
     }
     Ok(copied)
-}
-
-// The records of some valid paths in a table, in the order of the paths.
-fn records_of(
-    alloc: Global,
-    table: &Table,
-    paths: &[StorePath],
-) -> Result<Vec<Registration>, AllocError>
-    requires { All (IsValid table.now.registrations) paths.now }
-    ensures paths { IfOk result (λ found. paths_registered found.items ≡ paths.now) }
-    ensures known { IfOk result (λ found. All (Contains table.now.registrations) found.items) }
-{
-    let mut found = Vec::with_capacity(alloc, paths.len())?;
-    'paths: for path in paths {
-        found.push_reserved(record_of(alloc, table, path)?);
-    }
-    Ok(found)
-}
-
-// The record of a valid path in a table.
-fn record_of(alloc: Global, table: &Table, path: &StorePath) -> Result<Registration, AllocError>
-    requires { IsValid table.now.registrations path.now }
-    ensures path { IfOk result (λ r. r.path ≡ path.now) }
-    ensures known { IfOk result (λ r. Contains table.now.registrations r) }
-{
-    match table.get(path) {
-        Some(info) => Ok(Registration {
-            path: path.copy(alloc)?,
-            info: info.copy(alloc)?,
-        }),
-        None => unreachable!(),
-    }
 }
 
 // Whether a text is a path, or that path with a slash and more behind it.

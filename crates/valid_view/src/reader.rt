@@ -1,8 +1,7 @@
 //! A reader of a view.
-ghost use Rattle.std.specs.Prelude.{◌≡◌, ◌⊎◌, All, IfOk, Ok, map};
+ghost use Rattle.std.specs.Prelude.{◌≡◌, ◌⊎◌, Ok};
 ghost use mathlib.Core.List.{IsPrefix};
 ghost use Rattle.valid_table.specs.Entries.{registered};
-ghost use Rattle.valid_table.specs.Valid.{IsValid, Registers};
 ghost use Rattle.valid_view.specs.Answers.{IfGone, IsLook, IsUnreached, IsViewClosing, IsViewRecords, WhereSeen};
 ghost use Rattle.valid_view.specs.Shown.{IsShowable};
 
@@ -13,7 +12,7 @@ use crate::reading::IdleReader;
 use crate::seen::Seen;
 use core::mem::replace_with;
 use nix_names::StorePath;
-use std::alloc::{AllocError, Global};
+use std::alloc::Global;
 use std::marker::Model;
 use valid_table::{Registration, Table, TableFault};
 
@@ -230,41 +229,8 @@ fn records_in(
         Ok(paths) => paths,
         Err(fault) => return Err(fault),
     };
-    match records_of(alloc, table, &paths) {
+    match table.records(alloc, &paths) {
         Ok(rows) => Ok(rows),
         Err(_) => Err(ViewFault::NoMemory),
-    }
-}
-
-// The records of some valid paths in a table, in the order of the paths.
-fn records_of(
-    alloc: Global,
-    table: &Table,
-    paths: &[StorePath],
-) -> Result<Vec<Registration>, AllocError>
-    requires valid { All (IsValid table.now.registrations) paths.now }
-    ensures paths { IfOk result (λ rows. map (λ r. r.path) rows.items ≡ paths.now) }
-    ensures known { IfOk result
-        (λ rows. All (λ r. Registers table.now.registrations r.path r.info) rows.items) }
-{
-    let mut rows = Vec::with_capacity(alloc, paths.len())?;
-    'paths: for path in paths {
-        rows.push_reserved(record_of(alloc, table, path)?);
-    }
-    Ok(rows)
-}
-
-// The record of a valid path in a table.
-fn record_of(alloc: Global, table: &Table, path: &StorePath) -> Result<Registration, AllocError>
-    requires valid { IsValid table.now.registrations path.now }
-    ensures path { IfOk result (λ r. r.path ≡ path.now) }
-    ensures known { IfOk result (λ r. Registers table.now.registrations r.path r.info) }
-{
-    match table.get(path) {
-        Some(info) => Ok(Registration {
-            path: path.copy(alloc)?,
-            info: info.copy(alloc)?,
-        }),
-        None => unreachable!(),
     }
 }

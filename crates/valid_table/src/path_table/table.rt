@@ -1,13 +1,13 @@
 //! The table of valid paths.
-ghost use Rattle.std.specs.Prelude.{◌≡◌, ◌≤◌, ◌+◌, ◌++◌, ◌↔◌, [], IfErr, IfOk, IsOk, IsTrue, MatchOption, OnErr, OnOk, length};
+ghost use Rattle.std.specs.Prelude.{◌≡◌, ◌≤◌, ◌+◌, ◌++◌, ◌↔◌, [], All, Contains, IfErr, IfOk, IsOk, IsTrue, MatchOption, OnErr, OnOk, length};
 ghost use Rattle.valid_table.specs.Adding.{AreClosed, AreNew, IsObstacle, IsRegistering};
 ghost use Rattle.valid_table.specs.private.Blames.{IsBlamed};
 ghost use Rattle.valid_table.specs.Closure.{IsClosing};
-ghost use Rattle.valid_table.specs.Entries.{registered, registered_by};
+ghost use Rattle.valid_table.specs.Entries.{paths_registered, registered, registered_by};
 ghost use Rattle.valid_table.specs.Tables.{registrations_of};
 ghost use Rattle.valid_table.specs.Valid.{AreReferencesValid, IsClosed, IsOnce, IsValid, Registers};
 
-use crate::entry::{Entry, Record};
+use crate::entry::{Entry, Record, Registration};
 use crate::fault::TableFault;
 use crate::journal::Journal;
 use crate::path_table::admission::blame;
@@ -89,6 +89,39 @@ impl Table {
             (λ info. Registers self.now.registrations path.now info.now) }
     {
         self.rows.get(path)
+    }
+
+    /// The records of some valid paths, in the order of the paths. Want of memory is its only
+    /// fault. Costs a look-up by hash for each path and a share of its text and record.
+    pub fn records(
+        &self,
+        alloc: Global,
+        paths: &[StorePath],
+    ) -> Result<Vec<Registration>, AllocError>
+        requires { All (IsValid self.now.registrations) paths.now }
+        ensures paths { IfOk result (λ found. paths_registered found.items ≡ paths.now) }
+        ensures known { IfOk result (λ found. All (Contains self.now.registrations) found.items) }
+    {
+        let mut found = Vec::with_capacity(alloc, paths.len())?;
+        'paths: for path in paths {
+            found.push_reserved(self.record(alloc, path)?);
+        }
+        Ok(found)
+    }
+
+    // The record of a valid path, with the path.
+    fn record(&self, alloc: Global, path: &StorePath) -> Result<Registration, AllocError>
+        requires { IsValid self.now.registrations path.now }
+        ensures path { IfOk result (λ found. found.path ≡ path.now) }
+        ensures known { IfOk result (Contains self.now.registrations) }
+    {
+        match self.get(path) {
+            Some(info) => Ok(Registration {
+                path: path.copy(alloc)?,
+                info: info.copy(alloc)?,
+            }),
+            None => unreachable!(),
+        }
     }
 
     /// The closure of the roots: the roots and all paths that they lead to by references, in
