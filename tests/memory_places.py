@@ -104,17 +104,14 @@ structured_attrs/src/decimal.rt float_text
     # never reached: no value of JSON is such a double
 structured_attrs/src/decimal.rt float_text
     | if ! are_trimmed ( & decimal . digits ) { return Err ( AllocError ) ; }
-    # never reached, since ryu gives such digits; its contract does not say so
+    # never reached, since Grisu2 gives such digits; no contract says so
 structured_attrs/src/decimal.rt float_text
     | if ! is_text_of ( & text , x ) { return Err ( AllocError ) ; }
     # never reached, since the digits are those of the double; no contract says so
 structured_attrs/src/decimal.rt push_zeros | vec ! [ in * out . allocator ( ) ; "" ; n ]
     # at most 15 zeros
-structured_attrs/src/decimal.rt point_of
-    | Point :: Behind ( u32 :: try_from ( before - behind ) . unwrap_or ( u32 :: MAX ) )
-    # no size: no double has such an exponent
-structured_attrs/src/decimal.rt point_of
-    | Point :: Before ( u32 :: try_from ( behind - before ) . unwrap_or ( u32 :: MAX ) ) # the same
+structured_attrs/src/grisu.rt small | i32 :: try_from ( n ) . unwrap_or ( i32 :: MAX )
+    # no size: no number of digits is so large
 structured_attrs/src/graph.rt hash_text
     | to_base32 ( alloc , & nar . hash ( ) ) else { return Err ( AllocError ) ; }
     # the only fault of the call is want of memory

@@ -10,7 +10,7 @@ use Rattle.valid_table.specs.declared.entry.Registration.{Registration}
 use Rattle.nix_names.proofs.RisingLists.{rising_same}
 use Rattle.build_outcome.specs.Jobs.{seeds_of}
 use Rattle.build_outcome.specs.declared.reason.Reason.{Reason}
-use Rattle.build_outcome.specs.declared.reason.Reason.TheVariants.{ExitStatus, NoStart, MissingOutput, NotFlatFile, HashMismatch, OutputCycle, TooLarge, ReadFault, OutOfMemory, Killed, BadMode, NotAllowed, BadSpecifier, BadAttributes, BadGraph, UnknownNar}
+use Rattle.build_outcome.specs.declared.reason.Reason.TheVariants.{ExitStatus, NoStart, MissingOutput, NotFlatFile, HashMismatch, OutputCycle, TooLarge, ReadFault, OutOfMemory, Killed, BadMode, NotAllowed, BadSpecifier, BadAttributes, BadGraph, UnknownNar, PastMaxSize, PastMaxClosureSize}
 use Rattle.run_states.specs.Legal.{ArePermitted, MayRefer}
 use Rattle.run_states.specs.Runs.{History, IsWanted, Run, state_in}
 use Rattle.run_states.specs.declared.state.State.{State}
@@ -65,6 +65,8 @@ one_by graph entries d BadAttributes m n of_m of_n = of_m ∙ sym of_n
 one_by graph entries d BadGraph m n of_m of_n = of_m ∙ sym of_n
 one_by graph entries d (UnknownNar place) m n of_m of_n =
     one_at graph entries d place m n of_m of_n
+one_by graph entries d (PastMaxSize output) m n of_m of_n = of_m ∙ sym of_n
+one_by graph entries d (PastMaxClosureSize output) m n of_m of_n = of_m ∙ sym of_n
 
 pub one_named : (graph : Graph) (entries : List Entry) (d : ℕ) (state : State)
     (m n : Option (List ℕ)) → IsNamedIn graph entries d state m
@@ -142,6 +144,8 @@ by_after graph entries other alike d BadAttributes named is = is
 by_after graph entries other alike d BadGraph named is = is
 by_after graph entries other alike d (UnknownNar place) named is =
     at_after graph entries other alike d place named is
+by_after graph entries other alike d (PastMaxSize output) named is = is
+by_after graph entries other alike d (PastMaxClosureSize output) named is = is
 
 pub named_after : (graph : Graph) (entries other : List Entry) → ReferAlike entries other
     → (d : ℕ) (state : State) (named : Option (List ℕ)) → IsNamedIn graph entries d state named

@@ -8,7 +8,7 @@ use Rattle.nix_drv.specs.Strings.{string_text}
 use Rattle.drv_graph.specs.Nodes.{Node, paths_of}
 use Rattle.drv_graph.specs.PlanNodes.{output_paths_of}
 use Rattle.build_outcome.specs.declared.reason.Reason.{Reason}
-use Rattle.build_outcome.specs.declared.reason.Reason.TheVariants.{ExitStatus, NoStart, MissingOutput, NotFlatFile, HashMismatch, OutputCycle, TooLarge, ReadFault, OutOfMemory, Killed, BadMode, NotAllowed, BadSpecifier, BadAttributes, BadGraph, UnknownNar}
+use Rattle.build_outcome.specs.declared.reason.Reason.TheVariants.{ExitStatus, NoStart, MissingOutput, NotFlatFile, HashMismatch, OutputCycle, TooLarge, ReadFault, OutOfMemory, Killed, BadMode, NotAllowed, BadSpecifier, BadAttributes, BadGraph, UnknownNar, PastMaxSize, PastMaxClosureSize}
 use Rattle.run_states.specs.Systems.{required_features}
 use Rattle.run_states.specs.declared.state.Refusal.{Refusal}
 use Rattle.run_states.specs.declared.state.Refusal.TheVariants.{WrongSystem, Unsupported, MissingFeature, MissingSource, InputNotRealised, PartlyValid}
@@ -63,6 +63,10 @@ reason_words drv named BadAttributes = codes "BadAttributes"
 reason_words drv named BadGraph = codes "BadGraph"
 reason_words drv named (UnknownNar place) =
     with_value (codes "UnknownNar") (text_or_number named place)
+reason_words drv named (PastMaxSize output) =
+    with_value (codes "PastMaxSize") (output_words drv output)
+reason_words drv named (PastMaxClosureSize output) =
+    with_value (codes "PastMaxClosureSize") (output_words drv output)
 
 -- why a derivation of a plan, which has these nodes, is not begun
 abbrev pub refusal_words : List Node → Drv → Refusal → Bytes

@@ -46,6 +46,10 @@ pub(crate) fn write_reason(
         Reason::BadAttributes => write_name(b"BadAttributes", out),
         Reason::BadGraph => write_name(b"BadGraph", out),
         Reason::UnknownNar(place) => write_unknown_nar(named, place, out),
+        Reason::PastMaxSize(output) => write_with_output(b"PastMaxSize", drv, output, out),
+        Reason::PastMaxClosureSize(output) => {
+            write_with_output(b"PastMaxClosureSize", drv, output, out)
+        }
     }
 }
 

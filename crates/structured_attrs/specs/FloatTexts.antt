@@ -1,6 +1,6 @@
--- The text that Nix writes of a double in `.attrs.json` (JSON for Modern C++, `to_chars`: the
--- shortest digits that give the same double, plain from 0.0001 up to 15 digits before the point,
--- else with an exponent of two digits or more).
+-- The text that Nix writes of a double in `.attrs.json` (JSON for Modern C++, `to_chars`: digits
+-- that give the same double, plain from 0.0001 up to 15 digits before the point, else with an
+-- exponent of two digits or more).
 use Rattle.std.specs.Prelude.{◌≡◌, ◌≢◌, ◌⊎◌, ◌+◌, ◌-◌, ◌<◌, ℕ, List, [], ◌∷◌, ◌++◌, Bool, Float, IsTrue, Some, codes, decimal, drop, if◌then◌else◌, length, nat_le, nat_lt, replicate, slice_index, take}
 use Rattle.std.specs.Fmt.{sign_text}
 use Rattle.std.specs.Char.{is_ascii_digit}
@@ -46,7 +46,7 @@ IsTrimmed digits = (digits ≡ 48 ∷ [])
     × (slice_index digits (length digits - 1) ≢ 48))
 
 -- A text of a double: perhaps a minus, and then the text of some digits and a point, which is read
--- as that double. (That no fewer digits are read so is not said here.)
+-- as that double. (Which of the digits that are read so is not said here.)
 pub record IsFloatText (x : Float) (text : List ℕ) : Type 0 where
   pub negative : Bool
   pub digits : List ℕ

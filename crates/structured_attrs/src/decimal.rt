@@ -8,8 +8,8 @@ ghost use Rattle.serde_json.specs.Data.{float};
 ghost use Rattle.structured_attrs.specs.FloatTexts.{IsFloatText, IsTrimmed, exponent_digits, fraction_text, plain_text, scientific_text, size_text};
 ghost use Rattle.structured_attrs.specs.Numerals.{number_of};
 
-use crate::number::{has_minus, parse_number};
-use fast_float::{Numeral, parse_u64};
+use crate::grisu::digits_of;
+use crate::number::parse_number;
 use std::alloc::{AllocError, Global};
 use std::num::f64_to_bits_with_nan;
 use std::str;
@@ -40,7 +40,7 @@ pub(crate) fn float_text(alloc: Global, x: f64) -> Result<Vec<u8>, AllocError>
     if !x.is_finite() {
         return Err(AllocError);
     }
-    let decimal = shortest_decimal(alloc, x)?;
+    let decimal = decimal_of(alloc, x)?;
     if !are_trimmed(&decimal.digits) {
         return Err(AllocError);
     }
@@ -52,55 +52,19 @@ pub(crate) fn float_text(alloc: Global, x: f64) -> Result<Vec<u8>, AllocError>
     Ok(text)
 }
 
-// The shortest digits that the kit's `ryu` finds for a finite double.
-fn shortest_decimal(alloc: Global, x: f64) -> Result<Decimal, AllocError>
-    requires { IsTrue (float_is_finite x) }
-{
-    let mut buffer = ryu::Buffer::new();
-    let text = buffer.format_finite(x).as_bytes();
-    let negative = has_minus(text);
-    let size = if negative { &text[1..] } else { text };
-    let numeral = Numeral::scan(size);
-    let mut digits = Vec::from_slice(alloc, numeral.whole())?;
-    digits.extend_from_slice(numeral.fraction())?;
-    let zeros = digits.iter().take_while(|digit| **digit == b'0').count();
-    let ending = digits
-        .iter()
-        .rev()
-        .take_while(|digit| **digit == b'0')
-        .count();
-    if zeros == digits.len() {
-        return Ok(Decimal {
-            negative,
-            digits: Vec::from_slice(alloc, b"0")?,
-            point: Point::Behind(1),
-        });
-    }
-    let end = digits.len().saturating_sub(ending);
-    let point = point_of(&numeral, zeros);
-    digits.truncate(end);
-    digits.drain(..zeros.min(digits.len()));
+// The digits that Nix writes of a finite double.
+fn decimal_of(alloc: Global, x: f64) -> Result<Decimal, AllocError> {
+    let bits = f64_to_bits_with_nan(x);
+    let (digits, point) = if x == 0.0 {
+        (Vec::from_slice(alloc, b"0")?, Point::Behind(1))
+    } else {
+        digits_of(alloc, bits)?
+    };
     Ok(Decimal {
-        negative,
+        negative: bits >> 63 == 1,
         digits,
         point,
     })
-}
-
-// The point of a numeral among its digits without the first few.
-fn point_of(numeral: &Numeral<'_>, dropped: usize) -> Point {
-    let whole = numeral.whole().len();
-    let exponent = parse_u64(numeral.exponent()).unwrap_or(0).min(1000) as usize;
-    let (before, behind) = if numeral.is_exponent_negative() {
-        (whole, exponent.saturating_add(dropped))
-    } else {
-        (whole.saturating_add(exponent), dropped)
-    };
-    if behind < before {
-        Point::Behind(u32::try_from(before - behind).unwrap_or(u32::MAX))
-    } else {
-        Point::Before(u32::try_from(behind - before).unwrap_or(u32::MAX))
-    }
 }
 
 // Whether the bytes are digits, none of which says nothing.

@@ -11,6 +11,7 @@
 //! | `number` | the number of a numeral of JSON |
 //! | `writing` | from a value to a text of JSON |
 //! | `decimal` | the digits of a double, and their layout in JSON |
+//! | `grisu` | the digits that Nix writes of a double |
 //! | `shell` | the text of `.attrs.sh` |
 //! | `fault` | why a call refused |
 #![tactic(auto)]
@@ -19,6 +20,7 @@ mod attributes;
 mod decimal;
 mod fault;
 mod graph;
+mod grisu;
 mod number;
 mod outputs;
 mod reading;

@@ -123,6 +123,8 @@ fn failed_for_each_reason(rt: HostRuntime) -> Result<(), Fail> {
         Reason::BadAttributes,
         Reason::BadGraph,
         Reason::UnknownNar(0),
+        Reason::PastMaxSize(0),
+        Reason::PastMaxClosureSize(0),
     ] {
         let mut behaviour = by(1, u64::MAX, &[]);
         behaviour.reason = reason;

@@ -229,7 +229,8 @@ fn of_views(teller: &mut Teller<'_>, x: StorePath) -> Result<(), AllocError> {
 fn of_runs(teller: &mut Teller<'_>) -> Result<(), AllocError> {
     tell_numbers!(teller, "Reason::number"; Reason: ExitStatus(7), NoStart, MissingOutput(0),
         NotFlatFile, HashMismatch, OutputCycle, TooLarge, ReadFault, OutOfMemory, Killed,
-        BadMode(0), NotAllowed(0, 1), BadSpecifier(0), BadAttributes, BadGraph, UnknownNar(0));
+        BadMode(0), NotAllowed(0, 1), BadSpecifier(0), BadAttributes, BadGraph, UnknownNar(0),
+        PastMaxSize(0), PastMaxClosureSize(0));
     tell_numbers!(teller, "Refusal::number"; Refusal: WrongSystem, Unsupported, MissingSource(0),
         InputNotRealised(0), PartlyValid(0), MissingFeature(0));
     tell_all!(teller, "BookFault::number"; BookFault: NoMemory, NoView, ForeignLease, NotLawful)?;

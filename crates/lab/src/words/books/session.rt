@@ -275,6 +275,8 @@ fn reason_of(word: &[u8]) -> Reason {
         b"BadAttributes" => Reason::BadAttributes,
         b"BadGraph" => Reason::BadGraph,
         b"UnknownNar" => Reason::UnknownNar(1),
+        b"PastMaxSize" => Reason::PastMaxSize(1),
+        b"PastMaxClosureSize" => Reason::PastMaxClosureSize(1),
         word => status_of(word).map_or(Reason::OutOfMemory, Reason::ExitStatus),
     }
 }
