@@ -5,6 +5,7 @@ pub mod GoodPairs
 pub mod GraphsSet
 pub mod Lacking
 pub mod Names
+pub mod PathFolders
 pub mod Preparings
 pub mod Taken
 pub mod TextsAsked

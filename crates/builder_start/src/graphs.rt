@@ -11,6 +11,7 @@ ghost use Rattle.structured_attrs.specs.declared.graph.GraphRow.{GraphRow as ARo
 ghost use Rattle.builder_start.specs.Structured.{IsGraphOf, IsRow, LacksNar, closure_size, size_of, texts_asked, with_graphs};
 ghost use Rattle.builder_start.specs.private.Shown.{texts_of};
 
+use crate::addresses::content_address;
 use crate::requests::paths_of;
 use crate::rows::Rows;
 use std::alloc::{AllocError, Global};
@@ -84,7 +85,7 @@ fn row_of(alloc: Global, rows: &Rows, row: &Registration) -> Result<GraphRow, Al
         registration: row.copy(alloc)?,
         nar,
         closure_size: closure_size(&closure),
-        ca: None,
+        ca: content_address(alloc, row)?,
     })
 }
 
