@@ -1,10 +1,9 @@
 //! Lists of strings among structured attributes.
-ghost use Rattle.std.specs.Prelude.{◌≡◌, None, Some, Err, IfOk, MatchOption, codes, map, option_and_then, option_map, string_bytes};
+ghost use Rattle.std.specs.Prelude.{◌≡◌, None, Some, Err, IfOk, MatchOption, map, option_and_then, option_map, string_bytes};
 ghost use Rattle.serde_json.specs.Data.{Data};
-ghost use Rattle.std.specs.Option.{is_some};
 ghost use Rattle.serde_json.specs.Find.{as_object, get_member};
 ghost use Rattle.serde_json.specs.View.{view, items_view, members_view};
-ghost use Rattle.structured_attrs.specs.Strings.{array_texts, item_texts, object_at, text_of, texts_of, value_texts};
+ghost use Rattle.structured_attrs.specs.Strings.{array_texts, item_texts, text_of, texts_of, value_texts};
 
 use crate::attributes::Attributes;
 use crate::fault::AttributesFault;
@@ -36,13 +35,6 @@ impl Attributes {
             Some(items) => Ok(Some(item_strings(alloc, items)?)),
             None => Err(AttributesFault::BadAttributes),
         }
-    }
-
-    /// Whether `outputChecks` is an object. Costs a search for the key.
-    pub fn has_checks(&self) -> bool
-        ensures { result ≡ is_some (object_at (codes "outputChecks") (attributes self.now)) }
-    {
-        object_at(&self.members, "outputChecks").is_some()
     }
 }
 
