@@ -6,12 +6,13 @@ use Rattle.nix_names.specs.Bytes.{Bytes, Path}
 use Rattle.nix_names.specs.Names.{same_bytes}
 use Rattle.nix_drv.specs.Derivation.{Drv, EnvEntry}
 use Rattle.drv_graph.specs.PlanNodes.{drvs_of}
+use Rattle.drv_graph.specs.Plans.{Graph}
 use Rattle.drv_graph.specs.declared.profile.Profile.{Profile}
 use Rattle.drv_graph.specs.declared.profile.Profile.TheVariants.{Nix, Plain}
 use Rattle.valid_table.specs.declared.entry.Entry.{Entry}
 use Rattle.run_report.specs.Reports.{AreByPath, path_at}
 use Rattle.run_states.specs.Runs.{IsWanted, Run as RunOver, left_out, standing_at, terms_of}
-use Rattle.run_states.specs.Systems.{Platform, is_builtin, lacks_program}
+use Rattle.run_states.specs.Systems.{is_builtin}
 use Rattle.run_states.specs.declared.precondition.Precondition.{Precondition}
 use Rattle.run_states.specs.declared.precondition.Precondition.TheVariants.{Hindered}
 use Rattle.run_states.specs.declared.state.Refusal.TheVariants.{Unsupported}
@@ -38,16 +39,16 @@ first_left_out other (e ∷ env) =
 
 -- why a derivation is `Unsupported`: under `plain` for its builder, if that is one of Nix's own, else
 -- for such a key, and else for the method of an output, which is that of a whole tree; under `nix`
--- for its builder, if there is no program for it, and else for its structured attributes
-abbrev pub cause_of : Profile → Platform → Drv → Bytes
-cause_of Plain system drv =
+-- for its builder, for which there is no program
+abbrev pub cause_of : Profile → Drv → Bytes
+cause_of Plain drv =
     if is_builtin drv then drv.builder else first_left_out (codes "r:sha256") drv.env
-cause_of Nix system drv = if lacks_program system drv then drv.builder else codes "__json"
+cause_of Nix drv = drv.builder
 
 -- the same of the derivation that has a number, if there is one
-abbrev pub cause_if : Profile → Platform → Option Drv → Bytes
-cause_if profile system (Some drv) = cause_of profile system drv
-cause_if profile system None = []
+abbrev pub cause_if : Profile → Option Drv → Bytes
+cause_if profile (Some drv) = cause_of profile drv
+cause_if profile None = []
 
 -- what a line ends with: under `plain` the option by which more is built
 abbrev pub hint_of : Profile → Bytes
@@ -61,16 +62,16 @@ line_with profile drv cause =
     ++ codes "\n"
 
 -- the line of the derivation with this number
-abbrev pub cause_line : RunOver → ℕ → Bytes
-cause_line run d =
-    line_with run.graph.profile (path_at run.graph.nodes d)
-    (cause_if run.graph.profile run.system (slice_get (drvs_of run.graph.nodes) d))
+abbrev pub cause_line : Graph → ℕ → Bytes
+cause_line graph d =
+    line_with graph.profile (path_at graph.nodes d)
+    (cause_if graph.profile (slice_get (drvs_of graph.nodes) d))
 
 -- The text has a line for each such derivation, and no others, by path.
 pub record AreCauseLines (run : RunOver) (opening : List Entry) (text : Bytes) : Type 0 where
   pub numbers : List ℕ
   pub by_path : AreByPath run.graph.nodes (IsUnsupportedIn run opening) numbers
-  pub is_text : text ≡ flat_map (cause_line run) numbers
+  pub is_text : text ≡ flat_map (cause_line run.graph) numbers
 
 -- the text has these lines where a root was not realised, and else nothing
 abbrev pub IsCauseText : Status → RunOver → (opening : List Entry) → (text : Bytes) → Type 0

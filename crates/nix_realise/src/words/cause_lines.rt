@@ -49,7 +49,7 @@ fn lines_of_refused(
     let marks = refused_marks(alloc, plan, opening, system)?;
     let refused = marked_by_path(alloc, plan, &marks)?;
     let mut lines = Vec::new(alloc);
-    write_causes(plan, system, &refused, &mut lines)?;
+    write_causes(plan, &refused, &mut lines)?;
     Ok(lines)
 }
 
@@ -81,22 +81,16 @@ fn is_refused_so(wanted: bool, standing: Precondition) -> bool
 }
 
 // Adds the lines of these derivations, which are refused so.
-fn write_causes(
-    plan: &Plan,
-    system: &System,
-    refused: &[Listed<'_>],
-    out: &mut Vec<u8>,
-) -> Result<(), AllocError>
+fn write_causes(plan: &Plan, refused: &[Listed<'_>], out: &mut Vec<u8>) -> Result<(), AllocError>
     requires { AreWithin (length plan.now.nodes) refused.now }
     ensures { OnOk result (out.new.items ≡ out.old.items ++ flat_map
-        (λ (l : Listed). cause_line (record { graph = plan.now; system = system.now }) l.number)
-        refused.now) }
+        (λ (l : Listed). cause_line plan.now l.number) refused.now) }
 {
     'refused: for one in refused {
         let profile = plan.profile();
         let (drv, cause) = (
             plan.path(one.number),
-            cause_of(profile, system, plan.drv(one.number)),
+            cause_of(profile, plan.drv(one.number)),
         );
         write_cause(profile, drv, cause, out)?;
     }
@@ -119,14 +113,13 @@ fn write_cause(
 }
 
 // Why a derivation is `Unsupported` under a profile.
-fn cause_of<'a>(profile: Profile, system: &System, drv: &'a Derivation) -> &'a [u8]
-    ensures { result.now ≡ cause_of profile system.now drv.now }
+fn cause_of(profile: Profile, drv: &Derivation) -> &[u8]
+    ensures { result.now ≡ cause_of profile drv.now }
 {
     match profile {
         Profile::Plain if drv.builder().starts_with(b"builtin:") => drv.builder(),
         Profile::Plain => first_left_out(b"r:sha256", drv.env()),
-        Profile::Nix if system.lacks_program(drv) => drv.builder(),
-        Profile::Nix => b"__json",
+        Profile::Nix => drv.builder(),
     }
 }
 

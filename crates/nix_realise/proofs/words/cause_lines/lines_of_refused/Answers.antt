@@ -1,5 +1,4 @@
 use Rattle.std.proofs.Common.{length, subst}
-use Rattle.run_states.specs.Runs.{Run}
 use Rattle.run_report.specs.Listing.{IsMarked, numbers_of}
 use Rattle.run_report.specs.Reports.{AreByPath}
 use Rattle.nix_realise.specs.CauseLines.{cause_line}
@@ -8,7 +7,6 @@ use Rattle.nix_realise.proofs.words.cause_lines.lines_of_refused.Goals as goal
 
 pub returns : goal.returns
 returns c =
-    let run : Run = record { graph = c.args.plan.now; system = c.args.system.now } in
     let nodes = c.args.plan.now.nodes in
     let numbers = numbers_of c.in_ok-refused.refused.items in
     let marked = subst (λ marks. AreByPath nodes (IsMarked marks (length nodes)) numbers)
@@ -21,6 +19,6 @@ returns c =
         );
         rising = marked.rising;
       };
-      is_text = lines_by_number (cause_line run) c.in_ok-refused.refused.items _ _
+      is_text = lines_by_number (cause_line c.args.plan.now) c.in_ok-refused.refused.items _ _
           c.new-lines.ensures.items (rw c.deref-2.ensures.value at c.in_ok-write_causes.ensures);
     }
