@@ -13,7 +13,7 @@ use Rattle.drv_graph.specs.PlanNodes.{output_paths_of}
 use Rattle.drv_graph.specs.Plans.{Graph}
 use Rattle.valid_table.specs.Entries.{registered, paths_registered as registered_paths}
 use Rattle.valid_table.specs.declared.entry.Entry.{Entry}
-use Rattle.run_states.specs.Structured.{asks_for_checks, have_checks, listed_features}
+use Rattle.run_states.specs.Structured.{listed_features}
 use Rattle.run_states.specs.Systems.{Platform, first_missing, is_builtin, lacks_program, missing_feature}
 use Rattle.run_states.specs.States.{Rows, phase_of, state}
 use Rattle.drv_graph.specs.Twins.{are_twins_at}
@@ -76,11 +76,10 @@ abbrev pub is_for : Terms → Drv → Bool
 is_for terms drv = is_for_under terms.profile terms.system drv
 
 -- whether a derivation asks for what is left out: under `plain` a builtin builder, one of those
--- keys, or the hash of a whole tree; under `nix` a builtin builder for which there is no program,
--- or checks in structured attributes
+-- keys, or the hash of a whole tree; under `nix` a builtin builder for which there is no program
 abbrev pub is_unsupported_under : Profile → Platform → Drv → Bool
 is_unsupported_under Plain system drv = is_builtin drv || has_left_out drv || has_tree drv
-is_unsupported_under Nix system drv = lacks_program system drv || asks_for_checks drv
+is_unsupported_under Nix system drv = lacks_program system drv
 
 -- whether a derivation asks a run for what is left out
 abbrev pub is_unsupported : Terms → Drv → Bool
@@ -116,8 +115,7 @@ demand_cause profile system drv =
 -- the same under `nix` of a derivation with structured attributes, where its builder is supported
 abbrev pub structured_cause : Platform → Option Members → Option Refusal
 structured_cause system attributes =
-    or_else (if have_checks attributes then Some Unsupported else None)
-    (cause_at MissingFeature (first_missing system (listed_features attributes)))
+    cause_at MissingFeature (first_missing system (listed_features attributes))
 
 -- the first cause for which a derivation can't be begun, after these entries: another system,
 -- something left out, a feature that the system doesn't offer, an output that is valid while

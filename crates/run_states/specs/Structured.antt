@@ -1,7 +1,6 @@
 -- Structured attributes of a derivation (Nix manual, "Advanced Attributes",
 -- `__structuredAttrs`).
-use Rattle.std.specs.Prelude.{Bool, Option, Some, None, List, [], codes, find, if◌then◌else◌, option_and_then, option_map}
-use Rattle.std.specs.Option.{is_some}
+use Rattle.std.specs.Prelude.{Option, Some, None, List, [], codes, find, if◌then◌else◌, option_and_then, option_map}
 use Rattle.std.specs.Str.{is_utf8}
 use Rattle.serde_json.specs.Data.{Members}
 use Rattle.serde_json.specs.Find.{get_member}
@@ -9,7 +8,7 @@ use Rattle.nix_names.specs.Bytes.{Bytes, Name}
 use Rattle.nix_names.specs.Names.{same_bytes}
 use Rattle.nix_drv.specs.Derivation.{Drv, EnvEntry}
 use Rattle.structured_attrs.specs.Reading.{attributes_of}
-use Rattle.structured_attrs.specs.Strings.{array_texts, object_at}
+use Rattle.structured_attrs.specs.Strings.{array_texts}
 
 -- the value of the first entry of a derivation's environment that has a key, where there is one
 abbrev pub value_of : (key : Name) → Drv → Option Bytes
@@ -23,18 +22,6 @@ json_of drv = value_of (codes "__json") drv
 -- the attributes that a text is: UTF-8, and an object of JSON
 unfoldable pub attributes_of_text : Bytes → Option Members
 attributes_of_text text = if is_utf8 text then attributes_of text else None
-
--- a derivation's structured attributes, where it has any and they can be read
-abbrev pub attributes_of_drv : Drv → Option Members
-attributes_of_drv drv = option_and_then attributes_of_text (json_of drv)
-
--- whether attributes, where they can be read, have an object `outputChecks`
-abbrev pub have_checks : Option Members → Bool
-have_checks attributes = is_some (option_and_then (object_at (codes "outputChecks")) attributes)
-
--- whether a derivation's structured attributes have an object `outputChecks`
-abbrev pub asks_for_checks : Drv → Bool
-asks_for_checks drv = have_checks (attributes_of_drv drv)
 
 -- the texts that there are, or none
 abbrev pub texts_or_none : Option (List Bytes) → List Bytes

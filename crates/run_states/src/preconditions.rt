@@ -140,9 +140,6 @@ fn structured_cause(
     let Some(attributes) = attributes_of(alloc, json)? else {
         return Ok(None);
     };
-    if attributes.has_checks() {
-        return Ok(Some(Refusal::Unsupported));
-    }
     let features = listed_features(alloc, &attributes)?;
     Ok(missing_listed(system, &features).map(Refusal::MissingFeature))
 }
