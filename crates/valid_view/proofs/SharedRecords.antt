@@ -28,9 +28,11 @@ reached_valid registrations from to (next ∷ steps) leads =
 record_of : (registrations : List Registration) (path : List ℕ) → IsValid registrations path
     → (info : PathInfo) × Registers registrations path info
 record_of registrations path valid =
-    let found = Contains-from_map (λ (r : Registration). r.path) registrations path valid in
-    (found.0.info, subst (λ (p : List ℕ). Contains registrations
-    (record { path = p; info = found.0.info })) found.2 found.1)
+    let found = Contains-from_map (λ (r : Registration). r.path) registrations path valid in (
+      found.0.info,
+      subst (λ (p : List ℕ). Contains registrations
+          (record { path = p; info = found.0.info })) found.2 found.1,
+    )
 
 -- the beginning of a list that may be shown may be shown
 showable_before : (common a : List Entry) → IsShowable a → IsPrefix common a → IsShowable common
