@@ -335,7 +335,8 @@ class RealiseUnderNix(RealiseByRunner):
 
 
 class RealiseOfGraphs(Realise):
-    """`realise` of what asks for graphs of references: the second by structured attributes."""
+    """`realise` of what asks for graphs of references: the second by structured attributes, with
+    checks."""
 
     name, has_calls, users = "realise of graphs", False, ("second", "third")
     options = (*Realise.options, *"--profile nix --build-dir BUILD".split())
@@ -351,6 +352,8 @@ class RealiseOfGraphs(Realise):
         path = "".join(self.paths.get("first", ()))
         graph = {"exportReferencesGraph": {"graph": [path]}, "impureEnvVars": ["X"]}
         graph |= {"requiredSystemFeatures": ["big-parallel"], "list": ["a", 1, True, None]}
+        checks = {"maxSize": 9999, "maxClosureSize": 99999, "disallowedRequisites": []}
+        graph["outputChecks"] = {"out": {**checks, "allowedReferences": ["out", path]}}
         if name == "second":
             return (("__json", json.dumps(graph)),)
         return (("exportReferencesGraph", f"graph {path}"),) if name == "third" else ()
