@@ -113,7 +113,21 @@ fn is_at(whole: &[WholeInput], place: usize, drv: &StorePath, paths: &[StorePath
         ↔ (option_map shown_whole (slice_get whole.now place) ≡ Some (drv.now, paths.now)) }
 {
     match whole.get(place) {
-        Some(input) => input.drv == *drv && input.outputs.as_slice() == paths,
+        Some(input) => is_same(input, drv, paths),
         None => false,
     }
+}
+
+// Whether a whole input has this path and these outputs.
+fn is_same(input: &WholeInput, drv: &StorePath, paths: &[StorePath]) -> bool
+    ensures { IsTrue result ↔ (shown_whole input.now ≡ (drv.now, paths.now)) }
+{
+    input.drv == *drv && are_same(&input.outputs, paths)
+}
+
+// Whether two lists have the same paths.
+fn are_same(left: &[StorePath], right: &[StorePath]) -> bool
+    ensures { IsTrue result ↔ (left.now ≡ right.now) }
+{
+    left == right
 }
