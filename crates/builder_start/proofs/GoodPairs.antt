@@ -28,6 +28,16 @@ bad_graph rows whole pair root is_root bad good =
     (subst (λ r. MayBeGraph rows whole (r ∷ []))
     (same_Some good.root root (sym good.is_root ∙ is_root)) good.may_be)
 
+pub good_pair : (rows : List Registration) (whole : List WholeInput) (pair : List ℕ × List ℕ)
+    (root : List ℕ) → IsTrue (is_file_name pair.0) → root_of rows pair.1 ≡ Some root
+    → MayBeGraph rows whole (root ∷ []) → IsGoodPair rows whole pair
+good_pair rows whole pair root named is_root may = record {
+  name = named;
+  root = root;
+  is_root = is_root;
+  may_be = may;
+}
+
 pub odd_tokens : (rows : List Registration) (whole : List WholeInput) (tokens : List (List ℕ)) → pairs_of tokens ≡ None
     → AskForBadGraphs rows whole tokens
 odd_tokens rows whole tokens odd pairs good = none-some pairs (sym odd ∙ good.even)

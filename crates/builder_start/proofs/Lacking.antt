@@ -15,9 +15,25 @@ use Rattle.build_outcome.specs.Verdicts.{outputs_of}
 use Rattle.build_outcome.specs.declared.job.Job.{Job}
 use Rattle.build_outcome.specs.declared.job.WholeInput.{WholeInput}
 use Rattle.build_outcome.proofs.RisingPlaces.{first_alike, first_used}
-use Rattle.builder_start.specs.Graphs.{IsGraph, IsInGraph}
-use Rattle.builder_start.specs.Structured.{AreNamable, IsFirstWithoutNar, LacksNar, texts_asked}
+use Rattle.builder_start.specs.Graphs.{IsGraph, IsInGraph, MayBeGraph}
+use Rattle.builder_start.specs.Structured.{AreGoodRequests, AreNamable, IsFirstWithoutNar, LacksNar, texts_asked}
 use Rattle.builder_start.proofs.Finds.{find_first, find_none}
+
+-- ---- what may be asked for
+
+pub requests_good : (rows : List Registration) (whole : List WholeInput)
+    (asked : List (List ℕ × List (List ℕ))) (roots : List (List ℕ)) → roots ≡ texts_asked asked
+    → All (IsValid rows) roots → MayBeGraph rows whole roots → AreGoodRequests rows whole asked
+requests_good rows whole asked roots same valid may = record {
+  valid = subst (All (IsValid rows)) same valid;
+  may_be = subst (MayBeGraph rows whole) same may;
+}
+
+pub requests_bad : (rows : List Registration) (whole : List WholeInput)
+    (asked : List (List ℕ × List (List ℕ))) (roots : List (List ℕ)) → roots ≡ texts_asked asked
+    → (MayBeGraph rows whole roots → ⊥) → AreGoodRequests rows whole asked → ⊥
+requests_bad rows whole asked roots same bad good =
+    bad (subst (MayBeGraph rows whole) (sym same) good.may_be)
 
 -- ---- one record for each path
 
