@@ -2,6 +2,7 @@ pub mod Archives
 pub mod CheckLists
 pub mod Cycles
 pub mod FixedDigests
+pub mod JobReadings
 pub mod Linkages
 pub mod OneVerdict
 pub mod Places
@@ -9,6 +10,7 @@ pub mod PlainRecords
 pub mod Reaches
 pub mod RisingPlaces
 pub mod RootPaths
+pub mod Sizes
 pub mod Specifiers
 pub mod TestLists
 pub mod TestedVerdicts
