@@ -1,6 +1,9 @@
 -- What the checks of a job are, by what is read of them.
-use Rattle.std.proofs.Common.{◌≡◌, ◌≢◌, ◌∙◌, ◌↔◌, ◌⊎◌, inl, inr, ⊎_elim, ℕ, zero, suc, List, [], ◌∷◌, ◌++◌, Option, Some, None, refl, sym, ap, subst}
-use Rattle.std.specs.Prelude.{All, Contains, IsUtf8, codes, option_and_then}
+use Rattle.std.proofs.Common.{◌≡◌, ◌≢◌, ◌∙◌, ◌↔◌, ◌⊎◌, inl, inr, ⊎_elim, ℕ, zero, suc, Bool, List, [], ◌∷◌, ◌++◌, Option, Some, None, refl, sym, ap, subst}
+use Rattle.std.specs.Prelude.{All, Contains, IsTrue, IsUtf8, codes, option_and_then, option_map}
+use Rattle.std.specs.Global.{Vec}
+use Rattle.std.specs.Option.{is_some}
+use Rattle.std.proofs.lemmas.Bool.{false≢true}
 use Rattle.std.specs.List.{AllZip, slice_get}
 use Rattle.std.proofs.lemmas.List.Elements.{All-contains}
 use Rattle.std.proofs.lemmas.Option.{none-some, same_Some}
@@ -19,7 +22,14 @@ use Rattle.build_outcome.specs.declared.checks.job_checks.JobChecks.{JobChecks}
 use Rattle.build_outcome.specs.declared.checks.job_checks.JobChecks.TheVariants.{Entries, Structured}
 use Rattle.build_outcome.specs.declared.job.Job.{Job}
 use Rattle.build_outcome.specs.declared.job.JobOutput.{JobOutput}
-use Rattle.build_outcome.specs.private.Reading.{HasBadChecks, list_said, of_output}
+use Rattle.build_outcome.specs.declared.reason.Reason.{Reason}
+use Rattle.build_outcome.specs.private.Reading.{HasBadChecks, IsRefusal, list_said, of_output}
+
+-- ---- refusals
+
+-- why nothing is read is so of what follows too
+pub refusal_follows : {A B : Type 0} (why : Reason) → (A → B) → IsRefusal A why → IsRefusal B why
+refusal_follows why f refused = ⊎_elim inl (λ h. inr (h.0, f h.1)) refused
 
 -- ---- two lists side by side
 
@@ -98,15 +108,31 @@ list_of_check AllowedRequisites said of are = are.allowed_requisites
 list_of_check DisallowedReferences said of are = are.disallowed_references
 list_of_check DisallowedRequisites said of are = are.disallowed_requisites
 
-pub list_structured : (job : Job) (all : JobChecks) (n : ℕ) (check : Check)
-    (text : List ℕ) → json_of job ≡ Some text → AreJobChecks job all
+list_structured : (job : Job) (all : Vec OutputChecks) (n : ℕ) (check : Check)
+    → AreJobChecks job (Structured all)
+    → option_and_then (λ (of : OutputChecks). list_said of check) (slice_get all.items n)
+    ≡ checks.list_of job n check
+list_structured job all n check (text, is, are) =
+    member_told list_of (key_of check) (λ (of : OutputChecks). list_said of check) refl
+    (list_of_check check) text job all.items n are
+    ∙ sym (ap (λ (o : Option (List ℕ)). list_under o job n check) is)
+
+pub list_read : (job : Job) (all : JobChecks) (structured : Vec OutputChecks) (n : ℕ)
+    (check : Check) → all ≡ Structured structured → AreJobChecks job all
     → option_and_then (λ (of : OutputChecks). list_said of check) (of_output all n)
     ≡ checks.list_of job n check
-list_structured job Entries n check text is are = absurd (none-some text (sym are ∙ is))
-list_structured job (Structured all) n check text is (text', is', are) =
-    member_told list_of (key_of check) (λ (of : OutputChecks). list_said of check) refl
-    (list_of_check check) text' job all.items n are
-    ∙ sym (ap (λ (o : Option (List ℕ)). list_under o job n check) is')
+list_read job all structured n check is are =
+    subst (λ (a : JobChecks). option_and_then (λ (of : OutputChecks). list_said of check)
+    (of_output a n) ≡ checks.list_of job n check) (sym is)
+    (list_structured job structured n check (subst (AreJobChecks job) is are))
+
+-- whether a list is there
+pub asked_told : {X Y : Type 0} (f : X → Y) (found : Option X) (list : Option Y) (there : Bool)
+    → there ≡ is_some found → option_map f found ≡ list → IsTrue there ↔ (list ≢ None)
+asked_told f None list there is same =
+    (λ yes. absurd (false≢true (sym is ∙ yes)), λ some. absurd (some (sym same)))
+asked_told f (Some x) list there is same =
+    (λ _ none. none-some (f x) (sym none ∙ sym same), λ _. is)
 
 -- ---- an output among its own requisites
 

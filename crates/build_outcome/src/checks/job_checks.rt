@@ -74,14 +74,20 @@ impl JobChecks {
     pub fn closure_limit(&self, n: usize) -> Option<u64>
         ensures { (job : _) → AreJobChecks job self.now → result ≡ closure_limit job n }
     {
-        self.of_output(n)?.max_closure_size
+        match self.of_output(n) {
+            Some(of) => of.max_closure_size,
+            None => None,
+        }
     }
 
     // The limit of the size of the output with this number, if there is one.
     pub(crate) fn size_limit(&self, n: usize) -> Option<u64>
         ensures { (job : _) → AreJobChecks job self.now → result ≡ size_limit job n }
     {
-        self.of_output(n)?.max_size
+        match self.of_output(n) {
+            Some(of) => of.max_size,
+            None => None,
+        }
     }
 
     // The output at `own`, where it doesn't count among its own requisites.

@@ -73,10 +73,10 @@ pub(crate) fn first_barred(
     requires used { IsRising used.now × All (Contains permitted.now) used.now }
     requires named { IsRising named.now }
     ensures { MatchOption result ((path : List ℕ) → Contains used.now path
-        → IsBarred named.now check (shown_path left_out) path → ⊥)
+        → IsBarred named.now check (shown_path left_out.entry) path → ⊥)
         (λ place. IsFirstPath permitted.now
         (λ path. Contains used.now path
-        × IsBarred named.now check (shown_path left_out) path) place) }
+        × IsBarred named.now check (shown_path left_out.entry) path) place) }
 {
     for path in used {
         if is_barred(named, check, left_out, path) {
@@ -95,14 +95,14 @@ fn is_barred(
     path: &StorePath,
 ) -> bool
     requires { IsRising named.now }
-    ensures { IsTrue result ↔ IsBarred named.now check (shown_path left_out) path.now }
+    ensures { IsTrue result ↔ IsBarred named.now check (shown_path left_out.entry) path.now }
 {
     bars(check, is_among(named, path), is_left_out(left_out, path))
 }
 
 // Whether a path is the one that is left out.
 fn is_left_out(left_out: Option<&StorePath>, path: &StorePath) -> bool
-    ensures { IsTrue result ↔ (shown_path left_out ≡ Some path.now) }
+    ensures { IsTrue result ↔ (shown_path left_out.entry ≡ Some path.now) }
 {
     match left_out {
         Some(own) => path == own,
