@@ -1,23 +1,32 @@
 -- The tests of sizes.
-use Rattle.std.proofs.Common.{◌≡◌, ◌∙◌, ◌↔◌, ◌⊎◌, inl, inr, ℕ, ◌<◌, ◌++◌, List, [], ◌∷◌, Some, None, length, map, refl, sym, ap, subst}
-use Rattle.std.specs.Prelude.{All, Contains, Err, zip}
+use Rattle.std.proofs.Common.{◌≡◌, ◌∙◌, ◌↔◌, ◌⊎◌, inl, inr, ℕ, ◌<◌, ◌++◌, List, [], ◌∷◌, Some, None, arith, length, refl, sym, ap, subst}
+use Rattle.std.specs.Prelude.{All, Contains, Err}
 use Rattle.std.specs.List.{slice_get}
+use Rattle.std.proofs.lemmas.List.{length-map}
 use Rattle.std.proofs.lemmas.Option.{none-some, same_Some}
-use Rattle.nix_names.proofs.Lists.{same_element}
+use Rattle.nix_names.proofs.Lists.{element_at, same_element}
 use Rattle.nix_names.proofs.RisingLists.{rising_same}
 use Rattle.drv_graph.specs.declared.profile.Profile.TheVariants.{Nix}
 use Rattle.valid_table.specs.PathInfos.{NarInfo, PathInfo}
 use Rattle.valid_table.specs.declared.entry.Registration.{Registration}
-use Rattle.build_outcome.specs.Checks.{AreRequisites, HaveClosures, IsClosureOf, IsClosurePast, IsFirstPath, IsPast, IsTestFault, IsUnmeasured, OfClosureSize, OfSize, closure_limit, nar_at, registration_of, size_limit, size_of_all, with_outputs}
+use Rattle.build_outcome.specs.Checks.{AreRequisites, HaveClosures, IsClosureOf, IsClosurePast, IsFirstPath, IsPast, IsTestFault, IsUnmeasured, OfClosureSize, OfSize, closure_limit, nar_at, size_limit, size_of_all, with_outputs}
 use Rattle.build_outcome.specs.Verdicts.{outputs_of}
 use Rattle.build_outcome.specs.declared.checks.closure.OutputClosure.{OutputClosure}
 use Rattle.build_outcome.specs.declared.job.Job.{Job}
+use Rattle.build_outcome.specs.declared.job.JobOutput.{JobOutput}
 use Rattle.build_outcome.specs.declared.reason.Reason.{Reason}
 use Rattle.build_outcome.specs.declared.reason.Reason.TheVariants.{PastMaxClosureSize, PastMaxSize, UnknownNar}
 use Rattle.build_outcome.specs.private.Testing.{IsPassed, IsTesting}
 use Rattle.build_outcome.proofs.RisingPlaces.{first_alike}
-use Rattle.build_outcome.proofs.Sizes.{same_nars, same_sizes}
+use Rattle.build_outcome.proofs.Sizes.{known, same_nars, same_sizes}
 use Rattle.build_outcome.proofs.TestLists.{all_none, all_one}
+
+-- an output stands at each number below the count
+pub output_at : (job : Job) (n : ℕ) → n < length job.outputs.items
+    → (own : List ℕ) × (slice_get (outputs_of job) n ≡ Some own)
+output_at job n low =
+    element_at (outputs_of job) n
+    (omega (arith, low, length-map job.outputs.items (λ (o : JobOutput). o.path)))
 
 module _ (job : Job) (permitted : List (List ℕ)) (infos : List PathInfo)
     (closures : List OutputClosure) where
@@ -100,10 +109,6 @@ module _ (job : Job) (permitted : List (List ℕ)) (infos : List PathInfo)
       let f = closure_fault registrations n why fault in
       none-some f.limit (sym none ∙ f.is))
 
-  -- the records of the outputs, at their paths
-  abbrev known : List Registration
-  known = map registration_of (zip (outputs_of job) infos)
-
   module _ (n limit : ℕ) (own : List ℕ) (closure : OutputClosure) (nix : job.profile ≡ Nix)
       (is : closure_limit job n ≡ Some limit) (at : slice_get (outputs_of job) n ≡ Some own)
       (given : slice_get closures n ≡ Some closure)
@@ -120,7 +125,7 @@ module _ (job : Job) (permitted : List (List ℕ)) (infos : List PathInfo)
     nars_alike : (registrations : List Registration)
         → HaveClosures registrations job infos closures → (path : List ℕ)
         → Contains closure.paths.items path
-        → nar_at (known ++ closure.records.items) path
+        → nar_at (known job infos ++ closure.records.items) path
         ≡ nar_at (with_outputs registrations job infos) path
     nars_alike registrations have path has =
         same_nars registrations job infos closure.paths.items closure.records.items count
@@ -130,7 +135,7 @@ module _ (job : Job) (permitted : List (List ℕ)) (infos : List PathInfo)
     unmeasured_alike : (registrations : List Registration)
         → HaveClosures registrations job infos closures → (path : List ℕ)
         → (Contains closure.paths.items path
-        × (nar_at (known ++ closure.records.items) path ≡ None))
+        × (nar_at (known job infos ++ closure.records.items) path ≡ None))
         ↔ IsUnmeasured registrations job infos own path
     unmeasured_alike registrations have path = (
       λ h. (
@@ -144,15 +149,15 @@ module _ (job : Job) (permitted : List (List ℕ)) (infos : List PathInfo)
 
     sizes_alike : (registrations : List Registration)
         → HaveClosures registrations job infos closures
-        → size_of_all (known ++ closure.records.items) closure.paths.items
+        → size_of_all (known job infos ++ closure.records.items) closure.paths.items
         ≡ size_of_all (with_outputs registrations job infos) closure.paths.items
     sizes_alike registrations have =
-        same_sizes (known ++ closure.records.items) (with_outputs registrations job infos)
+        same_sizes (known job infos ++ closure.records.items) (with_outputs registrations job infos)
         closure.paths.items (nars_alike registrations have)
 
     pub closure_within : ((path : List ℕ) → Contains closure.paths.items path
-        → nar_at (known ++ closure.records.items) path ≡ None → ⊥)
-        → (limit < size_of_all (known ++ closure.records.items) closure.paths.items → ⊥)
+        → nar_at (known job infos ++ closure.records.items) path ≡ None → ⊥)
+        → (limit < size_of_all (known job infos ++ closure.records.items) closure.paths.items → ⊥)
         → All (IsPassed job permitted infos closures) (OfClosureSize n ∷ [])
     closure_within measured within = all_one (IsPassed job permitted infos closures)
         (OfClosureSize n) passed
@@ -194,7 +199,7 @@ module _ (job : Job) (permitted : List (List ℕ)) (infos : List PathInfo)
 
     pub closure_unmeasured : (place : ℕ)
         → IsFirstPath permitted (λ path. Contains closure.paths.items path
-        × (nar_at (known ++ closure.records.items) path ≡ None)) place
+        × (nar_at (known job infos ++ closure.records.items) path ≡ None)) place
         → IsTesting job permitted infos closures (OfClosureSize n ∷ []) (Err (UnknownNar place))
     closure_unmeasured place first = inr (
       OfClosureSize n,
@@ -210,7 +215,7 @@ module _ (job : Job) (permitted : List (List ℕ)) (infos : List PathInfo)
           is,
           first_alike permitted
               (λ path. Contains closure.paths.items path
-              × (nar_at (known ++ closure.records.items) path ≡ None))
+              × (nar_at (known job infos ++ closure.records.items) path ≡ None))
               (IsUnmeasured registrations job infos own) place
               (unmeasured_alike registrations have) first,
         );
@@ -218,8 +223,8 @@ module _ (job : Job) (permitted : List (List ℕ)) (infos : List PathInfo)
     )
 
     pub closure_past : ((path : List ℕ) → Contains closure.paths.items path
-        → nar_at (known ++ closure.records.items) path ≡ None → ⊥)
-        → limit < size_of_all (known ++ closure.records.items) closure.paths.items
+        → nar_at (known job infos ++ closure.records.items) path ≡ None → ⊥)
+        → limit < size_of_all (known job infos ++ closure.records.items) closure.paths.items
         → IsTesting job permitted infos closures (OfClosureSize n ∷ [])
         (Err (PastMaxClosureSize n))
     closure_past measured past = inr (

@@ -67,7 +67,7 @@ module _ (kept : List ℕ → Option (Option NarInfo)) (known others : List Regi
 -- ---- archives that are kept
 
 -- a map has one more entry
-abbrev Sets : (before after : List ℕ → Option (Option NarInfo)) → (path : List ℕ)
+abbrev pub Sets : (before after : List ℕ → Option (Option NarInfo)) → (path : List ℕ)
     → Option NarInfo → Type 0
 Sets before after path nar = (after path ≡ Some nar)
     × ((other : List ℕ) → other ≢ path → after other ≡ before other)
@@ -98,11 +98,20 @@ apart_paths a b ne = by (pointwise nat_eq a b) refl
     by true e = absurd (ne (equal_from_eq a b e))
     by false e = refl
 
-pub kept_set : {S : Type 0} (before after : IndexMap (List ℕ) (Option NarInfo) S)
+kept_set_at : {S : Type 0} (before after : IndexMap (List ℕ) (Option NarInfo) S)
     (path : List ℕ) (nar : Option NarInfo)
     → Updates (pointwise nat_eq) before after path (Some nar)
     → Sets (kept_nar before) (kept_nar after) path nar
-kept_set before after path nar updates = search (rules, apart_paths)
+kept_set_at before after path nar updates = search (rules, apart_paths)
+
+pub kept_set : {S : Type 0} (before after : IndexMap (List ℕ) (Option NarInfo) S)
+    (key path : List ℕ) (kept nar : Option NarInfo) → key ≡ path → kept ≡ nar
+    → Updates (pointwise nat_eq) before after key (Some kept)
+    → Sets (kept_nar before) (kept_nar after) path nar
+kept_set before after key path kept nar same is updates =
+    subst (λ (p : List ℕ). Sets (kept_nar before) (kept_nar after) p nar) same
+    (subst (λ (x : Option NarInfo). Sets (kept_nar before) (kept_nar after) key x) is
+    (kept_set_at before after key kept updates))
 
 -- the outputs with their records, from one on
 pub own_from : (paths : List (List ℕ)) (infos : List PathInfo) (n : ℕ) (path : List ℕ)
@@ -240,7 +249,7 @@ paths_known (p ∷ paths) (i ∷ infos) same =
 
 module _ (job : Job) (infos : List PathInfo) where
   -- the records of the outputs, at their paths
-  abbrev known : List Registration
+  abbrev pub known : List Registration
   known = map registration_of (zip (outputs_of job) infos)
 
   output_known : (path : List ℕ) → length infos ≡ length job.outputs.items

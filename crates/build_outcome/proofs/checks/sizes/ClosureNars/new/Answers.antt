@@ -1,4 +1,4 @@
-use Rattle.std.proofs.Common.{◌≡◌, ◌+◌, ◌-◌, ◌<◌, ◌≤◌, arith, drop, length, map, refl, subst, suc, sym}
+use Rattle.std.proofs.Common.{◌≡◌, ◌∙◌, ◌-◌, ◌<◌, ap, arith, drop, length, map, refl, subst, suc, sym}
 use Rattle.std.specs.Prelude.{zip}
 use Rattle.std.proofs.lemmas.List.{length-map}
 use Rattle.std.proofs.lemmas.Option.{slice_get_read}
@@ -41,7 +41,11 @@ loop-n-preserved c =
           (subst (λ k. AreNars (kept_nar c.loop-n.own)
           (drop k (map registration_of (zip paths c.args.records.now)))) (sym same)
           c.loop-n.invariant.nars)
-          (kept_set c.loop-n.own c.insert.new.self _ _ ?));
+          (kept_set c.loop-n.own c.insert.new.self _ _ _ _
+          (c.in_ok-copy.ensures.same
+          ∙ ap (λ (o : JobOutput). o.path) (sym c.index-outputs-n.is))
+          c.nar.ensures
+          c.in_ok-insert.ensures.updates));
     }
 
 pub returns-clause-own : goal.returns-clause-own
