@@ -93,11 +93,19 @@ process_build/src/observe/time.rt micros_of | unwrap_or ( u64 :: MAX )
 ref_scan/src/index.rt sieve_of | vec ! [ in alloc ; NONE ; slots ] # at most 1,048,576
 valid_view/src/reader.rt records_in | Err ( _ ) => Err ( ViewFault :: NoMemory )
     # the fault of a call whose only fault is AllocError
-builder_start/src/rows.rt graph | Err ( _ ) => Err ( AllocError ) ,
+builder_start/src/addresses.rt address_text
+    | to_base32 ( alloc , digest . bytes ( ) ) else { return Err ( AllocError ) ; }
+    # the only fault of the call is want of memory
+builder_start/src/rows.rt closure | Err ( _ ) => Err ( AllocError ) ,
     # the roots are valid, so the only fault of the call is want of memory
 builder_start/src/graphs.rt graph_of
     | paths_of ( alloc , rows , texts ) else { return Err ( AllocError ) ; }
     # the texts are paths of the records, so the only fault is want of memory
+builder_start/src/graphs.rt graph_of
+    | graph_from ( alloc , rows , whole , & roots ) else { return Err ( AllocError ) ; }
+    # the graph may be asked for, so the only fault is want of memory
+structured_attrs/src/checks.rt limit_of_float | n == u64 :: MAX # a double of 2^64 or more
+structured_attrs/src/checks.rt wrap | u64 :: MAX - ( n . unsigned_abs ( ) - 1 ) # 2^64 less a number
 structured_attrs/src/attributes.rt json_text | with_capacity ( alloc , 128 ) # room to begin with
 structured_attrs/src/decimal.rt float_text
     | if ! x . is_finite ( ) { return Err ( AllocError ) ; }
