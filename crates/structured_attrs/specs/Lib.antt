@@ -1,5 +1,6 @@
 -- What public contracts cite, and what that rests on.
 pub mod Attributes
+pub mod Checks
 pub mod FloatTexts
 pub mod Graphs
 pub mod JsonTexts

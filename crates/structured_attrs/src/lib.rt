@@ -6,6 +6,7 @@
 //! | `outputs` | the outputs among them |
 //! | `graph` | graphs of references among them |
 //! | `strings` | lists of strings among them |
+//! | `checks` | what `outputChecks` says of an output |
 //! | `registrations` | the text of a file of exportReferencesGraph |
 //! | `reading` | from a text of JSON to a value |
 //! | `number` | the number of a numeral of JSON |
@@ -16,6 +17,7 @@
 #![tactic(auto)]
 
 mod attributes;
+mod checks;
 mod decimal;
 mod fault;
 mod graph;
@@ -28,6 +30,7 @@ mod strings;
 mod writing;
 
 pub use attributes::Attributes;
+pub use checks::OutputChecks;
 pub use decimal::Point;
 pub use fault::AttributesFault;
 pub use graph::{GraphRequest, GraphRow};
