@@ -16,6 +16,15 @@ pub struct JobOutput {
     pub path: StorePath,
 }
 
+/// An input derivation of which each output is named.
+#[derive(Debug, Drop)]
+pub struct WholeInput {
+    /// The derivation's file.
+    pub drv: StorePath,
+    /// The paths of all its outputs, by name.
+    pub outputs: Vec<StorePath>,
+}
+
 /// What is to be built for one derivation.
 #[derive(Debug, Drop)]
 pub struct Job {
@@ -35,6 +44,9 @@ pub struct Job {
     pub kind: Kind,
     /// The paths that it is built from: the sources, then each input's named outputs.
     pub seeds: Vec<StorePath>,
+    /// Under `nix`, the input derivations of which each output is named, by path; none under
+    /// `plain`.
+    pub whole_inputs: Vec<WholeInput>,
 }
 
 /// What lies at an output's path.

@@ -39,7 +39,7 @@ pub use checks::roots::{OutputRoots, output_roots};
 pub use checks::testing::test_outputs;
 pub use checks::tokens::{is_space, tokens_of};
 pub use cycle::is_cyclic;
-pub use job::{Answer, Job, JobOutput, LeftOutput};
+pub use job::{Answer, Job, JobOutput, LeftOutput, WholeInput};
 pub use prepared::{AttributeTexts, Prepared, PreparedFile};
 pub use reason::Reason;
 pub use verdict::examine;

@@ -12,7 +12,7 @@ use Rattle.valid_table.specs.Closure.{IsClosure, LeadsByReferences}
 use Rattle.valid_table.specs.Entries.{paths_registered}
 use Rattle.valid_table.specs.Valid.{IsValid}
 use Rattle.valid_table.specs.declared.entry.Registration.{Registration}
-use Rattle.builder_start.specs.Graphs.{IsGraph, ReachNoDrv}
+use Rattle.builder_start.specs.Graphs.{AreClosureRecords}
 
 -- ---- closures
 
@@ -31,84 +31,15 @@ closure_valid rows roots all is =
     valid_at_end rows h.0 path h.2.0 h.2.1)
     all (All-contains_itself all)
 
--- records that are found for the paths of a closure are its graph
-pub graph_found : (rows : List Registration) (roots paths : List (List ℕ)) (graph : List Registration)
-    → IsClosure rows roots paths → paths_registered graph ≡ paths → All (Contains rows) graph
-    → IsGraph rows roots graph
-graph_found rows roots paths graph closure is known = record {
-  closure = subst (IsClosure rows roots) (sym is) closure;
-  known = known;
-}
-
-pub graph_answered : (rows known : List Registration) (roots paths : List (List ℕ))
+-- records that are found for the paths of a closure are its records
+pub records_answered : (rows known : List Registration) (roots paths : List (List ℕ))
     (result : Result (Vec Registration) AllocError)
     → IfOk result (λ found. paths_registered found.items ≡ paths)
     → IfOk result (λ found. All (Contains known) found.items) → known ≡ rows
-    → IsClosure known roots paths → IfOk result (λ graph. IsGraph rows roots graph.items)
-graph_answered rows known roots paths (Ok found) is all same closure =
-    graph_found rows roots paths found.items
-    (subst (λ rs. IsClosure rs roots paths) same closure) is
-    (subst (λ rs. All (Contains rs) found.items) same all)
-graph_answered rows known roots paths (Err error) is all same closure = tt
-
--- ---- derivations' files
-
-any_passes : {X : Type 0} (p : X → Bool) (xs : List X) → list_any p xs ≡ true
-    → (x : X) × Contains xs x × (p x ≡ true)
-any_passes {X} p [] is = absurd (false≢true is)
-any_passes {X} p (x ∷ xs) is = at (p x) refl is (any_passes p xs)
-  where
-    at : (b : Bool) → p x ≡ b → (b || list_any p xs) ≡ true
-        → (list_any p xs ≡ true → (z : X) × Contains xs z × (p z ≡ true))
-        → (z : X) × Contains (x ∷ xs) z × (p z ≡ true)
-    at true here found go = (x, Contains-first x xs, here)
-    at false fails found go =
-        let later = go found in
-        (later.0, Contains-later x xs later.0 later.1, later.2)
-
-passes_any : {X : Type 0} (p : X → Bool) (xs : List X) (x : X) → Contains xs x → p x ≡ true
-    → list_any p xs ≡ true
-passes_any p [] x has passes = absurd (Contains-nothing x has)
-passes_any p (y ∷ xs) x has passes =
-    ⊎_elim
-    (λ same. ap (λ b. b || list_any p xs) (ap p same ∙ passes))
-    (λ later. ap (λ b. p y || b) (passes_any p xs x later passes) ∙ always (p y))
-    (Contains-cons_cases y xs x has)
-  where
-    always : (b : Bool) → (b || true) ≡ true
-    always true = refl
-    always false = refl
-
--- whether some record's path is that of a derivation's file
-pub drv_told : (graph : List Registration) (b : Bool)
-    → b ≡ list_any (λ (r : Registration). is_drv_name (name_of r.path)) graph
-    → IsTrue b ↔ ((path : List ℕ) × Contains (paths_registered graph) path × IsDrvPath path)
-drv_told graph b is = (
-  λ yes.
-      let found = any_passes (λ (r : Registration). is_drv_name (name_of r.path)) graph (sym is ∙ yes) in (
-        found.0.path,
-        Contains-map (λ (r : Registration). r.path) graph found.0 found.1,
-        found.2,
-      ),
-  λ some.
-      let row = Contains-from_map (λ (r : Registration). r.path) graph some.0 some.1 in
-      is ∙ passes_any (λ (r : Registration). is_drv_name (name_of r.path)) graph row.0 row.1
-      (subst IsDrvPath (sym row.2) some.2),
-)
-
--- a graph without a derivation's file is of paths that reach none
-pub no_drv_reached : (rows : List Registration) (roots : List (List ℕ)) (graph : List Registration)
-    → IsGraph rows roots graph
-    → (((path : List ℕ) × Contains (paths_registered graph) path × IsDrvPath path) → ⊥)
-    → ReachNoDrv rows roots
-no_drv_reached rows roots graph is none root path has reaches drv =
-    none (path, (is.closure.each path).1 (root, has, reaches), drv)
-
--- and one with such a file is not
-pub drv_reached : (rows : List Registration) (roots : List (List ℕ)) (graph : List Registration)
-    → IsGraph rows roots graph
-    → ((path : List ℕ) × Contains (paths_registered graph) path × IsDrvPath path)
-    → ReachNoDrv rows roots → ⊥
-drv_reached rows roots graph is some none =
-    let from = (is.closure.each some.0).0 some.1 in
-    none from.0 some.0 from.1 from.2 some.2
+    → IsClosure rows roots paths
+    → IfOk result (λ found. AreClosureRecords rows roots found.items)
+records_answered rows known roots paths (Ok found) is all same closure = record {
+  closure = subst (IsClosure rows roots) (sym is) closure;
+  known = subst (λ rs. All (Contains rs) found.items) same all;
+}
+records_answered rows known roots paths (Err error) is all same closure = tt

@@ -3,63 +3,57 @@ use Rattle.std.proofs.Common.{◌≡◌, ◌∙◌, ℕ, List, [], ◌∷◌, Op
 use Rattle.std.specs.Global.{Vec}
 use Rattle.std.proofs.lemmas.Bool.{false≢true}
 use Rattle.std.proofs.lemmas.Option.{none-some, same_Some}
-use Rattle.nix_names.specs.StorePaths.{IsDrvPath}
-use Rattle.valid_table.specs.Entries.{paths_registered}
 use Rattle.valid_table.specs.declared.entry.Registration.{Registration}
+use Rattle.build_outcome.specs.declared.job.WholeInput.{WholeInput}
 use Rattle.build_outcome.specs.declared.prepared.PreparedFile.{PreparedFile}
 use Rattle.build_outcome.specs.declared.reason.Reason.{Reason}
 use Rattle.build_outcome.specs.declared.reason.Reason.TheVariants.{BadGraph}
 use Rattle.builder_start.specs.Entries.{AreGoodPairs, AskForBadGraphs, IsGoodPair, is_file_name, pairs_of, root_of}
-use Rattle.builder_start.specs.Graphs.{IsGraph, ReachNoDrv}
+use Rattle.builder_start.specs.Graphs.{MayBeGraph}
 use Rattle.builder_start.specs.private.Shown.{IsWhy}
-use Rattle.builder_start.proofs.Closures.{drv_reached, no_drv_reached}
 
-pub bad_name : (rows : List Registration) (pair : List ℕ × List ℕ) → is_file_name pair.0 ≡ false
-    → IsGoodPair rows pair → ⊥
-bad_name rows pair bad good = false≢true (sym bad ∙ good.name)
+pub bad_name : (rows : List Registration) (whole : List WholeInput) (pair : List ℕ × List ℕ) → is_file_name pair.0 ≡ false
+    → IsGoodPair rows whole pair → ⊥
+bad_name rows whole pair bad good = false≢true (sym bad ∙ good.name)
 
-pub bad_root : (rows : List Registration) (pair : List ℕ × List ℕ) → root_of rows pair.1 ≡ None
-    → IsGoodPair rows pair → ⊥
-bad_root rows pair bad good = none-some good.root (sym bad ∙ good.is_root)
+pub bad_root : (rows : List Registration) (whole : List WholeInput) (pair : List ℕ × List ℕ) → root_of rows pair.1 ≡ None
+    → IsGoodPair rows whole pair → ⊥
+bad_root rows whole pair bad good = none-some good.root (sym bad ∙ good.is_root)
 
-pub bad_drv : (rows : List Registration) (pair : List ℕ × List ℕ) (root : List ℕ)
-    (graph : List Registration) → root_of rows pair.1 ≡ Some root
-    → IsGraph rows (root ∷ []) graph
-    → ((path : List ℕ) × Contains (paths_registered graph) path × IsDrvPath path)
-    → IsGoodPair rows pair → ⊥
-bad_drv rows pair root graph is_root is_graph some good =
-    drv_reached rows (root ∷ []) graph is_graph some
-    (subst (λ r. ReachNoDrv rows (r ∷ [])) (same_Some good.root root (sym good.is_root ∙ is_root))
-    good.no_drv)
+pub bad_graph : (rows : List Registration) (whole : List WholeInput) (pair : List ℕ × List ℕ)
+    (root : List ℕ) → root_of rows pair.1 ≡ Some root
+    → (MayBeGraph rows whole (root ∷ []) → ⊥) → IsGoodPair rows whole pair → ⊥
+bad_graph rows whole pair root is_root bad good =
+    bad
+    (subst (λ r. MayBeGraph rows whole (r ∷ []))
+    (same_Some good.root root (sym good.is_root ∙ is_root)) good.may_be)
 
-pub good_pair : (rows : List Registration) (pair : List ℕ × List ℕ) (root : List ℕ)
-    (graph : List Registration) → IsTrue (is_file_name pair.0) → root_of rows pair.1 ≡ Some root
-    → IsGraph rows (root ∷ []) graph
-    → (((path : List ℕ) × Contains (paths_registered graph) path × IsDrvPath path) → ⊥)
-    → IsGoodPair rows pair
-good_pair rows pair root graph named is_root is_graph none = record {
+pub good_pair : (rows : List Registration) (whole : List WholeInput) (pair : List ℕ × List ℕ)
+    (root : List ℕ) → IsTrue (is_file_name pair.0) → root_of rows pair.1 ≡ Some root
+    → MayBeGraph rows whole (root ∷ []) → IsGoodPair rows whole pair
+good_pair rows whole pair root named is_root may = record {
   name = named;
   root = root;
   is_root = is_root;
-  no_drv = no_drv_reached rows (root ∷ []) graph is_graph none;
+  may_be = may;
 }
 
-pub odd_tokens : (rows : List Registration) (tokens : List (List ℕ)) → pairs_of tokens ≡ None
-    → AskForBadGraphs rows tokens
-odd_tokens rows tokens odd pairs good = none-some pairs (sym odd ∙ good.even)
+pub odd_tokens : (rows : List Registration) (whole : List WholeInput) (tokens : List (List ℕ)) → pairs_of tokens ≡ None
+    → AskForBadGraphs rows whole tokens
+odd_tokens rows whole tokens odd pairs good = none-some pairs (sym odd ∙ good.even)
 
 -- the pairs are not all good, so the tokens ask for what they may not
-pub bad_tokens : (rows : List Registration) (tokens : List (List ℕ))
+pub bad_tokens : (rows : List Registration) (whole : List WholeInput) (tokens : List (List ℕ))
     (pairs : List (List ℕ × List ℕ)) (result : Result (Vec PreparedFile) Reason)
     → pairs_of tokens ≡ Some pairs
-    → IfErr result (IsWhy BadGraph (All (IsGoodPair rows) pairs → ⊥))
-    → IfErr result (IsWhy BadGraph (AskForBadGraphs rows tokens))
-bad_tokens rows tokens pairs (Ok files) are bad = tt
-bad_tokens rows tokens pairs (Err reason) are bad =
+    → IfErr result (IsWhy BadGraph (All (IsGoodPair rows whole) pairs → ⊥))
+    → IfErr result (IsWhy BadGraph (AskForBadGraphs rows whole tokens))
+bad_tokens rows whole tokens pairs (Ok files) are bad = tt
+bad_tokens rows whole tokens pairs (Err reason) are bad =
     ⊎_elim (λ none. inl none)
     (λ is. inr (
       is.0,
       λ others good. is.1
-          (subst (All (IsGoodPair rows)) (same_Some others pairs (sym good.even ∙ are)) good.each),
+          (subst (All (IsGoodPair rows whole)) (same_Some others pairs (sym good.even ∙ are)) good.each),
     ))
     bad

@@ -13,34 +13,27 @@ use Rattle.valid_table.specs.declared.entry.Registration.{Registration}
 use Rattle.valid_table.proofs.Following.{one_info}
 use Rattle.build_outcome.specs.Verdicts.{outputs_of}
 use Rattle.build_outcome.specs.declared.job.Job.{Job}
+use Rattle.build_outcome.specs.declared.job.WholeInput.{WholeInput}
 use Rattle.build_outcome.proofs.RisingPlaces.{first_alike, first_used}
-use Rattle.builder_start.specs.Graphs.{IsGraph}
+use Rattle.builder_start.specs.Graphs.{IsGraph, IsInGraph, MayBeGraph}
 use Rattle.builder_start.specs.Structured.{AreGoodRequests, AreNamable, IsFirstWithoutNar, LacksNar, texts_asked}
-use Rattle.builder_start.proofs.Closures.{drv_reached, no_drv_reached}
 use Rattle.builder_start.proofs.Finds.{find_first, find_none}
-use Rattle.nix_names.specs.StorePaths.{IsDrvPath}
 
 -- ---- what may be asked for
 
-pub requests_good : (rows : List Registration) (asked : List (List ℕ × List (List ℕ)))
-    (roots : List (List ℕ)) (graph : List Registration) → roots ≡ texts_asked asked
-    → All (IsValid rows) roots → IsGraph rows roots graph
-    → (((path : List ℕ) × Contains (paths_registered graph) path × IsDrvPath path) → ⊥)
-    → AreGoodRequests rows asked
-requests_good rows asked roots graph same valid is none = record {
+pub requests_good : (rows : List Registration) (whole : List WholeInput)
+    (asked : List (List ℕ × List (List ℕ))) (roots : List (List ℕ)) → roots ≡ texts_asked asked
+    → All (IsValid rows) roots → MayBeGraph rows whole roots → AreGoodRequests rows whole asked
+requests_good rows whole asked roots same valid may = record {
   valid = subst (All (IsValid rows)) same valid;
-  no_drv = no_drv_reached rows (texts_asked asked) graph
-      (subst (λ rs. IsGraph rows rs graph) same is) none;
+  may_be = subst (MayBeGraph rows whole) same may;
 }
 
-pub requests_bad : (rows : List Registration) (asked : List (List ℕ × List (List ℕ)))
-    (roots : List (List ℕ)) (graph : List Registration) → roots ≡ texts_asked asked
-    → IsGraph rows roots graph
-    → ((path : List ℕ) × Contains (paths_registered graph) path × IsDrvPath path)
-    → AreGoodRequests rows asked → ⊥
-requests_bad rows asked roots graph same is some good =
-    drv_reached rows (texts_asked asked) graph (subst (λ rs. IsGraph rows rs graph) same is) some
-    good.no_drv
+pub requests_bad : (rows : List Registration) (whole : List WholeInput)
+    (asked : List (List ℕ × List (List ℕ))) (roots : List (List ℕ)) → roots ≡ texts_asked asked
+    → (MayBeGraph rows whole roots → ⊥) → AreGoodRequests rows whole asked → ⊥
+requests_bad rows whole asked roots same bad good =
+    bad (subst (MayBeGraph rows whole) (sym same) good.may_be)
 
 -- ---- one record for each path
 
@@ -71,16 +64,14 @@ none_is None is = refl
 none_is (Some nar) is = absurd (false≢true is)
 
 -- a path without an archive is one of the graph's
-lacks_from : (rows : List Registration) (roots : List (List ℕ)) (graph : List Registration)
+lacks_from : (rows : List Registration) (whole : List WholeInput) (roots : List (List ℕ)) (graph : List Registration)
     (asked : List (List ℕ × List (List ℕ))) → IsRising (paths_registered rows)
-    → roots ≡ texts_asked asked → IsGraph rows roots graph → (path : List ℕ)
-    → LacksNar rows asked path → Contains (paths_registered graph) path × Lacks graph path
-lacks_from rows roots graph asked rising same is path lacks =
+    → roots ≡ texts_asked asked → IsGraph rows whole roots graph → (path : List ℕ)
+    → LacksNar rows whole asked path → Contains (paths_registered graph) path × Lacks graph path
+lacks_from rows whole roots graph asked rising same is path lacks =
     let row : Registration = lacks.0 in
-    let from = lacks.4 in
     let has : Contains (paths_registered graph) path =
-    (is.closure.each path).1
-    (from.0, subst (λ rs. Contains rs from.0) (sym same) from.1, from.2) in
+    (is.paths.each path).1 (subst (λ rs. IsInGraph rows whole rs path) (sym same) lacks.4) in
     let found = Contains-from_map (λ (r : Registration). r.path) graph path has in
     let one : found.0 ≡ row =
     one_row rows rising found.0 row
@@ -96,36 +87,35 @@ lacks_from rows roots graph asked rising same is path lacks =
     )
 
 -- and the other way round
-lacks_to : (rows : List Registration) (roots : List (List ℕ)) (graph : List Registration)
+lacks_to : (rows : List Registration) (whole : List WholeInput) (roots : List (List ℕ)) (graph : List Registration)
     (asked : List (List ℕ × List (List ℕ)))
-    → roots ≡ texts_asked asked → IsGraph rows roots graph → (path : List ℕ)
-    → Contains (paths_registered graph) path × Lacks graph path → LacksNar rows asked path
-lacks_to rows roots graph asked same is path h =
-    let lacks = h.1 in
-    let from = (is.closure.each path).0 h.0 in (
+    → roots ≡ texts_asked asked → IsGraph rows whole roots graph → (path : List ℕ)
+    → Contains (paths_registered graph) path × Lacks graph path → LacksNar rows whole asked path
+lacks_to rows whole roots graph asked same is path h =
+    let lacks = h.1 in (
       lacks.0,
       All-contains (Contains rows) graph lacks.0 is.known lacks.1,
       lacks.2,
       lacks.3,
-      (from.0, subst (λ rs. Contains rs from.0) same from.1, from.2),
+      subst (λ rs. IsInGraph rows whole rs path) same ((is.paths.each path).0 h.0),
     )
 
 -- where no record of the graph lacks its archive, no path does
-pub none_lacks : (rows : List Registration) (roots : List (List ℕ)) (graph : List Registration)
+pub none_lacks : (rows : List Registration) (whole : List WholeInput) (roots : List (List ℕ)) (graph : List Registration)
     (asked : List (List ℕ × List (List ℕ))) → IsRising (paths_registered rows)
-    → roots ≡ texts_asked asked → IsGraph rows roots graph
+    → roots ≡ texts_asked asked → IsGraph rows whole roots graph
     → find (λ (r : Registration). is_none r.info.nar) graph ≡ None
-    → (path : List ℕ) → LacksNar rows asked path → ⊥
-none_lacks rows roots graph asked rising same is none path lacks =
-    let l = (lacks_from rows roots graph asked rising same is path lacks).1 in
+    → (path : List ℕ) → LacksNar rows whole asked path → ⊥
+none_lacks rows whole roots graph asked rising same is none path lacks =
+    let l = (lacks_from rows whole roots graph asked rising same is path lacks).1 in
     find_none (λ (r : Registration). is_none r.info.nar) graph none l.0 l.1
     (ap is_none l.3)
 
 -- a record of a graph that is found has a valid path
-pub found_valid : (rows : List Registration) (roots : List (List ℕ)) (graph : List Registration)
-    (row : Registration) → IsGraph rows roots graph
+pub found_valid : (rows : List Registration) (whole : List WholeInput) (roots : List (List ℕ)) (graph : List Registration)
+    (row : Registration) → IsGraph rows whole roots graph
     → find (λ (r : Registration). is_none r.info.nar) graph ≡ Some row → IsValid rows row.path
-found_valid rows roots graph row is found =
+found_valid rows whole roots graph row is found =
     let first = find_first (λ (r : Registration). is_none r.info.nar) graph row found in
     let has : Contains graph row =
     subst (λ rs. Contains rs row) (sym first.parts)
@@ -150,7 +140,7 @@ front_get (y ∷ xs) ys (suc k) x low is = front_get xs ys k x (omega arith) is
 pub first_lacks : (rows : List Registration) (job : Job) (roots : List (List ℕ))
     (graph : List Registration)
     (asked : List (List ℕ × List (List ℕ))) (row : Registration) (place : ℕ)
-    → IsRising (paths_registered rows) → roots ≡ texts_asked asked → IsGraph rows roots graph
+    → IsRising (paths_registered rows) → roots ≡ texts_asked asked → IsGraph rows job.whole_inputs.items roots graph
     → find (λ (r : Registration). is_none r.info.nar) graph ≡ Some row
     → ((paths : List (List ℕ)) × AreNamable rows job paths × (slice_get paths place ≡ Some row.path))
     → IsFirstWithoutNar rows job asked place
@@ -165,13 +155,13 @@ first_lacks rows job roots graph asked row place rising same is found named =
       named.0,
       named.1,
       first_alike named.0 (λ p. Contains (paths_registered graph) p × Lacks graph p)
-          (LacksNar rows asked) place
+          (LacksNar rows job.whole_inputs.items asked) place
           (λ p. (
-            lacks_to rows roots graph asked same is p,
-            lacks_from rows roots graph asked rising same is p,
+            lacks_to rows job.whole_inputs.items roots graph asked same is p,
+            lacks_from rows job.whole_inputs.items roots graph asked rising same is p,
           ))
           (first_used named.0 (paths_registered graph) (Lacks graph) (length first.before) place
-          row.path named.1.rising is.closure.rising here named.2
+          row.path named.1.rising is.paths.rising here named.2
           (row, has, refl, none_is row.info.nar first.is)
           (earlier first.before first.after first.parts first.others)),
     )
@@ -186,7 +176,7 @@ first_lacks rows job roots graph asked row place rising same is found named =
         front_get before (row ∷ after) k source.0 low
         (subst (λ (rs : List Registration). slice_get rs k ≡ Some source.0) parts source.1) in
         let one : source.0 ≡ lacks.0 =
-        one_row graph is.closure.rising source.0 lacks.0
+        one_row graph is.paths.rising source.0 lacks.0
         (Contains-from_get graph k source.0 source.1) lacks.1 (source.2 ∙ sym lacks.2) in
         false≢true
         (sym (All-contains (λ (r : Registration). is_none r.info.nar ≡ false) before source.0 others

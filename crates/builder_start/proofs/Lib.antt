@@ -2,6 +2,7 @@ pub mod Closures
 pub mod Files
 pub mod Finds
 pub mod GoodPairs
+pub mod GraphStarts
 pub mod GraphsSet
 pub mod Lacking
 pub mod Names

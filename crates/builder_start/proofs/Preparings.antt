@@ -25,7 +25,7 @@ no_texts rows job text reason is untold =
     untold
 
 pub no_files : (rows : List Registration) (job : Job) (reason : Reason) → json_of job ≡ None
-    → IsWhy BadGraph (AskForBadGraphs rows (tokens_or_none (graphs_of job))) reason
+    → IsWhy BadGraph (AskForBadGraphs rows job.whole_inputs.items (tokens_or_none (graphs_of job))) reason
     → (reason ≡ OutOfMemory) ⊎ IsUnprepared rows job reason
 no_files rows job reason is why =
     ⊎_elim (λ none. inl none)

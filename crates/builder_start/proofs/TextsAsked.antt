@@ -4,16 +4,17 @@ use Rattle.std.proofs.lemmas.Grind.{flat_map-append}
 use Rattle.std.proofs.lemmas.List.{map-append, append-nil}
 use Rattle.std.proofs.lemmas.List.Elements.{All-append, All-contains, Contains-append_left, Contains-append_right}
 use Rattle.nix_names.proofs.Lists.{All-from_contains, Contains-cons_cases, Contains-map, Contains-middle, Contains-nothing, parts_at, taken_more}
-use Rattle.valid_table.specs.Closure.{IsClosure, Reaches}
 use Rattle.valid_table.specs.Entries.{paths_registered}
 use Rattle.valid_table.specs.Valid.{IsValid}
 use Rattle.valid_table.specs.declared.entry.Registration.{Registration}
 use Rattle.structured_attrs.specs.Graphs.{shown_request}
 use Rattle.structured_attrs.specs.declared.graph.GraphRequest.{GraphRequest}
 use Rattle.structured_attrs.specs.declared.graph.GraphRow.{GraphRow}
-use Rattle.builder_start.specs.Graphs.{IsGraph}
+use Rattle.build_outcome.specs.declared.job.WholeInput.{WholeInput}
+use Rattle.builder_start.specs.Graphs.{AreGraphPaths, IsGraph, IsInGraph}
 use Rattle.builder_start.specs.Structured.{IsGraphOf, IsRow, LacksNar, texts_asked}
 use Rattle.builder_start.specs.private.Shown.{texts_of}
+use Rattle.builder_start.proofs.GraphStarts.{in_more}
 
 -- a text of a request is asked for
 text_asked : (asked : List (List ℕ × List (List ℕ))) (request : List ℕ × List (List ℕ))
@@ -46,24 +47,30 @@ of_request P requests i request within at all =
     (text_asked (map shown_request requests) (shown_request request) text
     (read_there requests i request within at) has))
 
+-- the texts of a request are asked for
+pub texts_of_request : (requests : List GraphRequest) (i : ℕ) (request : GraphRequest)
+    → i < length requests → request ≡ get_or requests i request → (text : List ℕ)
+    → Contains (texts_of request.paths.items) text
+    → Contains (texts_asked (map shown_request requests)) text
+texts_of_request requests i request within at text has =
+    text_asked (map shown_request requests) (shown_request request) text
+    (read_there requests i request within at) has
+
 -- where no path lacks its archive, none of a request's does
-pub nars_of_request : (rows : List Registration) (requests : List GraphRequest) (i : ℕ)
-    (request : GraphRequest) → i < length requests → request ≡ get_or requests i request
-    → ((path : List ℕ) → LacksNar rows (map shown_request requests) path → ⊥)
-    → (root : List ℕ) (row : Registration) → Contains (texts_of request.paths.items) root
-    → Reaches rows root row.path → Contains rows row → row.info.nar ≢ None
-nars_of_request rows requests i request within at none root row has reaches known lacks =
+pub nars_of_request : (rows : List Registration) (whole : List WholeInput)
+    (requests : List GraphRequest) (i : ℕ) (request : GraphRequest) → i < length requests
+    → request ≡ get_or requests i request
+    → ((path : List ℕ) → LacksNar rows whole (map shown_request requests) path → ⊥)
+    → (row : Registration) → IsInGraph rows whole (texts_of request.paths.items) row.path
+    → Contains rows row → row.info.nar ≢ None
+nars_of_request rows whole requests i request within at none row is known lacks =
     none row.path (
       row,
       known,
       refl,
       lacks,
-      (
-        root,
-        text_asked (map shown_request requests) (shown_request request) root
-            (read_there requests i request within at) has,
-        reaches,
-      ),
+      in_more rows whole (texts_of request.paths.items) (texts_asked (map shown_request requests))
+          (texts_of_request requests i request within at) row.path is,
     )
 
 -- the texts of one request more
@@ -80,28 +87,29 @@ texts_more requests i request within at =
     ∙ ap (λ (ts : List (List ℕ)). texts_asked (map shown_request (take i requests)) ++ ts)
     (append-nil (texts_of request.paths.items))
 
--- each record of a closure has its archive
-pub graph_nars : (rows : List Registration) (roots texts : List (List ℕ))
-    (graph : List Registration) → roots ≡ texts → IsGraph rows roots graph
-    → ((root : List ℕ) (row : Registration) → Contains texts root
-    → Reaches rows root row.path → Contains rows row → row.info.nar ≢ None)
+-- each record of a graph has its archive
+pub graph_nars : (rows : List Registration) (whole : List WholeInput) (roots texts : List (List ℕ))
+    (graph : List Registration) → roots ≡ texts → IsGraph rows whole roots graph
+    → ((row : Registration) → IsInGraph rows whole texts row.path → Contains rows row
+    → row.info.nar ≢ None)
     → All (λ (row : Registration). row.info.nar ≢ None) graph
-graph_nars rows roots texts graph same is nars =
+graph_nars rows whole roots texts graph same is nars =
     All-from_contains (λ (row : Registration). row.info.nar ≢ None) graph
     (λ row has.
-    let from = (is.closure.each row.path).0
-    (Contains-map (λ (r : Registration). r.path) graph row has) in
-    nars from.0 row (subst (λ ts. Contains ts from.0) same from.1) from.2
+    nars row
+    (subst (λ ts. IsInGraph rows whole ts row.path) same
+    ((is.paths.each row.path).0 (Contains-map (λ (r : Registration). r.path) graph row has)))
     (All-contains (Contains rows) graph row is.known has))
 
 -- the rows of a request's graph
-pub graph_of_request : (rows : List Registration) (request : GraphRequest) (found : List GraphRow)
-    → IsClosure rows (texts_of request.paths.items)
+pub graph_of_request : (rows : List Registration) (whole : List WholeInput) (request : GraphRequest)
+    (found : List GraphRow)
+    → AreGraphPaths rows whole (texts_of request.paths.items)
     (map (λ (r : GraphRow). r.registration.path) found)
     → All (IsRow rows) found
-    → IsGraphOf rows (shown_request request) ((shown_request request).0, found)
-graph_of_request rows request found closure each = record {
+    → IsGraphOf rows whole (shown_request request) ((shown_request request).0, found)
+graph_of_request rows whole request found paths each = record {
   key = refl;
-  closure = closure;
+  paths = paths;
   each = each;
 }

@@ -45,10 +45,10 @@ outputs_alike (p ∷ paths) (o ∷ outputs) found same =
 
 pub texts_made : (rows : List Registration) (job : Job) (text : List ℕ) (given : Given)
     (before after : Members) (texts : AttributeTexts) (is : IsGiven job text given)
-    → AreGoodRequests rows (map shown_request given.requests.items)
+    → AreGoodRequests rows job.whole_inputs.items (map shown_request given.requests.items)
     → before ≡ put (codes "outputs") (outputs_data given.outputs.items) (attributes given.attributes)
     → ((graphs : List (List ℕ × List GraphRow))
-    × AllZip (IsGraphOf rows) (map shown_request given.requests.items) graphs
+    × AllZip (IsGraphOf rows job.whole_inputs.items) (map shown_request given.requests.items) graphs
     × (after ≡ with_graphs graphs before))
     → IsJsonText (object after) texts.json.items → texts.shell.items ≡ shell_text after
     → texts.impure ≡ given.impure
@@ -63,9 +63,9 @@ texts_made rows job text given before after texts is good outputs graphs json sh
     graphs.2 ∙ ap (with_graphs graphs.0) first in
     record {
       taken = is.taken;
-      good = subst (AreGoodRequests rows) is.requests good;
+      good = subst (AreGoodRequests rows job.whole_inputs.items) is.requests good;
       graphs = graphs.0;
-      are_graphs = subst (λ rs. AllZip (IsGraphOf rows) rs graphs.0) is.requests graphs.1;
+      are_graphs = subst (λ rs. AllZip (IsGraphOf rows job.whole_inputs.items) rs graphs.0) is.requests graphs.1;
       json = subst (λ (ms : Members). IsJsonText (object ms) texts.json.items) all json;
       shell = shell ∙ ap shell_text all;
       impure = ap (λ v. map (λ s. string_bytes s) v.items) impure ∙ is.impure;
@@ -74,17 +74,17 @@ texts_made rows job text given before after texts is good outputs graphs json sh
 -- a graph may not be asked for, or an archive is not known
 pub untold : (rows : List Registration) (job : Job) (text : List ℕ) (given : Given)
     (reason : Reason) (is : IsGiven job text given)
-    → IsWhy BadGraph (AreGoodRequests rows (map shown_request given.requests.items) → ⊥) reason
+    → IsWhy BadGraph (AreGoodRequests rows job.whole_inputs.items (map shown_request given.requests.items) → ⊥) reason
     ⊎ ((place : ℕ) × (reason ≡ UnknownNar place)
-    × AreGoodRequests rows (map shown_request given.requests.items)
+    × AreGoodRequests rows job.whole_inputs.items (map shown_request given.requests.items)
     × IsFirstWithoutNar rows job (map shown_request given.requests.items) place)
     → IsUntold rows job text reason
 untold rows job text given reason is why =
     inr (
       is.taken,
       subst
-          (λ asked. IsWhy BadGraph (AreGoodRequests rows asked → ⊥) reason
-          ⊎ ((place : ℕ) × (reason ≡ UnknownNar place) × AreGoodRequests rows asked
+          (λ asked. IsWhy BadGraph (AreGoodRequests rows job.whole_inputs.items asked → ⊥) reason
+          ⊎ ((place : ℕ) × (reason ≡ UnknownNar place) × AreGoodRequests rows job.whole_inputs.items asked
           × IsFirstWithoutNar rows job asked place))
           is.requests why,
     )

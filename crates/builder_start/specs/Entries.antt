@@ -7,8 +7,9 @@ use Rattle.nix_names.specs.Names.{same_bytes}
 use Rattle.valid_table.specs.Entries.{paths_registered}
 use Rattle.valid_table.specs.declared.entry.Registration.{Registration}
 use Rattle.structured_attrs.specs.Registrations.{registrations_text}
+use Rattle.build_outcome.specs.declared.job.WholeInput.{WholeInput}
 use Rattle.build_outcome.specs.declared.prepared.PreparedFile.{PreparedFile}
-use Rattle.builder_start.specs.Graphs.{IsGraph, ReachNoDrv}
+use Rattle.builder_start.specs.Graphs.{IsGraph, MayBeGraph}
 
 -- ---- what is asked for
 
@@ -57,36 +58,40 @@ root_of rows text = find (λ (path : Path). is_within path text) (paths_register
 
 -- ---- files
 
--- A pair may be asked for: its name is one of a file's, and its text names a path whose closure has
--- no derivation's file.
-pub record IsGoodPair (rows : List Registration) (pair : Name × Bytes) : Type 0 where
+-- A pair may be asked for: its name is one of a file's, and its text names a path whose graph may
+-- be asked for.
+pub record IsGoodPair (rows : List Registration) (whole : List WholeInput) (pair : Name × Bytes)
+    : Type 0 where
   pub name : IsTrue (is_file_name pair.0)
   pub root : Path
   pub is_root : root_of rows pair.1 ≡ Some root
-  pub no_drv : ReachNoDrv rows (root ∷ [])
+  pub may_be : MayBeGraph rows whole (root ∷ [])
 
--- A file is that of a pair: it has the pair's name, and the text of the records of the closure of
--- the path that the pair's text names.
-pub record IsFileOf (rows : List Registration) (pair : Name × Bytes) (file : PreparedFile)
-    : Type 0 where
+-- A file is that of a pair: it has the pair's name, and the text of the records of the graph of the
+-- path that the pair's text names.
+pub record IsFileOf (rows : List Registration) (whole : List WholeInput) (pair : Name × Bytes)
+    (file : PreparedFile) : Type 0 where
   pub name : string_bytes file.name ≡ pair.0
   pub root : Path
   pub is_root : root_of rows pair.1 ≡ Some root
   pub graph : List Registration
-  pub is_graph : IsGraph rows (root ∷ []) graph
+  pub is_graph : IsGraph rows whole (root ∷ []) graph
   pub contents : file.contents.items ≡ registrations_text graph
 
 -- Tokens ask for graphs that there are: they are pairs, each of which may be asked for.
-pub record AreGoodPairs (rows : List Registration) (tokens : List Bytes)
+pub record AreGoodPairs (rows : List Registration) (whole : List WholeInput) (tokens : List Bytes)
     (pairs : List (Name × Bytes)) : Type 0 where
   pub even : pairs_of tokens ≡ Some pairs
-  pub each : All (IsGoodPair rows) pairs
+  pub each : All (IsGoodPair rows whole) pairs
 
 -- the files that tokens ask for: of each name that of the last pair, in the order of these pairs
-abbrev pub AreFiles : List Registration → (tokens : List Bytes) → List PreparedFile → Type 0
-AreFiles rows tokens files = (pairs : List (Name × Bytes)) × AreGoodPairs rows tokens pairs
-    × AllZip (IsFileOf rows) (last_pairs pairs) files
+abbrev pub AreFiles : List Registration → List WholeInput → (tokens : List Bytes)
+    → List PreparedFile → Type 0
+AreFiles rows whole tokens files = (pairs : List (Name × Bytes))
+    × AreGoodPairs rows whole tokens pairs
+    × AllZip (IsFileOf rows whole) (last_pairs pairs) files
 
 -- the tokens ask for what they may not
-abbrev pub AskForBadGraphs : List Registration → (tokens : List Bytes) → Type 0
-AskForBadGraphs rows tokens = (pairs : List (Name × Bytes)) → AreGoodPairs rows tokens pairs → ⊥
+abbrev pub AskForBadGraphs : List Registration → List WholeInput → (tokens : List Bytes) → Type 0
+AskForBadGraphs rows whole tokens = (pairs : List (Name × Bytes))
+    → AreGoodPairs rows whole tokens pairs → ⊥

@@ -15,7 +15,7 @@ use Rattle.builder_start.specs.Structured.{AreAttributes, AreGoodRequests, AreTe
 -- what is prepared for a job by the records of the paths that it is built from
 abbrev pub IsPrepared : List Registration → Job → Prepared → Type 0
 IsPrepared rows job (Entries files) = (json_of job ≡ None)
-    × AreFiles rows (tokens_or_none (graphs_of job)) files.items
+    × AreFiles rows job.whole_inputs.items (tokens_or_none (graphs_of job)) files.items
 IsPrepared rows job (Structured texts) = (text : Bytes) × (json_of job ≡ Some text)
     × AreTexts rows job text texts
 
@@ -25,10 +25,11 @@ abbrev pub IsUnprepared : List Registration → Job → Reason → Type 0
 IsUnprepared rows job BadAttributes = (text : Bytes) × (json_of job ≡ Some text)
     × (AreAttributes job text → ⊥)
 IsUnprepared rows job BadGraph =
-    ((json_of job ≡ None) × AskForBadGraphs rows (tokens_or_none (graphs_of job)))
+    ((json_of job ≡ None)
+    × AskForBadGraphs rows job.whole_inputs.items (tokens_or_none (graphs_of job)))
     ⊎ ((text : Bytes) × (json_of job ≡ Some text) × (taken : AreAttributes job text)
-    × (AreGoodRequests rows taken.asked → ⊥))
+    × (AreGoodRequests rows job.whole_inputs.items taken.asked → ⊥))
 IsUnprepared rows job (UnknownNar place) = (text : Bytes) × (json_of job ≡ Some text)
-    × (taken : AreAttributes job text) × AreGoodRequests rows taken.asked
+    × (taken : AreAttributes job text) × AreGoodRequests rows job.whole_inputs.items taken.asked
     × IsFirstWithoutNar rows job taken.asked place
 IsUnprepared rows job reason = ⊥

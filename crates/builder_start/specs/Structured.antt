@@ -7,7 +7,6 @@ use Rattle.std.specs.declared.alloc.Global.{Global}
 use Rattle.serde_json.specs.Data.{Data, object, string, Members, no_members, put}
 use Rattle.serde_json.specs.Find.{get_member}
 use Rattle.nix_names.specs.Bytes.{Bytes, Name, Path}
-use Rattle.valid_table.specs.Closure.{IsClosure, Reaches}
 use Rattle.valid_table.specs.PathInfos.{NarInfo}
 use Rattle.valid_table.specs.Unions.{IsUnion}
 use Rattle.valid_table.specs.Entries.{paths_registered}
@@ -23,9 +22,10 @@ use Rattle.build_outcome.specs.Checks.{IsFirstPath}
 use Rattle.build_outcome.specs.Verdicts.{outputs_of}
 use Rattle.build_outcome.specs.declared.job.Job.{Job}
 use Rattle.build_outcome.specs.declared.job.JobOutput.{JobOutput}
+use Rattle.build_outcome.specs.declared.job.WholeInput.{WholeInput}
 use Rattle.build_outcome.specs.declared.prepared.AttributeTexts.{AttributeTexts}
 use Rattle.builder_start.specs.Addresses.{content_address}
-use Rattle.builder_start.specs.Graphs.{IsGraph, ReachNoDrv}
+use Rattle.builder_start.specs.Graphs.{AreClosureRecords, AreGraphPaths, IsInGraph, MayBeGraph}
 
 -- ---- attributes that are taken
 
@@ -56,18 +56,18 @@ pub record AreAttributes (job : Job) (text : Bytes) : Type 0 where
 abbrev pub texts_asked : List (Bytes × List Bytes) → List Bytes
 texts_asked asked = flat_map (λ (request : Bytes × List Bytes). request.1) asked
 
--- What is asked for may be: each text is the path of a record, and no closure has a derivation's
--- file.
-pub record AreGoodRequests (rows : List Registration) (asked : List (Bytes × List Bytes))
-    : Type 0 where
+-- What is asked for may be: each text is the path of a record, and the graph of all of them may be
+-- asked for.
+pub record AreGoodRequests (rows : List Registration) (whole : List WholeInput)
+    (asked : List (Bytes × List Bytes)) : Type 0 where
   pub valid : All (IsValid rows) (texts_asked asked)
-  pub no_drv : ReachNoDrv rows (texts_asked asked)
+  pub may_be : MayBeGraph rows whole (texts_asked asked)
 
 -- a path of some graph that is asked for has a record without an archive
-abbrev pub LacksNar : List Registration → (asked : List (Bytes × List Bytes)) → Path → Type 0
-LacksNar rows asked path = (row : Registration) × Contains rows row × (row.path ≡ path)
-    × (row.info.nar ≡ None)
-    × ((root : Path) × Contains (texts_asked asked) root × Reaches rows root path)
+abbrev pub LacksNar : List Registration → List WholeInput → (asked : List (Bytes × List Bytes))
+    → Path → Type 0
+LacksNar rows whole asked path = (row : Registration) × Contains rows row × (row.path ≡ path)
+    × (row.info.nar ≡ None) × IsInGraph rows whole (texts_asked asked) path
 
 -- the paths of some records and of a job's outputs, in rising order, in which a path is named by
 -- its place
@@ -78,7 +78,7 @@ AreNamable rows job paths = IsUnion (paths_registered rows) (outputs_of job) pat
 abbrev pub IsFirstWithoutNar : List Registration → Job → (asked : List (Bytes × List Bytes))
     → (place : ℕ) → Type 0
 IsFirstWithoutNar rows job asked place = (paths : List Path) × AreNamable rows job paths
-    × IsFirstPath paths (LacksNar rows asked) place
+    × IsFirstPath paths (LacksNar rows job.whole_inputs.items asked) place
 
 -- ---- graphs as JSON
 
@@ -91,22 +91,24 @@ size_of (Some nar) = nar.size
 abbrev pub closure_size : List Registration → ℕ
 closure_size graph = sum (map (λ (r : Registration). size_of r.info.nar) graph) % 2 ^ 64
 
--- What is told of a path: its record, its archive, the size of its closure, and its content address.
+-- What is told of a path: its record, its archive, the size of its closure (without the outputs of
+-- derivations), and its content address.
 pub record IsRow (rows : List Registration) (row : GraphRow) : Type 0 where
   pub known : Contains rows row.registration
   pub nar : row.registration.info.nar ≡ Some row.nar
   pub graph : List Registration
-  pub is_graph : IsGraph rows (row.registration.path ∷ []) graph
+  pub are_records : AreClosureRecords rows (row.registration.path ∷ []) graph
   pub size : row.closure_size ≡ closure_size graph
   pub ca : option_map (λ (s : String Global). string_bytes s) row.ca
       ≡ content_address row.registration
 
--- A graph is that of a request: it is told under the request's key of each path of the closure of
--- all the request's paths, in rising order.
-pub record IsGraphOf (rows : List Registration) (request : Bytes × List Bytes)
-    (graph : Bytes × List GraphRow) : Type 0 where
+-- A graph is that of a request: it is told under the request's key of each path of the graph of all
+-- the request's paths, in rising order.
+pub record IsGraphOf (rows : List Registration) (whole : List WholeInput)
+    (request : Bytes × List Bytes) (graph : Bytes × List GraphRow) : Type 0 where
   pub key : graph.0 ≡ request.0
-  pub closure : IsClosure rows request.1 (map (λ (r : GraphRow). r.registration.path) graph.1)
+  pub paths : AreGraphPaths rows whole request.1
+      (map (λ (r : GraphRow). r.registration.path) graph.1)
   pub each : All (IsRow rows) graph.1
 
 -- some members, and each graph under its key
@@ -128,9 +130,9 @@ with_all job graphs given = with_graphs graphs
 pub record AreTexts (rows : List Registration) (job : Job) (text : Bytes) (texts : AttributeTexts)
     : Type 0 where
   pub taken : AreAttributes job text
-  pub good : AreGoodRequests rows taken.asked
+  pub good : AreGoodRequests rows job.whole_inputs.items taken.asked
   pub graphs : List (Bytes × List GraphRow)
-  pub are_graphs : AllZip (IsGraphOf rows) taken.asked graphs
+  pub are_graphs : AllZip (IsGraphOf rows job.whole_inputs.items) taken.asked graphs
   pub json : IsJsonText (object (with_all job graphs taken.given)) texts.json.items
   pub shell : texts.shell.items ≡ shell_text (with_all job graphs taken.given)
   pub impure : map (λ (s : String Global). string_bytes s) texts.impure.items ≡ taken.impure

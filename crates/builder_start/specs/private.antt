@@ -1,3 +1,4 @@
 -- What only private contracts and proofs cite.
 pub mod Files
 pub mod Shown
+pub mod Starts

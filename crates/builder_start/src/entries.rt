@@ -12,8 +12,9 @@ ghost use Rattle.builder_start.specs.private.Shown.{IsWhy, shown_pair};
 
 use crate::asked::graphs_of;
 use crate::pairs::{Pair, is_file_name, is_named, pairs_of};
-use crate::rows::{Rows, has_drv};
-use build_outcome::{Job, PreparedFile, Reason, tokens_of};
+use crate::rows::Rows;
+use crate::starts::graph_from;
+use build_outcome::{Job, PreparedFile, Reason, WholeInput, tokens_of};
 use std::alloc::{AllocError, Global};
 use std::{slice, str};
 use structured_attrs::registration_text;
@@ -25,17 +26,17 @@ pub(crate) fn files_asked(
     job: &Job,
     rows: &Rows,
 ) -> Result<Vec<PreparedFile>, Reason>
-    ensures ok { IfOk result
-        (λ files. AreFiles rows.now (tokens_or_none (graphs_of job.now)) files.items) }
-    ensures bad { IfErr result
-        (IsWhy BadGraph (AskForBadGraphs rows.now (tokens_or_none (graphs_of job.now)))) }
+    ensures ok { IfOk result (λ files. AreFiles rows.now job.now.whole_inputs.items
+        (tokens_or_none (graphs_of job.now)) files.items) }
+    ensures bad { IfErr result (IsWhy BadGraph (AskForBadGraphs rows.now
+        job.now.whole_inputs.items (tokens_or_none (graphs_of job.now)))) }
 {
     match graphs_of(job) {
         Some(text) => {
             let tokens = tokens_of(alloc, text)?;
-            files_of_tokens(alloc, rows, &tokens)
+            files_of_tokens(alloc, rows, &job.whole_inputs, &tokens)
         }
-        None => files_of_tokens(alloc, rows, &[]),
+        None => files_of_tokens(alloc, rows, &job.whole_inputs, &[]),
     }
 }
 
@@ -43,31 +44,38 @@ pub(crate) fn files_asked(
 fn files_of_tokens(
     alloc: Global,
     rows: &Rows,
+    whole: &[WholeInput],
     tokens: &[&[u8]],
 ) -> Result<Vec<PreparedFile>, Reason>
     ensures ok { IfOk result
-        (λ files. AreFiles rows.now (map (λ t. t.now) tokens.now) files.items) }
+        (λ files. AreFiles rows.now whole.now (map (λ t. t.now) tokens.now) files.items) }
     ensures bad { IfErr result
-        (IsWhy BadGraph (AskForBadGraphs rows.now (map (λ t. t.now) tokens.now))) }
+        (IsWhy BadGraph (AskForBadGraphs rows.now whole.now (map (λ t. t.now) tokens.now))) }
 {
     match pairs_of(alloc, tokens)? {
-        Some(pairs) => files_of(alloc, rows, &pairs),
+        Some(pairs) => files_of(alloc, rows, whole, &pairs),
         None => Err(Reason::BadGraph),
     }
 }
 
 // The files that pairs ask for: of each name that of the last pair.
-fn files_of(alloc: Global, rows: &Rows, pairs: &[Pair<'_>]) -> Result<Vec<PreparedFile>, Reason>
-    ensures good { IfOk result (λ _. All (IsGoodPair rows.now) (map shown_pair pairs.now)) }
-    ensures files { IfOk result (λ files. AllZip (IsFileOf rows.now)
+fn files_of(
+    alloc: Global,
+    rows: &Rows,
+    whole: &[WholeInput],
+    pairs: &[Pair<'_>],
+) -> Result<Vec<PreparedFile>, Reason>
+    ensures good { IfOk result
+        (λ _. All (IsGoodPair rows.now whole.now) (map shown_pair pairs.now)) }
+    ensures files { IfOk result (λ files. AllZip (IsFileOf rows.now whole.now)
         (last_pairs (map shown_pair pairs.now)) files.items) }
     ensures bad { IfErr result
-        (IsWhy BadGraph (All (IsGoodPair rows.now) (map shown_pair pairs.now) → ⊥)) }
+        (IsWhy BadGraph (All (IsGoodPair rows.now whole.now) (map shown_pair pairs.now) → ⊥)) }
 {
     let mut files = Vec::new(alloc);
     for i in 0..pairs.len() {
         let pair = &pairs[i];
-        let graph = graph_of(alloc, rows, pair)?;
+        let graph = graph_of(alloc, rows, whole, pair)?;
         add_last(alloc, pair, &pairs[i + 1..], &graph, &mut files)?;
     }
     Ok(files)
@@ -93,13 +101,19 @@ fn add_last(
     Ok(())
 }
 
-// The records of the closure of the path that a pair's text names.
-fn graph_of(alloc: Global, rows: &Rows, pair: &Pair<'_>) -> Result<Vec<Registration>, Reason>
-    ensures good { IfOk result (λ _. IsGoodPair rows.now (shown_pair pair.now)) }
+// The records of the graph of the path that a pair's text names.
+fn graph_of(
+    alloc: Global,
+    rows: &Rows,
+    whole: &[WholeInput],
+    pair: &Pair<'_>,
+) -> Result<Vec<Registration>, Reason>
+    ensures good { IfOk result (λ _. IsGoodPair rows.now whole.now (shown_pair pair.now)) }
     ensures graph { IfOk result (λ graph. (root : List ℕ)
         × (root_of rows.now pair.now.text.now ≡ Some root)
-        × IsGraph rows.now (root ∷ []) graph.items) }
-    ensures bad { IfErr result (IsWhy BadGraph (IsGoodPair rows.now (shown_pair pair.now) → ⊥)) }
+        × IsGraph rows.now whole.now (root ∷ []) graph.items) }
+    ensures bad { IfErr result
+        (IsWhy BadGraph (IsGoodPair rows.now whole.now (shown_pair pair.now) → ⊥)) }
 {
     if !is_file_name(pair.name) {
         return Err(Reason::BadGraph);
@@ -107,11 +121,7 @@ fn graph_of(alloc: Global, rows: &Rows, pair: &Pair<'_>) -> Result<Vec<Registrat
     let Some(root) = rows.root_of(pair.text) else {
         return Err(Reason::BadGraph);
     };
-    let graph = rows.graph(alloc, slice::from_ref(root))?;
-    if has_drv(&graph) {
-        return Err(Reason::BadGraph);
-    }
-    Ok(graph)
+    graph_from(alloc, rows, whole, slice::from_ref(root))
 }
 
 // The file with a name that has the text of a graph.

@@ -2,18 +2,20 @@
 ghost use Rattle.std.specs.Prelude.{◌≡◌, ◌≢◌, ℕ, List, All, Contains, IfOk, OnOk, None, map};
 ghost use Rattle.std.specs.List.{AllZip};
 ghost use Rattle.nix_names.specs.Bytes.{Bytes, Path};
-ghost use Rattle.valid_table.specs.Closure.{IsClosure, Reaches};
 ghost use Rattle.valid_table.specs.Entries.{paths_registered};
 ghost use Rattle.valid_table.specs.Valid.{IsValid};
 ghost use Rattle.structured_attrs.specs.Attributes.{attributes};
 ghost use Rattle.structured_attrs.specs.Graphs.{shown_request};
 ghost use Rattle.structured_attrs.specs.declared.graph.GraphRow.{GraphRow as ARow};
-ghost use Rattle.builder_start.specs.Structured.{IsGraphOf, IsRow, LacksNar, closure_size, size_of, texts_asked, with_graphs};
+ghost use Rattle.builder_start.specs.Graphs.{AreGraphPaths, IsInGraph, MayBeGraph};
+ghost use Rattle.builder_start.specs.Structured.{AreGoodRequests, IsGraphOf, IsRow, LacksNar, closure_size, size_of, with_graphs};
 ghost use Rattle.builder_start.specs.private.Shown.{texts_of};
 
 use crate::addresses::content_address;
 use crate::requests::paths_of;
 use crate::rows::Rows;
+use crate::starts::graph_from;
+use build_outcome::WholeInput;
 use std::alloc::{AllocError, Global};
 use std::slice;
 use structured_attrs::{Attributes, GraphRequest, GraphRow};
@@ -23,35 +25,45 @@ use valid_table::Registration;
 pub(crate) fn set_graphs(
     alloc: Global,
     rows: &Rows,
+    whole: &[WholeInput],
     requests: &[GraphRequest],
     given: &mut Attributes,
 ) -> Result<(), AllocError>
-    requires valid { All (IsValid rows.now) (texts_asked (map shown_request requests.now)) }
-    requires nars { (path : Path) → LacksNar rows.now (map shown_request requests.now) path → ⊥ }
+    requires good { AreGoodRequests rows.now whole.now (map shown_request requests.now) }
+    requires nars { (path : Path) → LacksNar rows.now whole.now (map shown_request requests.now) path
+        → ⊥ }
     ensures { OnOk result ((graphs : List (Bytes × List ARow))
-        × AllZip (IsGraphOf rows.now) (map shown_request requests.now) graphs
+        × AllZip (IsGraphOf rows.now whole.now) (map shown_request requests.now) graphs
         × (attributes given.new ≡ with_graphs graphs (attributes given.old))) }
 {
     'requests: for request in requests {
-        let graph = graph_of(alloc, rows, &request.paths)?;
+        let graph = graph_of(alloc, rows, whole, &request.paths)?;
         given.set_graph(alloc, request.key.as_str(), &graph)?;
     }
     Ok(())
 }
 
-// The rows of the graph of some texts, which are paths of records.
-fn graph_of(alloc: Global, rows: &Rows, texts: &[String]) -> Result<Vec<GraphRow>, AllocError>
+// The rows of the graph of some texts, which are paths of records and whose graph may be asked for.
+fn graph_of(
+    alloc: Global,
+    rows: &Rows,
+    whole: &[WholeInput],
+    texts: &[String],
+) -> Result<Vec<GraphRow>, AllocError>
     requires valid { All (IsValid rows.now) (texts_of texts.now) }
-    requires nars { (root : Path) (row : Registration) → Contains (texts_of texts.now) root
-        → Reaches rows.now root row.path → Contains rows.now row → row.info.nar ≢ None }
-    ensures closure { IfOk result (λ found. IsClosure rows.now (texts_of texts.now)
+    requires may_be { MayBeGraph rows.now whole.now (texts_of texts.now) }
+    requires nars { (row : Registration) → IsInGraph rows.now whole.now (texts_of texts.now) row.path
+        → Contains rows.now row → row.info.nar ≢ None }
+    ensures paths { IfOk result (λ found. AreGraphPaths rows.now whole.now (texts_of texts.now)
         (map (λ r. r.registration.path) found.items)) }
     ensures each { IfOk result (λ found. All (IsRow rows.now) found.items) }
 {
     let Ok(roots) = paths_of(alloc, rows, texts) else {
         return Err(AllocError);
     };
-    let graph = rows.graph(alloc, &roots)?;
+    let Ok(graph) = graph_from(alloc, rows, whole, &roots) else {
+        return Err(AllocError);
+    };
     rows_of(alloc, rows, &graph)
 }
 
@@ -80,7 +92,7 @@ fn row_of(alloc: Global, rows: &Rows, row: &Registration) -> Result<GraphRow, Al
     let Some(nar) = row.info.nar() else {
         unreachable!();
     };
-    let closure = rows.graph(alloc, slice::from_ref(&row.path))?;
+    let closure = rows.records(alloc, slice::from_ref(&row.path))?;
     Ok(GraphRow {
         registration: row.copy(alloc)?,
         nar,

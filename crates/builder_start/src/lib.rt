@@ -4,7 +4,8 @@
 //! |---|---|
 //! | `preparing` | what is prepared for a job |
 //! | `asked` | what a job asks for |
-//! | `rows` | the records, and the graphs of closures among them |
+//! | `rows` | the records, and closures among them |
+//! | `starts` | the graphs of paths, and where their closures start |
 //! | `pairs` | the pairs of names and texts that tokens are |
 //! | `entries` | the files of graphs where attributes are entries of the environment |
 //! | `given` | structured attributes that are taken |
@@ -24,6 +25,7 @@ mod pairs;
 mod preparing;
 mod requests;
 mod rows;
+mod starts;
 mod structured;
 
 pub use asked::asks_for_records;

@@ -25,13 +25,17 @@ use valid_table::Registration;
 /// Answers `BadAttributes` where structured attributes are not what Nix takes, or an output's name
 /// is not UTF-8; else `BadGraph` where a graph is asked for that may not be: tokens that are no
 /// pairs, a name that is none of a file's, a text that is none of the paths (nor below one, where
-/// attributes are entries), or a closure with a derivation's file, to which Nix would add the
-/// closures of the derivation's outputs; else `UnknownNar` with the least path whose archive is
-/// asked for and not known, by its place among the paths of the records and of the job's outputs.
-/// `OutOfMemory` where memory is refused.
+/// attributes are entries), a closure with a derivation's file that is not that of a whole input of
+/// the job, or one with the file of a whole input of which an output has no record; else
+/// `UnknownNar` with the least path whose archive is asked for and not known, by its place among the
+/// paths of the records and of the job's outputs. `OutOfMemory` where memory is refused.
 ///
-/// Costs a table of the records, a pass over the records for each path that is asked for, a closure
-/// for each graph, and one for each path of a graph among structured attributes.
+/// A graph is the closure of the paths that are asked for and of the outputs of the whole inputs
+/// whose files that closure has.
+///
+/// Costs a table of the records, a pass over the records for each path that is asked for, two
+/// closures and a sort of the job's whole inputs for each graph, and a closure for each path of a
+/// graph among structured attributes.
 pub fn prepare(alloc: Global, job: &Job, rows: Vec<Registration>) -> Result<Prepared, Reason>
     requires rising { IsRising (map (λ r. r.path) rows.items) }
     requires closed { AreReferencesValid rows.items }

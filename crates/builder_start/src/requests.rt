@@ -8,37 +8,37 @@ ghost use Rattle.build_outcome.specs.declared.reason.Reason.TheVariants.{BadGrap
 ghost use Rattle.builder_start.specs.Structured.{AreGoodRequests, AreNamable, IsFirstWithoutNar, LacksNar, texts_asked};
 ghost use Rattle.builder_start.specs.private.Shown.{IsWhy, texts_of};
 
-use crate::rows::{Rows, has_drv};
+use crate::rows::Rows;
+use crate::starts::graph_from;
 use build_outcome::{Job, JobOutput, Reason};
 use nix_names::{StorePath, sort_paths};
 use std::alloc::{AllocError, Global};
 use structured_attrs::GraphRequest;
 use valid_table::Registration;
 
-// Tests what is asked for: that the texts are paths of records, that no closure has a derivation's
-// file, and that each archive is known.
+// Tests what is asked for: that the texts are paths of records, that the graph of them may be asked
+// for, and that each archive is known.
 pub(crate) fn check_requests(
     alloc: Global,
     job: &Job,
     rows: &Rows,
     requests: &[GraphRequest],
 ) -> Result<(), Reason>
-    ensures good { OnOk result (AreGoodRequests rows.now (map shown_request requests.now)) }
-    ensures nars { OnOk result
-        ((path : Path) → LacksNar rows.now (map shown_request requests.now) path → ⊥) }
+    ensures good { OnOk result (AreGoodRequests rows.now job.now.whole_inputs.items
+        (map shown_request requests.now)) }
+    ensures nars { OnOk result ((path : Path) → LacksNar rows.now job.now.whole_inputs.items
+        (map shown_request requests.now) path → ⊥) }
     ensures bad { IfErr result (λ reason. IsWhy BadGraph
-        (AreGoodRequests rows.now (map shown_request requests.now) → ⊥) reason
+        (AreGoodRequests rows.now job.now.whole_inputs.items (map shown_request requests.now) → ⊥)
+        reason
         ⊎ ((place : ℕ) × (reason ≡ UnknownNar place)
-        × AreGoodRequests rows.now (map shown_request requests.now)
+        × AreGoodRequests rows.now job.now.whole_inputs.items (map shown_request requests.now)
         × IsFirstWithoutNar rows.now job.now (map shown_request requests.now) place)) }
 {
     // The call tells that the paths of the records rise, so each path has one record.
     let _ = rows.as_slice();
     let roots = roots_of(alloc, rows, requests)?;
-    let graph = rows.graph(alloc, &roots)?;
-    if has_drv(&graph) {
-        return Err(Reason::BadGraph);
-    }
+    let graph = graph_from(alloc, rows, &job.whole_inputs, &roots)?;
     match graph.iter().find(|row| row.info.nar().is_none()) {
         Some(row) => Err(Reason::UnknownNar(place_of(alloc, job, rows, &row.path)?)),
         None => Ok(()),

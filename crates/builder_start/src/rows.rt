@@ -1,13 +1,13 @@
 //! The records of the paths that a job is built from.
-ghost use Rattle.std.specs.Prelude.{◌≡◌, ◌↔◌, All, Contains, IfOk, IsTrue, List, MatchOption, ℕ, option_map};
+ghost use Rattle.std.specs.Prelude.{◌≡◌, ◌↔◌, All, IfOk, IsTrue, MatchOption, option_map};
 ghost use Rattle.nix_names.specs.Rising.{IsRising};
-ghost use Rattle.nix_names.specs.StorePaths.{IsDrvPath};
+ghost use Rattle.valid_table.specs.Closure.{IsClosure};
 ghost use Rattle.valid_table.specs.Entries.{paths_registered};
 ghost use Rattle.valid_table.specs.Valid.{AreReferencesValid, IsNotValid, IsValid};
-ghost use Rattle.builder_start.specs.Graphs.{IsGraph};
+ghost use Rattle.builder_start.specs.Graphs.{AreClosureRecords};
 ghost use Rattle.builder_start.specs.Entries.{is_cut, is_within, root_of};
 
-use nix_names::{StorePath, is_drv_name};
+use nix_names::StorePath;
 use std::alloc::{AllocError, Global};
 use std::marker::Model;
 use valid_table::{Entry, Outputs, Registration, Table};
@@ -54,21 +54,46 @@ impl Rows {
         &self.rows
     }
 
+    // The closure of some paths, in rising order. Costs as `Table::closure` does.
+    pub(crate) fn closure(
+        &self,
+        alloc: Global,
+        roots: &[StorePath],
+    ) -> Result<Vec<StorePath>, AllocError>
+        requires { All (IsValid self.now) roots.now }
+        ensures { IfOk result (λ paths. IsClosure self.now roots.now paths.items) }
+    {
+        // The roots are valid, so want of memory is the only fault.
+        match self.table.closure(alloc, roots) {
+            Ok(paths) => Ok(paths),
+            Err(_) => Err(AllocError),
+        }
+    }
+
     // The records of the closure of some paths, by path. Costs as `Table::closure` does, and a
     // look-up by hash and a copy of the record for each path.
-    pub(crate) fn graph(
+    pub(crate) fn records(
         &self,
         alloc: Global,
         roots: &[StorePath],
     ) -> Result<Vec<Registration>, AllocError>
         requires { All (IsValid self.now) roots.now }
-        ensures { IfOk result (λ graph. IsGraph self.now roots.now graph.items) }
+        ensures { IfOk result (λ found. AreClosureRecords self.now roots.now found.items) }
     {
-        // The roots are valid, so want of memory is the only fault.
-        match self.table.closure(alloc, roots) {
-            Ok(paths) => self.table.records(alloc, &paths),
-            Err(_) => Err(AllocError),
+        let paths = self.closure(alloc, roots)?;
+        self.table.records(alloc, &paths)
+    }
+
+    // Whether each of some paths has a record.
+    pub(crate) fn have(&self, paths: &[StorePath]) -> bool
+        ensures { IsTrue result ↔ All (IsValid self.now) paths.now }
+    {
+        'paths: for path in paths {
+            if !self.table.registers(path) {
+                return false;
+            }
         }
+        true
     }
 
     // The path that a text is, where it is that of a record.
@@ -141,12 +166,4 @@ fn is_cut(text: &[u8]) -> bool
         Some(byte) => *byte == b'/',
         None => true,
     }
-}
-
-// Whether some path of a graph is that of a derivation's file.
-pub(crate) fn has_drv(graph: &[Registration]) -> bool
-    ensures { IsTrue result
-        ↔ ((path : List ℕ) × Contains (paths_registered graph.now) path × IsDrvPath path) }
-{
-    graph.iter().any(|row| is_drv_name(row.path.name()))
 }

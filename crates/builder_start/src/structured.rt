@@ -25,7 +25,13 @@ pub(crate) fn texts_told(
     check_requests(alloc, job, rows, &given.requests)?;
     let mut attributes = given.attributes;
     attributes.set_outputs(alloc, &given.outputs)?;
-    set_graphs(alloc, rows, &given.requests, &mut attributes)?;
+    set_graphs(
+        alloc,
+        rows,
+        &job.whole_inputs,
+        &given.requests,
+        &mut attributes,
+    )?;
     Ok(AttributeTexts {
         json: attributes.json_text(alloc)?,
         shell: attributes.shell_text(alloc)?,

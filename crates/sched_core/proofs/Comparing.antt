@@ -1,5 +1,5 @@
 -- A job, and parts of jobs, compared.
-use Rattle.std.proofs.Common.{◌≡◌, ◌∙◌, ◌↔◌, ◌+◌, ◌<◌, ℕ, Bool, List, [], ◌∷◌, ◌++◌, length, map, take, get_or, Some, IsTrue, IfSome, refl, sym, ap, subst, rules}
+use Rattle.std.proofs.Common.{◌≡◌, ◌∙◌, ◌↔◌, ◌+◌, ◌<◌, ℕ, Bool, true, List, [], ◌∷◌, ◌++◌, length, map, take, get_or, Option, Some, None, IsTrue, IfSome, refl, sym, ap, subst, rules}
 use Rattle.std.specs.Prelude.{slice_get}
 use Rattle.std.specs.Option.{option_map}
 use Rattle.std.proofs.lemmas.List.{length-map, map-append, map-id, take_more}
@@ -14,7 +14,7 @@ use Rattle.drv_graph.specs.PlanNodes.{drvs_of, output_paths_of}
 use Rattle.drv_graph.specs.Plans.{Graph}
 use Rattle.drv_graph.specs.declared.kinds.Kind.{Kind}
 use Rattle.drv_graph.proofs.KindAnswers.{one_kind}
-use Rattle.build_outcome.specs.Jobs.{IsJob, seeds_of}
+use Rattle.build_outcome.specs.Jobs.{IsJob, seeds_of, shown_whole, whole_inputs_of}
 use Rattle.sched_core.specs.private.SameJobs.{HasRecipe, MakesAt}
 use Rattle.build_outcome.specs.declared.job.Job.{Job}
 use Rattle.build_outcome.specs.declared.job.JobOutput.{JobOutput}
@@ -101,7 +101,7 @@ as_many_paths graph d drv lent paths low at view told =
     ∙ ap (λ (x : Drv). length x.outputs) (sym same) ∙ ap (length {A = Output}) (sym view)
     ∙ length-map lent output_of
 
--- it is the derivation's where its parts are and its seeds
+-- it is the derivation's where its parts are, its seeds, and its whole inputs
 pub job_by_parts : (graph : Graph) (d : ℕ) (job : Job) (drv : Drv) (kind : Kind)
     (lent : List OutputStruct) (paths : List (List ℕ)) (told : Bool) → d < length graph.nodes
     → slice_get (drvs_of graph.nodes) d ≡ Some drv → job.derivation ≡ d
@@ -110,17 +110,19 @@ pub job_by_parts : (graph : Graph) (d : ℕ) (job : Job) (drv : Drv) (kind : Kin
     → HasRecipe drv job
     → map output_of lent ≡ drv.outputs → IfSome (slice_get graph.nodes d)
     (λ (n : Node). paths ≡ output_paths_of n.drv) → MakesAt lent paths job.outputs.items
+    → IfSome (slice_get graph.nodes d)
+    (λ (n : Node). job.seeds.items ≡ seeds_of graph.nodes n.drv)
     → IfSome (slice_get graph.nodes d) (λ (n : Node). IsTrue told
-    ↔ (job.seeds.items ≡ seeds_of graph.nodes n.drv))
+    ↔ (map shown_whole job.whole_inputs.items ≡ whole_inputs_of graph.profile graph.nodes n.drv))
     → IsTrue told ↔ IsJob graph d job
 job_by_parts graph d job drv kind lent paths told low at number kinds kind_is profile recipe view
-    path makes seeds =
+    path makes seeds whole =
     let own = element_at _ d low in
     let node : Node = own.0 in
     let same : drv ≡ node.drv = drv_is _ d _ _ own.1 at in
     let both = subst (λ o.
-    IfSome o (λ (n : Node). IsTrue told ↔ (job.seeds.items ≡ seeds_of graph.nodes n.drv))) own.1
-    seeds in
+    IfSome o (λ (n : Node). IsTrue told ↔ (map shown_whole job.whole_inputs.items
+    ≡ whole_inputs_of graph.profile graph.nodes n.drv))) own.1 whole in
     let its = subst (λ (x : Drv). HasRecipe x job) same recipe in (
       λ yes. record {
         node = node;
@@ -134,9 +136,35 @@ job_by_parts graph d job drv kind lent paths told low at number kinds kind_is pr
             ∙ subst (λ o. IfSome o (λ (n : Node). paths ≡ output_paths_of n.drv)) own.1 path;
         kind = rw kind_is (subst (λ o. IfSome o (λ (n : Node). HasKind n.drv kind)) own.1 kinds);
         profile = profile;
-        seeds = both.0 yes;
+        seeds = subst (λ o.
+            IfSome o (λ (n : Node). job.seeds.items ≡ seeds_of graph.nodes n.drv)) own.1 seeds;
+        whole_inputs = both.0 yes;
       },
       λ is.
-          both.1 (subst (λ (n : Node). job.seeds.items ≡ seeds_of graph.nodes n.drv)
-          (same_element _ d _ _ is.is_node own.1) is.seeds),
+          both.1 (subst (λ (n : Node). map shown_whole job.whole_inputs.items
+          ≡ whole_inputs_of graph.profile graph.nodes n.drv)
+          (same_element _ d _ _ is.is_node own.1) is.whole_inputs),
     )
+
+-- a job of the derivation has its seeds, as a test tells
+pub job_has_seeds : (graph : Graph) (d : ℕ) (job : Job) (told : Bool) → IsJob graph d job
+    → IfSome (slice_get graph.nodes d)
+    (λ (n : Node). IsTrue told ↔ (job.seeds.items ≡ seeds_of graph.nodes n.drv))
+    → told ≡ true
+job_has_seeds graph d job told is test =
+    (subst (λ o. IfSome o
+    (λ (n : Node). IsTrue told ↔ (job.seeds.items ≡ seeds_of graph.nodes n.drv))) is.is_node
+    test).1 is.seeds
+
+pub seeds_hold : (graph : Graph) (d : ℕ) (job : Job) (told : Bool) → told ≡ true
+    → IfSome (slice_get graph.nodes d)
+    (λ (n : Node). IsTrue told ↔ (job.seeds.items ≡ seeds_of graph.nodes n.drv))
+    → IfSome (slice_get graph.nodes d)
+    (λ (n : Node). job.seeds.items ≡ seeds_of graph.nodes n.drv)
+seeds_hold graph d job told holds test = by (slice_get graph.nodes d) test
+  where
+    by : (o : Option Node)
+        → IfSome o (λ (n : Node). IsTrue told ↔ (job.seeds.items ≡ seeds_of graph.nodes n.drv))
+        → IfSome o (λ (n : Node). job.seeds.items ≡ seeds_of graph.nodes n.drv)
+    by None its = tt
+    by (Some node) its = its.0 holds

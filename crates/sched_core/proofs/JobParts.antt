@@ -11,7 +11,7 @@ use Rattle.drv_graph.specs.Kinds.{HasKind}
 use Rattle.drv_graph.specs.Nodes.{Node}
 use Rattle.drv_graph.specs.Plans.{Graph}
 use Rattle.drv_graph.specs.PlanNodes.{drvs_of, output_paths_of}
-use Rattle.build_outcome.specs.Jobs.{IsJob, seeds_of}
+use Rattle.build_outcome.specs.Jobs.{IsJob, seeds_of, shown_whole, whole_inputs_of}
 use Rattle.sched_core.specs.private.Seeding.{named_texts, output_texts}
 use Rattle.build_outcome.specs.declared.job.Job.{Job}
 use Rattle.build_outcome.specs.declared.job.JobOutput.{JobOutput}
@@ -89,9 +89,11 @@ pub job_is : (graph : Graph) (d : ℕ) (drv : Drv) (lent : List OutputStruct) (p
     → job.env ≡ copy.env → job.profile ≡ graph.profile
     → IfSome (slice_get graph.nodes d) (λ node. HasKind node.drv job.kind)
     → IfSome (slice_get graph.nodes d) (λ node. job.seeds.items ≡ seeds_of graph.nodes node.drv)
+    → IfSome (slice_get graph.nodes d) (λ node. map shown_whole job.whole_inputs.items
+    ≡ whole_inputs_of graph.profile graph.nodes node.drv)
     → IsJob graph d job
 job_is graph d drv lent paths copy job low is_drv view are names made same number builder args env
-    profile kind seeds =
+    profile kind seeds whole =
     let there = element_at _ d low in
     let is_node : drv_of copy ≡ there.0.drv = same ∙ drv_is _ d _ _ there.1 is_drv
     in
@@ -113,4 +115,7 @@ job_is graph d drv lent paths copy job low is_drv view are names made same numbe
       profile = profile;
       seeds = subst (λ (o : Option Node). IfSome o
           (λ (n : Node). job.seeds.items ≡ seeds_of graph.nodes n.drv)) there.1 seeds;
+      whole_inputs = subst (λ (o : Option Node). IfSome o
+          (λ (n : Node). map shown_whole job.whole_inputs.items
+          ≡ whole_inputs_of graph.profile graph.nodes n.drv)) there.1 whole;
     }

@@ -15,3 +15,4 @@ pub mod Registrable
 pub mod SeedParts
 pub mod SharedOutputs
 pub mod UnitedPaths
+pub mod WholeInputs

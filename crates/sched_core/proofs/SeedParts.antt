@@ -183,14 +183,13 @@ adds_all inputs place used old new n all adds input at = search (rules, filter, 
 
 -- ---- the inputs
 
--- the outputs that are used of an input are those of the derivation with its number
-used_named : (nodes : List Node) (node : Node) (numbers : List ℕ) (place number : ℕ) (input : Input)
-    (used : Drv) → AreDistinct (paths_of nodes)
+-- an input is found at its number
+pub found_input : (nodes : List Node) (node : Node) (numbers : List ℕ) (place number : ℕ)
+    (input : Input) → AreDistinct (paths_of nodes)
     → AreNumbers nodes numbers (inputs_of node.drv) → slice_get numbers place ≡ Some number
     → slice_get node.drv.inputs place ≡ Some input
-    → slice_get (drvs_of nodes) number ≡ Some used → named_outputs nodes input
-    ≡ paths_named input.names used
-used_named nodes node numbers place number input used once are at_number at_input_place at_used =
+    → find (λ (n : Node). same_bytes input.path n.path) nodes ≡ slice_get nodes number
+found_input nodes node numbers place number input once are at_number at_input_place =
     let place_of = λ (path : List ℕ). position_or_len (same_bytes path) (paths_of nodes) in
     let at_path : slice_get (inputs_of node.drv) place
     ≡ Some input.path = slice_get-map (λ (i : Input). i.path) node.drv.inputs place
@@ -200,9 +199,19 @@ used_named nodes node numbers place number input used once are at_number at_inpu
     ∙ slice_get-map place_of (inputs_of node.drv) place ∙ ap (option_map place_of) at_path in
     let both : Some number ≡ Some (place_of input.path) = sym at_number ∙ at_place in
     let same : number ≡ place_of input.path = cc in
-    let found : find (λ (n : Node). same_bytes input.path n.path) nodes ≡ slice_get nodes number =
-    found_by_number nodes input.path ∙ ap (slice_get nodes) (sym same) in
-    ap (paths_of_found input.names) found ∙ by (slice_get nodes number) refl
+    found_by_number nodes input.path ∙ ap (slice_get nodes) (sym same)
+
+-- the outputs that are used of an input are those of the derivation with its number
+used_named : (nodes : List Node) (node : Node) (numbers : List ℕ) (place number : ℕ) (input : Input)
+    (used : Drv) → AreDistinct (paths_of nodes)
+    → AreNumbers nodes numbers (inputs_of node.drv) → slice_get numbers place ≡ Some number
+    → slice_get node.drv.inputs place ≡ Some input
+    → slice_get (drvs_of nodes) number ≡ Some used → named_outputs nodes input
+    ≡ paths_named input.names used
+used_named nodes node numbers place number input used once are at_number at_input_place at_used =
+    ap (paths_of_found input.names)
+    (found_input nodes node numbers place number input once are at_number at_input_place)
+    ∙ by (slice_get nodes number) refl
   where
     by : (o : Option Node) → slice_get nodes number ≡ o → paths_of_found input.names o
         ≡ paths_named input.names used

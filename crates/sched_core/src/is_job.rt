@@ -5,13 +5,14 @@ ghost use Rattle.build_outcome.specs.Jobs.{IsJob, seeds_of};
 ghost use Rattle.sched_core.specs.private.SameJobs.{HasRecipe, MakesAt};
 
 use crate::has_seeds::has_seeds;
+use crate::whole_inputs::has_whole_inputs;
 use build_outcome::{Job, JobOutput};
 use drv_graph::{Kind, Plan, Profile};
 use nix_drv::{Derivation, EnvEntry, Output};
 use nix_names::StorePath;
 
 // Whether a job is that of the derivation with this number. Takes no memory. Costs a comparison of
-// each part, and a look-up by name for each output of its inputs.
+// each part, and two look-ups by name for each output of its inputs.
 pub(crate) fn is_job(plan: &Plan, d: usize, job: &Job) -> bool
     requires { d < length plan.now.nodes }
     ensures { IsTrue result ↔ IsJob plan.now d job.now }
@@ -32,7 +33,10 @@ pub(crate) fn is_job(plan: &Plan, d: usize, job: &Job) -> bool
     if !makes(drv.outputs(), plan.output_paths(d), &job.outputs) {
         return false;
     }
-    has_seeds(plan, d, &job.seeds)
+    if !has_seeds(plan, d, &job.seeds) {
+        return false;
+    }
+    has_whole_inputs(plan, d, &job.whole_inputs)
 }
 
 // Whether a job has a derivation's builder, arguments and environment.

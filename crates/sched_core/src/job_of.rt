@@ -5,6 +5,7 @@ ghost use Rattle.sched_core.specs.private.Seeding.{named_texts, output_texts};
 ghost use Rattle.build_outcome.specs.declared.job.JobOutput.{JobOutput};
 
 use crate::seeds_of::seeds_of;
+use crate::whole_inputs::whole_inputs_of;
 use build_outcome::{Job, JobOutput};
 use drv_graph::Plan;
 use nix_drv::{Output, Parts};
@@ -22,6 +23,7 @@ pub(crate) fn job_of(alloc: Global, plan: &Plan, d: usize) -> Result<Job, BookFa
     let drv = plan.drv(d);
     let outputs = outputs_of(alloc, drv.outputs(), plan.output_paths(d))?;
     let seeds = seeds_of(alloc, plan, d)?;
+    let whole_inputs = whole_inputs_of(alloc, plan, d)?;
     let Parts {
         builder,
         args,
@@ -37,6 +39,7 @@ pub(crate) fn job_of(alloc: Global, plan: &Plan, d: usize) -> Result<Job, BookFa
         kind: plan.kind(d),
         profile: plan.profile(),
         seeds,
+        whole_inputs,
     })
 }
 

@@ -9,6 +9,7 @@
 //! | `named_paths` | the paths that the lines of a report name |
 //! | `done_entry`, `prepared_entry` | the entry of a derivation that was built |
 //! | `job_of`, `seeds_of` | the job of a derivation, and the paths that it is built from |
+//! | `whole_inputs` | the input derivations of which each output is named |
 //! | `is_job`, `has_seeds` | whether a job is that of a derivation |
 //! | `laws` | laws over the definitions that contracts cite |
 #![tactic(auto)]
@@ -26,10 +27,11 @@ mod prepared_entry;
 mod run_start;
 mod seeds_of;
 mod union;
+mod whole_inputs;
 
 pub use book::Book;
 pub use build_outcome::{
-    Answer, Build, Checked, Job, JobOutput, LeaseObserver, LeftOutput, Reason, examine,
+    Answer, Build, Checked, Job, JobOutput, LeaseObserver, LeftOutput, Reason, WholeInput, examine,
 };
 pub use lease::Lease;
 pub use permitted::permitted_beside;

@@ -29,7 +29,7 @@ pub(crate) fn seeds_of(alloc: Global, plan: &Plan, d: usize) -> Result<Vec<Store
 }
 
 // Adds some paths.
-fn add_paths(
+pub(crate) fn add_paths(
     alloc: Global,
     paths: &[StorePath],
     seeds: &mut Vec<StorePath>,

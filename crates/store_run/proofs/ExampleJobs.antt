@@ -27,7 +27,7 @@ use Rattle.ref_scan.specs.Trees.{Fits, depth_among, entry_count_among, file_byte
 use Rattle.ref_scan.specs.declared.tree.Tree.{Tree, File, Pieces, Executable, Link, Dir', Row_of-Member, end_of-Member, more_of-Member}
 use Rattle.valid_table.specs.PathInfos.{PathInfo}
 use Rattle.valid_table.specs.declared.entry.Registration.{Registration}
-use Rattle.build_outcome.specs.Jobs.{IsJob, seeds_of}
+use Rattle.build_outcome.specs.Jobs.{IsJob, seeds_of, whole_inputs_of}
 use Rattle.build_outcome.specs.Verdicts.{IsCyclic, IsRecordAt, IsRecordDigest, IsRecordNar, IsRecordOf, IsTreeFault, IsUnread, IsVerdict, NeedsArchive, OthersMayWriteAt, OutputRefersTo, file_digest_of, flat_digest, left_at, outputs_of, tree_at}
 use Rattle.build_outcome.specs.declared.job.Answer.{Answer}
 use Rattle.build_outcome.specs.declared.job.Job.{Job}
@@ -304,6 +304,7 @@ module _ (recipe : Recipe) (short : length recipe.name < 256)
     kind = kind;
     profile = Plain;
     seeds = vec_of seeds few_seeds;
+    whole_inputs = vec_of [] (omega arith);
   }
 
   pub is_job_of : (graph : Graph) (node : Node) → Plain ≡ graph.profile
@@ -326,6 +327,7 @@ module _ (recipe : Recipe) (short : length recipe.name < 256)
     kind = has_kind;
     profile = plain;
     seeds = are;
+    whole_inputs = ap (λ (p : Profile). whole_inputs_of p graph.nodes node.drv) plain;
   }
 
 -- the job of right, by its number

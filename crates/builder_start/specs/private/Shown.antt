@@ -46,6 +46,7 @@ pub record IsGiven (job : Job) (text : Bytes) (given : Given) : Type 0 where
 abbrev pub IsUntold : List Registration → Job → (text : Bytes) → Reason → Type 0
 IsUntold rows job text reason = IsWhy BadAttributes (AreAttributes job text → ⊥) reason
     ⊎ ((taken : AreAttributes job text)
-    × (IsWhy BadGraph (AreGoodRequests rows taken.asked → ⊥) reason
-    ⊎ ((place : ℕ) × (reason ≡ UnknownNar place) × AreGoodRequests rows taken.asked
+    × (IsWhy BadGraph (AreGoodRequests rows job.whole_inputs.items taken.asked → ⊥) reason
+    ⊎ ((place : ℕ) × (reason ≡ UnknownNar place)
+    × AreGoodRequests rows job.whole_inputs.items taken.asked
     × IsFirstWithoutNar rows job taken.asked place)))

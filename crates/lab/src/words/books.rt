@@ -233,6 +233,7 @@ pub(crate) fn made_job(world: &World, kind: &[u8], word: &[u8]) -> Result<Job, S
         outputs,
         kind: fixed.unwrap_or(Kind::Addressed),
         seeds: Vec::new(alloc),
+        whole_inputs: Vec::new(alloc),
     })
 }
 

@@ -3,4 +3,4 @@ use Rattle.builder_start.proofs.Files.{FilesSoFar}
 use Rattle.builder_start.proofs.entries.files_of.Given as goal
 
 abbrev pub invariant-loop-i : goal.invariant-loop-i
-invariant-loop-i l = FilesSoFar l.rows l.pairs l.i l.files.items
+invariant-loop-i l = FilesSoFar l.rows l.whole l.pairs l.i l.files.items

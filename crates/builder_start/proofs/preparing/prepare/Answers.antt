@@ -26,5 +26,5 @@ returns-in_err-files_asked-in-None-clause-refused c =
     rw (p.1, p.2)
     (no_files c.args.rows.items c.args.job.now c.in_err-files_asked-in-None.field-0.0 (sym c.in-None.ensures)
     (subst (λ (rs : List Registration).
-    IsWhy BadGraph (AskForBadGraphs rs (tokens_or_none (graphs_of c.args.job.now))) c.in_err-files_asked-in-None.field-0.0)
+    IsWhy BadGraph (AskForBadGraphs rs c.args.job.now.whole_inputs.items (tokens_or_none (graphs_of c.args.job.now))) c.in_err-files_asked-in-None.field-0.0)
     c.in_ok-rows.ensures c.in_err-files_asked-in-None.ensures.bad))

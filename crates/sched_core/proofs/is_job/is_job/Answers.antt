@@ -1,7 +1,7 @@
 use Rattle.std.proofs.Common.{◌∙◌, subst, sym, rules}
 use Rattle.std.proofs.lemmas.Bool.{false≢true}
 use Rattle.sched_core.specs.private.SameJobs.{MakesAt}
-use Rattle.sched_core.proofs.Comparing.{as_many_paths, job_by_parts, kind_of_job, makes_of, recipe_of}
+use Rattle.sched_core.proofs.Comparing.{as_many_paths, job_by_parts, kind_of_job, makes_of, recipe_of, job_has_seeds, seeds_hold}
 use Rattle.sched_core.proofs.is_job.is_job.Goals as goal
 
 pub returns-then-not-same_kind : goal.returns-then-not-same_kind
@@ -38,6 +38,13 @@ returns-then-not-makes c = (
       c.outputs.ensures c.output_paths.ensures.value is)))),
 )
 
+pub returns-then-not-has_seeds : goal.returns-then-not-has_seeds
+returns-then-not-has_seeds c = (
+  λ told. absurd (false≢true told),
+  λ is. absurd (false≢true (sym c.if-not-has_seeds.true
+      ∙ job_has_seeds _ _ _ _ is (rw (← c.deref-2.ensures.value) c.has_seeds.ensures))),
+)
+
 pub returns : goal.returns
 returns c =
     job_by_parts _ _ _ _ _ _ _ _ c.requires
@@ -48,4 +55,6 @@ returns c =
     c.output_paths.ensures.value
     (subst (MakesAt c.outputs.result.now c.output_paths.result.now) c.deref.ensures.value
     (c.makes.ensures.0 c.if-not-makes.false))
-    (rw (← c.deref-2.ensures.value) c.has_seeds.ensures)
+    (seeds_hold c.args.plan.now c.args.d c.args.job.now _ c.if-not-has_seeds.false
+    (rw (← c.deref-2.ensures.value) c.has_seeds.ensures))
+    (rw (← c.deref-3.ensures.value) c.has_whole_inputs.ensures)

@@ -15,4 +15,4 @@ returns-clause-ok c =
     c.requires c.drv-drv.ensures c.outputs.ensures c.output_paths.ensures.value
     c.in_ok-outputs.ensures.names c.in_ok-outputs.ensures.paths
     (c.in_ok-builder.ensures ∙ c.parts.ensures.parts) refl refl refl refl c.profile.ensures c.kind.ensures
-    c.in_ok-seeds.ensures
+    c.in_ok-seeds.ensures c.in_ok-whole_inputs.ensures
