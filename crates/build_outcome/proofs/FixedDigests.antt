@@ -18,7 +18,7 @@ use Rattle.ref_scan.specs.Trees.{joined}
 use Rattle.ref_scan.specs.declared.tree.Tree.{Tree, File, Pieces, Executable, Link, Dir'}
 use Rattle.build_outcome.specs.Verdicts.{HasArchive, HasForm, IsDigestBy, IsFlatFile, IsRecordDigest, IsTreeFault, MayBeTaken, NeedsArchive, digest_by, file_digest_of}
 use Rattle.build_outcome.specs.declared.reason.Reason.{Reason}
-use Rattle.build_outcome.specs.declared.reason.Reason.TheVariants.{ExitStatus, NoStart, MissingOutput, NotFlatFile, HashMismatch, OutputCycle, TooLarge, ReadFault, OutOfMemory, Killed, BadMode, NotAllowed, BadSpecifier, BadAttributes, BadGraph, UnknownNar}
+use Rattle.build_outcome.specs.declared.reason.Reason.TheVariants.{ExitStatus, NoStart, MissingOutput, NotFlatFile, HashMismatch, OutputCycle, TooLarge, ReadFault, OutOfMemory, Killed, BadMode, NotAllowed, BadSpecifier, BadAttributes, BadGraph, UnknownNar, PastMaxSize, PastMaxClosureSize}
 use Rattle.build_outcome.proofs.Archives.{one_archive}
 
 one_digest : (a b : Digest) → algorithm_of a ≡ algorithm_of b → bytes_of a ≡ bytes_of b → a ≡ b
@@ -156,6 +156,8 @@ nothing_wrong profile kind tree method declared found is may form by same why fa
     none BadAttributes wrong = absurd wrong
     none BadGraph wrong = absurd wrong
     none (UnknownNar place) wrong = absurd wrong
+    none (PastMaxSize output) wrong = absurd wrong
+    none (PastMaxClosureSize output) wrong = absurd wrong
 
 -- the digest in the record of a fixed output, whose tree is taken
 pub fixed_record : (profile : Profile) (kind : Kind) (tree : Tree) (method : Method)

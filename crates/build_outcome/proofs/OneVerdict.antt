@@ -18,7 +18,7 @@ use Rattle.valid_table.specs.PathInfos.{NarInfo, PathInfo}
 use Rattle.build_outcome.specs.declared.job.Answer.{Answer}
 use Rattle.build_outcome.specs.declared.job.Job.{Job}
 use Rattle.build_outcome.specs.declared.reason.Reason.{Reason}
-use Rattle.build_outcome.specs.declared.reason.Reason.TheVariants.{ExitStatus, NoStart, MissingOutput, NotFlatFile, HashMismatch, OutputCycle, TooLarge, ReadFault, OutOfMemory, Killed, BadMode, NotAllowed, BadSpecifier, BadAttributes, BadGraph, UnknownNar}
+use Rattle.build_outcome.specs.declared.reason.Reason.TheVariants.{ExitStatus, NoStart, MissingOutput, NotFlatFile, HashMismatch, OutputCycle, TooLarge, ReadFault, OutOfMemory, Killed, BadMode, NotAllowed, BadSpecifier, BadAttributes, BadGraph, UnknownNar, PastMaxSize, PastMaxClosureSize}
 use Rattle.build_outcome.specs.Verdicts.{AreOutputsThere, AreRead, AreRecords, HasBadMode, HasForm, HasOneVerdict, HaveGoodModes, IsCyclic, IsFaulty, IsFirstFault, IsFirstNumber, IsNarOf, IsRecordDigest, IsRecordNar, IsRecordOf, IsTaken, IsTreeFault, IsUnreadAt, IsVerdict, outputs_of, tree_at}
 use Rattle.build_outcome.proofs.Archives.{one_archive}
 use Rattle.build_outcome.proofs.FixedDigests.{one_digest_by}
@@ -151,6 +151,8 @@ module _ (job : Job) (permitted : List (List ℕ)) (answer : Answer) where
   outcome_of (Err BadAttributes) none = absurd none
   outcome_of (Err BadGraph) none = absurd none
   outcome_of (Err (UnknownNar place)) none = absurd none
+  outcome_of (Err (PastMaxSize output)) none = absurd none
+  outcome_of (Err (PastMaxClosureSize output)) none = absurd none
 
   -- the first output without a tree, that with a bad mode, and the first faulty one are among the
   -- outputs

@@ -1,23 +1,23 @@
 -- There is one verdict with the tests, and it stays where what is reached stays.
-use Rattle.std.proofs.Common.{◌≡◌, ◌∙◌, inl, inr, ⊎_elim, ℕ, List, length, Some, refl, sym, ap, subst}
+use Rattle.std.proofs.Common.{◌≡◌, ◌∙◌, inl, inr, ⊎_elim, ℕ, ◌<◌, List, length, Some, refl, sym, ap, subst}
 use Rattle.std.specs.Prelude.{Contains, Result, Ok, Err}
 use Rattle.std.specs.List.{range_with_len, slice_get}
 use Rattle.std.proofs.lemmas.Option.{same_Some}
 use Rattle.nix_names.proofs.FirstElements.{first_contained, one_first}
 use Rattle.nix_names.proofs.Lists.{same_element}
-use Rattle.valid_table.specs.Closure.{Reaches}
 use Rattle.valid_table.specs.PathInfos.{PathInfo}
 use Rattle.valid_table.specs.declared.entry.Registration.{Registration}
-use Rattle.build_outcome.specs.Checks.{ArePassed, AreSpecifiers, Forbids, HasOneTestedVerdict, IsFirstPath, IsFirstTestFault, IsRequisite, IsTestFault, IsTestedVerdict, IsUsed, Of, OfFixed, RefersAt, Test, TestedVerdictStays, list_of, tests_of}
+use Rattle.build_outcome.specs.Checks.{ArePassed, AreSpecifiers, Forbids, HasOneTestedVerdict, IsClosurePast, IsFirstPath, IsFirstTestFault, IsRequisite, IsTestFault, IsTestedVerdict, IsUnmeasured, IsUsed, Of, OfAttributes, OfClosureSize, OfFixed, OfSize, ReachAlike, RefersAt, Test, TestedVerdictStays, list_of, nar_at, tests_of, with_outputs}
 use Rattle.build_outcome.specs.Verdicts.{AreRecords, IsVerdict, outputs_of}
 use Rattle.build_outcome.specs.declared.checks.check.Check.{Check}
 use Rattle.build_outcome.specs.declared.checks.check.Check.TheVariants.{AllowedReferences, AllowedRequisites, DisallowedReferences, DisallowedRequisites}
 use Rattle.build_outcome.specs.declared.job.Answer.{Answer}
 use Rattle.build_outcome.specs.declared.job.Job.{Job}
 use Rattle.build_outcome.specs.declared.reason.Reason.{Reason}
-use Rattle.build_outcome.specs.declared.reason.Reason.TheVariants.{NotAllowed, BadSpecifier}
+use Rattle.build_outcome.specs.declared.reason.Reason.TheVariants.{NotAllowed, BadAttributes, BadSpecifier, PastMaxClosureSize, PastMaxSize, UnknownNar}
 use Rattle.build_outcome.proofs.OneVerdict.{has_one_verdict}
 use Rattle.build_outcome.proofs.RisingPlaces.{first_alike}
+use Rattle.build_outcome.proofs.Sizes.{nar_of_other, nar_of_output, same_sizes}
 
 -- ---- one fault of a test
 
@@ -34,6 +34,14 @@ module _ (registrations : List Registration) (job : Job) (permitted : List (List
     barred : (n : ℕ) (check : Check) (place : ℕ)
         → IsTestFault registrations job permitted infos (Of n check) (NotAllowed n place)
         → Fault (Of n check) (NotAllowed n place)
+    unread : Fault OfAttributes BadAttributes
+    large : (n : ℕ) → Fault (OfSize n) (PastMaxSize n)
+    wide : (n : ℕ)
+        → IsTestFault registrations job permitted infos (OfClosureSize n) (PastMaxClosureSize n)
+        → Fault (OfClosureSize n) (PastMaxClosureSize n)
+    unmeasured : (n place : ℕ)
+        → IsTestFault registrations job permitted infos (OfClosureSize n) (UnknownNar place)
+        → Fault (OfClosureSize n) (UnknownNar place)
 
   fault_cases : (test : Test) (why : Reason)
       → IsTestFault registrations job permitted infos test why → Fault test why
@@ -46,6 +54,13 @@ module _ (registrations : List Registration) (job : Job) (permitted : List (List
   fault_cases (Of n check) (NotAllowed output place) fault =
       subst (λ k. Fault (Of n check) (NotAllowed k place)) (sym fault.0)
       (barred n check place (refl, fault.1))
+  fault_cases OfAttributes BadAttributes fault = unread
+  fault_cases (OfSize n) (PastMaxSize output) fault =
+      subst (λ k. Fault (OfSize n) (PastMaxSize k)) (sym fault.0) (large n)
+  fault_cases (OfClosureSize n) (PastMaxClosureSize output) fault =
+      subst (λ k. Fault (OfClosureSize n) (PastMaxClosureSize k)) (sym fault.0)
+      (wide n (refl, fault.1))
+  fault_cases (OfClosureSize n) (UnknownNar place) fault = unmeasured n place fault
   fault_cases test why fault = absurd fault
 
   one_place : (Holds : List ℕ → Type 0) (a b : ℕ) → IsFirstPath permitted Holds a
@@ -55,9 +70,9 @@ module _ (registrations : List Registration) (job : Job) (permitted : List (List
       (λ n. (p : List ℕ) × (slice_get permitted n ≡ Some p) × Holds p)
       (λ n not is. not is) (range_with_len 0 (length permitted)) a b first first'
 
-  same_list : (check : Check) (a b : List (List ℕ)) → list_of job check ≡ Some a
-      → list_of job check ≡ Some b → a ≡ b
-  same_list check a b is is' = same_Some a b (sym is ∙ is')
+  same_list : (n : ℕ) (check : Check) (a b : List (List ℕ)) → list_of job n check ≡ Some a
+      → list_of job n check ≡ Some b → a ≡ b
+  same_list n check a b is is' = same_Some a b (sym is ∙ is')
 
   clash : (n : ℕ) (check : Check) (place : ℕ)
       → IsTestFault registrations job permitted infos (Of n check) (BadSpecifier n)
@@ -65,7 +80,7 @@ module _ (registrations : List Registration) (job : Job) (permitted : List (List
   clash n check place (e, (own, list, at, listed, not)) (e', (own', list', at', listed', all, first))
       =
       let owns : own' ≡ own = same_element (outputs_of job) n own' own at' at in
-      let lists : list' ≡ list = same_list check list' list listed' listed in
+      let lists : list' ≡ list = same_list n check list' list listed' listed in
       not (subst (λ (o : List ℕ). AreSpecifiers job o list) owns
       (subst (λ (l : List (List ℕ)). AreSpecifiers job own' l) lists all))
 
@@ -76,7 +91,7 @@ module _ (registrations : List Registration) (job : Job) (permitted : List (List
   one_barred n check place place' (e, (own, list, at, listed, all, first))
       (e', (own', list', at', listed', all', first')) =
       let owns : own' ≡ own = same_element (outputs_of job) n own' own at' at in
-      let lists : list' ≡ list = same_list check list' list listed' listed in
+      let lists : list' ≡ list = same_list n check list' list listed' listed in
       one_place (λ path. IsUsed registrations job infos check n own path
       × Forbids job own check list path) place place' first
       (subst (λ (o : List ℕ). IsFirstPath permitted
@@ -86,7 +101,34 @@ module _ (registrations : List Registration) (job : Job) (permitted : List (List
       (λ path. IsUsed registrations job infos check n own' path × Forbids job own' check l path)
       place') lists first'))
 
+  -- a closure isn't past its limit where some path isn't measured
+  closure_clash : (n place : ℕ)
+      → IsTestFault registrations job permitted infos (OfClosureSize n) (PastMaxClosureSize n)
+      → IsTestFault registrations job permitted infos (OfClosureSize n) (UnknownNar place) → ⊥
+  closure_clash n place (e, (own, limit, at, is, past)) (own', limit', at', is', first) =
+      past.2 first.is.0
+      (subst (λ (o : List ℕ). IsUnmeasured registrations job infos o first.is.0)
+      (same_element (outputs_of job) n own' own at' at) first.is.2)
+
+  one_unmeasured : (n place place' : ℕ)
+      → IsTestFault registrations job permitted infos (OfClosureSize n) (UnknownNar place)
+      → IsTestFault registrations job permitted infos (OfClosureSize n) (UnknownNar place')
+      → place ≡ place'
+  one_unmeasured n place place' (own, limit, at, is, first) (own', limit', at', is', first') =
+      one_place (IsUnmeasured registrations job infos own) place place' first
+      (subst (λ (o : List ℕ). IsFirstPath permitted (IsUnmeasured registrations job infos o) place')
+      (same_element (outputs_of job) n own' own at' at) first')
+
   one_fault : (test : Test) (a b : Reason) → Fault test a → Fault test b → a ≡ b
+  one_fault _ _ _ unread unread = refl
+  one_fault _ _ _ (large n) (large _) = refl
+  one_fault _ _ _ (wide n fault) (wide _ fault') = refl
+  one_fault _ _ _ (wide n fault) (unmeasured _ place fault') =
+      absurd (closure_clash n place fault fault')
+  one_fault _ _ _ (unmeasured n place fault) (wide _ fault') =
+      absurd (closure_clash n place fault' fault)
+  one_fault _ _ _ (unmeasured n place fault) (unmeasured _ place' fault') =
+      ap UnknownNar (one_unmeasured n place place' fault fault')
   one_fault _ _ _ (refers n place fault) (refers _ place' fault') =
       ap (NotAllowed n) (one_place _ place place' fault.2 fault'.2)
   one_fault _ _ _ (stray n check fault) (stray _ _ fault') = refl
@@ -171,74 +213,131 @@ has_one_tested_verdict registrations job permitted answer a b told told' =
 
 -- ---- it stays
 
--- what permitted paths reach by one list of valid paths they reach by the other
-abbrev Carries : (registrations others : List Registration) → Job → (permitted : List (List ℕ))
-    → Type 0
-Carries registrations others job permitted = (from to : List ℕ) → Contains permitted from
-    → (Contains (outputs_of job) from → ⊥) → Reaches registrations from to → Reaches others from to
-
 -- what outputs refer to is permitted
 abbrev AreAllPermitted : (permitted : List (List ℕ)) → List PathInfo → Type 0
 AreAllPermitted permitted infos =
     (n : ℕ) (path : List ℕ) → RefersAt infos n path → Contains permitted path
 
-used_carried : (registrations others : List Registration) (job : Job)
-    (permitted : List (List ℕ)) (infos : List PathInfo)
-    → Carries registrations others job permitted → AreAllPermitted permitted infos
-    → (check : Check) (n : ℕ) (own path : List ℕ)
-    → IsUsed registrations job infos check n own path → IsUsed others job infos check n own path
-used_carried registrations others job permitted infos carries refer = used
-  where
-    requisite : (own path : List ℕ) → IsRequisite registrations job infos own path
-        → IsRequisite others job infos own path
-    requisite own path is = ⊎_elim inl
-        (λ h. inr (h.0, h.1, carries h.0 path (refer h.1.0 h.0 h.1.4) h.1.5 h.2)) is
+alike_back : (registrations others : List Registration) (job : Job) (permitted : List (List ℕ))
+    → ReachAlike registrations others job permitted
+    → ReachAlike others registrations job permitted
+alike_back registrations others job permitted alike = record {
+  reach = λ from to has none. ((alike.reach from to has none).1, (alike.reach from to has none).0);
+  records = λ from to has none reaches.
+      sym (alike.records from to has none ((alike.reach from to has none).1 reaches));
+}
 
-    used : (check : Check) (n : ℕ) (own path : List ℕ)
-        → IsUsed registrations job infos check n own path
-        → IsUsed others job infos check n own path
-    used AllowedReferences n own path is = is
-    used DisallowedReferences n own path is = is
-    used AllowedRequisites n own path is = (requisite own path is.0, is.1)
-    used DisallowedRequisites n own path is = (requisite own path is.0, is.1)
+module _ (registrations others : List Registration) (job : Job) (permitted : List (List ℕ))
+    (infos : List PathInfo) (alike : ReachAlike registrations others job permitted)
+    (refer : AreAllPermitted permitted infos)
+    (count : length infos ≡ length job.outputs.items) where
+  requisite_carried : (own path : List ℕ) → IsRequisite registrations job infos own path
+      → IsRequisite others job infos own path
+  requisite_carried own path is = ⊎_elim inl
+      (λ h. inr (
+        h.0,
+        h.1,
+        (alike.reach h.0 path (refer h.1.0 h.0 h.1.4) h.1.5).0 h.2,
+      )) is
 
-fault_carried : (registrations others : List Registration) (job : Job)
-    (permitted : List (List ℕ)) (infos : List PathInfo)
-    → Carries registrations others job permitted → Carries others registrations job permitted
-    → AreAllPermitted permitted infos → (test : Test) (why : Reason)
-    → IsTestFault registrations job permitted infos test why
-    → IsTestFault others job permitted infos test why
-fault_carried registrations others job permitted infos there back refer = carried
-  where
-    carried : (test : Test) (why : Reason)
-        → IsTestFault registrations job permitted infos test why
-        → IsTestFault others job permitted infos test why
-    carried (OfFixed n) (NotAllowed output place) fault = fault
-    carried (Of n check) (BadSpecifier output) fault = fault
-    carried (Of n check) (NotAllowed output place) (e, (own, list, at, listed, all, first)) = (
-      e,
-      (
-        own,
-        list,
-        at,
-        listed,
-        all,
-        first_alike permitted
-            (λ path. IsUsed registrations job infos check n own path × Forbids job own check list path)
-            (λ path. IsUsed others job infos check n own path × Forbids job own check list path) place
-            (λ path. (
-              λ h. (
-                used_carried registrations others job permitted infos there refer check n own path h.0,
-                h.1,
-              ),
-              λ h. (
-                used_carried others registrations job permitted infos back refer check n own path h.0,
-                h.1,
-              ),
-            )) first,
-      ),
-    )
-    carried test why fault = absurd fault
+  used_carried : (check : Check) (n : ℕ) (own path : List ℕ)
+      → IsUsed registrations job infos check n own path
+      → IsUsed others job infos check n own path
+  used_carried AllowedReferences n own path is = is
+  used_carried DisallowedReferences n own path is = is
+  used_carried AllowedRequisites n own path is = (requisite_carried own path is.0, is.1)
+  used_carried DisallowedRequisites n own path is = (requisite_carried own path is.0, is.1)
+
+  -- a path of a closure has the same archive
+  nar_carried : (own path : List ℕ) → IsRequisite registrations job infos own path
+      → nar_at (with_outputs registrations job infos) path
+      ≡ nar_at (with_outputs others job infos) path
+  nar_carried own path is = ⊎_elim
+      (λ near. nar_of_output registrations others job infos path count near.0)
+      (λ h. nar_of_other registrations others job infos path
+      (alike.records h.0 path (refer h.1.0 h.0 h.1.4) h.1.5 h.2))
+      is
+
+  unmeasured_carried : (own path : List ℕ) → IsUnmeasured registrations job infos own path
+      → IsUnmeasured others job infos own path
+  unmeasured_carried own path is =
+      (requisite_carried own path is.0, sym (nar_carried own path is.0) ∙ is.1)
+
+module _ (registrations others : List Registration) (job : Job) (permitted : List (List ℕ))
+    (infos : List PathInfo) (alike : ReachAlike registrations others job permitted)
+    (refer : AreAllPermitted permitted infos)
+    (count : length infos ≡ length job.outputs.items) where
+  back : ReachAlike others registrations job permitted
+  back = alike_back registrations others job permitted alike
+
+  past_carried : (own : List ℕ) (limit : ℕ) → IsClosurePast registrations job infos own limit
+      → IsClosurePast others job infos own limit
+  past_carried own limit (all, are, none, past) = (
+    all,
+    record {
+      rising = are.rising;
+      each = λ path. (
+        λ has. requisite_carried registrations others job permitted infos alike refer count own path
+            ((are.each path).0 has),
+        λ is. (are.each path).1
+            (requisite_carried others registrations job permitted infos back refer count own path is),
+      );
+    },
+    λ path is. none path
+        (unmeasured_carried others registrations job permitted infos back refer count own path is),
+    subst (λ size. limit < size)
+        (same_sizes (with_outputs registrations job infos) (with_outputs others job infos) all
+        (λ path has. nar_carried registrations others job permitted infos alike refer count own path
+        ((are.each path).0 has))) past,
+  )
+
+  pub fault_carried : (test : Test) (why : Reason)
+      → IsTestFault registrations job permitted infos test why
+      → IsTestFault others job permitted infos test why
+  fault_carried OfAttributes BadAttributes fault = fault
+  fault_carried (OfFixed n) (NotAllowed output place) fault = fault
+  fault_carried (OfSize n) (PastMaxSize output) fault = fault
+  fault_carried (OfClosureSize n) (PastMaxClosureSize output) (e, (own, limit, at, is, past)) =
+      (e, (own, limit, at, is, past_carried own limit past))
+  fault_carried (OfClosureSize n) (UnknownNar place) (own, limit, at, is, first) = (
+    own,
+    limit,
+    at,
+    is,
+    first_alike permitted (IsUnmeasured registrations job infos own)
+        (IsUnmeasured others job infos own) place
+        (λ path. (
+          unmeasured_carried registrations others job permitted infos alike refer count own path,
+          unmeasured_carried others registrations job permitted infos back refer count own path,
+        )) first,
+  )
+  fault_carried (Of n check) (BadSpecifier output) fault = fault
+  fault_carried (Of n check) (NotAllowed output place) (e, (own, list, at, listed, all, first)) = (
+    e,
+    (
+      own,
+      list,
+      at,
+      listed,
+      all,
+      first_alike permitted
+          (λ path. IsUsed registrations job infos check n own path × Forbids job own check list path)
+          (λ path. IsUsed others job infos check n own path × Forbids job own check list path) place
+          (λ path. (
+            λ h. (
+              used_carried registrations others job permitted infos alike refer count check n own path
+                  h.0,
+              h.1,
+            ),
+            λ h. (
+              used_carried others registrations job permitted infos back refer count check n own path
+                  h.0,
+              h.1,
+            ),
+          )) first,
+    ),
+  )
+  fault_carried test why fault = absurd fault
 
 refer_permitted : (job : Job) (permitted : List (List ℕ)) (answer : Answer)
     (infos : List PathInfo) → AreRecords job permitted answer infos
@@ -250,25 +349,28 @@ pub tested_verdict_stays : TestedVerdictStays
 tested_verdict_stays registrations others job permitted answer verdict alike told =
     stays verdict told
   where
-    there : Carries registrations others job permitted
-    there from to has none = (alike from to has none).0
+    there : (infos : List PathInfo) → AreRecords job permitted answer infos → (test : Test)
+        (why : Reason) → IsTestFault registrations job permitted infos test why
+        → IsTestFault others job permitted infos test why
+    there infos records = fault_carried registrations others job permitted infos alike
+        (refer_permitted job permitted answer infos records) records.count
 
-    back : Carries others registrations job permitted
-    back from to has none = (alike from to has none).1
+    back_again : (infos : List PathInfo) → AreRecords job permitted answer infos → (test : Test)
+        (why : Reason) → IsTestFault others job permitted infos test why
+        → IsTestFault registrations job permitted infos test why
+    back_again infos records = fault_carried others registrations job permitted infos
+        (alike_back registrations others job permitted alike)
+        (refer_permitted job permitted answer infos records) records.count
 
     stays : (verdict : Result (List PathInfo) Reason)
         → IsTestedVerdict registrations job permitted answer verdict
         → IsTestedVerdict others job permitted answer verdict
     stays (Ok infos) (is, passed) = (
       is,
-      λ test why has fault. passed test why has
-          (fault_carried others registrations job permitted infos back there
-          (refer_permitted job permitted answer infos is.1) test why fault),
+      λ test why has fault. passed test why has (back_again infos is.1 test why fault),
     )
     stays (Err why) told = ⊎_elim inl
-        (λ h.
-        let refer = refer_permitted job permitted answer h.0 h.1.1 in
-        inr (
+        (λ h. inr (
           h.0,
           h.1,
           (
@@ -277,18 +379,10 @@ tested_verdict_stays registrations others job permitted answer verdict alike tol
               before = h.2.1.before;
               after = h.2.1.after;
               parts = h.2.1.parts;
-              others = λ k d low f. h.2.1.others k d low (
-                f.0,
-                fault_carried others registrations job
-                    permitted h.0 back there refer _ f.0 f.1,
-              );
-              is = (
-                h.2.1.is.0,
-                fault_carried registrations others job permitted h.0 there back refer h.2.0
-                    h.2.1.is.0 h.2.1.is.1,
-              );
+              others = λ k d low f. h.2.1.others k d low (f.0, back_again h.0 h.1.1 _ f.0 f.1);
+              is = (h.2.1.is.0, there h.0 h.1.1 h.2.0 h.2.1.is.0 h.2.1.is.1);
             },
-            fault_carried registrations others job permitted h.0 there back refer h.2.0 why h.2.2,
+            there h.0 h.1.1 h.2.0 why h.2.2,
           ),
         ))
         told

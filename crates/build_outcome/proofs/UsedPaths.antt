@@ -1,11 +1,8 @@
 -- The paths that outputs use.
-use Rattle.std.proofs.Common.{◌≡◌, ◌≢◌, ◌↔◌, ◌⊎◌, ⊎_elim, ◌&&◌, not, Bool, true, false, nat_eq, inl, inr, ℕ, List, [], Option, Some, None, refl, sym, subst}
+use Rattle.std.proofs.Common.{◌≡◌, ◌≢◌, ◌↔◌, ◌⊎◌, ⊎_elim, ◌&&◌, not, Bool, true, false, inl, inr, ℕ, List, [], Option, Some, None, refl, sym, subst}
 use Rattle.std.specs.Prelude.{All, Contains, IsTrue}
-use Rattle.std.specs.Cmp.Lexicographic.{pointwise}
 use Rattle.std.proofs.lemmas.Bool.{false≢true}
-use Rattle.nix_names.proofs.RisingLists.{equal_from_eq, unequal_from_eq}
 use Rattle.build_outcome.specs.declared.checks.check.Check.{Check}
-use Rattle.std.specs.Global.{Vec}
 use Rattle.std.specs.List.{slice_get}
 use Rattle.std.proofs.lemmas.List.Elements.{All-contains}
 use Rattle.nix_names.specs.Rising.{IsRising}
@@ -13,19 +10,20 @@ use Rattle.nix_names.proofs.Lists.{All-from_contains, Contains-from_get, Contain
 use Rattle.drv_graph.specs.declared.profile.Profile.TheVariants.{Nix}
 use Rattle.valid_table.specs.PathInfos.{PathInfo}
 use Rattle.valid_table.specs.declared.entry.Registration.{Registration}
-use Rattle.build_outcome.specs.Checks.{HaveRequisites, IsRequisite, RefersAt, list_of}
+use Rattle.build_outcome.specs.Checks.{HaveClosures, IsPermittedClosure, IsRequisite, NeedsClosure, RefersAt, list_of}
 use Rattle.build_outcome.specs.Verdicts.{outputs_of}
 use Rattle.build_outcome.specs.declared.checks.check.Check.TheVariants.{AllowedReferences, AllowedRequisites, DisallowedReferences, DisallowedRequisites}
+use Rattle.build_outcome.specs.declared.checks.closure.OutputClosure.{OutputClosure}
 use Rattle.build_outcome.specs.declared.job.Job.{Job}
 use Rattle.build_outcome.specs.private.Testing.{AreTestable, AreUsed, IsBarred, bars}
 
 -- ---- references
 
 pub references_permitted : (job : Job) (permitted : List (List ℕ)) (infos : List PathInfo)
-    (requisites : List (Vec (List ℕ))) (n : ℕ) (info : PathInfo) (lent : List (List ℕ))
-    → AreTestable job permitted infos requisites → slice_get infos n ≡ Some info
+    (closures : List OutputClosure) (n : ℕ) (info : PathInfo) (lent : List (List ℕ))
+    → AreTestable job permitted infos closures → slice_get infos n ≡ Some info
     → lent ≡ info.references → All (Contains permitted) lent
-references_permitted job permitted infos requisites n info lent are at is =
+references_permitted job permitted infos closures n info lent are at is =
     subst (All (Contains permitted)) (sym is)
     (All-contains (λ (i : PathInfo). All (Contains permitted) i.references) infos info are.refer
     (Contains-from_get infos n info at))
@@ -56,51 +54,46 @@ references_are_used registrations job infos check n own info lent is at lends = 
 -- ---- closures
 
 pub closure_permitted : (job : Job) (permitted : List (List ℕ)) (infos : List PathInfo)
-    (requisites : List (Vec (List ℕ))) (n : ℕ) (lent : List (List ℕ))
-    → AreTestable job permitted infos requisites
-    → ((all : Vec (List ℕ)) → slice_get requisites n ≡ Some all → lent ≡ all.items)
-    → (slice_get requisites n ≡ None → lent ≡ [])
+    (closures : List OutputClosure) (n : ℕ) (lent : List (List ℕ))
+    → AreTestable job permitted infos closures
+    → ((closure : OutputClosure) → slice_get closures n ≡ Some closure
+    → lent ≡ closure.paths.items)
+    → (slice_get closures n ≡ None → lent ≡ [])
     → IsRising lent × All (Contains permitted) lent
-closure_permitted job permitted infos requisites n lent are some none =
-    by (slice_get requisites n) refl
+closure_permitted job permitted infos closures n lent are some none =
+    by (slice_get closures n) refl
   where
-    by : (o : Option (Vec (List ℕ))) → slice_get requisites n ≡ o
+    by : (o : Option OutputClosure) → slice_get closures n ≡ o
         → IsRising lent × All (Contains permitted) lent
     by None e = subst (λ (l : List (List ℕ)). IsRising l × All (Contains permitted) l) (sym (none e))
         (tt, All-from_contains (Contains permitted) [] (λ p has. absurd (Contains-nothing p has)))
-    by (Some all) e =
-        subst (λ (l : List (List ℕ)). IsRising l × All (Contains permitted) l) (sym (some all e))
-        (All-contains
-        (λ (v : Vec (List ℕ)). IsRising v.items × All (Contains permitted) v.items) requisites all
-        are.closures (Contains-from_get requisites n all e))
+    by (Some closure) e =
+        let is = All-contains (IsPermittedClosure permitted) closures closure are.closures
+        (Contains-from_get closures n closure e) in
+        subst (λ (l : List (List ℕ)). IsRising l × All (Contains permitted) l)
+        (sym (some closure e)) (is.rising, is.within)
 
 module _ (registrations : List Registration) (job : Job) (infos : List PathInfo)
-    (requisites : List (Vec (List ℕ))) (n : ℕ) (own : List ℕ) (lent : List (List ℕ))
-    (have : HaveRequisites registrations job infos requisites) (nix : job.profile ≡ Nix)
+    (closures : List OutputClosure) (n : ℕ) (own : List ℕ) (lent : List (List ℕ))
+    (have : HaveClosures registrations job infos closures) (nix : job.profile ≡ Nix)
     (at : slice_get (outputs_of job) n ≡ Some own)
-    (some : (all : Vec (List ℕ)) → slice_get requisites n ≡ Some all → lent ≡ all.items) where
-  allowed_used : list_of job AllowedRequisites ≢ None → (path : List ℕ)
+    (some : (closure : OutputClosure) → slice_get closures n ≡ Some closure
+    → lent ≡ closure.paths.items) where
+  requisites_used : NeedsClosure job n → (path : List ℕ)
       → Contains lent path ↔ IsRequisite registrations job infos own path
-  allowed_used asked path =
-      let h = have (nix, inl asked) n own at in
+  requisites_used needs path =
+      let h = have n own at needs in
       subst (λ (l : List (List ℕ)). Contains l path ↔ IsRequisite registrations job infos own path)
-      (sym (some h.0 h.1)) (h.2.each path)
-
-  disallowed_used : list_of job DisallowedRequisites ≢ None → (path : List ℕ)
-      → Contains lent path ↔ IsRequisite registrations job infos own path
-  disallowed_used asked path =
-      let h = have (nix, inr asked) n own at in
-      subst (λ (l : List (List ℕ)). Contains l path ↔ IsRequisite registrations job infos own path)
-      (sym (some h.0 h.1)) (h.2.each path)
+      (sym (some h.0 h.1)) (h.2.paths.each path)
 
   pub closures_are_used : (check : Check)
-      → (check ≡ AllowedRequisites) ⊎ (check ≡ DisallowedRequisites) → list_of job check ≢ None
+      → (check ≡ AllowedRequisites) ⊎ (check ≡ DisallowedRequisites) → list_of job n check ≢ None
       → AreUsed registrations job infos check n own lent
   closures_are_used check is asked = ⊎_elim
       (λ e. subst (λ (c : Check). AreUsed registrations job infos c n own lent) (sym e)
-      (allowed_used (subst (λ (c : Check). list_of job c ≢ None) e asked)))
+      (requisites_used (nix, inl (subst (λ (c : Check). list_of job n c ≢ None) e asked))))
       (λ e. subst (λ (c : Check). AreUsed registrations job infos c n own lent) (sym e)
-      (disallowed_used (subst (λ (c : Check). list_of job c ≢ None) e asked)))
+      (requisites_used (nix, inr (inl (subst (λ (c : Check). list_of job n c ≢ None) e asked)))))
       is
 
 -- ---- what a check bars
@@ -114,25 +107,17 @@ both_told true b P Q told told' = (λ is. (told'.0 is, told.0 refl), λ h. told'
 both_told false b P Q told told' =
     (λ is. absurd (false≢true is), λ h. absurd (false≢true (told.1 h.1)))
 
-own_told : (path own : List ℕ) (is_own : Bool) → is_own ≡ pointwise nat_eq path own
-    → IsTrue is_own ↔ (path ≡ own)
-own_told path own true is = (λ _. equal_from_eq path own (sym is), λ _. refl)
-own_told path own false is = (
-  λ told. absurd (false≢true told),
-  λ same. absurd (unequal_from_eq path own (sym is) same),
-)
-
-pub barred_by : (check : Check) (named : List (List ℕ)) (own path : List ℕ)
-    (is_named is_own : Bool) → IsTrue is_named ↔ Contains named path
-    → is_own ≡ pointwise nat_eq path own
-    → IsTrue (bars check is_named is_own) ↔ IsBarred named check own path
-barred_by AllowedReferences named own path is_named is_own told is =
+pub barred_by : (check : Check) (named : List (List ℕ)) (left_out : Option (List ℕ))
+    (path : List ℕ) (is_named is_left_out : Bool) → IsTrue is_named ↔ Contains named path
+    → IsTrue is_left_out ↔ (left_out ≡ Some path)
+    → IsTrue (bars check is_named is_left_out) ↔ IsBarred named check left_out path
+barred_by AllowedReferences named left_out path is_named is_left_out told is =
     not_told is_named (Contains named path) told
-barred_by AllowedRequisites named own path is_named is_own told is =
-    both_told (not is_named) (not is_own) (Contains named path → ⊥) (path ≢ own)
+barred_by AllowedRequisites named left_out path is_named is_left_out told is =
+    both_told (not is_named) (not is_left_out) (Contains named path → ⊥) (left_out ≢ Some path)
     (not_told is_named (Contains named path) told)
-    (not_told is_own (path ≡ own) (own_told path own is_own is))
-barred_by DisallowedReferences named own path is_named is_own told is = told
-barred_by DisallowedRequisites named own path is_named is_own told is =
-    both_told is_named (not is_own) (Contains named path) (path ≢ own) told
-    (not_told is_own (path ≡ own) (own_told path own is_own is))
+    (not_told is_left_out (left_out ≡ Some path) is)
+barred_by DisallowedReferences named left_out path is_named is_left_out told is = told
+barred_by DisallowedRequisites named left_out path is_named is_left_out told is =
+    both_told is_named (not is_left_out) (Contains named path) (left_out ≢ Some path) told
+    (not_told is_left_out (left_out ≡ Some path) is)

@@ -15,7 +15,7 @@ use Rattle.valid_table.specs.PathInfos.{PathInfo}
 use Rattle.build_outcome.specs.declared.job.Answer.{Answer}
 use Rattle.build_outcome.specs.declared.job.Job.{Job}
 use Rattle.build_outcome.specs.declared.reason.Reason.{Reason}
-use Rattle.build_outcome.specs.declared.reason.Reason.TheVariants.{ExitStatus, NoStart, MissingOutput, NotFlatFile, HashMismatch, OutputCycle, TooLarge, ReadFault, OutOfMemory, Killed, BadMode, NotAllowed, BadSpecifier, BadAttributes, BadGraph, UnknownNar}
+use Rattle.build_outcome.specs.declared.reason.Reason.TheVariants.{ExitStatus, NoStart, MissingOutput, NotFlatFile, HashMismatch, OutputCycle, TooLarge, ReadFault, OutOfMemory, Killed, BadMode, NotAllowed, BadSpecifier, BadAttributes, BadGraph, UnknownNar, PastMaxSize, PastMaxClosureSize}
 use Rattle.build_outcome.specs.Verdicts.{AreOutputsThere, AreRead, AreRecords, HasBadMode, HasForm, HaveGoodModes, IsCyclic, IsExamining, IsFaulty, IsFirstFault, IsRecordAt, IsRecordOf, IsTaken, IsTreeFault, IsVerdict, MayBeTaken, outputs_of, tree_at}
 
 -- What is known once the first `count` outputs were looked at: none of them is missing.
@@ -132,6 +132,8 @@ tree_fault_cases profile Addressed tree (BadSpecifier output) fault = absurd fau
 tree_fault_cases profile Addressed tree BadAttributes fault = absurd fault
 tree_fault_cases profile Addressed tree BadGraph fault = absurd fault
 tree_fault_cases profile Addressed tree (UnknownNar place) fault = absurd fault
+tree_fault_cases profile Addressed tree (PastMaxSize output) fault = absurd fault
+tree_fault_cases profile Addressed tree (PastMaxClosureSize output) fault = absurd fault
 tree_fault_cases profile (Fixed method declared) tree (ExitStatus n) fault = absurd fault
 tree_fault_cases profile (Fixed method declared) tree NoStart fault = absurd fault
 tree_fault_cases profile (Fixed method declared) tree (MissingOutput n) fault = absurd fault
@@ -145,6 +147,8 @@ tree_fault_cases profile (Fixed method declared) tree (BadSpecifier output) faul
 tree_fault_cases profile (Fixed method declared) tree BadAttributes fault = absurd fault
 tree_fault_cases profile (Fixed method declared) tree BadGraph fault = absurd fault
 tree_fault_cases profile (Fixed method declared) tree (UnknownNar place) fault = absurd fault
+tree_fault_cases profile (Fixed method declared) tree (PastMaxSize output) fault = absurd fault
+tree_fault_cases profile (Fixed method declared) tree (PastMaxClosureSize output) fault = absurd fault
 
 -- a fault of a tree after trees that are taken is the first
 pub first_fault : (job : Job) (permitted : List (List ℕ)) (answer : Answer) (count : ℕ)

@@ -1,4 +1,5 @@
 -- What public contracts cite, and what that rests on.
+pub mod Attributes
 pub mod Checks
 pub mod Jobs
 pub mod Numbers

@@ -1,7 +1,7 @@
 -- The numbers of reasons in the table of faults.
 use Rattle.std.specs.Prelude.{ℕ}
 use Rattle.build_outcome.specs.declared.reason.Reason.{Reason}
-use Rattle.build_outcome.specs.declared.reason.Reason.TheVariants.{ExitStatus, NoStart, MissingOutput, NotFlatFile, HashMismatch, OutputCycle, TooLarge, ReadFault, OutOfMemory, Killed, BadMode, NotAllowed, BadSpecifier, BadAttributes, BadGraph, UnknownNar}
+use Rattle.build_outcome.specs.declared.reason.Reason.TheVariants.{ExitStatus, NoStart, MissingOutput, NotFlatFile, HashMismatch, OutputCycle, TooLarge, ReadFault, OutOfMemory, Killed, BadMode, NotAllowed, BadSpecifier, BadAttributes, BadGraph, UnknownNar, PastMaxSize, PastMaxClosureSize}
 
 -- a reason's number
 abbrev pub reason_number_of : Reason → ℕ
@@ -21,3 +21,5 @@ reason_number_of (BadSpecifier output) = 85
 reason_number_of BadAttributes = 79
 reason_number_of BadGraph = 80
 reason_number_of (UnknownNar place) = 86
+reason_number_of (PastMaxSize output) = 82
+reason_number_of (PastMaxClosureSize output) = 83

@@ -3,7 +3,9 @@ pub mod Hashing
 pub mod Linking
 pub mod Listing
 pub mod Reaching
+pub mod Reading
 pub mod RootPaths
+pub mod Sizing
 pub mod Summing
 pub mod Testing
 pub mod Walking

@@ -1,22 +1,28 @@
-//! The tests of what a job's outputs refer to.
+//! The tests of what a job's outputs refer to, and of their sizes.
 //!
 //! | Module | What is in it |
 //! |---|---|
 //! | `check` | the checks that a derivation may ask for |
 //! | `tokens` | the words of a text |
-//! | `lists` | the list of a check, in the environment of a job |
+//! | `job_checks` | the checks of a job |
+//! | `lists` | the list of a check |
+//! | `closure` | the closure of an output |
 //! | `specifiers` | the paths that a list names |
 //! | `roots` | where the closure of an output begins |
 //! | `reach` | the numbers to which links lead |
 //! | `rising` | paths in rising order |
 //! | `used` | the paths that an output uses, and the first that a check bars |
+//! | `sizes` | the sizes of closures |
 //! | `testing` | the tests of all outputs |
 
 pub(crate) mod check;
+pub(crate) mod closure;
+pub(crate) mod job_checks;
 pub(crate) mod lists;
 pub(crate) mod reach;
 pub(crate) mod rising;
 pub(crate) mod roots;
+pub(crate) mod sizes;
 pub(crate) mod specifiers;
 pub(crate) mod testing;
 pub(crate) mod tokens;

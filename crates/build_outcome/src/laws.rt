@@ -15,7 +15,7 @@ pub fn one_tested_verdict()
 {}
 
 /// The verdict with the tests stays the same where the permitted paths that are no outputs reach
-/// the same paths.
+/// the same paths, with the same records.
 pub fn tested_verdicts_stay()
     ensures { TestedVerdictStays }
 {}

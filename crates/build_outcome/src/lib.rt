@@ -3,6 +3,7 @@
 //! | Module | What is in it |
 //! |---|---|
 //! | `job` | what a builder is given, and what it answers |
+//! | `attributes` | entries of a job's environment, and its structured attributes |
 //! | `prepared` | what is prepared for a builder's start |
 //! | `build` | builders, which build jobs and hear of them |
 //! | `verdict`, `checked` | the verdict on an answer, and the records that it gives |
@@ -11,11 +12,12 @@
 //! | `sums`, `archive_digests` | the digests and the lengths of outputs' archives |
 //! | `cycle`, `links`, `walk` | whether outputs refer to each other in a cycle |
 //! | `reason` | why building a derivation failed |
-//! | `checks` | the tests of what outputs refer to |
+//! | `checks` | the tests of what outputs refer to, and of their sizes |
 //! | `laws` | laws over the definitions that contracts cite |
 #![tactic(auto)]
 
 mod archive_digests;
+mod attributes;
 mod build;
 mod checked;
 mod checks;
@@ -31,12 +33,14 @@ mod taking;
 mod verdict;
 mod walk;
 
+pub use attributes::{json_of, value_under};
 pub use build::{Build, LeaseObserver};
 pub use checked::Checked;
 pub use checks::check::Check;
-pub use checks::lists::asks_for_closures;
+pub use checks::closure::OutputClosure;
+pub use checks::job_checks::JobChecks;
 pub use checks::roots::{OutputRoots, output_roots};
-pub use checks::testing::test_outputs;
+pub use checks::testing::{AskedChecks, test_outputs};
 pub use checks::tokens::{is_space, tokens_of};
 pub use cycle::is_cyclic;
 pub use job::{Answer, Job, JobOutput, LeftOutput, WholeInput};

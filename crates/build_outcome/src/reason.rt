@@ -45,6 +45,11 @@ pub enum Reason {
     /// The archive of a path is asked for and not known: of the one with this number, counted from
     /// 0, among the permitted paths in rising order.
     UnknownNar(usize),
+    /// The archive of the output with this number, counted from 0, is longer than its `maxSize`.
+    PastMaxSize(usize),
+    /// The archives of the closure of the output with this number, counted from 0, are longer than
+    /// its `maxClosureSize` together.
+    PastMaxClosureSize(usize),
 }
 
 impl Reason {
@@ -69,6 +74,8 @@ impl Reason {
             Reason::BadAttributes => 79,
             Reason::BadGraph => 80,
             Reason::UnknownNar(_) => 86,
+            Reason::PastMaxSize(_) => 82,
+            Reason::PastMaxClosureSize(_) => 83,
         }
     }
 }

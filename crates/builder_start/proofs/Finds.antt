@@ -10,13 +10,9 @@ use Rattle.nix_names.proofs.Lists.{Contains-cons_cases, Contains-first, Contains
 use Rattle.nix_names.proofs.RisingLists.{equal_from_eq}
 use Rattle.std.specs.Cmp.Lexicographic.{nat_list_eq_equiv}
 use Rattle.nix_drv.specs.Derivation.{EnvEntry}
-use Rattle.nix_drv.specs.Parts.{entry_of}
-use Rattle.nix_drv.specs.declared.derivation.EnvEntry.{EnvEntry as EnvEntryStruct}
 use Rattle.valid_table.specs.Entries.{paths_registered}
 use Rattle.valid_table.specs.Valid.{IsNotValid, IsValid}
 use Rattle.valid_table.specs.declared.entry.Registration.{Registration}
-use Rattle.build_outcome.specs.declared.job.Job.{Job}
-use Rattle.builder_start.specs.Asked.{value_at}
 use Rattle.builder_start.specs.Entries.{is_within, root_of}
 
 -- ---- any lists
@@ -74,22 +70,6 @@ find_none p (y ∷ xs) is x has passes =
         (λ same. false≢true (sym fails ∙ ap p same ∙ passes))
         (go found)
         (Contains-cons_cases y xs x has)
-
--- ---- what is asked for
-
-told : (o : Option EnvEntryStruct) → option_map (λ (e : EnvEntryStruct). e.value.items) o
-    ≡ option_map (λ (e : EnvEntry). e.value) (option_map entry_of o)
-told None = refl
-told (Some e) = refl
-
--- the entry that is found among the entries of a job has the value of the key
-pub value_told : (job : Job) (key : List ℕ) (found : Option EnvEntryStruct)
-    → found ≡ find (λ (e : EnvEntryStruct). same_bytes e.key.items key) job.env.items
-    → option_map (λ (e : EnvEntryStruct). e.value.items) found ≡ value_at key job
-value_told job key found is =
-    told found ∙ ap (λ o. option_map (λ (e : EnvEntry). e.value) (option_map entry_of o)) is
-    ∙ ap (option_map (λ (e : EnvEntry). e.value))
-    (sym (find_mapped (λ (e : EnvEntry). same_bytes e.key key) entry_of job.env.items))
 
 -- ---- paths of records
 

@@ -4,7 +4,8 @@ use Rattle.valid_table.specs.declared.entry.Registration.{Registration}
 use Rattle.build_outcome.specs.declared.job.Job.{Job}
 use Rattle.build_outcome.specs.declared.reason.Reason.{Reason}
 use Rattle.build_outcome.specs.declared.reason.Reason.TheVariants.{BadGraph, OutOfMemory}
-use Rattle.builder_start.specs.Asked.{graphs_of, json_of, tokens_or_none}
+use Rattle.build_outcome.specs.Attributes.{json_of}
+use Rattle.builder_start.specs.Asked.{graphs_of, tokens_or_none}
 use Rattle.builder_start.specs.Entries.{AskForBadGraphs}
 use Rattle.builder_start.specs.Preparing.{IsUnprepared}
 use Rattle.builder_start.specs.private.Shown.{IsUntold, IsWhy}

@@ -8,7 +8,8 @@ use Rattle.build_outcome.specs.declared.prepared.Prepared.{Prepared}
 use Rattle.build_outcome.specs.declared.prepared.Prepared.TheVariants.{Entries, Structured}
 use Rattle.build_outcome.specs.declared.reason.Reason.{Reason}
 use Rattle.build_outcome.specs.declared.reason.Reason.TheVariants.{BadAttributes, BadGraph, UnknownNar}
-use Rattle.builder_start.specs.Asked.{graphs_of, json_of, tokens_or_none}
+use Rattle.build_outcome.specs.Attributes.{json_of}
+use Rattle.builder_start.specs.Asked.{graphs_of, tokens_or_none}
 use Rattle.builder_start.specs.Entries.{AreFiles, AskForBadGraphs}
 use Rattle.builder_start.specs.Structured.{AreAttributes, AreGoodRequests, AreTexts, IsFirstWithoutNar}
 

@@ -5,11 +5,10 @@ ghost use Rattle.valid_table.specs.Valid.{AreReferencesValid};
 ghost use Rattle.build_outcome.specs.declared.reason.Reason.TheVariants.{OutOfMemory};
 ghost use Rattle.builder_start.specs.Preparing.{IsPrepared, IsUnprepared};
 
-use crate::asked::json_of;
 use crate::entries::files_asked;
 use crate::rows::Rows;
 use crate::structured::texts_told;
-use build_outcome::{Job, Prepared, Reason};
+use build_outcome::{Job, Prepared, Reason, json_of};
 use std::alloc::Global;
 use valid_table::Registration;
 

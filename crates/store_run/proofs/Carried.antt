@@ -1,6 +1,6 @@
 -- Paths whose records stand in another list of registrations too, with those of all that they
 -- reach.
-use Rattle.std.proofs.Common.{◌≡◌, ◌↔◌, inl, inr, ℕ, List, [], ◌∷◌, ◌++◌, refl, subst, ⊎_elim, rules}
+use Rattle.std.proofs.Common.{◌≡◌, ◌↔◌, ◌∙◌, inl, inr, ℕ, List, [], ◌∷◌, ◌++◌, Some, ap, refl, subst, sym, ⊎_elim, rules}
 use Rattle.std.specs.Prelude.{Contains}
 use Rattle.std.proofs.lemmas.List.Elements.{Contains-append_left}
 use Rattle.valid_table.specs.Closure.{LeadsByReferences, Reaches}
@@ -15,6 +15,9 @@ use Rattle.run_states.specs.Legal.{MayRefer}
 use Rattle.run_states.proofs.Dones.{reached_is_valid}
 use Rattle.run_report.proofs.NamedPaths.{ReferAlike}
 use Rattle.valid_table.proofs.Reaching.{valid_from_registers}
+use Rattle.build_outcome.specs.Checks.{record_at}
+use Rattle.build_outcome.proofs.Sizes.{record_there}
+use Rattle.store_run.proofs.KnownRecords.{record_is, record_registers}
 
 -- all that a path reaches among some registrations has the same record among others
 abbrev pub IsCarried : (all other : List Registration) → (from : List ℕ) → Type 0
@@ -115,6 +118,33 @@ reach_both all other seeds outputs there back from to may foreign = (
   reach_carried other all seeds outputs back from to
       (may_refer_there all other seeds outputs there from may) foreign,
 )
+
+-- what may be referred to reaches paths with the same records there, but for outputs
+pub record_both : (all other : List Registration) (seeds outputs : List (List ℕ)) → IsOnce all
+    → ((seed : List ℕ) → Contains seeds seed → IsCarried all other seed)
+    → ((seed : List ℕ) → Contains seeds seed → IsCarried other all seed) → (from to : List ℕ)
+    → MayRefer all seeds outputs from → (Contains outputs from → ⊥) → Reaches all from to
+    → record_at all to ≡ record_at other to
+record_both all other seeds outputs once there back from to (inl (seed, has, reached)) foreign
+    reaches =
+    let steps = reached.0 ++ reaches.0 in
+    let leads = leads_on all seed from to reached.0 reaches.0 reached.1 reaches.1 in
+    let leads' = leads_carried all other seed to steps (there seed has) leads in
+    let here = record_there all to (reached_is_valid all seed to steps leads) in
+    let far = record_there other to (reached_is_valid other seed to steps leads') in
+    let registers : Registers all to far.0.info =
+    back seed has to far.0.info (steps, leads') (record_registers other to far.0 far.1) in
+    let same : far.0.info ≡ here.0.info =
+    one_info all once to far.0.info here.0.info registers
+    (record_registers all to here.0 here.1) in
+    let paths : far.0.path ≡ here.0.path =
+    (record_is other to far.0 far.1).1 ∙ sym (record_is all to here.0 here.1).1 in
+    here.1
+    ∙ sym (far.1
+    ∙ ap (λ (p : List ℕ). Some (record { path = p; info = far.0.info })) paths
+    ∙ ap (λ (i : PathInfo). Some (record { path = here.0.path; info = i })) same)
+record_both all other seeds outputs once there back from to (inr own) foreign reaches =
+    absurd (foreign own)
 
 -- what a valid path reaches stays the same where more is registered
 pub reach_more : (first more : List Registration) → AreReferencesValid first

@@ -16,6 +16,7 @@ pub mod ExampleJobs
 pub mod FlatRecords
 pub mod GivenOutcomes
 pub mod KeptTexts
+pub mod KnownRecords
 pub mod Interruptions
 pub mod OneOutcome
 pub mod OneThreads
@@ -28,6 +29,7 @@ pub mod RunJournals
 pub mod ExampleLoads
 pub mod ScheduleExample
 pub mod Schedules
+pub mod SameChecks
 pub mod SameOutcomes
 pub mod SameTests
 pub mod SameVerdicts

@@ -19,18 +19,20 @@ use Rattle.sched_core.specs.Books.{ArePermittedPaths}
 use Rattle.build_outcome.specs.Jobs.{IsJob, seeds_of}
 use Rattle.run_states.specs.Legal.{ArePermitted, ArePermittedTo, MayRefer}
 use Rattle.run_states.specs.Runs.{History, Run}
-use Rattle.build_outcome.specs.Checks.{IsTestedVerdict, ReachAlike}
+use Rattle.build_outcome.specs.Checks.{IsTestedVerdict, ReachAlike, record_at}
 use Rattle.build_outcome.specs.Verdicts.{outputs_of}
 use Rattle.build_outcome.specs.declared.job.Answer.{Answer}
 use Rattle.build_outcome.specs.declared.job.Job.{Job}
 use Rattle.build_outcome.specs.declared.job.JobOutput.{JobOutput}
 use Rattle.build_outcome.specs.declared.reason.Reason.{Reason}
 use Rattle.build_outcome.proofs.TestedVerdicts.{tested_verdict_stays}
+use Rattle.run_states.proofs.Dones.{reached_is_valid}
 use Rattle.run_states.proofs.Seeds.{permitted_stays}
 use Rattle.store_run.specs.Builders.{IsOutcomeVerdict, IsVerdictBehind}
 use Rattle.store_run.specs.Scheduling.{HasOneOutcome}
 use Rattle.store_run.proofs.Answered.{came_may_refer}
-use Rattle.store_run.proofs.Carried.{IsCarried, may_refer_there, reach_both, reach_more, referred_valid}
+use Rattle.store_run.proofs.Carried.{IsCarried, may_refer_there, reach_both, reach_more, record_both, referred_valid}
+use Rattle.store_run.proofs.KnownRecords.{record_behind}
 use Rattle.store_run.proofs.Telling.{CameTo}
 
 -- ---- a job's parts are its derivation's
@@ -180,17 +182,51 @@ module _ (may : Job → Result Answer Reason → Type 0) (run : Run)
       let both = reach_both all all' seeds outputs there back from to whole foreign in
       (λ reaches. here'.1 (both.0 (here.0 reaches)), λ reaches. here.1 (both.1 (here'.0 reaches)))
 
+  -- with the same records
+  record_first : (v w : Result (List PathInfo) Reason) (came : CameTo may run history d v)
+      (came' : CameTo may run other d w) (from to : List ℕ)
+      → MayRefer (registered came.before) (seeds_of run.graph.nodes node.drv)
+      (output_paths_of node.drv) from
+      → (Contains (output_paths_of node.drv) from → ⊥) → Reaches (registered came.before) from to
+      → record_at (registered came.before) to ≡ record_at (registered came'.before) to
+  record_first v w came came' from to first foreign reaches =
+      let seeds = seeds_of run.graph.nodes node.drv in
+      let outputs = output_paths_of node.drv in
+      let all = registered history.entries in
+      let all' = registered other.entries in
+      let whole = (permitted_whole may run history once d node at v came from).0 first in
+      let here = reach_whole may run history once d node at v came from to
+      (referred_valid (registered came.before) seeds outputs from first foreign) in
+      let far = (reach_first v w came came' from to first foreign).0 reaches in
+      record_behind came.before history.entries to (came.more, sym came.parts)
+      (reached_is_valid (registered came.before) from to reaches.0 reaches.1)
+      ∙ record_both all all' seeds outputs once there back from to whole foreign (here.0 reaches)
+      ∙ sym (record_behind came'.before other.entries to (came'.more, sym came'.parts)
+      (reached_is_valid (registered came'.before) from to far.0 far.1))
+
   alike_first : (v w : Result (List PathInfo) Reason) (came : CameTo may run history d v)
       (came' : CameTo may run other d w) (p : List (List ℕ))
       → ArePermittedPaths came.before came.behind.job p
       → ReachAlike (registered came.before) (registered came'.before) came.behind.job p
-  alike_first v w came came' p of_p from to has foreign =
-      let job = came.behind.job in
-      let are = permitted_job run.graph d job node came.before p came.behind.is_job at of_p in
-      reach_first v w came came' from to ((are.each from).0 has)
-      (λ own. foreign
-      (subst (λ (outputs : List (List ℕ)). Contains outputs from)
-      (sym (job_outputs run.graph d job node came.behind.is_job at)) own))
+  alike_first v w came came' p of_p = record {
+    reach = λ from to has foreign.
+        reach_first v w came came' from to (first from has) (apart from foreign);
+    records = λ from to has foreign reaches.
+        record_first v w came came' from to (first from has) (apart from foreign) reaches;
+  }
+    where
+      first : (from : List ℕ) → Contains p from
+          → MayRefer (registered came.before) (seeds_of run.graph.nodes node.drv)
+          (output_paths_of node.drv) from
+      first from has =
+          ((permitted_job run.graph d came.behind.job node came.before p came.behind.is_job at
+          of_p).each from).0 has
+
+      apart : (from : List ℕ) → (Contains (outputs_of came.behind.job) from → ⊥)
+          → Contains (output_paths_of node.drv) from → ⊥
+      apart from foreign own =
+          foreign (subst (λ (outputs : List (List ℕ)). Contains outputs from)
+          (sym (job_outputs run.graph d came.behind.job node came.behind.is_job at)) own)
 
   -- there is one verdict
   pub one_verdict : (v w : Result (List PathInfo) Reason) → CameTo may run history d v

@@ -6,8 +6,9 @@ use Rattle.drv_graph.specs.PlanNodes.{output_paths_of}
 use Rattle.valid_table.specs.Closure.{Reaches}
 use Rattle.valid_table.specs.Entries.{registered}
 use Rattle.valid_table.specs.PathInfos.{PathInfo}
-use Rattle.valid_table.specs.Valid.{IsOnce}
+use Rattle.valid_table.specs.Valid.{IsOnce, IsValid}
 use Rattle.valid_table.specs.declared.entry.Entry.{Entry}
+use Rattle.valid_table.specs.declared.entry.Registration.{Registration}
 use Rattle.sched_core.specs.Books.{ArePermittedPaths}
 use Rattle.run_states.specs.StateTables.{CanBegin}
 use Rattle.run_states.specs.Runs.{opened}
@@ -27,11 +28,13 @@ use Rattle.store_run.specs.Builders.{IsOutcomeVerdict, IsVerdictBehind}
 use Rattle.store_run.specs.OneThread.{HadTurns, turn_done, turn_failed, turn_opening, turn_skipped}
 use Rattle.store_run.specs.Scheduling.{HasOneThread, IsWholeRun}
 use Rattle.store_run.proofs.Alike.{HasSameTurn, IsAccounted, IsAlikeAt, alike_below, none_building, not_idle, seed_carried, swapped, unhindered_there}
-use Rattle.store_run.proofs.Carried.{IsCarried, may_refer_there, reach_both, referred_valid}
+use Rattle.store_run.proofs.Carried.{IsCarried, may_refer_there, reach_both, record_both, referred_valid}
+use Rattle.store_run.proofs.KnownRecords.{record_behind}
 use Rattle.store_run.proofs.OneOutcome.{job_outputs, job_seeds, permitted_job, permitted_whole, reach_whole}
 use Rattle.store_run.proofs.Schedules.{opening_journal, run_accounted, run_told, turns_accounted}
 use Rattle.store_run.proofs.Telling.{CameTo, phase_broken, phase_ended}
 use Rattle.store_run.proofs.Turns.{HaveTurned, turned_is}
+use Rattle.run_states.proofs.Dones.{reached_is_valid}
 use Rattle.run_states.proofs.Unhindered.{ready_unhindered}
 use Rattle.store_run.proofs.Unhindered.{IsUnhindered, unhindered_ready}
 use Rattle.run_states.proofs.OtherEvents.{phase_other, same_or_other}
@@ -75,22 +78,52 @@ module _ (may : Job → Result Answer Reason → Type 0) (run : Run) (history ot
   reach_there : (permitted : List (List ℕ))
       → ArePermittedPaths came.before came.behind.job permitted
       → ReachAlike (registered came.before) (registered other.entries) came.behind.job permitted
-  reach_there permitted of from to has foreign =
-      let job = came.behind.job in
-      let seeds = seeds_of run.graph.nodes node.drv in
-      let outputs = output_paths_of node.drv in
-      let all = registered history.entries in
-      let apart : Contains outputs from → ⊥ =
-      λ own. foreign (subst (λ (paths : List (List ℕ)). Contains paths from)
-      (sym (job_outputs run.graph d job node came.behind.is_job at)) own) in
-      let are = permitted_job run.graph d job node came.before permitted came.behind.is_job at of in
-      let first = (are.each from).0 has in
-      let whole = (permitted_whole may run history once d node at verdict came from).0 first in
-      let here = reach_whole may run history once d node at verdict came from to
-      (referred_valid (registered came.before) seeds outputs from first apart) in
-      let both = reach_both all (registered other.entries) seeds outputs there back from to whole
-      apart in
-      (λ reaches. both.0 (here.0 reaches), λ reaches. here.1 (both.1 reaches))
+  reach_there permitted of = record {
+    reach = λ from to has foreign.
+        let here = reach_whole may run history once d node at verdict came from to
+        (was_valid from has foreign) in
+        let both = reach_both all (registered other.entries) seeds outputs there back from to
+        (whole from has) (apart from foreign) in
+        (λ reaches. both.0 (here.0 reaches), λ reaches. here.1 (both.1 reaches));
+    records = λ from to has foreign reaches.
+        let here = reach_whole may run history once d node at verdict came from to
+        (was_valid from has foreign) in
+        record_behind came.before history.entries to (came.more, sym came.parts)
+        (reached_is_valid (registered came.before) from to reaches.0 reaches.1)
+        ∙ record_both all (registered other.entries) seeds outputs once there back from to
+        (whole from has) (apart from foreign) (here.0 reaches);
+  }
+    where
+      seeds : List (List ℕ)
+      seeds = seeds_of run.graph.nodes node.drv
+
+      outputs : List (List ℕ)
+      outputs = output_paths_of node.drv
+
+      all : List Registration
+      all = registered history.entries
+
+      apart : (from : List ℕ) → (Contains (outputs_of came.behind.job) from → ⊥)
+          → Contains outputs from → ⊥
+      apart from foreign own =
+          foreign (subst (λ (paths : List (List ℕ)). Contains paths from)
+          (sym (job_outputs run.graph d came.behind.job node came.behind.is_job at)) own)
+
+      first : (from : List ℕ) → Contains permitted from
+          → MayRefer (registered came.before) seeds outputs from
+      first from has =
+          ((permitted_job run.graph d came.behind.job node came.before permitted came.behind.is_job
+          at of).each from).0 has
+
+      whole : (from : List ℕ) → Contains permitted from → MayRefer all seeds outputs from
+      whole from has =
+          (permitted_whole may run history once d node at verdict came from).0 (first from has)
+
+      was_valid : (from : List ℕ) → Contains permitted from
+          → (Contains (outputs_of came.behind.job) from → ⊥) → IsValid (registered came.before) from
+      was_valid from has foreign =
+          referred_valid (registered came.before) seeds outputs from (first from has)
+          (apart from foreign)
 
   behind_there : IsVerdictBehind may run other.entries d verdict
   behind_there = record {

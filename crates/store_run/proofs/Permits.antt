@@ -1,5 +1,5 @@
 -- What is permitted to a job by lists of entries that go on from one list.
-use Rattle.std.proofs.Common.{◌≡◌, ◌↔◌, inl, inr, ℕ, List, [], ◌∷◌, ◌++◌, All, None, Result, Ok, Err, refl, subst, sym, rules}
+use Rattle.std.proofs.Common.{◌≡◌, ◌↔◌, ◌∙◌, inl, inr, ℕ, List, [], ◌∷◌, ◌++◌, All, None, Result, Ok, Err, refl, subst, sym, rules}
 use Rattle.std.specs.Prelude.{Contains, IfOk, OnOk, slice_get}
 use Rattle.std.proofs.lemmas.List.Elements.{All-contains}
 use mathlib.Core.List.{IsPrefix}
@@ -16,12 +16,15 @@ use Rattle.valid_view.specs.Shown.{IsShowable}
 use Rattle.valid_view.proofs.Showable.{showable_prefix}
 use Rattle.sched_core.specs.Books.{ArePermittedPaths, AreSeedsValid}
 use Rattle.run_states.specs.Legal.{MayRefer}
+use Rattle.build_outcome.specs.Checks.{record_at}
 use Rattle.build_outcome.specs.Verdicts.{outputs_of}
 use Rattle.build_outcome.specs.declared.job.Job.{Job}
 use Rattle.sched_core.proofs.Permitting.{are_permitted}
+use Rattle.run_states.proofs.Dones.{reached_is_valid}
 use Rattle.run_states.proofs.Seeds.{permitted_stays}
 use Rattle.store_run.specs.private.JobVerdicts.{AreKnownValid, StaysPermitted}
 use Rattle.store_run.proofs.Carried.{reach_more, referred_valid}
+use Rattle.store_run.proofs.KnownRecords.{record_behind}
 
 -- what is valid stays so in each list that goes on
 paths_stay : (before after : List Entry) (paths : List (List ℕ)) → IsPrefix before after
@@ -105,17 +108,24 @@ permitted_behind before after job goes showable valid =
     permitted_by_both before after job
     (λ path. same_behind before after job path goes showable valid)
 
--- and where what is permitted reaches the same too, it stays permitted
+-- and where what is permitted reaches the same too, with the same records, it stays permitted
 stays_by_both : (before after : List Entry) (job : Job) → ((path : List ℕ)
     → MayRefer (registered before) job.seeds.items (outputs_of job) path
     ↔ MayRefer (registered after) job.seeds.items (outputs_of job) path)
     → ((from to : List ℕ) → MayRefer (registered before) job.seeds.items (outputs_of job) from
     → (Contains (outputs_of job) from → ⊥)
     → Reaches (registered before) from to ↔ Reaches (registered after) from to)
+    → ((from to : List ℕ) → MayRefer (registered before) job.seeds.items (outputs_of job) from
+    → (Contains (outputs_of job) from → ⊥) → Reaches (registered before) from to
+    → record_at (registered before) to ≡ record_at (registered after) to)
     → StaysPermitted before after job
-stays_by_both before after job same alike permitted are = (
+stays_by_both before after job same alike records permitted are = (
   permitted_by_both before after job same permitted are,
-  λ from to has foreign. alike from to ((are.each from).0 has) foreign,
+  record {
+    reach = λ from to has foreign. alike from to ((are.each from).0 has) foreign;
+    records = λ from to has foreign reaches.
+        records from to ((are.each from).0 has) foreign reaches;
+  },
 )
 
 -- a list that was seen, one that is seen after it and begins with what is shown, and the entries,
@@ -151,8 +161,27 @@ module _ (seen now shown entries : List Entry) (job : Job) (from_seen : IsPrefix
         λ reaches. first.1 (second.0 (third.1 reaches)),
       )
 
+  record_by_view : (from to : List ℕ)
+      → MayRefer (registered seen) job.seeds.items (outputs_of job) from
+      → (Contains (outputs_of job) from → ⊥) → Reaches (registered seen) from to
+      → record_at (registered seen) to ≡ record_at (registered entries) to
+  record_by_view from to may foreign reaches =
+      let seeds = job.seeds.items in
+      let may_now = (same_behind seen now job from from_seen showable valid).0 may in
+      let may_shown = (same_behind shown now job from from_shown showable there).1 may_now in
+      let was_valid = referred_valid (registered seen) seeds (outputs_of job) from may foreign in
+      let is_valid = referred_valid (registered shown) seeds (outputs_of job) from may_shown foreign
+      in
+      let in_now = (reach_behind seen now from to from_seen showable was_valid).0 reaches in
+      let in_shown = (reach_behind shown now from to from_shown showable is_valid).1 in_now in
+      let shown_valid = reached_is_valid (registered shown) from to in_shown.0 in_shown.1 in
+      record_behind seen now to from_seen
+      (reached_is_valid (registered seen) from to reaches.0 reaches.1)
+      ∙ sym (record_behind shown now to from_shown shown_valid)
+      ∙ record_behind shown entries to goes_on shown_valid
+
   pub stays_by_view : StaysPermitted seen entries job
-  stays_by_view = stays_by_both seen entries job same_by_view reach_by_view
+  stays_by_view = stays_by_both seen entries job same_by_view reach_by_view record_by_view
 
 -- from no seeds nothing is reached
 only_own : (registrations : List Registration) (seeds outputs : List (List ℕ)) (path : List ℕ)
@@ -172,6 +201,8 @@ stays_without_seeds before after job none =
       λ may. inr (only_own (registered after) job.seeds.items (outputs_of job) path none may),
     ))
     (λ from to may foreign. absurd
+    (foreign (only_own (registered before) job.seeds.items (outputs_of job) from none may)))
+    (λ from to may foreign reaches. absurd
     (foreign (only_own (registered before) job.seeds.items (outputs_of job) from none may)))
 
 -- no first seed, none at all

@@ -1,10 +1,9 @@
 -- The verdict on an answer, with the tests of its outputs, is one for all jobs of a derivation.
-use Rattle.std.proofs.Common.{◌≡◌, ◌∙◌, inl, inr, ℕ, List, length, map, Result, Ok, Err, Some, ap, subst, sym, rules}
-use Rattle.std.specs.Prelude.{Contains, find, slice_get}
+use Rattle.std.proofs.Common.{◌≡◌, ◌∙◌, ◌<◌, ◌++◌, inl, inr, ℕ, List, length, map, Result, Ok, Err, Some, ap, subst, sym, rules}
+use Rattle.std.specs.Prelude.{Contains, codes, slice_get, zip}
 use Rattle.nix_names.specs.Firsts.{IsFirstWhere}
-use Rattle.nix_names.specs.Names.{same_bytes}
 use Rattle.nix_names.proofs.Lists.{Contains-from_get, Contains-nothing, get_from_contains, get_mapped, get_source, same_element}
-use Rattle.nix_drv.specs.Derivation.{EnvEntry, Output}
+use Rattle.nix_drv.specs.Derivation.{Output}
 use Rattle.nix_drv.specs.Parts.{entry_of}
 use Rattle.drv_graph.specs.Nodes.{Node}
 use Rattle.drv_graph.specs.PlanNodes.{output_paths_of}
@@ -14,7 +13,7 @@ use Rattle.drv_graph.specs.declared.profile.Profile.TheVariants.{Plain}
 use Rattle.drv_graph.proofs.KindAnswers.{one_kind}
 use Rattle.valid_table.specs.PathInfos.{PathInfo}
 use Rattle.valid_table.specs.declared.entry.Registration.{Registration}
-use Rattle.build_outcome.specs.Checks.{ArePassed, AreSpecifiers, Forbids, IsFirstPath, IsFirstTestFault, IsFixedJob, IsRequisite, IsTestFault, IsTestedVerdict, IsUsed, LeadsAmong, Lists, Of, OfFixed, Specifies, Test, key_of, list_of, tests_of, tests_under, tokens_of_entry}
+use Rattle.build_outcome.specs.Checks.{ArePassed, AreSpecifiers, Forbids, IsFirstPath, IsFirstTestFault, IsClosurePast, IsRequisite, IsTestFault, IsTestedVerdict, IsUnmeasured, IsUsed, LeadsAmong, Lists, Of, OfAttributes, OfClosureSize, OfFixed, OfSize, Specifies, Test, nar_at, registration_of, size_of_all, tests_of, tests_under, with_outputs}
 use Rattle.build_outcome.specs.Jobs.{IsJob}
 use Rattle.build_outcome.specs.Verdicts.{IsVerdict, OutputRefersTo, outputs_of}
 use Rattle.build_outcome.specs.declared.checks.check.Check.{Check}
@@ -23,8 +22,9 @@ use Rattle.build_outcome.specs.declared.job.Answer.{Answer}
 use Rattle.build_outcome.specs.declared.job.Job.{Job}
 use Rattle.build_outcome.specs.declared.job.JobOutput.{JobOutput}
 use Rattle.build_outcome.specs.declared.reason.Reason.{Reason}
-use Rattle.build_outcome.specs.declared.reason.Reason.TheVariants.{ExitStatus, NoStart, MissingOutput, NotFlatFile, HashMismatch, OutputCycle, TooLarge, ReadFault, OutOfMemory, Killed, BadMode, NotAllowed, BadSpecifier, BadAttributes, BadGraph, UnknownNar}
+use Rattle.build_outcome.specs.declared.reason.Reason.TheVariants.{NotAllowed, BadAttributes, BadSpecifier, PastMaxClosureSize, PastMaxSize, UnknownNar}
 use Rattle.build_outcome.proofs.TestedVerdicts.{has_one_tested_verdict}
+use Rattle.store_run.proofs.SameChecks.{can_read_too, counted_too, limit_same, list_same, names_of}
 use Rattle.store_run.proofs.SameVerdicts.{all_weaker, counts, first_same, verdict_too}
 
 -- under `plain` nothing is tested
@@ -40,10 +40,6 @@ plain_tested registrations job permitted answer (Ok infos) plain is = (
 plain_tested registrations job permitted answer (Err reason) plain is = inl is
 
 -- ---- from one job to another
-
--- the names of a job's outputs
-abbrev names_of : Job → List (List ℕ)
-names_of job = map (λ (o : JobOutput). o.name.items) job.outputs.items
 
 -- a list names the same for two jobs whose outputs have the same names and paths
 module _ (job again : Job) (outputs : outputs_of job ≡ outputs_of again)
@@ -88,7 +84,7 @@ module _ (job again : Job) (outputs : outputs_of job ≡ outputs_of again)
       (λ s. (path : List ℕ) × Specifies again own s path)
       (λ s is. (is.0, specifies_too own s is.0 is.1)) list are
 
--- an output uses the same by two jobs with the same outputs
+-- an output leads to the same by two jobs with the same outputs
 module _ (registrations : List Registration) (job again : Job)
     (outputs : outputs_of job ≡ outputs_of again) (infos : List PathInfo) where
   leads_too : (from to : List ℕ) → LeadsAmong job infos from to → LeadsAmong again infos from to
@@ -118,13 +114,36 @@ module _ (registrations : List Registration) (job again : Job)
     reaches,
   )
 
-  uses_too : (check : Check) (n : ℕ) (own path : List ℕ)
-      → IsUsed registrations job infos check n own path
-      → IsUsed registrations again infos check n own path
-  uses_too AllowedReferences n own path is = is
-  uses_too DisallowedReferences n own path is = is
-  uses_too AllowedRequisites n own path is = (requisite_too own path is.0, is.1)
-  uses_too DisallowedRequisites n own path is = (requisite_too own path is.0, is.1)
+  -- and each path has the same archive
+  nar_too : (path : List ℕ) → nar_at (with_outputs registrations job infos) path
+      ≡ nar_at (with_outputs registrations again infos) path
+  nar_too path = ap (λ (paths : List (List ℕ)).
+      nar_at (map registration_of (zip paths infos) ++ registrations) path) outputs
+
+  unmeasured_too : (own path : List ℕ) → IsUnmeasured registrations job infos own path
+      → IsUnmeasured registrations again infos own path
+  unmeasured_too own path is = (requisite_too own path is.0, sym (nar_too path) ∙ is.1)
+
+module _ (registrations : List Registration) (job again : Job)
+    (outputs : outputs_of job ≡ outputs_of again) (infos : List PathInfo) where
+  past_too : (own : List ℕ) (limit : ℕ) → IsClosurePast registrations job infos own limit
+      → IsClosurePast registrations again infos own limit
+  past_too own limit (all, are, none, past) = (
+    all,
+    record {
+      rising = are.rising;
+      each = λ path. (
+        λ has. requisite_too registrations job again outputs infos own path ((are.each path).0 has),
+        λ is. (are.each path).1
+            (requisite_too registrations again job (sym outputs) infos own path is),
+      );
+    },
+    λ path is. none path
+        (unmeasured_too registrations again job (sym outputs) infos own path is),
+    subst (λ (paths : List (List ℕ)).
+        limit < size_of_all (map registration_of (zip paths infos) ++ registrations) all) outputs
+        past,
+  )
 
 -- the first for which something holds is the first for which the same holds
 first_where_same : {X : Type 0} (P Q : X → Type 0) → ((x : X) → P x → Q x)
@@ -150,11 +169,21 @@ first_path_same permitted P Q there back place first =
 -- a test has the same fault by two jobs that are alike
 module _ (registrations : List Registration) (job again : Job)
     (outputs : outputs_of job ≡ outputs_of again) (names : names_of job ≡ names_of again)
-    (kinds : job.kind ≡ again.kind)
+    (profiles : job.profile ≡ again.profile)
     (envs : map entry_of job.env.items ≡ map entry_of again.env.items) where
-  list_same : (check : Check) → list_of job check ≡ list_of again check
-  list_same check = ap (λ (env : List EnvEntry). tokens_of_entry
-      (find (λ (e : EnvEntry). same_bytes e.key (key_of check)) env)) envs
+  uses_too : (infos : List PathInfo) (check : Check) (n : ℕ) (own path : List ℕ)
+      → IsUsed registrations job infos check n own path
+      → IsUsed registrations again infos check n own path
+  uses_too infos AllowedReferences n own path is = is
+  uses_too infos DisallowedReferences n own path is = is
+  uses_too infos AllowedRequisites n own path is = (
+    requisite_too registrations job again outputs infos own path is.0,
+    counted_too job again names profiles envs own path is.1,
+  )
+  uses_too infos DisallowedRequisites n own path is = (
+    requisite_too registrations job again outputs infos own path is.0,
+    counted_too job again names profiles envs own path is.1,
+  )
 
   forbids_too : (own : List ℕ) (check : Check) (list : List (List ℕ)) (path : List ℕ)
       → Forbids job own check list path → Forbids again own check list path
@@ -177,27 +206,54 @@ module _ (registrations : List Registration) (job again : Job)
       (list : List (List ℕ)) (path : List ℕ) → IsBad job infos n check own list path
       → IsBad again infos n check own list path
   bad_too infos n check own list path is = (
-    uses_too registrations job again outputs infos check n own path is.0,
+    uses_too infos check n own path is.0,
     forbids_too own check list path is.1,
   )
 
 module _ (registrations : List Registration) (job again : Job)
     (outputs : outputs_of job ≡ outputs_of again) (names : names_of job ≡ names_of again)
-    (kinds : job.kind ≡ again.kind)
+    (kinds : job.kind ≡ again.kind) (profiles : job.profile ≡ again.profile)
     (envs : map entry_of job.env.items ≡ map entry_of again.env.items)
     (permitted : List (List ℕ)) (infos : List PathInfo) where
   test_fault_too : (test : Test) (why : Reason)
       → IsTestFault registrations job permitted infos test why
       → IsTestFault registrations again permitted infos test why
+  test_fault_too OfAttributes BadAttributes unread = λ can. unread
+      (can_read_too again job (sym names) (sym profiles) (sym envs) can)
   test_fault_too (OfFixed n) (NotAllowed output place) (is, (method, digest, fixed), first) =
       (is, (method, digest, sym kinds ∙ fixed), first)
+  test_fault_too (OfSize n) (PastMaxSize output) (is, (limit, limited, past)) = (
+    is,
+    (limit, sym (limit_same job again names profiles envs n (codes "maxSize")) ∙ limited, past),
+  )
+  test_fault_too (OfClosureSize n) (PastMaxClosureSize output) (is, (own, limit, at, limited, past))
+      = (
+        is,
+        (
+          own,
+          limit,
+          subst (λ (paths : List (List ℕ)). slice_get paths n ≡ Some own) outputs at,
+          sym (limit_same job again names profiles envs n (codes "maxClosureSize")) ∙ limited,
+          past_too registrations job again outputs infos own limit past,
+        ),
+      )
+  test_fault_too (OfClosureSize n) (UnknownNar place) (own, limit, at, limited, first) = (
+    own,
+    limit,
+    subst (λ (paths : List (List ℕ)). slice_get paths n ≡ Some own) outputs at,
+    sym (limit_same job again names profiles envs n (codes "maxClosureSize")) ∙ limited,
+    first_path_same permitted (IsUnmeasured registrations job infos own)
+        (IsUnmeasured registrations again infos own)
+        (unmeasured_too registrations job again outputs infos own)
+        (unmeasured_too registrations again job (sym outputs) infos own) place first,
+  )
   test_fault_too (Of n check) (BadSpecifier output) (is, (own, list, at, listed, bad)) = (
     is,
     (
       own,
       list,
       subst (λ (paths : List (List ℕ)). slice_get paths n ≡ Some own) outputs at,
-      sym (list_same registrations job again outputs names kinds envs check) ∙ listed,
+      sym (list_same job again names profiles envs n check) ∙ listed,
       λ are. bad (specifiers_too again job (sym outputs) (sym names) own list are),
     ),
   )
@@ -207,47 +263,19 @@ module _ (registrations : List Registration) (job again : Job)
       own,
       list,
       subst (λ (paths : List (List ℕ)). slice_get paths n ≡ Some own) outputs at,
-      sym (list_same registrations job again outputs names kinds envs check) ∙ listed,
+      sym (list_same job again names profiles envs n check) ∙ listed,
       specifiers_too job again outputs names own list are,
       first_path_same permitted
           (λ path. IsUsed registrations job infos check n own path
           × Forbids job own check list path)
           (λ path. IsUsed registrations again infos check n own path
           × Forbids again own check list path)
-          (bad_too registrations job again outputs names kinds envs infos n check own list)
-          (bad_too registrations again job (sym outputs) (sym names) (sym kinds) (sym envs)
+          (bad_too registrations job again outputs names profiles envs infos n check own list)
+          (bad_too registrations again job (sym outputs) (sym names) (sym profiles) (sym envs)
           infos n check own list) place first,
     ),
   )
-  test_fault_too (OfFixed n) (BadSpecifier output) fault = absurd fault
-  test_fault_too (OfFixed n) BadAttributes fault = absurd fault
-  test_fault_too (OfFixed n) BadGraph fault = absurd fault
-  test_fault_too (OfFixed n) (UnknownNar place) fault = absurd fault
-  test_fault_too (OfFixed n) (ExitStatus status) fault = absurd fault
-  test_fault_too (OfFixed n) NoStart fault = absurd fault
-  test_fault_too (OfFixed n) (MissingOutput output) fault = absurd fault
-  test_fault_too (OfFixed n) NotFlatFile fault = absurd fault
-  test_fault_too (OfFixed n) HashMismatch fault = absurd fault
-  test_fault_too (OfFixed n) OutputCycle fault = absurd fault
-  test_fault_too (OfFixed n) TooLarge fault = absurd fault
-  test_fault_too (OfFixed n) ReadFault fault = absurd fault
-  test_fault_too (OfFixed n) OutOfMemory fault = absurd fault
-  test_fault_too (OfFixed n) Killed fault = absurd fault
-  test_fault_too (OfFixed n) (BadMode output) fault = absurd fault
-  test_fault_too (Of n check) (ExitStatus status) fault = absurd fault
-  test_fault_too (Of n check) NoStart fault = absurd fault
-  test_fault_too (Of n check) (MissingOutput output) fault = absurd fault
-  test_fault_too (Of n check) NotFlatFile fault = absurd fault
-  test_fault_too (Of n check) HashMismatch fault = absurd fault
-  test_fault_too (Of n check) OutputCycle fault = absurd fault
-  test_fault_too (Of n check) TooLarge fault = absurd fault
-  test_fault_too (Of n check) ReadFault fault = absurd fault
-  test_fault_too (Of n check) OutOfMemory fault = absurd fault
-  test_fault_too (Of n check) Killed fault = absurd fault
-  test_fault_too (Of n check) (BadMode output) fault = absurd fault
-  test_fault_too (Of n check) BadAttributes fault = absurd fault
-  test_fault_too (Of n check) BadGraph fault = absurd fault
-  test_fault_too (Of n check) (UnknownNar place) fault = absurd fault
+  test_fault_too test why fault = absurd fault
 
 -- ---- verdicts
 
@@ -264,13 +292,13 @@ module _ (registrations : List Registration) (job again : Job)
   there : (infos : List PathInfo) (test : Test) (why : Reason)
       → IsTestFault registrations job permitted infos test why
       → IsTestFault registrations again permitted infos test why
-  there infos = test_fault_too registrations job again outputs names kinds envs permitted infos
+  there infos = test_fault_too registrations job again outputs names kinds profiles envs permitted infos
 
   back : (infos : List PathInfo) (test : Test) (why : Reason)
       → IsTestFault registrations again permitted infos test why
       → IsTestFault registrations job permitted infos test why
   back infos = test_fault_too registrations again job (sym outputs) (sym names) (sym kinds)
-      (sym envs) permitted infos
+      (sym profiles) (sym envs) permitted infos
 
   first_fault_too : (answer : Answer) (infos : List PathInfo) (reason : Reason)
       → IsFirstTestFault registrations job permitted infos reason

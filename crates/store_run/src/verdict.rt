@@ -8,8 +8,8 @@ ghost use Rattle.store_run.specs.private.JobVerdicts.{IsFoundBy, IsToldOfSeeds, 
 
 use crate::job_verdict::JobVerdict;
 use crate::refusal::{RefusedCall, closure, permitted_beside};
-use crate::requisites::requisites;
-use build_outcome::test_outputs;
+use crate::requisites::BuiltJob;
+use build_outcome::{AskedChecks, JobChecks, test_outputs};
 use nix_names::StorePath;
 use sched_core::{Answer, Checked, Job, Lease, Reason, examine};
 use std::alloc::Global;
@@ -33,7 +33,7 @@ pub(crate) fn learn<J: ListId, O: Tells<J>>(reader: &mut ViewReader<J>, lease: &
 // the answer, with the tests of its outputs, by the paths that are valid and those that are
 // permitted to the job in the list that the reader sees. In place of a verdict the refusal of the
 // reader, or of memory. Costs the closure of the job's seeds, one pass over what the builder left,
-// and where checks ask for them the closures of the outputs; takes no lock.
+// and where checks ask for them the closures of the outputs, with their records; takes no lock.
 pub(crate) fn verdict<J: ListId>(
     alloc: Global,
     reader: &mut ViewReader<J>,
@@ -72,11 +72,21 @@ fn tested<J: ListId>(
     ensures { (answer : AnAnswer) → IsVerdict job.now permitted.now answer (Ok checked)
         → IsFoundBy reader.new.seen job.now (Ok answer) result }
 {
-    let lists = match requisites(alloc, reader, job, &checked) {
-        Ok(lists) => lists,
+    let checks = match JobChecks::read(alloc, job) {
+        Ok(checks) => checks,
+        Err(reason) => return JobVerdict::Examined(Err(reason)),
+    };
+    let built = BuiltJob {
+        job,
+        checks: &checks,
+        checked: &checked,
+    };
+    let closures = match built.closures(alloc, reader) {
+        Ok(closures) => closures,
         Err(refusal) => return JobVerdict::Refused(refusal),
     };
-    match test_outputs(alloc, job, permitted, &checked, &lists) {
+    let asked = AskedChecks { checks, closures };
+    match test_outputs(alloc, job, permitted, &checked, &asked) {
         Ok(()) => JobVerdict::Examined(Ok(checked)),
         Err(reason) => JobVerdict::Examined(Err(reason)),
     }

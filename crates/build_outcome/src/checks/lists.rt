@@ -1,38 +1,46 @@
-//! The list of a check, in the environment of a job.
-ghost use Rattle.std.specs.Prelude.{◌≡◌, ◌↔◌, IsTrue};
+//! The list of a check.
+ghost use Rattle.std.specs.Prelude.{◌≡◌, IfOk, map, string_bytes};
 ghost use Rattle.std.specs.Option.{option_map};
-ghost use Rattle.build_outcome.specs.Checks.{NeedsRequisites, key_of, list_of};
-ghost use Rattle.build_outcome.specs.Tokens.{tokens};
+ghost use Rattle.build_outcome.specs.Attributes.{value_at};
+ghost use Rattle.build_outcome.specs.Checks.{key_of};
+ghost use Rattle.build_outcome.specs.private.Reading.{list_said};
 
+use crate::attributes::value_at;
 use crate::checks::check::Check;
 use crate::job::Job;
-use drv_graph::Profile;
-use nix_drv::EnvEntry;
+use std::alloc::{AllocError, Global};
+use structured_attrs::OutputChecks;
 
-/// Whether a test reads the closures of a job's outputs: the profile is `nix`, and the environment
-/// has `allowedRequisites` or `disallowedRequisites`. Costs a pass over the keys.
-pub fn asks_for_closures(job: &Job) -> bool
-    ensures { IsTrue result ↔ NeedsRequisites job.now }
+// The text of the list of a check, where entries of the environment ask for that check.
+pub(crate) fn list_text(job: &Job, check: Check) -> Option<&[u8]>
+    ensures { option_map (λ text. text.now) result ≡ value_at (key_of check) job.now }
 {
-    match job.profile {
-        Profile::Plain => false,
-        Profile::Nix => {
-            list_text(job, Check::AllowedRequisites).is_some()
-                || list_text(job, Check::DisallowedRequisites).is_some()
-        }
+    value_at(job, key_of(check))
+}
+
+// The list of a check among the checks of an output.
+pub(crate) fn list_said(checks: &OutputChecks, check: Check) -> Option<&Vec<String>>
+    ensures { option_map (λ list. map (λ s. string_bytes s) list.now.items) result
+        ≡ list_said checks.now check }
+{
+    match check {
+        Check::AllowedReferences => checks.allowed_references.as_ref(),
+        Check::AllowedRequisites => checks.allowed_requisites.as_ref(),
+        Check::DisallowedReferences => checks.disallowed_references.as_ref(),
+        Check::DisallowedRequisites => checks.disallowed_requisites.as_ref(),
     }
 }
 
-// The text of the list of a check, if the job asks for that check.
-pub(crate) fn list_text(job: &Job, check: Check) -> Option<&[u8]>
-    ensures { option_map (λ text. tokens text.now) result ≡ list_of job.now check }
+// The bytes of some strings.
+pub(crate) fn bytes_of(alloc: Global, strings: &Vec<String>) -> Result<Vec<&[u8]>, AllocError>
+    ensures { IfOk result (λ found.
+        map (λ t. t.now) found.items ≡ map (λ s. string_bytes s) strings.now.items) }
 {
-    let key = key_of(check);
-    let of_check = |entry: &&EnvEntry| entry.key.as_slice() == key;
-    match job.env.iter().find(of_check) {
-        Some(entry) => Some(&entry.value),
-        None => None,
+    let mut found = Vec::new(alloc);
+    for string in strings {
+        found.push(string.as_bytes())?;
     }
+    Ok(found)
 }
 
 // The key of the list of a check.

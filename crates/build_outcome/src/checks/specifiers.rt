@@ -1,11 +1,9 @@
 //! The paths that a list of specifiers names.
-ghost use Rattle.std.specs.Prelude.{IfOk, List, ℕ};
+ghost use Rattle.std.specs.Prelude.{IfOk, List, map, ℕ};
 ghost use Rattle.nix_names.specs.Names.{IsStoreDir};
 ghost use Rattle.nix_names.specs.StorePaths.{IsPathOf};
-ghost use Rattle.build_outcome.specs.Tokens.{tokens};
 ghost use Rattle.build_outcome.specs.private.Listing.{AddsNamed, AddsSpecified, IsWithoutSlash, TellsListed, TellsPath};
 
-use crate::checks::tokens::tokens_of;
 use crate::job::{Job, JobOutput};
 use nix_names::{NameFault, StoreDir, StorePath, parse_path, sort_paths};
 use std::alloc::{AllocError, Global};
@@ -16,14 +14,13 @@ pub(crate) fn paths_listed(
     alloc: Global,
     job: &Job,
     own: &StorePath,
-    list: &[u8],
+    list: &[&[u8]],
 ) -> Result<Option<Vec<StorePath>>, AllocError>
-    ensures { IfOk result (TellsListed job.now own.now (tokens list.now)) }
+    ensures { IfOk result (TellsListed job.now own.now (map (λ s. s.now) list.now)) }
 {
     let dir = folder_of(alloc, own)?;
-    let specifiers = tokens_of(alloc, list)?;
     let mut named = Vec::new(alloc);
-    for specifier in &specifiers {
+    for specifier in list {
         if !add_specified(alloc, job, &dir, specifier, &mut named)? {
             return Ok(None);
         }

@@ -1,9 +1,9 @@
 -- What a worker finds of the job of its lease, by a list of entries that its reader sees (this
 -- product's own).
-use Rattle.std.specs.Prelude.{◌≡◌, ◌⊎◌, ℕ, All, Some, List, Result, Ok, Err, MatchOption, slice_get}
-use Rattle.std.specs.Global.{Vec}
+use Rattle.std.specs.Prelude.{◌≡◌, ◌⊎◌, ℕ, All, Some, List, [], Result, Ok, Err, MatchOption, slice_get}
 use Rattle.nix_names.specs.Bytes.{Path}
-use Rattle.valid_table.specs.Entries.{registered}
+use Rattle.nix_names.specs.Rising.{IsRising}
+use Rattle.valid_table.specs.Entries.{paths_registered, registered}
 use Rattle.valid_table.specs.PathInfos.{PathInfo}
 use Rattle.valid_table.specs.Valid.{IsValid}
 use Rattle.valid_table.specs.declared.entry.Entry.{Entry}
@@ -14,8 +14,9 @@ use Rattle.valid_view.specs.declared.fault.ViewFault.TheVariants as view
 use Rattle.sched_core.specs.Books.{ArePermittedPaths, AreSeedsValid, IsBooksLease, Leased, Ledger}
 use Rattle.run_states.specs.declared.fault.BookFault.{BookFault}
 use Rattle.run_states.specs.declared.fault.BookFault.TheVariants.{NoMemory, NoView}
-use Rattle.build_outcome.specs.Checks.{AreRequisites, ReachAlike}
+use Rattle.build_outcome.specs.Checks.{IsClosureOf, NeedsClosure, ReachAlike}
 use Rattle.build_outcome.specs.Verdicts.{outputs_of}
+use Rattle.build_outcome.specs.declared.checks.closure.OutputClosure.{OutputClosure}
 use Rattle.build_outcome.specs.declared.job.Answer.{Answer}
 use Rattle.build_outcome.specs.declared.job.Job.{Job}
 use Rattle.build_outcome.specs.declared.reason.Reason.{Reason}
@@ -29,15 +30,28 @@ abbrev pub AreKnownValid : Knowing → List Path → Type 0
 AreKnownValid known paths = All (IsValid (registered known.told)) paths
     ⊎ All (IsValid (registered known.seen)) paths
 
--- a list of paths is the closure of the output with this number, by some entries
-abbrev pub IsClosureAt : List Entry → Job → List PathInfo → ℕ → List Path → Type 0
-IsClosureAt entries job infos n all = (own : Path) × (slice_get (outputs_of job) n ≡ Some own)
-    × AreRequisites (registered entries) job infos own all
+-- nothing is given of the closure of the output with this number, which isn't asked for
+pub record IsLeftOut (job : Job) (n : ℕ) (closure : OutputClosure) : Type 0 where
+  pub unasked : NeedsClosure job n → ⊥
+  pub paths : closure.paths.items ≡ []
+  pub records : closure.records.items ≡ []
 
--- some lists are the closures of a job's first outputs, by some entries
-abbrev pub AreClosures : List Entry → Job → List PathInfo → List (Vec Path) → Type 0
-AreClosures entries job infos lists = (n : ℕ) (list : Vec Path) → slice_get lists n ≡ Some list
-    → IsClosureAt entries job infos n list.items
+-- The closure of the output with this number, at `own`, by some entries, with records in order.
+pub record IsTaken (entries : List Entry) (job : Job) (infos : List PathInfo) (n : ℕ) (own : Path)
+    (closure : OutputClosure) : Type 0 where
+  pub closure_of : IsClosureOf (registered entries) job infos n own closure
+  pub rising : IsRising (paths_registered closure.records.items)
+
+-- what is given of the closure of the output with this number, by some entries
+abbrev pub IsClosureAt : List Entry → Job → List PathInfo → ℕ → OutputClosure → Type 0
+IsClosureAt entries job infos n closure = IsLeftOut job n closure
+    ⊎ ((own : Path) × (slice_get (outputs_of job) n ≡ Some own)
+    × IsTaken entries job infos n own closure)
+
+-- this is given of the closures of a job's first outputs, by some entries
+abbrev pub AreClosures : List Entry → Job → List PathInfo → List OutputClosure → Type 0
+AreClosures entries job infos closures = (n : ℕ) (closure : OutputClosure)
+    → slice_get closures n ≡ Some closure → IsClosureAt entries job infos n closure
 
 -- a lease was told of a list by which all that its job is built from is valid
 abbrev pub IsToldOfSeeds : {Told : Type 0} → (names : Told → List Entry → Type 0) → Leased Told
@@ -87,7 +101,7 @@ pub record MayBeFound (may : Job → Result Answer Reason → Type 0) (seen : Li
   pub by : IsFoundBy seen job outcome found
 
 -- the paths that are permitted to a job after some entries are permitted after others, and reach the
--- same paths, but for the job's own outputs
+-- same paths with the same records, but for the job's own outputs
 abbrev pub StaysPermitted : (before after : List Entry) → Job → Type 0
 StaysPermitted before after job = (permitted : List Path) → ArePermittedPaths before job permitted
     → ArePermittedPaths after job permitted

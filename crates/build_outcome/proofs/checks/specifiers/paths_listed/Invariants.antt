@@ -5,4 +5,4 @@ use Rattle.build_outcome.proofs.checks.specifiers.paths_listed.Given as goal
 
 abbrev pub invariant-loop-specifier : goal.invariant-loop-specifier
 invariant-loop-specifier l = AreListedSoFar l.job l.own
-    (map (λ t. t.now) (take l.specifier-index l.specifier-items)) l.named.items
+    (map (λ t. t.now) (take l.specifier-index l.list)) l.named.items

@@ -6,12 +6,12 @@ use Rattle.build_outcome.proofs.checks.testing.Tester.test_checks.Goals as goal
 pub loop-n-init : goal.loop-n-init
 loop-n-init c =
     let self = c.args.self.now in
-    checks_none self.job.now self.permitted.now self.records.now self.requisites.now
+    checks_none self.job.now self.permitted.now self.records.now self.asked.now.closures.items
 
 pub loop-n-preserved : goal.loop-n-preserved
 loop-n-preserved c =
     let self = c.args.self.now in
-    checks_passed self.job.now self.permitted.now self.records.now self.requisites.now _
+    checks_passed self.job.now self.permitted.now self.records.now self.asked.now.closures.items _
     c.loop-n.invariant c.in_ok-test_output.ensures
 
 pub returns-in_err-test_output : goal.returns-in_err-test_output
@@ -21,5 +21,5 @@ returns-in_err-test_output c =
     omega (arith, c.loop-n-test.true, c.len-n-end.ensures) in
     let p = err_from_is_err_and c.from_residual.result c.from_residual.ensures.1 in
     rw (p.1, p.2)
-    (checks_failed self.job.now self.permitted.now self.records.now self.requisites.now _ _ _
+    (checks_failed self.job.now self.permitted.now self.records.now self.asked.now.closures.items _ _ _
     below c.loop-n.invariant c.in_err-test_output.ensures)

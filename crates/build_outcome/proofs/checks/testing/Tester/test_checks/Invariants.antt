@@ -7,4 +7,4 @@ use Rattle.build_outcome.proofs.checks.testing.Tester.test_checks.Given as goal
 
 abbrev pub invariant-loop-n : goal.invariant-loop-n
 invariant-loop-n l = All (IsPassed l.self.job.now l.self.permitted.now l.self.records.now
-    l.self.requisites.now) (flat_map checks_at (range_with_len 0 l.n))
+    l.self.asked.now.closures.items) (flat_map checks_at (range_with_len 0 l.n))

@@ -7,7 +7,7 @@ use Rattle.build_outcome.proofs.checks.testing.Tester.test_references.Goals as g
 pub loop-n-init : goal.loop-n-init
 loop-n-init c =
     let self = c.args.self.now in
-    fixed_none self.job.now self.permitted.now self.records.now self.requisites.now
+    fixed_none self.job.now self.permitted.now self.records.now self.asked.now.closures.items
 
 pub first_place-requires-clause-permitted : goal.first_place-requires-clause-permitted
 first_place-requires-clause-permitted c = c.requires.testable.rising
@@ -25,7 +25,7 @@ returns-in-Some c =
     let self = c.args.self.now in
     let below : c.loop-n.n < length self.job.now.outputs.items =
     omega (arith, c.loop-n-test.true, c.requires.testable.count) in
-    fixed_failed self.job.now self.permitted.now self.records.now self.requisites.now _ _ _ _
+    fixed_failed self.job.now self.permitted.now self.records.now self.asked.now.closures.items _ _ _ _
     c.loop-n.invariant below c.requires.fixed
     (slice_get_read _ _ _ _ refl c.loop-n-test.true c.record-item.is)
     (rw c.references.ensures.value at c.in-Some.ensures)
@@ -33,6 +33,6 @@ returns-in-Some c =
 pub loop-n-preserved : goal.loop-n-preserved
 loop-n-preserved c =
     let self = c.args.self.now in
-    fixed_passed self.job.now self.permitted.now self.records.now self.requisites.now _ _
+    fixed_passed self.job.now self.permitted.now self.records.now self.asked.now.closures.items _ _
     c.loop-n.invariant (slice_get_read _ _ _ _ refl c.loop-n-test.true c.record-item.is)
     (rw c.references.ensures.value at c.in_default.ensures)

@@ -8,4 +8,4 @@ use Rattle.build_outcome.proofs.checks.testing.Tester.test_references.Given as g
 
 abbrev pub invariant-loop-n : goal.invariant-loop-n
 invariant-loop-n l = All (IsPassed l.self.job.now l.self.permitted.now l.self.records.now
-    l.self.requisites.now) (map OfFixed (range_with_len 0 l.n))
+    l.self.asked.now.closures.items) (map OfFixed (range_with_len 0 l.n))
