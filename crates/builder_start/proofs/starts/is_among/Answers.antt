@@ -1,4 +1,4 @@
-use Rattle.std.proofs.Common.{◌≡◌, refl}
+use Rattle.std.proofs.Common.{refl}
 use Rattle.std.proofs.lemmas.Bool.{false≢true}
 use Rattle.nix_names.proofs.Lists.{Contains-from_get}
 use Rattle.build_outcome.proofs.RisingPlaces.{place_found, place_missing}

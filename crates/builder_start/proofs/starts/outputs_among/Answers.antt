@@ -1,4 +1,4 @@
-use Rattle.std.proofs.Common.{◌≡◌, ◌+◌, ◌∙◌, ◌++◌, ℕ, List, ap, subst, sym}
+use Rattle.std.proofs.Common.{◌+◌, ◌∙◌, ap, subst, sym}
 use Rattle.std.proofs.lemmas.Bool.{false≢true}
 use Rattle.builder_start.proofs.GraphStarts.{AreFirstOutputs, no_outputs, outputs_all, outputs_more, outputs_still}
 use Rattle.builder_start.proofs.starts.outputs_among.Goals as goal

@@ -1,4 +1,4 @@
-use Rattle.std.proofs.Common.{◌≡◌, ◌↔◌, ◌∙◌, ℕ, List, All, Contains, inr, refl, subst, sym}
+use Rattle.std.proofs.Common.{◌↔◌, ◌∙◌, ℕ, List, All, Contains, inr, refl, subst, sym}
 use Rattle.std.proofs.lemmas.Bool.{false≢true}
 use Rattle.std.proofs.lemmas.List.Elements.{All-append}
 use Rattle.valid_table.specs.Valid.{IsValid}

@@ -1,4 +1,4 @@
-use Rattle.std.proofs.Common.{◌∙◌, arith, subst, sym}
+use Rattle.std.proofs.Common.{◌∙◌, subst, sym}
 use Rattle.std.proofs.lemmas.Bool.{false≢true}
 use Rattle.valid_table.specs.Valid.{IsValid}
 use Rattle.builder_start.proofs.GraphStarts.{valid_all, valid_more, valid_not}
