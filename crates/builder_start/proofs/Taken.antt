@@ -1,5 +1,5 @@
 -- Structured attributes that are taken, and those that are not.
-use Rattle.std.proofs.Common.{◌≡◌, ◌∙◌, ℕ, List, [], ◌∷◌, All, Contains, Some, None, ap, codes, map, refl, string_bytes, subst, sym, ⊎_elim}
+use Rattle.std.proofs.Common.{◌≡◌, ◌∙◌, ℕ, List, All, Contains, Some, None, ap, codes, map, refl, string_bytes, subst, sym, ⊎_elim}
 use Rattle.std.specs.Str.{IsUtf8}
 use Rattle.std.proofs.lemmas.List.Elements.{All-contains, All-contains_itself, All-map, All-weaker}
 use Rattle.std.proofs.lemmas.Option.{none-some, same_Some}

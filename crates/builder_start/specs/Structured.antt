@@ -6,7 +6,7 @@ use Rattle.std.specs.List.{AllZip}
 use Rattle.std.specs.declared.alloc.Global.{Global}
 use Rattle.serde_json.specs.Data.{Data, object, string, Members, no_members, put}
 use Rattle.serde_json.specs.Find.{get_member}
-use Rattle.nix_names.specs.Bytes.{Bytes, Name, Path}
+use Rattle.nix_names.specs.Bytes.{Bytes, Path}
 use Rattle.valid_table.specs.PathInfos.{NarInfo}
 use Rattle.valid_table.specs.Unions.{IsUnion}
 use Rattle.valid_table.specs.Entries.{paths_registered}

@@ -1,4 +1,4 @@
-use Rattle.std.proofs.Common.{◌≡◌, ◌∙◌, All, ap, map, subst, sym}
+use Rattle.std.proofs.Common.{◌∙◌, All, ap, map, subst, sym}
 use Rattle.std.specs.Str.{IsUtf8}
 use Rattle.std.proofs.lemmas.Result.{err_from_is_err_and}
 use Rattle.structured_attrs.specs.Attributes.{attributes}
