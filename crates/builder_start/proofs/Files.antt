@@ -1,8 +1,8 @@
 -- The files of pairs, one after the other.
-use Rattle.std.proofs.Common.{◌≡◌, ◌∙◌, ◌⊎◌, ℕ, ◌+◌, ◌<◌, ◌≤◌, Bool, true, false, List, [], ◌∷◌, ◌++◌, All, Contains, Some, append_assoc, append-nil, ap, arith, drop, get_or, inl, inr, length, map, refl, subst, sym, take, ⊎_elim}
+use Rattle.std.proofs.Common.{◌≡◌, ◌∙◌, ℕ, ◌+◌, ◌<◌, ◌≤◌, Bool, true, false, List, [], ◌∷◌, ◌++◌, All, Contains, Some, append_assoc, append-nil, ap, drop, get_or, inl, inr, length, map, refl, subst, sym, take, ⊎_elim}
 use Rattle.std.specs.List.{AllZip, list_any}
 use Rattle.std.specs.Prelude.{if◌then◌else◌}
-use Rattle.std.proofs.lemmas.List.{drop-map, drop_all, drop_more, map-append, take-map, take_all}
+use Rattle.std.proofs.lemmas.List.{drop_all, drop_more, map-append, take_all}
 use Rattle.std.proofs.lemmas.List.Elements.{All-contains, All-nil, All-push}
 use Rattle.nix_names.specs.Names.{same_bytes}
 use Rattle.nix_names.proofs.Lists.{Contains-map, Contains-middle, parts_at, taken_more}

@@ -1,15 +1,14 @@
 -- What is found first in a list.
-use Rattle.std.proofs.Common.{◌≡◌, ◌∙◌, ℕ, Bool, true, false, cond, List, [], ◌∷◌, ◌++◌, Option, Some, None, All, Contains, map, refl, sym, ap, subst, ⊎_elim}
+use Rattle.std.proofs.Common.{◌≡◌, ◌∙◌, ℕ, Bool, true, false, cond, List, [], ◌∷◌, Option, Some, None, Contains, map, refl, sym, ap, subst, ⊎_elim}
 use Rattle.std.specs.Prelude.{find, option_map}
 use Rattle.std.proofs.lemmas.Bool.{false≢true}
 use Rattle.std.proofs.lemmas.List.Elements.{All-cons, All-nil}
 use Rattle.std.proofs.lemmas.Option.{none-some, same_Some}
 use Rattle.nix_names.specs.Firsts.{IsFirst}
 use Rattle.nix_names.specs.Names.{same_bytes}
-use Rattle.nix_names.proofs.Lists.{Contains-cons_cases, Contains-first, Contains-from_map, Contains-later, Contains-map, Contains-middle, Contains-nothing}
+use Rattle.nix_names.proofs.Lists.{Contains-cons_cases, Contains-from_map, Contains-map, Contains-middle, Contains-nothing}
 use Rattle.nix_names.proofs.RisingLists.{equal_from_eq}
 use Rattle.std.specs.Cmp.Lexicographic.{nat_list_eq_equiv}
-use Rattle.nix_drv.specs.Derivation.{EnvEntry}
 use Rattle.valid_table.specs.Entries.{paths_registered}
 use Rattle.valid_table.specs.Valid.{IsNotValid, IsValid}
 use Rattle.valid_table.specs.declared.entry.Registration.{Registration}

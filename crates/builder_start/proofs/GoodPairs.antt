@@ -1,5 +1,5 @@
 -- Pairs that may be asked for, and those that may not.
-use Rattle.std.proofs.Common.{◌≡◌, ◌∙◌, ℕ, List, [], ◌∷◌, Option, Some, None, Result, Ok, Err, IfErr, IsTrue, All, Contains, false, inl, inr, subst, sym, ⊎_elim}
+use Rattle.std.proofs.Common.{◌≡◌, ◌∙◌, ℕ, List, [], ◌∷◌, Some, None, Result, Ok, Err, IfErr, IsTrue, All, false, inl, inr, subst, sym, ⊎_elim}
 use Rattle.std.specs.Global.{Vec}
 use Rattle.std.proofs.lemmas.Bool.{false≢true}
 use Rattle.std.proofs.lemmas.Option.{none-some, same_Some}
@@ -8,7 +8,7 @@ use Rattle.build_outcome.specs.declared.job.WholeInput.{WholeInput}
 use Rattle.build_outcome.specs.declared.prepared.PreparedFile.{PreparedFile}
 use Rattle.build_outcome.specs.declared.reason.Reason.{Reason}
 use Rattle.build_outcome.specs.declared.reason.Reason.TheVariants.{BadGraph}
-use Rattle.builder_start.specs.Entries.{AreGoodPairs, AskForBadGraphs, IsGoodPair, is_file_name, pairs_of, root_of}
+use Rattle.builder_start.specs.Entries.{AskForBadGraphs, IsGoodPair, is_file_name, pairs_of, root_of}
 use Rattle.builder_start.specs.Graphs.{MayBeGraph}
 use Rattle.builder_start.specs.private.Shown.{IsWhy}
 

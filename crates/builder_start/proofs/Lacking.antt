@@ -1,5 +1,5 @@
 -- Paths whose archives are asked for and not known.
-use Rattle.std.proofs.Common.{◌≡◌, ◌∙◌, ◌↔◌, ◌⊎◌, ℕ, suc, zero, ◌<◌, true, false, List, [], ◌∷◌, ◌++◌, Option, Some, None, is_none, All, Contains, ap, arith, length, refl, slice_get, subst, sym, ⊎_elim}
+use Rattle.std.proofs.Common.{◌≡◌, ◌∙◌, ◌↔◌, ℕ, suc, zero, ◌<◌, true, false, List, [], ◌∷◌, ◌++◌, Option, Some, None, is_none, All, Contains, ap, arith, length, refl, slice_get, subst, sym, ⊎_elim}
 use Rattle.std.specs.Prelude.{find}
 use Rattle.std.proofs.lemmas.Bool.{false≢true}
 use Rattle.std.proofs.lemmas.List.Elements.{All-contains, Contains-append_cases, Contains-append_left, Contains-append_right}

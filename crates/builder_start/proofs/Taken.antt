@@ -1,15 +1,19 @@
 -- Structured attributes that are taken, and those that are not.
-use Rattle.std.proofs.Common.{◌≡◌, ◌∙◌, ℕ, List, [], ◌∷◌, All, Some, None, ap, codes, map, refl, sym}
+use Rattle.std.proofs.Common.{◌≡◌, ◌∙◌, ℕ, List, All, Contains, Some, None, ap, codes, map, refl, string_bytes, subst, sym, ⊎_elim}
 use Rattle.std.specs.Str.{IsUtf8}
+use Rattle.std.proofs.lemmas.List.Elements.{All-contains, All-contains_itself, All-map, All-weaker}
 use Rattle.std.proofs.lemmas.Option.{none-some, same_Some}
 use Rattle.serde_json.specs.Data.{Members}
 use Rattle.serde_json.specs.Find.{get_member}
+use Rattle.nix_names.proofs.Lists.{Contains-map}
 use Rattle.structured_attrs.specs.Attributes.{attributes}
+use Rattle.structured_attrs.specs.Checks.{SaysNoChecks, said_of, shown_list}
 use Rattle.structured_attrs.specs.Graphs.{graph_requests, shown_request}
 use Rattle.structured_attrs.specs.Reading.{attributes_of}
+use Rattle.structured_attrs.specs.declared.outputs.OutputPath.{OutputPath}
 use Rattle.build_outcome.specs.declared.job.Job.{Job}
 use Rattle.build_outcome.specs.declared.job.JobOutput.{JobOutput}
-use Rattle.builder_start.specs.Structured.{AreAttributes, strings_of}
+use Rattle.builder_start.specs.Structured.{AreAttributes, SayChecks, strings_of}
 use Rattle.builder_start.specs.declared.given.Given.{Given}
 use Rattle.builder_start.specs.private.Shown.{IsGiven, output_of, shown_output, texts_of}
 
@@ -46,6 +50,54 @@ pub not_named : (job : Job) (text : List ℕ)
     → AreAttributes job text → ⊥
 not_named job text none a = none a.named
 
+-- ---- checks
+
+-- no checks are what some members say
+pub says_none : (said : Members) → SaysNoChecks said → SayChecks said → ⊥
+says_none said bad (of, are) = ⊎_elim
+    (λ e. none-some of.max_size (sym e ∙ are.max_size))
+    (⊎_elim
+    (λ e. none-some of.max_closure_size (sym e ∙ are.max_closure_size))
+    (⊎_elim
+    (λ e. none-some (shown_list of.allowed_references) (sym e ∙ are.allowed_references))
+    (⊎_elim
+    (λ e. none-some (shown_list of.allowed_requisites) (sym e ∙ are.allowed_requisites))
+    (⊎_elim
+    (λ e. none-some (shown_list of.disallowed_references) (sym e ∙ are.disallowed_references))
+    (λ e. none-some (shown_list of.disallowed_requisites) (sym e ∙ are.disallowed_requisites))))))
+    bad
+
+-- checks are said of an output, by its name
+abbrev pub SaysOf : Members → OutputPath → Type 0
+SaysOf given output = SayChecks (said_of (string_bytes output.name) given)
+
+-- what holds of what a list is mapped to
+all_from_map : {A B : Type 0} (P : B → Type 0) (f : A → B) (xs : List A) → All P (map f xs)
+    → All (λ x. P (f x)) xs
+all_from_map P f xs all =
+    All-weaker (Contains xs) (λ x. P (f x))
+    (λ x has. All-contains P (map f xs) (f x) all (Contains-map f xs x has))
+    xs (All-contains_itself xs)
+
+-- what is said of outputs with their paths is said of the job's
+checked_of_outputs : (given : Members) (paths : List OutputPath) (outputs : List JobOutput)
+    → map shown_output paths ≡ map output_of outputs → All (SaysOf given) paths
+    → All (λ (o : JobOutput). SayChecks (said_of o.name.items given)) outputs
+checked_of_outputs given paths outputs same all =
+    all_from_map (λ (q : List ℕ × List ℕ). SayChecks (said_of q.0 given)) output_of outputs
+    (subst (All (λ (q : List ℕ × List ℕ). SayChecks (said_of q.0 given))) same
+    (All-map (λ (q : List ℕ × List ℕ). SayChecks (said_of q.0 given)) shown_output paths all))
+
+pub not_checked : (job : Job) (text : List ℕ) (given : Members) (paths : List OutputPath)
+    → attributes_of text ≡ Some given → map shown_output paths ≡ map output_of job.outputs.items
+    → (All (SaysOf given) paths → ⊥) → AreAttributes job text → ⊥
+not_checked job text given paths read same none a =
+    none (all_from_map (λ (q : List ℕ × List ℕ). SayChecks (said_of q.0 given)) shown_output paths
+    (subst (All (λ (q : List ℕ × List ℕ). SayChecks (said_of q.0 given))) (sym same)
+    (All-map (λ (q : List ℕ × List ℕ). SayChecks (said_of q.0 given)) output_of job.outputs.items
+    (subst (λ (ms : Members). All (λ (o : JobOutput). SayChecks (said_of o.name.items ms)) job.outputs.items)
+    (sym (same_given job text given read a)) a.checked))))
+
 pub all_taken : (job : Job) (text : List ℕ) (given : Given) (features : List (List ℕ))
     → IsUtf8 text → attributes_of text ≡ Some (attributes given.attributes)
     → strings_of (get_member (codes "impureEnvVars") (attributes given.attributes))
@@ -55,8 +107,9 @@ pub all_taken : (job : Job) (text : List ℕ) (given : Given) (features : List (
     → graph_requests (attributes given.attributes) ≡ Some (map shown_request given.requests.items)
     → All (λ (o : JobOutput). IsUtf8 o.name.items) job.outputs.items
     → map shown_output given.outputs.items ≡ map output_of job.outputs.items
+    → All (SaysOf (attributes given.attributes)) given.outputs.items
     → IsGiven job text given
-all_taken job text given features utf8 read impure features' asked named outputs = record {
+all_taken job text given features utf8 read impure features' asked named outputs checked = record {
   taken = record {
     given = attributes given.attributes;
     utf8 = utf8;
@@ -68,6 +121,8 @@ all_taken job text given features utf8 read impure features' asked named outputs
     asked = map shown_request given.requests.items;
     are_asked = asked;
     named = named;
+    checked = checked_of_outputs (attributes given.attributes) given.outputs.items
+        job.outputs.items outputs checked;
   };
   attributes = refl;
   impure = refl;

@@ -1,11 +1,9 @@
 -- The texts that are asked for, request by request.
-use Rattle.std.proofs.Common.{◌≡◌, ◌≢◌, ◌∙◌, ◌⊎◌, ℕ, ◌+◌, ◌<◌, List, [], ◌∷◌, ◌++◌, None, All, Contains, ap, get_or, length, map, refl, subst, sym, take, drop, ⊎_elim}
+use Rattle.std.proofs.Common.{◌≡◌, ◌≢◌, ◌∙◌, ℕ, ◌+◌, ◌<◌, List, [], ◌∷◌, ◌++◌, None, All, Contains, ap, get_or, length, map, refl, subst, sym, take, drop, ⊎_elim}
 use Rattle.std.proofs.lemmas.Grind.{flat_map-append}
 use Rattle.std.proofs.lemmas.List.{map-append, append-nil}
-use Rattle.std.proofs.lemmas.List.Elements.{All-append, All-contains, Contains-append_left, Contains-append_right}
+use Rattle.std.proofs.lemmas.List.Elements.{All-contains, Contains-append_left, Contains-append_right}
 use Rattle.nix_names.proofs.Lists.{All-from_contains, Contains-cons_cases, Contains-map, Contains-middle, Contains-nothing, parts_at, taken_more}
-use Rattle.valid_table.specs.Entries.{paths_registered}
-use Rattle.valid_table.specs.Valid.{IsValid}
 use Rattle.valid_table.specs.declared.entry.Registration.{Registration}
 use Rattle.structured_attrs.specs.Graphs.{shown_request}
 use Rattle.structured_attrs.specs.declared.graph.GraphRequest.{GraphRequest}

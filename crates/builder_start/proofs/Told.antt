@@ -1,5 +1,5 @@
 -- The texts of structured attributes, put together.
-use Rattle.std.proofs.Common.{◌≡◌, ◌∙◌, ◌⊎◌, ℕ, List, [], ◌∷◌, Contains, All, ap, codes, inl, inr, map, refl, string_bytes, subst, sym, ⊎_elim}
+use Rattle.std.proofs.Common.{◌≡◌, ◌∙◌, ◌⊎◌, ℕ, List, [], ◌∷◌, ap, codes, inr, map, refl, string_bytes, subst, sym}
 use Rattle.std.specs.List.{AllZip}
 use Rattle.serde_json.specs.Data.{Members, no_members, object, put, string}
 use Rattle.valid_table.specs.declared.entry.Registration.{Registration}
@@ -14,7 +14,7 @@ use Rattle.build_outcome.specs.declared.job.JobOutput.{JobOutput}
 use Rattle.build_outcome.specs.declared.prepared.AttributeTexts.{AttributeTexts}
 use Rattle.build_outcome.specs.declared.reason.Reason.{Reason}
 use Rattle.build_outcome.specs.declared.reason.Reason.TheVariants.{BadGraph, UnknownNar}
-use Rattle.builder_start.specs.Structured.{AreAttributes, AreGoodRequests, AreTexts, IsFirstWithoutNar, IsGraphOf, with_all, with_graphs, with_paths}
+use Rattle.builder_start.specs.Structured.{AreGoodRequests, AreTexts, IsFirstWithoutNar, IsGraphOf, with_all, with_graphs, with_paths}
 use Rattle.builder_start.specs.declared.given.Given.{Given}
 use Rattle.builder_start.specs.private.Shown.{IsGiven, IsUntold, IsWhy, output_of, shown_output}
 

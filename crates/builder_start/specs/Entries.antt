@@ -1,6 +1,6 @@
 -- The files that `exportReferencesGraph` asks for where attributes are entries of the environment
 -- (Nix manual, "Advanced Attributes"; Nix 2.8, `local-derivation-goal.cc`: `startBuilder`).
-use Rattle.std.specs.Prelude.{◌≡◌, ◌&&◌, ◌||◌, ◌==◌, Bool, true, false, ℕ, IsTrue, Option, Some, None, List, [], ◌∷◌, All, codes, drop, find, if◌then◌else◌, length, nat_eq, nat_le, option_map, string_bytes}
+use Rattle.std.specs.Prelude.{◌≡◌, ◌&&◌, ◌||◌, ◌==◌, Bool, true, false, ℕ, IsTrue, Option, Some, None, List, [], ◌∷◌, All, drop, find, if◌then◌else◌, length, nat_eq, nat_le, option_map, string_bytes}
 use Rattle.std.specs.List.{AllZip, list_all, list_any, starts_with}
 use Rattle.nix_names.specs.Bytes.{Bytes, Name, Path}
 use Rattle.nix_names.specs.Names.{same_bytes}

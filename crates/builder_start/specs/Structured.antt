@@ -6,17 +6,19 @@ use Rattle.std.specs.List.{AllZip}
 use Rattle.std.specs.declared.alloc.Global.{Global}
 use Rattle.serde_json.specs.Data.{Data, object, string, Members, no_members, put}
 use Rattle.serde_json.specs.Find.{get_member}
-use Rattle.nix_names.specs.Bytes.{Bytes, Name, Path}
+use Rattle.nix_names.specs.Bytes.{Bytes, Path}
 use Rattle.valid_table.specs.PathInfos.{NarInfo}
 use Rattle.valid_table.specs.Unions.{IsUnion}
 use Rattle.valid_table.specs.Entries.{paths_registered}
 use Rattle.valid_table.specs.Valid.{IsValid}
 use Rattle.valid_table.specs.declared.entry.Registration.{Registration}
+use Rattle.structured_attrs.specs.Checks.{AreChecks, said_of}
 use Rattle.structured_attrs.specs.Graphs.{graph_data, graph_requests}
 use Rattle.structured_attrs.specs.JsonTexts.{IsJsonText}
 use Rattle.structured_attrs.specs.Reading.{attributes_of}
 use Rattle.structured_attrs.specs.ShellTexts.{shell_text}
 use Rattle.structured_attrs.specs.Strings.{array_texts}
+use Rattle.structured_attrs.specs.declared.checks.OutputChecks.{OutputChecks}
 use Rattle.structured_attrs.specs.declared.graph.GraphRow.{GraphRow}
 use Rattle.build_outcome.specs.Checks.{IsFirstPath}
 use Rattle.build_outcome.specs.Verdicts.{outputs_of}
@@ -35,9 +37,13 @@ abbrev pub strings_of : Option Data → Option (List Bytes)
 strings_of None = Some []
 strings_of (Some d) = array_texts d
 
+-- some members say checks of an output that Nix takes
+abbrev pub SayChecks : Members → Type 0
+SayChecks said = (checks : OutputChecks) × AreChecks said checks
+
 -- The text is an object of JSON that Nix takes: `impureEnvVars` and `requiredSystemFeatures` are
--- arrays of strings where they are there, and `exportReferencesGraph` asks for strings. The names
--- of the job's outputs can stand in it.
+-- arrays of strings where they are there, `exportReferencesGraph` asks for strings, and
+-- `outputChecks` says checks of each of the job's outputs. The names of these can stand in it.
 pub record AreAttributes (job : Job) (text : Bytes) : Type 0 where
   pub given : Members
   pub utf8 : IsUtf8 text
@@ -49,6 +55,8 @@ pub record AreAttributes (job : Job) (text : Bytes) : Type 0 where
   pub asked : List (Bytes × List Bytes)
   pub are_asked : graph_requests given ≡ Some asked
   pub named : All (λ (output : JobOutput). IsUtf8 output.name.items) job.outputs.items
+  pub checked : All (λ (output : JobOutput). SayChecks (said_of output.name.items given))
+      job.outputs.items
 
 -- ---- graphs that are asked for
 

@@ -1,11 +1,12 @@
 //! Structured attributes that are taken.
-ghost use Rattle.std.specs.Prelude.{◌≡◌, All, IfErr, IfOk, IsUtf8, None, Some, map};
+ghost use Rattle.std.specs.Prelude.{◌≡◌, All, IfErr, IfOk, IsUtf8, None, Some, map, string_bytes};
 ghost use Rattle.serde_json.specs.Find.{get_member};
 ghost use Rattle.structured_attrs.specs.Attributes.{attributes};
+ghost use Rattle.structured_attrs.specs.Checks.{said_of};
 ghost use Rattle.structured_attrs.specs.Graphs.{graph_requests, shown_request};
 ghost use Rattle.structured_attrs.specs.Reading.{attributes_of};
 ghost use Rattle.build_outcome.specs.declared.reason.Reason.TheVariants.{BadAttributes};
-ghost use Rattle.builder_start.specs.Structured.{AreAttributes, strings_of};
+ghost use Rattle.builder_start.specs.Structured.{AreAttributes, SayChecks, strings_of};
 ghost use Rattle.builder_start.specs.private.Shown.{IsGiven, IsWhy, output_of, shown_output, texts_of};
 
 use build_outcome::{Job, JobOutput, Reason};
@@ -32,6 +33,7 @@ pub(crate) fn taken(alloc: Global, job: &Job, text: &[u8]) -> Result<Given, Reas
     let _features = strings_at(alloc, &attributes, "requiredSystemFeatures")?;
     let requests = requests_in(alloc, &attributes)?;
     let outputs = output_paths(alloc, &job.outputs)?;
+    check_outputs(alloc, &attributes, &outputs)?;
     Ok(Given {
         attributes,
         impure,
@@ -111,4 +113,31 @@ fn output_path(alloc: Global, output: &JobOutput) -> Result<OutputPath, Reason>
         name: String::from_str(alloc, name)?,
         path: output.path.copy(alloc)?,
     })
+}
+
+// Checks that `outputChecks` says what Nix takes of each output.
+fn check_outputs(alloc: Global, given: &Attributes, outputs: &[OutputPath]) -> Result<(), Reason>
+    ensures ok { IfOk result (λ _.
+        All (λ o. SayChecks (said_of (string_bytes o.name) (attributes given.now))) outputs.now) }
+    ensures bad { IfErr result (IsWhy BadAttributes
+        (All (λ o. SayChecks (said_of (string_bytes o.name) (attributes given.now))) outputs.now
+        → ⊥)) }
+{
+    'outputs: for output in outputs {
+        check_output(alloc, given, output.name.as_str())?;
+    }
+    Ok(())
+}
+
+// Checks the same of the output with this name.
+fn check_output(alloc: Global, given: &Attributes, name: &str) -> Result<(), Reason>
+    ensures ok { IfOk result (λ _. SayChecks (said_of name.now (attributes given.now))) }
+    ensures bad { IfErr result
+        (IsWhy BadAttributes (SayChecks (said_of name.now (attributes given.now)) → ⊥)) }
+{
+    match given.output_checks(alloc, name) {
+        Ok(_checks) => Ok(()),
+        Err(AttributesFault::BadAttributes) => Err(Reason::BadAttributes),
+        Err(AttributesFault::NoMemory) => Err(Reason::OutOfMemory),
+    }
 }

@@ -1,4 +1,4 @@
-use Rattle.std.proofs.Common.{◌≡◌, ◌∙◌, ℕ, List, String, Global, All, Contains, ap, arith, map, subst, sym}
+use Rattle.std.proofs.Common.{◌∙◌, ℕ, List, All, ap, arith, map, subst, sym}
 use Rattle.serde_json.specs.Data.{put}
 use Rattle.valid_table.specs.Valid.{IsValid}
 use Rattle.structured_attrs.specs.Attributes.{attributes}

@@ -1,10 +1,8 @@
-use Rattle.std.proofs.Common.{◌≡◌, ◌∙◌, ℕ, List, subst, sym}
+use Rattle.std.proofs.Common.{List, subst, sym}
 use Rattle.valid_table.specs.declared.entry.Registration.{Registration}
-use Rattle.build_outcome.specs.declared.prepared.Prepared.{Prepared}
 use Rattle.build_outcome.specs.declared.reason.Reason.TheVariants.{BadGraph}
 use Rattle.builder_start.specs.Asked.{graphs_of, tokens_or_none}
-use Rattle.builder_start.specs.Entries.{AreFiles, AskForBadGraphs}
-use Rattle.builder_start.specs.Structured.{AreTexts}
+use Rattle.builder_start.specs.Entries.{AskForBadGraphs}
 use Rattle.builder_start.specs.private.Shown.{IsUntold, IsWhy}
 use Rattle.std.proofs.lemmas.Result.{err_from_is_err_and}
 use Rattle.builder_start.proofs.Preparings.{no_files, no_texts}
