@@ -11,6 +11,7 @@ pub mod PlainRecords
 pub mod Reaches
 pub mod RisingPlaces
 pub mod RootPaths
+pub mod SameChecks
 pub mod SizeTests
 pub mod Sizes
 pub mod Specifiers

@@ -111,16 +111,14 @@ module _ (job : Job) (permitted : List (List ℕ)) (infos : List PathInfo)
       ((counts path).0 h.0.1, λ has. h.1 ((listed.each path).0 has)),
     ),
   )
-  barred_is registrations n DisallowedReferences own left_out list named used listed are counts path =
-      (
-        λ h. ((are path).0 h.0, (listed.each path).0 h.1),
-        λ h. ((are path).1 h.0, (listed.each path).1 h.1),
-      )
-  barred_is registrations n DisallowedRequisites own left_out list named used listed are counts path =
-      (
-        λ h. (((are path).0 h.0, (counts path).1 h.1.0), (listed.each path).0 h.1.1),
-        λ h. ((are path).1 h.0.0, ((counts path).0 h.0.1, (listed.each path).1 h.1)),
-      )
+  barred_is registrations n DisallowedReferences own left_out list named used listed are counts path = (
+    λ h. ((are path).0 h.0, (listed.each path).0 h.1),
+    λ h. ((are path).1 h.0, (listed.each path).1 h.1),
+  )
+  barred_is registrations n DisallowedRequisites own left_out list named used listed are counts path = (
+    λ h. (((are path).0 h.0, (counts path).1 h.1.0), (listed.each path).0 h.1.1),
+    λ h. ((are path).1 h.0.0, ((counts path).0 h.0.1, (listed.each path).1 h.1)),
+  )
 
   pub all_allowed : (n : ℕ) (check : Check) (own : List ℕ) (left_out : Option (List ℕ))
       (list named used : List (List ℕ)) → slice_get (outputs_of job) n ≡ Some own → list_of job n check ≡ Some list

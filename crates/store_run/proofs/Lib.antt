@@ -29,7 +29,6 @@ pub mod RunJournals
 pub mod ExampleLoads
 pub mod ScheduleExample
 pub mod Schedules
-pub mod SameChecks
 pub mod SameOutcomes
 pub mod SameTests
 pub mod SameVerdicts

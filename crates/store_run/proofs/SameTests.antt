@@ -24,7 +24,7 @@ use Rattle.build_outcome.specs.declared.job.JobOutput.{JobOutput}
 use Rattle.build_outcome.specs.declared.reason.Reason.{Reason}
 use Rattle.build_outcome.specs.declared.reason.Reason.TheVariants.{NotAllowed, BadAttributes, BadSpecifier, PastMaxClosureSize, PastMaxSize, UnknownNar}
 use Rattle.build_outcome.proofs.TestedVerdicts.{has_one_tested_verdict}
-use Rattle.store_run.proofs.SameChecks.{can_read_too, counted_too, limit_same, list_same, names_of}
+use Rattle.build_outcome.proofs.SameChecks.{can_read_too, counted_too, limit_same, list_same, names_of}
 use Rattle.store_run.proofs.SameVerdicts.{all_weaker, counts, first_same, verdict_too}
 
 -- under `plain` nothing is tested

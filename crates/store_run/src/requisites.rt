@@ -18,6 +18,7 @@ use valid_table::Registration;
 use valid_view::{ListId, ViewReader};
 
 // A job that was built: its checks, and the records of its outputs.
+#[derive(Drop)]
 pub(crate) struct BuiltJob<'a> {
     pub(crate) job: &'a Job,
     pub(crate) checks: &'a JobChecks,

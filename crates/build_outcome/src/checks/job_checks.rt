@@ -188,11 +188,7 @@ fn checks_of_all(
 }
 
 // The checks of an output.
-fn checks_of(
-    alloc: Global,
-    given: &Attributes,
-    output: &JobOutput,
-) -> Result<OutputChecks, Reason>
+fn checks_of(alloc: Global, given: &Attributes, output: &JobOutput) -> Result<OutputChecks, Reason>
     ensures named { IfOk result (λ _. IsUtf8 output.now.name.items) }
     ensures ok { IfOk result
         (AreChecks (said_of output.now.name.items (attributes given.now))) }
