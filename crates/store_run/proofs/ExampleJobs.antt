@@ -34,7 +34,7 @@ use Rattle.build_outcome.specs.declared.job.Job.{Job}
 use Rattle.build_outcome.specs.declared.job.JobOutput.{JobOutput}
 use Rattle.build_outcome.specs.declared.job.LeftOutput.{LeftOutput}
 use Rattle.build_outcome.specs.declared.reason.Reason.{Reason}
-use Rattle.build_outcome.specs.declared.reason.Reason.TheVariants.{BadMode, BadSpecifier, ExitStatus, HashMismatch, Killed, MissingOutput, NoStart, NotAllowed, NotFlatFile, OutOfMemory, OutputCycle, ReadFault, TooLarge, BadAttributes, BadGraph, UnknownNar}
+use Rattle.build_outcome.specs.declared.reason.Reason.TheVariants.{BadMode, BadSpecifier, ExitStatus, HashMismatch, Killed, MissingOutput, NoStart, NotAllowed, NotFlatFile, OutOfMemory, OutputCycle, ReadFault, TooLarge, BadAttributes, BadGraph, UnknownNar, PastMaxSize, PastMaxClosureSize}
 use Rattle.build_outcome.proofs.TestedVerdicts.{has_one_tested_verdict}
 use Rattle.store_run.specs.Builders.{IsVerdictOn}
 use Rattle.store_run.specs.Scheduling.{HasOneOutcome}
@@ -111,6 +111,8 @@ no_fault tree is (BadSpecifier output) none = none
 no_fault tree is BadAttributes none = none
 no_fault tree is BadGraph none = none
 no_fault tree is (UnknownNar place) none = none
+no_fault tree is (PastMaxSize output) none = none
+no_fault tree is (PastMaxClosureSize output) none = none
 
 -- ---- records without references
 

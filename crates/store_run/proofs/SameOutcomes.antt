@@ -20,7 +20,7 @@ use Rattle.build_outcome.specs.Verdicts.{AreOutputsThere, AreRead, AreRecords, H
 use Rattle.build_outcome.specs.declared.job.Answer.{Answer}
 use Rattle.build_outcome.specs.declared.job.Job.{Job}
 use Rattle.build_outcome.specs.declared.reason.Reason.{Reason}
-use Rattle.build_outcome.specs.declared.reason.Reason.TheVariants.{ExitStatus, NoStart, MissingOutput, NotFlatFile, HashMismatch, OutputCycle, TooLarge, ReadFault, OutOfMemory, Killed, BadMode, NotAllowed, BadSpecifier, BadAttributes, BadGraph, UnknownNar}
+use Rattle.build_outcome.specs.declared.reason.Reason.TheVariants.{ExitStatus, NoStart, MissingOutput, NotFlatFile, HashMismatch, OutputCycle, TooLarge, ReadFault, OutOfMemory, Killed, BadMode, NotAllowed, BadSpecifier, BadAttributes, BadGraph, UnknownNar, PastMaxSize, PastMaxClosureSize}
 use Rattle.store_run.specs.Builders.{IsVerdictOn}
 use Rattle.store_run.specs.SameOutcomes.{AllowedIsOne, AreSameAnswers, AreSameOutcomes, AreSameTrees, HaveSameBytes}
 use Rattle.store_run.proofs.SameTests.{one_for_both}
@@ -83,6 +83,8 @@ fault_there profile Addressed tree other same (BadSpecifier output) fault = absu
 fault_there profile Addressed tree other same BadAttributes fault = absurd fault
 fault_there profile Addressed tree other same BadGraph fault = absurd fault
 fault_there profile Addressed tree other same (UnknownNar place) fault = absurd fault
+fault_there profile Addressed tree other same (PastMaxSize output) fault = absurd fault
+fault_there profile Addressed tree other same (PastMaxClosureSize output) fault = absurd fault
 fault_there profile (Fixed method digest) tree other same (ExitStatus n) fault = absurd fault
 fault_there profile (Fixed method digest) tree other same NoStart fault = absurd fault
 fault_there profile (Fixed method digest) tree other same (MissingOutput n) fault = absurd fault
@@ -100,6 +102,10 @@ fault_there profile (Fixed method digest) tree other same BadAttributes fault =
 fault_there profile (Fixed method digest) tree other same BadGraph fault =
     absurd fault
 fault_there profile (Fixed method digest) tree other same (UnknownNar place) fault =
+    absurd fault
+fault_there profile (Fixed method digest) tree other same (PastMaxSize output) fault =
+    absurd fault
+fault_there profile (Fixed method digest) tree other same (PastMaxClosureSize output) fault =
     absurd fault
 
 unread_there : (job : Job) (tree other : Tree) → HaveSameBytes tree other → IsUnread job tree
@@ -259,6 +265,8 @@ module _ (job : Job) (answer other : Answer) (same : AreSameAnswers answer other
   verdict_there permitted (Err BadAttributes) is = absurd is
   verdict_there permitted (Err BadGraph) is = absurd is
   verdict_there permitted (Err (UnknownNar place)) is = absurd is
+  verdict_there permitted (Err (PastMaxSize output)) is = absurd is
+  verdict_there permitted (Err (PastMaxClosureSize output)) is = absurd is
 
   -- the tests are of the records
   tested_there : (registrations : List Registration) (permitted : List (List ℕ))

@@ -10,7 +10,7 @@ use Rattle.build_outcome.specs.Verdicts.{AreOutputsThere, AreRead, AreRecords, H
 use Rattle.build_outcome.specs.declared.job.Answer.{Answer}
 use Rattle.build_outcome.specs.declared.job.Job.{Job}
 use Rattle.build_outcome.specs.declared.reason.Reason.{Reason}
-use Rattle.build_outcome.specs.declared.reason.Reason.TheVariants.{ExitStatus, NoStart, MissingOutput, NotFlatFile, HashMismatch, OutputCycle, TooLarge, ReadFault, OutOfMemory, Killed, BadMode, NotAllowed, BadSpecifier, BadAttributes, BadGraph, UnknownNar}
+use Rattle.build_outcome.specs.declared.reason.Reason.TheVariants.{ExitStatus, NoStart, MissingOutput, NotFlatFile, HashMismatch, OutputCycle, TooLarge, ReadFault, OutOfMemory, Killed, BadMode, NotAllowed, BadSpecifier, BadAttributes, BadGraph, UnknownNar, PastMaxSize, PastMaxClosureSize}
 
 -- ---- firsts
 
@@ -162,3 +162,5 @@ module _ (job again : Job) (outputs : outputs_of job ≡ outputs_of again)
   verdict_too permitted (Err BadAttributes) is = absurd is
   verdict_too permitted (Err BadGraph) is = absurd is
   verdict_too permitted (Err (UnknownNar place)) is = absurd is
+  verdict_too permitted (Err (PastMaxSize output)) is = absurd is
+  verdict_too permitted (Err (PastMaxClosureSize output)) is = absurd is

@@ -32,7 +32,7 @@ use Rattle.build_outcome.specs.Verdicts.{HasArchive, IsFlatFile, IsRecordDigest,
 use Rattle.build_outcome.specs.declared.job.Answer.{Answer}
 use Rattle.build_outcome.specs.declared.job.Job.{Job}
 use Rattle.build_outcome.specs.declared.reason.Reason.{Reason}
-use Rattle.build_outcome.specs.declared.reason.Reason.TheVariants.{BadMode, BadSpecifier, ExitStatus, HashMismatch, Killed, MissingOutput, NoStart, NotAllowed, NotFlatFile, OutOfMemory, OutputCycle, ReadFault, TooLarge, BadAttributes, BadGraph, UnknownNar}
+use Rattle.build_outcome.specs.declared.reason.Reason.TheVariants.{BadMode, BadSpecifier, ExitStatus, HashMismatch, Killed, MissingOutput, NoStart, NotAllowed, NotFlatFile, OutOfMemory, OutputCycle, ReadFault, TooLarge, BadAttributes, BadGraph, UnknownNar, PastMaxSize, PastMaxClosureSize}
 use Rattle.store_run.specs.SameOutcomes.{AllowsOneOutcome, AreSameAnswers, AreSameTrees, HaveSameBytes}
 use Rattle.store_run.specs.Scheduling.{HasOneOutcome}
 use Rattle.store_run.specs.ScheduleExample.{IsEmptyFolder, Leaves, owned, right}
@@ -96,6 +96,8 @@ no_file_fault tree is (BadSpecifier output) none = none
 no_file_fault tree is BadAttributes none = none
 no_file_fault tree is BadGraph none = none
 no_file_fault tree is (UnknownNar place) none = none
+no_file_fault tree is (PastMaxSize output) none = none
+no_file_fault tree is (PastMaxClosureSize output) none = none
 
 module _ (job : Job) (plain : job.profile ≡ Plain) (kind : job.kind ≡ empty_kind) where
   record_of_file : (permitted : List (List ℕ)) (tree : Tree) → IsEmptyFile tree

@@ -3,13 +3,13 @@ use Rattle.std.proofs.Common.{◌≡◌, length, vec_capacity}
 use mathlib.Core.List.{IsPrefix}
 use Rattle.valid_view.specs.Shown.{IsShowable}
 use Rattle.store_run.specs.private.JobVerdicts.{AreClosures}
-use Rattle.store_run.proofs.requisites.requisites.Given as goal
+use Rattle.store_run.proofs.requisites.BuiltJob.closures.Given as goal
 
 abbrev pub invariant-loop-n : goal.invariant-loop-n
 invariant-loop-n g l = record {
   later : IsPrefix l.fn.reader.seen l.reader.seen;
   showable : IsShowable l.reader.seen;
-  count : length l.lists.items ≡ l.n;
-  closures : AreClosures l.reader.seen l.job l.checked l.lists.items;
-  room : vec_capacity l.lists ≡ length l.job.outputs.items;
+  count : length l.closures.items ≡ l.n;
+  given : AreClosures l.reader.seen l.self.job.now l.self.checked.now l.closures.items;
+  room : vec_capacity l.closures ≡ length l.self.job.now.outputs.items;
 }
