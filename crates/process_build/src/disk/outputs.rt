@@ -124,6 +124,7 @@ pub enum FileKind {
 fn kind_of(asked: io::Result<Metadata>, profile: Profile) -> Result<Option<FileKind>, Reason>
     ensures found { IfOk asked (λ found. IsKindOf profile (metadata_mode found) result) }
     ensures fault { IfErr asked (λ error. IsNoKind error result) }
+    ensures bad { IfErr result IsReadingFault }
 {
     match asked {
         Ok(found) => Ok(Some(kind_at(&found, profile)?)),
