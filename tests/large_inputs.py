@@ -197,6 +197,18 @@ def listing(place, listed, source):
     return with_outputs(place, ["o"], text)
 
 
+def limited(place, source, limit):
+    """A draft of structured attributes whose output refers to a source, and whose closure may have
+    so many bytes; the filled text, and the output's path."""
+    own = r"""/bin/sed 's/.*"outputs":{"o":"\([^"]*\)".*/\1/' .attrs.json"""
+    words = f'"-c",{quoted(f"echo {source} > $({own})")}'
+    checks = quoted(f'{{"outputChecks":{{"o":{{"maxClosureSize":{limit}}}}}}}')
+    env = lambda paths: f'("__json",{checks}),("o","{paths.get("o", "")}")'
+    parts = lambda paths: {"sources": quoted(source), "args": words, "env": env(paths)}
+    text = lambda paths, _: text_of(outputs(["o"], paths), **parts(paths))
+    return with_outputs(place, ["o"], text)
+
+
 # What makes the outputs of `many_outputs`: each has the paths of so many before it.
 BEFORE = 300
 WRITER = """
