@@ -190,7 +190,10 @@ def listing(place, listed, source):
     """A draft whose output refers to a source, and may reach the listed paths; the filled text, and
     the output's path. The list is too long for a variable, and goes into a file."""
     words = f'"-c",{quoted(f"echo {source} > $o")}'
-    front, back = f'("allowedRequisites","{" ".join(listed)}")', '("passAsFile","allowedRequisites")'
+    front, back = (
+        f'("allowedRequisites","{" ".join(listed)}")',
+        '("passAsFile","allowedRequisites")',
+    )
     env = lambda paths: f'{front},("o","{paths.get("o", "")}"),{back}'
     parts = lambda paths: {"sources": quoted(source), "args": words, "env": env(paths)}
     text = lambda paths, _: text_of(outputs(["o"], paths), **parts(paths))
@@ -241,4 +244,3 @@ def journal_of(place, length):
     count = (length - len(FIRST) - size) // size
     text = FIRST + added(place.path(number, name) for number in range(count))
     return text + added([place.path(count, name + "q" * (length - len(text) - size))])
-
