@@ -12,13 +12,15 @@
 //! | `mode` | what comes next in an archive |
 //! | `kinds` | the bytes that decide this |
 //! | `strings` | lengths, and the files and targets that they are of |
-//! | `name` | the names of entries |
+//! | `name` | the names of entries, read byte by byte |
+//! | `entry_name` | which bytes may be one, and their order |
 //! | `fault` | why a reading gave up |
 //! | `laws` | laws over the definitions that contracts cite |
 #![tactic(auto)]
 
 mod both;
 mod digest;
+mod entry_name;
 mod event;
 mod fault;
 mod feed;
@@ -33,6 +35,7 @@ mod writer;
 
 pub use both::Both;
 pub use digest::DigestSink;
+pub use entry_name::{comes_next, is_entry_name};
 pub use event::{Event, Hear};
 pub use fault::ArchiveFault;
 pub use reader::ArchiveReader;

@@ -1,18 +1,17 @@
 //! The names of entries. Each byte is looked at twice at most, in its own name and in the one after.
-ghost use Rattle.std.specs.Prelude.{◌≡◌, ◌↔◌, ◌∷◌, ◌++◌, [], ℕ, IfOk, IsTrue, length};
-ghost use Rattle.std.specs.List.{list_all};
-ghost use Rattle.nix_archive.specs.Trees.{AreBytes, IsAfter, IsName, is_name_byte, may_be_name};
+ghost use Rattle.std.specs.Prelude.{◌≡◌, ◌∷◌, ◌++◌, [], ℕ, IfOk, length};
+ghost use Rattle.nix_archive.specs.Trees.{AreBytes};
 ghost use Rattle.nix_archive.specs.Rests.{mode_rest, reader_rest};
 ghost use Rattle.nix_archive.specs.Parts.{names_of};
 ghost use Rattle.nix_archive.specs.private.Ready.{IsMost, IsTied, IsTiedOn};
 ghost use Rattle.nix_archive.specs.private.Takes.{IsTaken, Unheard, now_rest};
 
+use crate::entry_name::{comes_next, is_name_byte};
 use crate::event::{Event, Hear};
 use crate::mode::{Mode, Tie};
 use crate::reader::ArchiveReader;
 use crate::strings::padding_length;
 use std::alloc::AllocError;
-use std::cmp::Ordering;
 use std::mem;
 
 impl ArchiveReader {
@@ -134,41 +133,4 @@ fn tie_after(tie: Tie, seen: &[u8], byte: u8, before: &[u8]) -> Option<Tie>
         return None;
     }
     Some(tie)
-}
-
-// Whether some bytes are a name that comes after another.
-fn comes_next(before: &[u8], name: &[u8]) -> bool
-    ensures { IsTrue result ↔ (IsName name.now × IsAfter before.now name.now) }
-{
-    is_entry_name(name) && matches!(before.cmp(&name), Ordering::Less)
-}
-
-// Whether some bytes may be the name of an entry.
-fn is_entry_name(name: &[u8]) -> bool
-    ensures { IsTrue result ↔ IsName name.now }
-{
-    !name.is_empty() && may_be_name(name)
-}
-
-// Whether some bytes may be a name, if they are any.
-#[tactic(auto, unfolding(crate::specs::Trees::may_be_name))]
-fn may_be_name(name: &[u8]) -> bool
-    ensures { result ≡ may_be_name name.now }
-{
-    are_name_bytes(name) && name != b".".as_slice() && name != b"..".as_slice()
-}
-
-// Whether each byte may stand in a name.
-fn are_name_bytes(bytes: &[u8]) -> bool
-    ensures { result ≡ list_all is_name_byte bytes.now }
-{
-    bytes.iter().all(|byte| is_name_byte(*byte))
-}
-
-// Whether a byte may stand in a name.
-#[tactic(auto, unfolding(crate::specs::Trees::is_name_byte))]
-fn is_name_byte(byte: u8) -> bool
-    ensures { result ≡ is_name_byte byte }
-{
-    byte != 0 && byte != b'/'
 }

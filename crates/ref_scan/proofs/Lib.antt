@@ -1,12 +1,16 @@
+pub mod ArchivedMeasures
 pub mod Belows
 pub mod Besides
+pub mod Countings
 pub mod Digits
 pub mod Findings
 pub mod Folders
 pub mod HashParts
+pub mod Hearings
 pub mod Indexing
 pub mod Joined
 pub mod LinksAdded
+pub mod MadeTrees
 pub mod Orders
 pub mod Pieces
 pub mod RisingKeys

@@ -1,4 +1,5 @@
 -- What only private contracts and proofs cite.
+pub mod HearingLaws
 pub mod Kept
 pub mod Marks
 pub mod Places

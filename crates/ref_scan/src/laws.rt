@@ -1,6 +1,9 @@
 //! Laws over the definitions that contracts cite, each on the contract of a function that does
 //! nothing.
+ghost use Rattle.ref_scan.specs.ArchivedTrees.{ArchivesHaveTrees, ArchivesMeasureAlike, ShortArchivesLie};
 ghost use Rattle.ref_scan.specs.Archives.{ArchiveIsOne};
+ghost use Rattle.ref_scan.specs.Counting.{CountsHearLimits, CountsStayPast};
+ghost use Rattle.ref_scan.specs.Hearing.{HeardTreesLie};
 ghost use Rattle.ref_scan.specs.Links.{LinksAdd};
 ghost use Rattle.ref_scan.specs.Scan.{IsFound};
 ghost use Rattle.ref_scan.specs.declared.tree.Tree.{Tree};
@@ -24,4 +27,26 @@ pub fn links_add()
 /// archive, in which each folder's names rise.
 pub fn archive_is_one()
     ensures { ArchiveIsOne }
+{}
+
+/// The tree of an archive keeps the limits of an output where the tree in memory does of which it
+/// is, and the same hash parts occur in the two, in whatever order a folder has its members.
+pub fn archives_measure_alike()
+    ensures { ArchivesMeasureAlike }
+{}
+
+/// Counts that heard all of a tree tell whether it keeps the limits of an output; and a tree is past
+/// them as soon as what was heard of it is.
+pub fn counts_hear_limits()
+    ensures whole { CountsHearLimits }
+    ensures past { CountsStayPast }
+{}
+
+/// There is a tree in memory for each tree of an archive whose names, targets and folders are as
+/// short as what lies in memory. This holds where the archive has fewer than 2^63 bytes, and of a
+/// tree that a scanner heard and that keeps the limits.
+pub fn archives_have_trees()
+    ensures trees { ArchivesHaveTrees }
+    ensures short { ShortArchivesLie }
+    ensures heard { HeardTreesLie }
 {}

@@ -9,6 +9,7 @@
 //! | `search`, `index`, `alphabet` | some bytes searched for all hash parts at once |
 //! | `seam`, `fed` | what is kept of a piece, and what was fed |
 //! | `telling` | the archive (NAR) of a tree, told event by event, and its length and digest |
+//! | `hearing` | a tree that is heard event by event: its references, and the limits of an output |
 //! | `fault` | why a scan gave up |
 //! | `laws` | laws over the definitions that contracts cite |
 #![tactic(auto)]
@@ -16,6 +17,7 @@
 mod alphabet;
 mod fault;
 mod fed;
+mod hearing;
 mod index;
 pub mod laws;
 mod marks;
@@ -27,6 +29,8 @@ mod telling;
 mod tree;
 
 pub use fault::ScanFault;
+pub use hearing::tree_counts::TreeCounts;
+pub use hearing::tree_scanner::TreeScanner;
 pub use references::scan;
 pub use scanner::Scanner;
 pub use telling::sum::{ArchiveSum, archive_digest, archive_into, archive_sum};
