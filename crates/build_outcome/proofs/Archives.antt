@@ -24,7 +24,8 @@ use Rattle.build_outcome.specs.declared.reason.Reason.{Reason}
 use Rattle.build_outcome.specs.declared.reason.Reason.TheVariants.{OutOfMemory, ReadFault}
 use Rattle.build_outcome.specs.declared.sums.OutputSum.{OutputSum}
 use Rattle.build_outcome.specs.private.Hashing.{IsFed}
-use Rattle.build_outcome.specs.private.Summing.{AreSums, AreSumsSoFar, IsOutputSum, IsSumAt, TellsNar, archive_algorithm}
+use Rattle.build_outcome.specs.Sums.{IsOutputSum, archive_algorithm}
+use Rattle.build_outcome.specs.private.Summing.{AreSums, AreSumsSoFar, IsSumAt, TellsNar}
 use Rattle.build_outcome.specs.Verdicts.{AreRead, HasArchive, HasNoArchive, IsExamining, IsNarOf, NeedsArchive, digest_by, tree_at}
 
 -- a tree has the bytes of one archive

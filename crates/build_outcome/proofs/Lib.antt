@@ -2,7 +2,13 @@ pub mod Archives
 pub mod Cycles
 pub mod EnvValues
 pub mod FixedDigests
+pub mod HeardAnswers
+pub mod HeardArchives
+pub mod HeardFiles
+pub mod HeardOutputs
 pub mod JobReadings
+pub mod Judgings
+pub mod Knowns
 pub mod Linkages
 pub mod ListTests
 pub mod OneVerdict

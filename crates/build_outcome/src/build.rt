@@ -1,13 +1,17 @@
 //! Builders, and the calls by which a builder hears of the jobs of its worker.
 ghost use Rattle.std.specs.Prelude.{◌≡◌, ◌⊎◌, IfErr, Result, Err};
+ghost use Rattle.nix_names.specs.Rising.{IsRising};
 ghost use Rattle.build_outcome.specs.declared.job.Answer.{Answer};
 ghost use Rattle.build_outcome.specs.declared.job.Job.{Job};
 ghost use Rattle.build_outcome.specs.declared.reason.Reason.{Reason};
 ghost use Rattle.build_outcome.specs.declared.reason.Reason.TheVariants.{OutOfMemory};
+ghost use Rattle.build_outcome.specs.Heard.{IsRunExamined};
 
+use crate::checked::Checked;
 use crate::job::{Answer, Job};
 use crate::prepared::Prepared;
 use crate::reason::Reason;
+use nix_names::StorePath;
 
 /// Builds what a job asks for.
 pub trait Build {
@@ -26,6 +30,21 @@ pub trait Build {
         prepared: &Result<Prepared, Reason>,
     ) -> Result<Answer, Reason>
         ensures outcome { (result ≡ Err OutOfMemory) ⊎ may job.now result }
+        ensures unprepared { IfErr prepared.now
+            (λ why. (result ≡ Err OutOfMemory) ⊎ (result ≡ Err why)) };
+
+    /// Builds a job as `run` does, and examines what lies at its outputs' paths, which may refer to
+    /// these permitted paths alone: the verdict that `examine` has on an answer that may be given.
+    /// The outer error is the reason why there is no answer.
+    fn run_examined(
+        &self,
+        number: u64,
+        job: &Job,
+        prepared: &Result<Prepared, Reason>,
+        permitted: &[StorePath],
+    ) -> Result<Result<Checked, Reason>, Reason>
+        requires { IsRising permitted.now }
+        ensures outcome { IsRunExamined may job.now permitted.now result }
         ensures unprepared { IfErr prepared.now
             (λ why. (result ≡ Err OutOfMemory) ⊎ (result ≡ Err why)) };
 }

@@ -71,7 +71,7 @@ pub struct Answer {
 
 impl Answer {
     // What lies at the output with this number, if anything.
-    fn left_at(&self, n: usize) -> Option<&LeftOutput>
+    pub(crate) fn left_at(&self, n: usize) -> Option<&LeftOutput>
         ensures { MatchOption result (left_at self.now n ≡ None)
             (λ left. left_at self.now n ≡ Some left.now) }
     {

@@ -4,7 +4,8 @@ ghost use Rattle.sha2.specs.Sha256.{sha256};
 ghost use Rattle.ref_scan.specs.Archives.{IsOfArchive};
 ghost use Rattle.build_outcome.specs.Verdicts.{HasArchive, IsExamining, NeedsArchive, digest_by};
 ghost use Rattle.build_outcome.specs.declared.sums.OutputSum.{OutputSum as AnOutputSum};
-ghost use Rattle.build_outcome.specs.private.Summing.{AreSums, IsSumAt, TellsNar, TellsSum, archive_algorithm};
+ghost use Rattle.build_outcome.specs.Sums.{archive_algorithm};
+ghost use Rattle.build_outcome.specs.private.Summing.{AreSums, IsSumAt, TellsNar, TellsSum};
 
 use crate::archive_digests::archive_digest_of;
 use crate::job::{Answer, Job};
@@ -46,7 +47,7 @@ pub(crate) fn sums_of(
 }
 
 // Whether archives of outputs of a kind are asked for.
-fn needs_archive(profile: Profile, kind: &Kind) -> bool
+pub(crate) fn needs_archive(profile: Profile, kind: &Kind) -> bool
     ensures { IsTrue result ↔ NeedsArchive profile kind.now }
 {
     match profile {
@@ -141,7 +142,7 @@ fn declared_digest(
 }
 
 // The algorithm by which archives of outputs of this kind are hashed.
-fn archive_algorithm(kind: &Kind) -> Algorithm
+pub(crate) fn archive_algorithm(kind: &Kind) -> Algorithm
     ensures { result ≡ archive_algorithm kind.now }
 {
     match kind {

@@ -1,34 +1,33 @@
 //! Whether an output's tree is taken: by its size, its form and its digest.
-ghost use Rattle.std.specs.Prelude.{◌≡◌, ◌↔◌, IfErr, IsTrue, MatchOption, OnOk};
-ghost use Rattle.nix_names.specs.declared.method.Method.TheVariants.{Recursive};
+ghost use Rattle.std.specs.Prelude.{◌≡◌, ◌↔◌, IfErr, IsTrue, List, MatchOption, OnOk, ℕ};
 ghost use Rattle.drv_graph.specs.declared.kinds.Kind.TheVariants.{Fixed};
-ghost use Rattle.build_outcome.specs.Verdicts.{HasForm, IsDigestBy, IsFlatFile, IsTreeFault, MayBeTaken, NeedsArchive, file_digest_of};
-ghost use Rattle.build_outcome.specs.private.Summing.{IsOutputSum};
+ghost use Rattle.build_outcome.specs.Verdicts.{HasForm, IsDigestBy, IsFlatFile, IsTreeFault, MayBeTaken};
+ghost use Rattle.build_outcome.specs.declared.job.LeftOutput.{LeftOutput as AnOutput};
+ghost use Rattle.build_outcome.specs.private.Judging.{IsKnown, IsTreeTaken};
 ghost use Rattle.nix_names.specs.Digests.{algorithm_of};
 
-use crate::digest::file_digest_of;
 use crate::job::Job;
+use crate::known::Known;
 use crate::reason::Reason;
-use crate::sums::OutputSum;
 use drv_graph::{Kind, Method, Profile};
-use nix_names::{Algorithm, Digest};
+use nix_names::Digest;
 use ref_scan::Tree;
 
-// Whether an output's tree is taken; `sum` is that of its archive where archives are asked for.
-pub(crate) fn check_tree(job: &Job, tree: &Tree, sum: Option<&OutputSum>) -> Result<(), Reason>
-    requires { MatchOption sum (NeedsArchive job.now.profile job.now.kind → ⊥)
-        (λ sum. IsOutputSum job.now.kind tree.now sum.now) }
-    ensures taken { OnOk result
-        ((why : Reason) → IsTreeFault job.now.profile job.now.kind tree.now why → ⊥) }
-    ensures err { IfErr result (λ why. IsTreeFault job.now.profile job.now.kind tree.now why) }
+// Whether what lies at an output is taken.
+pub(crate) fn check_known(job: &Job, known: &Known<'_>) -> Result<(), Reason>
+    ensures taken { OnOk result ((permitted : List (List ℕ)) (output : AnOutput)
+        → IsKnown job.now permitted output known.now → IsTreeTaken job.now output.tree) }
+    ensures err { IfErr result (λ why. (permitted : List (List ℕ)) (output : AnOutput)
+        → IsKnown job.now permitted output known.now
+        → IsTreeFault job.now.profile job.now.kind output.tree why) }
 {
-    if !may_be_taken(job.profile, tree) {
+    if !known.may_be_taken(job) {
         return Err(Reason::TooLarge);
     }
     let Kind::Fixed(method, declared) = &job.kind else {
         return Ok(());
     };
-    match digest_found(job.profile, *method, declared, tree, sum) {
+    match digest_found(job, *method, declared, known) {
         None => Err(Reason::NotFlatFile),
         Some(found) if found != *declared => Err(Reason::HashMismatch),
         Some(_) => Ok(()),
@@ -36,7 +35,7 @@ pub(crate) fn check_tree(job: &Job, tree: &Tree, sum: Option<&OutputSum>) -> Res
 }
 
 // Whether the profile has no limits that the tree passes.
-fn may_be_taken(profile: Profile, tree: &Tree) -> bool
+pub(crate) fn may_be_taken(profile: Profile, tree: &Tree) -> bool
     ensures { IsTrue result ↔ MayBeTaken profile tree.now }
 {
     match profile {
@@ -45,44 +44,32 @@ fn may_be_taken(profile: Profile, tree: &Tree) -> bool
     }
 }
 
-// The digest by a method, and by the declared algorithm, of a tree that has the method's form.
-fn digest_found(
-    profile: Profile,
-    method: Method,
-    declared: &Digest,
-    tree: &Tree,
-    sum: Option<&OutputSum>,
-) -> Option<Digest>
-    requires { MatchOption sum (NeedsArchive profile (Fixed method declared.now) → ⊥)
-        (λ sum. IsOutputSum (Fixed method declared.now) tree.now sum.now) }
-    ensures { MatchOption result (HasForm profile method tree.now → ⊥)
-        (λ found. HasForm profile method tree.now
-        × IsDigestBy method (algorithm_of declared.now) tree.now found) }
+// The digest by a method, and by the declared algorithm, of what lies at an output and has the
+// method's form.
+fn digest_found(job: &Job, method: Method, declared: &Digest, known: &Known<'_>) -> Option<Digest>
+    ensures { (permitted : List (List ℕ)) (output : AnOutput)
+        → IsKnown job.now permitted output known.now → job.now.kind ≡ Fixed method declared.now
+        → MatchOption result (HasForm job.now.profile method output.tree → ⊥)
+        (λ found. HasForm job.now.profile method output.tree
+        × IsDigestBy method (algorithm_of declared.now) output.tree found) }
 {
     match method {
-        Method::Flat => flat_digest(profile, declared.algorithm(), tree),
-        Method::Recursive => match sum {
+        Method::Flat => {
+            if known.is_flat_file(job) {
+                known.file_digest(declared.algorithm())
+            } else {
+                None
+            }
+        }
+        Method::Recursive => match known.sum() {
             Some(sum) => Some(sum.digest),
-            None => unreachable!(),
+            None => None,
         },
     }
 }
 
-// The digest, by an algorithm, of a tree that is a flat file.
-fn flat_digest(profile: Profile, algorithm: Algorithm, tree: &Tree) -> Option<Digest>
-    ensures { MatchOption result (IsFlatFile profile tree.now → ⊥)
-        (λ found. IsFlatFile profile tree.now
-        × (file_digest_of algorithm tree.now ≡ Some found)) }
-{
-    if is_flat_file(profile, tree) {
-        file_digest_of(algorithm, tree)
-    } else {
-        None
-    }
-}
-
 // Whether a fixed output by the bytes of a file may be this tree.
-fn is_flat_file(profile: Profile, tree: &Tree) -> bool
+pub(crate) fn is_flat_file(profile: Profile, tree: &Tree) -> bool
     ensures { IsTrue result ↔ IsFlatFile profile tree.now }
 {
     match tree {

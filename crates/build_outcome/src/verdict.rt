@@ -1,23 +1,27 @@
 //! The verdict on what a builder left behind.
-ghost use Rattle.std.specs.Prelude.{◌≡◌, ◌↔◌, ℕ, List, Ok, Err, pos, Some, IfOk, IfErr, IsTrue, MatchOption, OnOk, length, map, vec_capacity};
+ghost use Rattle.std.specs.Prelude.{◌≡◌, ◌↔◌, ◌<◌, ℕ, List, Ok, Err, pos, Some, IfOk, IfErr, IsTrue, OnOk, Option, length, map, vec_capacity};
 ghost use Rattle.nix_names.specs.Rising.{IsRising};
-ghost use Rattle.ref_scan.specs.declared.tree.Tree.{Tree as ATree};
+ghost use Rattle.build_outcome.specs.declared.job.Answer.{Answer as AnAnswer};
+ghost use Rattle.build_outcome.specs.declared.job.Job.{Job as AJob};
 ghost use Rattle.build_outcome.specs.declared.job.JobOutput.{JobOutput};
-ghost use Rattle.build_outcome.specs.Verdicts.{AreOutputsThere, AreRead, AreRecords, HasArchive, HasBadMode, HaveGoodModes, IsCyclic, IsExamining, IsRecordDigest, IsRecordNar, IsRecordOf, IsTaken, IsTreeFault, IsVerdict, NeedsArchive, outputs_of};
-ghost use Rattle.build_outcome.specs.private.Summing.{AreSums, IsOutputSum};
+ghost use Rattle.build_outcome.specs.declared.reason.Reason.TheVariants.{OutOfMemory};
+ghost use Rattle.build_outcome.specs.Heard.{AreHeard, IsExaminedOf, IsExaminedOutcome, LeftArchive};
+ghost use Rattle.build_outcome.specs.Verdicts.{AreOutputsThere, AreRecords, HasBadMode, HaveGoodModes, IsCyclic, IsExamining, IsTaken, IsVerdict, outputs_of};
+ghost use Rattle.build_outcome.specs.private.Judging.{IsReadAs};
 
 use crate::checked::Checked;
 use crate::cycle::is_cyclic;
-use crate::digest::file_digest_of;
+use crate::heard::heard_output::HeardOutput;
 use crate::job::{Answer, Job, JobOutput};
+use crate::known::Outputs;
 use crate::reason::Reason;
-use crate::sums::{OutputSum, sum_at, sums_of};
-use crate::taking::check_tree;
-use drv_graph::{Kind, Profile};
-use nix_names::{Algorithm, Method, MethodDigest, StorePath};
-use ref_scan::{ScanFault, Tree, scan};
+use crate::record::record_of;
+use crate::sums::sums_of;
+use crate::taking::check_known;
+use drv_graph::Profile;
+use nix_names::StorePath;
 use std::alloc::{AllocError, Global};
-use valid_table::{Nar, Record};
+use valid_table::Record;
 
 /// The verdict on what the builder of a job left behind, where the outputs may refer to these
 /// permitted paths alone: a record of each output, in the job's order, with the permitted paths
@@ -52,10 +56,60 @@ pub fn examine(
     requires { IsRising permitted.now }
     ensures { IsExamining job.now permitted.now answer result }
 {
-    let sums = check_complete(alloc, job, &answer)?;
-    check_modes(job, &answer)?;
-    check_trees(job, &answer, &sums)?;
-    let records = records_of(alloc, job, permitted, &answer, &sums)?;
+    check_status(answer.status)?;
+    let sums = sums_of(alloc, job, &answer)?;
+    judge(alloc, job, permitted, &Outputs::Trees(&answer, &sums))
+}
+
+/// The verdict of `examine` on a job whose builder ended with this exit status, none where a signal
+/// ended it. `outputs` has what was kept of what lies at each output's path, in the job's order,
+/// none where nothing does. Reads and hashes nothing; takes memory as `examine` does for the records
+/// and for the references among the outputs.
+pub fn examine_heard(
+    alloc: Global,
+    job: &Job,
+    permitted: &[StorePath],
+    status: Option<i32>,
+    outputs: Vec<Option<HeardOutput>>,
+) -> Result<Checked, Reason>
+    requires { IsRising permitted.now }
+    ensures { (lefts : List (Option LeftArchive))
+        → AreHeard job.now permitted.now lefts outputs.items
+        → IsExaminedOf job.now permitted.now status lefts result }
+{
+    check_status(status)?;
+    judge(alloc, job, permitted, &Outputs::Heard(&outputs))
+}
+
+/// The verdict of `examine` on an outcome of a job: on its answer, or the reason why there is none.
+pub fn examined(
+    alloc: Global,
+    job: &Job,
+    permitted: &[StorePath],
+    outcome: Result<Answer, Reason>,
+) -> Result<Result<Checked, Reason>, Reason>
+    requires { IsRising permitted.now }
+    ensures { IsExaminedOutcome job.now permitted.now outcome result }
+{
+    let answer = outcome?;
+    Ok(examine(alloc, job, permitted, answer))
+}
+
+// The verdict on what lies at the outputs of a job whose builder ended well.
+fn judge(
+    alloc: Global,
+    job: &Job,
+    permitted: &[StorePath],
+    outputs: &Outputs<'_>,
+) -> Result<Checked, Reason>
+    requires { IsRising permitted.now }
+    ensures { (answer : AnAnswer) → IsReadAs job.now permitted.now answer outputs.now
+        → IsExamining job.now permitted.now answer result }
+{
+    check_there(job, outputs)?;
+    check_modes(job, outputs)?;
+    check_trees(job, outputs)?;
+    let records = records_of(alloc, job, permitted, outputs)?;
     if refer_in_cycle(alloc, job, &records)? {
         return Err(Reason::OutputCycle);
     }
@@ -84,31 +138,13 @@ pub(crate) fn paths_of(alloc: Global, outputs: &[JobOutput]) -> Result<Vec<Store
     Ok(paths)
 }
 
-// Whether the builder ended well and left something at each output's path. The sums of the archives
-// that are asked for.
-fn check_complete(
-    alloc: Global,
-    job: &Job,
-    answer: &Answer,
-) -> Result<Vec<Option<OutputSum>>, Reason>
-    ensures there { IfOk result (λ _. AreOutputsThere job.now answer.now) }
-    ensures sums { IfOk result (λ sums. AreSums job.now answer.now sums.items) }
-    ensures err { IfErr result (λ why. (permitted : List (List ℕ))
-        → IsExamining job.now permitted answer.now (Err why)) }
-{
-    check_status(answer)?;
-    let sums = sums_of(alloc, job, answer)?;
-    check_there(job, answer)?;
-    Ok(sums)
-}
-
 // Whether the builder ended with exit status 0.
-fn check_status(answer: &Answer) -> Result<(), Reason>
-    ensures ok { OnOk result (answer.now.status ≡ Some (pos 0)) }
-    ensures err { IfErr result (λ why. (job : _) (permitted : List (List ℕ))
-        → IsVerdict job permitted answer.now (Err why)) }
+fn check_status(status: Option<i32>) -> Result<(), Reason>
+    ensures ok { OnOk result (status ≡ Some (pos 0)) }
+    ensures err { IfErr result (λ why. (job : AJob) (permitted : List (List ℕ))
+        (answer : AnAnswer) → answer.status ≡ status → IsVerdict job permitted answer (Err why)) }
 {
-    match answer.status {
+    match status {
         None => Err(Reason::Killed),
         Some(0) => Ok(()),
         Some(status) => Err(Reason::ExitStatus(status)),
@@ -116,30 +152,29 @@ fn check_status(answer: &Answer) -> Result<(), Reason>
 }
 
 // Whether the builder left something at each output's path.
-fn check_there(job: &Job, answer: &Answer) -> Result<(), Reason>
-    requires ended { answer.now.status ≡ Some (pos 0) }
-    requires read { AreRead job.now answer.now }
-    ensures there { OnOk result (AreOutputsThere job.now answer.now) }
-    ensures err { IfErr result (λ why. (permitted : List (List ℕ))
-        → IsVerdict job.now permitted answer.now (Err why)) }
+fn check_there(job: &Job, outputs: &Outputs<'_>) -> Result<(), Reason>
+    ensures there { OnOk result ((permitted : List (List ℕ)) (answer : AnAnswer)
+        → IsReadAs job.now permitted answer outputs.now → AreOutputsThere job.now answer) }
+    ensures err { IfErr result (λ why. (permitted : List (List ℕ)) (answer : AnAnswer)
+        → IsReadAs job.now permitted answer outputs.now
+        → IsVerdict job.now permitted answer (Err why)) }
 {
     for n in 0..job.outputs.len() {
-        if answer.tree_at(n).is_none() {
-            return Err(Reason::MissingOutput(n));
-        }
+        outputs.at(n)?;
     }
     Ok(())
 }
 
 // Whether the profile takes the mode of what lies at each output's path.
-fn check_modes(job: &Job, answer: &Answer) -> Result<(), Reason>
-    requires { AreOutputsThere job.now answer.now }
-    ensures good { OnOk result (HaveGoodModes job.now answer.now) }
-    ensures err { IfErr result (λ why. (permitted : List (List ℕ))
-        → IsVerdict job.now permitted answer.now (Err why)) }
+fn check_modes(job: &Job, outputs: &Outputs<'_>) -> Result<(), Reason>
+    ensures good { OnOk result ((permitted : List (List ℕ)) (answer : AnAnswer)
+        → IsReadAs job.now permitted answer outputs.now → HaveGoodModes job.now answer) }
+    ensures err { IfErr result (λ why. (permitted : List (List ℕ)) (answer : AnAnswer)
+        → IsReadAs job.now permitted answer outputs.now → AreOutputsThere job.now answer
+        → IsVerdict job.now permitted answer (Err why)) }
 {
     for n in 0..job.outputs.len() {
-        if has_bad_mode(job, answer, n) {
+        if has_bad_mode(job, outputs, n) {
             return Err(Reason::BadMode(n));
         }
     }
@@ -147,29 +182,31 @@ fn check_modes(job: &Job, answer: &Answer) -> Result<(), Reason>
 }
 
 // Whether the profile doesn't take the mode of what lies at the output with this number.
-fn has_bad_mode(job: &Job, answer: &Answer, n: usize) -> bool
-    ensures { IsTrue result ↔ HasBadMode job.now answer.now n }
+fn has_bad_mode(job: &Job, outputs: &Outputs<'_>, n: usize) -> bool
+    ensures { (permitted : List (List ℕ)) (answer : AnAnswer)
+        → IsReadAs job.now permitted answer outputs.now → n < length job.now.outputs.items
+        → IsTrue result ↔ HasBadMode job.now answer n }
 {
     match job.profile {
         Profile::Plain => false,
-        Profile::Nix => answer.others_may_write(n),
+        Profile::Nix => match outputs.at(n) {
+            Ok(known) => known.others_may_write(),
+            Err(_) => false,
+        },
     }
 }
 
 // Whether what lies at each output's path is taken. Takes no memory.
-fn check_trees(job: &Job, answer: &Answer, sums: &[Option<OutputSum>]) -> Result<(), Reason>
-    requires there { AreOutputsThere job.now answer.now }
-    requires good { HaveGoodModes job.now answer.now }
-    requires sums { AreSums job.now answer.now sums.now }
-    ensures taken { OnOk result (IsTaken job.now answer.now) }
-    ensures err { IfErr result (λ why. (permitted : List (List ℕ))
-        → IsVerdict job.now permitted answer.now (Err why)) }
+fn check_trees(job: &Job, outputs: &Outputs<'_>) -> Result<(), Reason>
+    ensures taken { OnOk result ((permitted : List (List ℕ)) (answer : AnAnswer)
+        → IsReadAs job.now permitted answer outputs.now → AreOutputsThere job.now answer
+        → HaveGoodModes job.now answer → IsTaken job.now answer) }
+    ensures err { IfErr result (λ why. (permitted : List (List ℕ)) (answer : AnAnswer)
+        → IsReadAs job.now permitted answer outputs.now → AreOutputsThere job.now answer
+        → HaveGoodModes job.now answer → IsVerdict job.now permitted answer (Err why)) }
 {
     for n in 0..job.outputs.len() {
-        let Some(tree) = answer.tree_at(n) else {
-            unreachable!()
-        };
-        check_tree(job, tree, sum_at(sums, n))?;
+        check_known(job, &outputs.at(n)?)?;
     }
     Ok(())
 }
@@ -179,91 +216,21 @@ fn records_of(
     alloc: Global,
     job: &Job,
     permitted: &[StorePath],
-    answer: &Answer,
-    sums: &[Option<OutputSum>],
-) -> Result<Vec<Record>, AllocError>
-    requires rising { IsRising permitted.now }
-    requires taken { IsTaken job.now answer.now }
-    requires sums { AreSums job.now answer.now sums.now }
-    ensures records { IfOk result
-        (λ records. AreRecords job.now permitted.now answer.now records.items) }
-    ensures room { IfOk result
-        (λ records. vec_capacity records ≡ length job.now.outputs.items) }
+    outputs: &Outputs<'_>,
+) -> Result<Vec<Record>, Reason>
+    requires { IsRising permitted.now }
+    ensures records { IfOk result (λ records. (answer : AnAnswer)
+        → IsReadAs job.now permitted.now answer outputs.now → IsTaken job.now answer
+        → AreRecords job.now permitted.now answer records.items) }
+    ensures count { IfOk result (λ records. length records.items ≡ length job.now.outputs.items) }
+    ensures err { IfErr result (λ why. (answer : AnAnswer)
+        → IsReadAs job.now permitted.now answer outputs.now → IsTaken job.now answer
+        → why ≡ OutOfMemory) }
 {
     let mut records = Vec::with_capacity(alloc, job.outputs.len())?;
     for n in 0..job.outputs.len() {
-        let Some(tree) = answer.tree_at(n) else {
-            unreachable!()
-        };
-        records.push_reserved(record_of(alloc, job, permitted, tree, sum_at(sums, n))?);
+        let record = record_of(alloc, job, permitted, &outputs.at(n)?)?;
+        records.push_reserved(record);
     }
     Ok(records)
-}
-
-// The record of an output with this tree, which is taken; `sum` is that of its archive where
-// archives are asked for.
-#[tactic(auto, using(crate::proofs::Archives::archived_by))]
-fn record_of(
-    alloc: Global,
-    job: &Job,
-    permitted: &[StorePath],
-    tree: &Tree,
-    sum: Option<&OutputSum>,
-) -> Result<Record, AllocError>
-    requires rising { IsRising permitted.now }
-    requires taken { (why : Reason) → IsTreeFault job.now.profile job.now.kind tree.now why → ⊥ }
-    requires sum { MatchOption sum (NeedsArchive job.now.profile job.now.kind → ⊥)
-        (λ sum. IsOutputSum job.now.kind tree.now sum.now) }
-    ensures { IfOk result (λ info. IsRecordOf job.now permitted.now tree.now info) }
-{
-    let digest = record_digest(job, tree);
-    let nar = record_nar(job, sum);
-    match scan(alloc, tree, permitted) {
-        Ok(references) => Record::new(references, digest, nar),
-        Err(ScanFault::NoMemory) => Err(AllocError),
-    }
-}
-
-// The digest in the record of an output with this tree, which is taken: a fixed output has the
-// declared one.
-fn record_digest(job: &Job, tree: &Tree) -> Option<MethodDigest>
-    requires taken { (why : Reason) → IsTreeFault job.now.profile job.now.kind tree.now why → ⊥ }
-    requires read { NeedsArchive job.now.profile job.now.kind
-        → (bytes : List ℕ) × HasArchive tree.now bytes }
-    ensures { IsRecordDigest job.now.profile job.now.kind tree.now result }
-{
-    match job.kind {
-        Kind::Addressed => addressed_digest(job.profile, tree),
-        Kind::Fixed(method, digest) => Some(MethodDigest { method, digest }),
-    }
-}
-
-// The digest in the record of an output that isn't fixed: under `plain` that of a file.
-fn addressed_digest(profile: Profile, tree: &Tree) -> Option<MethodDigest>
-    ensures { IsRecordDigest profile Kind.Addressed tree.now result }
-{
-    match profile {
-        Profile::Plain => {
-            let digest = file_digest_of(Algorithm::Sha256, tree)?;
-            Some(MethodDigest {
-                method: Method::Flat,
-                digest,
-            })
-        }
-        Profile::Nix => None,
-    }
-}
-
-// The archive in the record of an output, by the sum of its tree's archive.
-#[tactic(auto, using(crate::proofs::Archives::nar_summed))]
-fn record_nar(job: &Job, sum: Option<&OutputSum>) -> Option<Nar>
-    ensures { (tree : ATree)
-        → MatchOption sum.entry (NeedsArchive job.now.profile job.now.kind → ⊥)
-        (λ sum. IsOutputSum job.now.kind tree sum.now)
-        → IsRecordNar job.now.profile tree result }
-{
-    match job.profile {
-        Profile::Plain => None,
-        Profile::Nix => Some(sum?.nar),
-    }
 }

@@ -1,5 +1,5 @@
 -- Structured attributes that are taken, and those that are not.
-use Rattle.std.proofs.Common.{◌≡◌, ◌∙◌, ℕ, List, All, Contains, Some, None, ap, codes, map, refl, string_bytes, subst, sym, ⊎_elim}
+use Rattle.std.proofs.Common.{◌≡◌, ◌∙◌, ℕ, List, All, Contains, Some, None, ap, codes, map, refl, string_bytes, subst, sym}
 use Rattle.std.specs.Str.{IsUtf8}
 use Rattle.std.proofs.lemmas.List.Elements.{All-contains, All-contains_itself, All-map, All-weaker}
 use Rattle.std.proofs.lemmas.Option.{none-some, same_Some}
@@ -7,7 +7,7 @@ use Rattle.serde_json.specs.Data.{Members}
 use Rattle.serde_json.specs.Find.{get_member}
 use Rattle.nix_names.proofs.Lists.{Contains-map}
 use Rattle.structured_attrs.specs.Attributes.{attributes}
-use Rattle.structured_attrs.specs.Checks.{SaysNoChecks, said_of, shown_list}
+use Rattle.structured_attrs.specs.Checks.{said_of}
 use Rattle.structured_attrs.specs.Graphs.{graph_requests, shown_request}
 use Rattle.structured_attrs.specs.Reading.{attributes_of}
 use Rattle.structured_attrs.specs.declared.outputs.OutputPath.{OutputPath}
@@ -51,21 +51,6 @@ pub not_named : (job : Job) (text : List ℕ)
 not_named job text none a = none a.named
 
 -- ---- checks
-
--- no checks are what some members say
-pub says_none : (said : Members) → SaysNoChecks said → SayChecks said → ⊥
-says_none said bad (of, are) = ⊎_elim
-    (λ e. none-some of.max_size (sym e ∙ are.max_size))
-    (⊎_elim
-    (λ e. none-some of.max_closure_size (sym e ∙ are.max_closure_size))
-    (⊎_elim
-    (λ e. none-some (shown_list of.allowed_references) (sym e ∙ are.allowed_references))
-    (⊎_elim
-    (λ e. none-some (shown_list of.allowed_requisites) (sym e ∙ are.allowed_requisites))
-    (⊎_elim
-    (λ e. none-some (shown_list of.disallowed_references) (sym e ∙ are.disallowed_references))
-    (λ e. none-some (shown_list of.disallowed_requisites) (sym e ∙ are.disallowed_requisites))))))
-    bad
 
 -- checks are said of an output, by its name
 abbrev pub SaysOf : Members → OutputPath → Type 0

@@ -8,7 +8,7 @@ ghost use Rattle.nix_names.specs.StorePaths.{IsPathOf, name_of};
 ghost use Rattle.drv_graph.specs.Expected.{fixed_inner_text, fixed_path};
 ghost use Rattle.builder_start.specs.Addresses.{content_address, digest_text, fixed_address, folder_of, path_beside, source_address, text_address};
 
-use crate::folders::folder_of;
+use build_outcome::folder_of;
 use nix_names::{
     Algorithm, Digest, Method, MethodDigest, StoreDir, StorePath, make_named_path, to_base32,
 };

@@ -1,5 +1,5 @@
 //! The graphs that structured attributes ask for.
-ghost use Rattle.std.specs.Prelude.{◌≡◌, ◌≢◌, ℕ, List, All, Contains, IfOk, OnOk, None, map};
+ghost use Rattle.std.specs.Prelude.{◌≡◌, ◌≢◌, List, All, Contains, IfOk, OnOk, None, map};
 ghost use Rattle.std.specs.List.{AllZip};
 ghost use Rattle.nix_names.specs.Bytes.{Bytes, Path};
 ghost use Rattle.valid_table.specs.Entries.{paths_registered};

@@ -11,14 +11,13 @@
 //! | `given` | structured attributes that are taken |
 //! | `requests` | the paths of which structured attributes ask for graphs |
 //! | `graphs` | these graphs |
-//! | `addresses`, `folders` | the content addresses of paths, and the folders they stand in |
+//! | `addresses` | the content addresses of paths |
 //! | `structured` | the texts of structured attributes |
 #![tactic(auto)]
 
 mod addresses;
 mod asked;
 mod entries;
-mod folders;
 mod given;
 mod graphs;
 mod pairs;

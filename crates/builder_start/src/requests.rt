@@ -1,10 +1,10 @@
 //! The paths of which structured attributes ask for graphs.
-ghost use Rattle.std.specs.Prelude.{◌≡◌, ◌++◌, ◌⊎◌, ◌↔◌, ℕ, List, All, Contains, IfErr, IfOk, OnOk, Some, map, slice_get};
+ghost use Rattle.std.specs.Prelude.{◌≡◌, ◌++◌, ◌⊎◌, ℕ, List, All, IfErr, IfOk, OnOk, Some, map, slice_get};
 ghost use Rattle.nix_names.specs.Bytes.{Path};
 ghost use Rattle.valid_table.specs.Entries.{paths_registered};
 ghost use Rattle.valid_table.specs.Valid.{IsValid};
 ghost use Rattle.structured_attrs.specs.Graphs.{shown_request};
-ghost use Rattle.build_outcome.specs.declared.reason.Reason.TheVariants.{BadGraph, OutOfMemory, UnknownNar};
+ghost use Rattle.build_outcome.specs.declared.reason.Reason.TheVariants.{BadGraph, UnknownNar};
 ghost use Rattle.builder_start.specs.Structured.{AreGoodRequests, AreNamable, IsFirstWithoutNar, LacksNar, texts_asked};
 ghost use Rattle.builder_start.specs.private.Shown.{IsWhy, texts_of};
 

@@ -1,5 +1,5 @@
 //! The graphs of paths, and where their closures start.
-ghost use Rattle.std.specs.Prelude.{◌≡◌, ◌⊎◌, ◌↔◌, ◌++◌, All, Contains, IfErr, IfOk, IsTrue, List, OnOk, ℕ, map};
+ghost use Rattle.std.specs.Prelude.{◌≡◌, ◌↔◌, ◌++◌, All, Contains, IfErr, IfOk, IsTrue, List, OnOk, ℕ, map};
 ghost use Rattle.nix_names.specs.Rising.{IsRising};
 ghost use Rattle.nix_names.specs.StorePaths.{IsDrvPath};
 ghost use Rattle.valid_table.specs.Valid.{IsValid};
@@ -9,7 +9,7 @@ ghost use Rattle.builder_start.specs.private.Shown.{IsWhy};
 ghost use Rattle.builder_start.specs.private.Starts.{AreStarts, IsOutputAmong};
 
 use crate::rows::Rows;
-use build_outcome::{Reason, WholeInput};
+use build_outcome::{Reason, WholeInput, is_among};
 use nix_names::{StorePath, is_drv_name, sort_paths};
 use std::alloc::{AllocError, Global};
 use valid_table::Registration;
@@ -104,17 +104,6 @@ fn outputs_among(
         }
     }
     Ok(outputs)
-}
-
-// Whether a path is one of some paths in rising order.
-fn is_among(paths: &[StorePath], path: &StorePath) -> bool
-    requires { IsRising paths.now }
-    ensures { IsTrue result ↔ Contains paths.now path.now }
-{
-    match paths.binary_search(path) {
-        Ok(_) => true,
-        Err(_) => false,
-    }
 }
 
 // Adds some paths.

@@ -1,8 +1,7 @@
 //! The texts of structured attributes.
-ghost use Rattle.std.specs.Prelude.{◌≡◌, ◌⊎◌, ℕ, IfErr, IfOk};
-ghost use Rattle.build_outcome.specs.declared.reason.Reason.TheVariants.{BadAttributes, BadGraph, UnknownNar};
-ghost use Rattle.builder_start.specs.Structured.{AreAttributes, AreGoodRequests, AreTexts, IsFirstWithoutNar};
-ghost use Rattle.builder_start.specs.private.Shown.{IsUntold, IsWhy};
+ghost use Rattle.std.specs.Prelude.{IfErr, IfOk};
+ghost use Rattle.builder_start.specs.Structured.{AreTexts};
+ghost use Rattle.builder_start.specs.private.Shown.{IsUntold};
 
 use crate::given::taken;
 use crate::graphs::set_graphs;

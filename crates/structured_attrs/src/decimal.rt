@@ -1,7 +1,6 @@
 //! The digits of a double, and their layout in JSON.
 ghost use Rattle.std.specs.Prelude.{◌≡◌, ◌<◌, ◌++◌, ◌∷◌, [], IfOk, OnOk, IsTrue, Some, decimal, length, replicate};
 ghost use Rattle.std.specs.Char.{is_ascii_digit};
-ghost use Rattle.std.specs.Float.{float_is_finite};
 ghost use Rattle.std.specs.Fmt.{sign_text};
 ghost use Rattle.std.specs.List.{list_all};
 ghost use Rattle.serde_json.specs.Data.{float};

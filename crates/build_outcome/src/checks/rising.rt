@@ -16,8 +16,8 @@ pub(crate) fn place_among(paths: &[StorePath], path: &StorePath) -> Option<usize
     }
 }
 
-// Whether a path is one of some paths in rising order. Costs a binary search.
-pub(crate) fn is_among(paths: &[StorePath], path: &StorePath) -> bool
+/// Whether a path is one of some paths in rising order. Costs a binary search.
+pub fn is_among(paths: &[StorePath], path: &StorePath) -> bool
     requires { IsRising paths.now }
     ensures { IsTrue result ↔ Contains paths.now path.now }
 {

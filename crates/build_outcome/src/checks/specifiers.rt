@@ -1,9 +1,9 @@
 //! The paths that a list of specifiers names.
 ghost use Rattle.std.specs.Prelude.{IfOk, List, map, ℕ};
-ghost use Rattle.nix_names.specs.Names.{IsStoreDir};
 ghost use Rattle.nix_names.specs.StorePaths.{IsPathOf};
 ghost use Rattle.build_outcome.specs.private.Listing.{AddsNamed, AddsSpecified, IsWithoutSlash, TellsListed, TellsPath};
 
+use crate::folders::folder_of;
 use crate::job::{Job, JobOutput};
 use nix_names::{NameFault, StoreDir, StorePath, parse_path, sort_paths};
 use std::alloc::{AllocError, Global};
@@ -89,28 +89,4 @@ fn without_slash(text: &[u8]) -> &[u8]
         Some((b'/', front)) => front,
         _ => text,
     }
-}
-
-// The folder in which a path stands.
-fn folder_of(alloc: Global, path: &StorePath) -> Result<StoreDir, AllocError>
-    ensures { IfOk result (λ dir. IsPathOf dir path.now) }
-{
-    match StoreDir::new(alloc, folder_text(path)) {
-        Ok(dir) => Ok(dir),
-        Err(fault) => match fault {
-            NameFault::NoMemory => Err(AllocError),
-            // A path stands in a folder.
-            _ => unreachable!(),
-        },
-    }
-}
-
-// The text of the folder in which a path stands.
-fn folder_text(path: &StorePath) -> &[u8]
-    ensures dir { IsStoreDir result.now }
-    ensures path { IsPathOf result.now path.now }
-{
-    let text = path.text();
-    let base = path.hash_part().len() + 1 + path.name().len();
-    &text[..text.len() - base - 1]
 }
