@@ -18,7 +18,7 @@ use Rattle.run_states.specs.Runs.{IsWanted, Run, is_one_of}
 use Rattle.run_states.specs.StateTables.{AreWanted}
 use Rattle.valid_table.specs.declared.entry.Entry.{Entry}
 use Rattle.run_report.specs.Forecasts.{foretold}
-use Rattle.run_report.specs.declared.listing.Listed.{Listed}
+use Rattle.run_report.specs.declared.report.listing.Listed.{Listed}
 use Rattle.run_states.specs.declared.state.State.{State}
 use Rattle.run_report.proofs.PlanDrvs.{drv_is}
 use Rattle.run_report.proofs.RunReports.{by_path_moved, marks_told, same_texts}

@@ -110,10 +110,10 @@ closed_aside : (rows : Rows) (f : ℕ → State) (d : ℕ)
     → ((i : ℕ) → Contains (rows.inputs d) i → IsClosed (f i))
     → ((t : ℕ) → Contains (rows.twins d) t → IsClosed (f t))
     → IsClosed (built_if_ready (aside rows f d))
-closed_aside rows f d inputs twins = by (rows.standing d)
+closed_aside rows f d inputs twins = by (rows.precondition d)
   where
-    behind : IsClosed (built_if_ready (by_inputs f (rows.inputs d)))
-    behind = search (rules, closed_first, all_unless_bad)
+    is_closed : IsClosed (built_if_ready (by_inputs f (rows.inputs d)))
+    is_closed = search (rules, closed_first, all_unless_bad)
 
     none_open : list_any (λ t. is_open (f t)) (rows.twins d) ≡ false
     none_open = search (rules, none_from, is_not_open)
@@ -126,7 +126,7 @@ closed_aside rows f d inputs twins = by (rows.standing d)
         (by_hindrance s (by_inputs f (rows.inputs d))))))
     by AllValid = inr (inl refl)
     by (Hindered cause) = search (rules, beside)
-    by Free = beside (by_inputs f (rows.inputs d)) behind
+    by Free = beside (by_inputs f (rows.inputs d)) is_closed
 
 closed_below : (rows : Rows) → IsInOrder rows → ((d : ℕ) → rows.phase d ≡ Idle)
     → (bound d : ℕ) → d < bound → IsClosed (forecast rows d)

@@ -2,7 +2,7 @@
 use Rattle.std.proofs.Common.{◌≡◌, ℕ, ◌<◌, Bool, List, length, rules}
 use Rattle.drv_graph.specs.Plans.{Graph}
 use Rattle.valid_table.specs.declared.entry.Entry.{Entry}
-use Rattle.run_states.specs.StateTables.{AreStandings, AreWanted}
+use Rattle.run_states.specs.StateTables.{ArePreconditions, AreWanted}
 use Rattle.run_states.specs.Systems.{Platform}
 use Rattle.run_states.specs.Runs.{Run, terms_of}
 use Rattle.run_states.specs.declared.precondition.Precondition.{Precondition}
@@ -24,12 +24,13 @@ module _ (run : Run) (opening : List Entry) (wanted : List Bool) (states : List 
 -- ---- a new forecast
 
 pub are_held : (graph : Graph) (system : Platform) (opening : List Entry)
-    (standings : List Precondition) (wanted : List Bool) (states : List State)
-    → AreStandings (record { profile = graph.profile; system = system }) opening graph.nodes standings
+    (preconditions : List Precondition) (wanted : List Bool) (states : List State)
+    → ArePreconditions (record { profile = graph.profile; system = system }) opening graph.nodes
+    preconditions
     → ((run : Run) (first : List Entry) → run.graph ≡ graph
-    → AreStandings (terms_of run) first graph.nodes standings → AreWanted run first wanted)
+    → ArePreconditions (terms_of run) first graph.nodes preconditions → AreWanted run first wanted)
     → ((run : Run) (first : List Entry) → run.graph ≡ graph
-    → AreStandings (terms_of run) first graph.nodes standings → AreWanted run first wanted
+    → ArePreconditions (terms_of run) first graph.nodes preconditions → AreWanted run first wanted
     → AreForetold run first states)
     → IsHeld (record { graph = graph; system = system }) opening wanted states
-are_held graph system opening standings wanted states stand want told = search rules
+are_held graph system opening preconditions wanted states stand want told = search rules

@@ -13,7 +13,7 @@ use Rattle.run_states.specs.declared.state.State.{State}
 use Rattle.run_states.specs.declared.state.State.TheVariants.{Failed, Refused}
 use Rattle.run_report.specs.Reports.{failed_word, line_of, lines_if_some, refused_word, told_at, why_line}
 use Rattle.run_report.specs.Words.{reason_words, refusal_words}
-use Rattle.run_report.specs.declared.tense.Tense.{Tense}
+use Rattle.run_report.specs.declared.report.tense.Tense.{Tense}
 use Rattle.run_report.proofs.Wordings.{found_again, joined}
 
 -- ---- a derivation of a plan

@@ -20,9 +20,9 @@ use Rattle.drv_graph.specs.Nodes.{Node, paths_of}
 use Rattle.drv_graph.proofs.Gathering.{sorted_map}
 use Rattle.drv_graph.proofs.PathLists.{distinct_push, same_place}
 use Rattle.run_report.specs.Reports.{AreByPath, path_at}
-use Rattle.run_report.specs.Listing.{AreListed, AreWithin, HasItsPath, IsMarked, listed_behind, listed_paths, numbers_of}
-use Rattle.run_report.specs.declared.listing.Keyed.{Keyed}
-use Rattle.run_report.specs.declared.listing.Listed.{Listed}
+use Rattle.run_report.specs.Listing.{AreListed, AreWithin, HasItsPath, IsMarked, listed_in, listed_paths, numbers_of}
+use Rattle.run_report.specs.declared.report.listing.Keyed.{Keyed}
+use Rattle.run_report.specs.declared.report.listing.Listed.{Listed}
 
 -- ---- the marked ones of the derivations before a number
 
@@ -110,11 +110,11 @@ pub keyed_new : (nodes : List Node) (marks : List Bool) (n : ℕ) (keyed more : 
     (one : Keyed) → AreDistinct (paths_of nodes)
     → one.listed.number ≡ n → slice_get (paths_of nodes) n ≡ Some one.listed.path.now
     → slice_index_or marks n false ≡ true
-    → more ≡ keyed ++ one ∷ [] → AreListed nodes (IsMarked marks n) (listed_behind keyed)
-    → AreListed nodes (IsMarked marks (n + 1)) (listed_behind more)
+    → more ≡ keyed ++ one ∷ [] → AreListed nodes (IsMarked marks n) (listed_in keyed)
+    → AreListed nodes (IsMarked marks (n + 1)) (listed_in more)
 keyed_new nodes marks n keyed more one distinct is at marked more_is are =
     subst (AreListed nodes (IsMarked marks (n + 1)))
-    (sym (ap listed_behind more_is ∙ map-append (λ (k : Keyed). k.listed) keyed (one ∷ [])))
+    (sym (ap listed_in more_is ∙ map-append (λ (k : Keyed). k.listed) keyed (one ∷ [])))
     (listed_push _ _ n _ _ distinct is at marked are)
 
 -- ---- by path
@@ -159,14 +159,14 @@ listed_by_path nodes is_such listed sorted are moved ordered = record {
 
 -- so they do where they were sorted by key before
 pub keyed_by_path : (nodes : List Node) (is_such : ℕ → Type 0) (keyed by_key : List Keyed)
-    (listed sorted : List Listed) → AreListed nodes is_such (listed_behind keyed)
-    → IsPermutation keyed by_key → listed ≡ listed_behind by_key → IsPermutation listed sorted
+    (listed sorted : List Listed) → AreListed nodes is_such (listed_in keyed)
+    → IsPermutation keyed by_key → listed ≡ listed_in by_key → IsPermutation listed sorted
     → IsSortedBy (λ (a b : Listed). is_lt (slice_cmp nat_cmp a.path.now b.path.now)) sorted
     → AreByPath nodes is_such (numbers_of sorted)
 keyed_by_path nodes is_such keyed by_key listed sorted are by is moved ordered =
     listed_by_path _ is_such _ _ are
     (IsPermutation-trans _ _ _
-    (subst (IsPermutation (listed_behind keyed)) (sym is)
+    (subst (IsPermutation (listed_in keyed)) (sym is)
     (IsPermutation-map (λ (k : Keyed). k.listed) keyed by_key by)) moved) ordered
 
 -- those by path are derivations of the plan

@@ -11,8 +11,8 @@ use Rattle.drv_graph.specs.Plans.{Graph}
 use Rattle.drv_graph.specs.SoundGraphs.{IsSound}
 use Rattle.drv_graph.specs.Twins.{are_twins_at, first_twin_of}
 use Rattle.valid_table.specs.declared.entry.Entry.{Entry}
-use Rattle.run_states.specs.StateTables.{AreStandings, AreWanted}
-use Rattle.run_states.specs.Runs.{Run, earlier_twins, inputs_at, is_wanted, rows_of, standing_at, terms_of}
+use Rattle.run_states.specs.StateTables.{ArePreconditions, AreWanted}
+use Rattle.run_states.specs.Runs.{Run, earlier_twins, inputs_at, is_wanted, precondition_at, rows_of, terms_of}
 use Rattle.run_states.specs.States.{by_hindrance, by_inputs, by_twins, by_validity, is_bad, is_done, is_good, is_open, states_by}
 use Rattle.run_states.specs.declared.state.State.{State}
 use Rattle.run_states.specs.declared.state.State.TheVariants.{Blocked, Building, Done, Failed, Ready, Refused, Reused}
@@ -69,18 +69,18 @@ first_bad f (i ∷ is) (suc place) low before here =
     ∙ first_bad f is place (omega arith) (λ k less. before (suc k) (omega arith)) here
 
 -- it is refused for that one
-pub refused_behind : (f : ℕ → State) (inputs : List ℕ) (place input : ℕ)
+pub refused_after : (f : ℕ → State) (inputs : List ℕ) (place input : ℕ)
     → place < length inputs → input ≡ get_or inputs place 0 → AreGood f inputs place
     → is_bad (f input) ≡ true
     → ◌≡◌ {A = State} (Refused (InputNotRealised input)) (built_if_ready (by_inputs f inputs))
-refused_behind f inputs place input low is good bad =
+refused_after f inputs place input low is good bad =
     search (rules, first_bad, inputs, good_not_bad)
 
 -- after good ones it is built
-pub built_behind : (f : ℕ → State) (inputs : List ℕ) (place : ℕ) → length inputs ≤ place
+pub built_after : (f : ℕ → State) (inputs : List ℕ) (place : ℕ) → length inputs ≤ place
     → AreGood f inputs place
     → ◌≡◌ {A = State} Done (built_if_ready (by_inputs f inputs))
-built_behind f inputs place past good =
+built_after f inputs place past good =
     let each = all_good f inputs place past good in
     sym (rw (none_bad f inputs each, all_from f inputs each) refl)
 
@@ -214,16 +214,17 @@ module _ (nodes : List Node) (wanted : List Bool) (states : List State) (s : Sta
 -- ---- the states of the first derivations
 
 -- The states so far are those that are foretold of the first derivations.
-pub record AreFirst (graph : Graph) (standings : List Precondition) (wanted : List Bool)
+pub record AreFirst (graph : Graph) (preconditions : List Precondition) (wanted : List Bool)
     (states : List State) : Type 0 where
   pub each : (run : Run) (opening : List Entry) → run.graph ≡ graph
-      → AreStandings (terms_of run) opening graph.nodes standings → AreWanted run opening wanted
+      → ArePreconditions (terms_of run) opening graph.nodes preconditions
+      → AreWanted run opening wanted
       → states ≡ states_by (built_table (rows_of run opening [])) (length states)
 
-pub none_first : (graph : Graph) (standings : List Precondition) (wanted : List Bool)
-    (states : List State) → states ≡ [] → AreFirst graph standings wanted states
+pub none_first : (graph : Graph) (preconditions : List Precondition) (wanted : List Bool)
+    (states : List State) → states ≡ [] → AreFirst graph preconditions wanted states
 unfolding states_by
-none_first graph standings wanted states none = record {
+none_first graph preconditions wanted states none = record {
   each = λ run opening same stand want.
       subst (λ (ss : List State). ss ≡ states_by (built_table (rows_of run opening [])) (length ss))
       (sym none) refl;
@@ -282,48 +283,52 @@ module _ (run : Run) (opening : List Entry) (sound : IsSound run.graph) (wanted 
       (λ t has. closed t Blocked (is_earlier_twin run opening here t has).earlier)
 
   -- what the table of foretold states says of the next derivation
-  pub table_here : (standing : Precondition)
-      → standing ≡ standing_at (terms_of run) opening (slice_get nodes here)
+  pub table_here : (precondition : Precondition)
+      → precondition ≡ precondition_at (terms_of run) opening (slice_get nodes here)
       → built_table (rows_of run opening []) (state_at states) here
-      ≡ built_if_ready (by_validity standing
+      ≡ built_if_ready (by_validity precondition
       (if slice_index_or built (first_twin_of nodes here) false then Reused
-      else by_hindrance standing
+      else by_hindrance precondition
       (by_inputs (state_at states) (inputs_at nodes (slice_get nodes here)))))
-  table_here standing stands =
+  table_here precondition stands =
       built_is (rows_of run opening []) (state_at states) here
       ∙ ap (λ s. built_if_ready (by_validity s (by_twins (state_at states)
       (earlier_twins run opening here) (by_hindrance s inputs)))) (sym stands)
-      ∙ ap (λ b. built_if_ready (by_validity standing (if b then Reused
+      ∙ ap (λ b. built_if_ready (by_validity precondition (if b then Reused
       else if list_any (λ t. is_open (state_at states t)) (earlier_twins run opening here)
-      then Blocked else by_hindrance standing inputs))) twin_told
-      ∙ ap (λ b. built_if_ready (by_validity standing
+      then Blocked else by_hindrance precondition inputs))) twin_told
+      ∙ ap (λ b. built_if_ready (by_validity precondition
       (if slice_index_or built (first_twin_of nodes here) false then Reused
-      else if b then Blocked else by_hindrance standing inputs))) none_open
+      else if b then Blocked else by_hindrance precondition inputs))) none_open
     where
       inputs : State
       inputs = by_inputs (state_at states) (inputs_at nodes (slice_get nodes here))
 
 -- the next derivation has the state that is foretold of it
-pub first_more : (graph : Graph) (standings : List Precondition) (wanted : List Bool)
-    (states : List State) (built : List Bool) (s : State) (standing : Precondition)
+pub first_more : (graph : Graph) (preconditions : List Precondition) (wanted : List Bool)
+    (states : List State) (built : List Bool) (s : State) (precondition : Precondition)
     (marked : Bool) (inputs : List ℕ) → IsSound graph → length states < length graph.nodes
-    → standing ≡ slice_index_or standings (length states) Free
+    → precondition ≡ slice_index_or preconditions (length states) Free
     → marked ≡ slice_index_or built (first_twin_of graph.nodes (length states)) false
     → inputs ≡ inputs_at graph.nodes (slice_get graph.nodes (length states))
-    → s ≡ built_if_ready (by_validity standing (if marked then Reused
-    else by_hindrance standing (by_inputs (state_at states) inputs)))
+    → s ≡ built_if_ready (by_validity precondition (if marked then Reused
+    else by_hindrance precondition (by_inputs (state_at states) inputs)))
     → AreBuilt graph.nodes wanted states built → AreClosed states
-    → AreFirst graph standings wanted states → AreFirst graph standings wanted (states ++ s ∷ [])
-first_more graph standings wanted states built s standing marked inputs sound low stands marks
+    → AreFirst graph preconditions wanted states → AreFirst graph preconditions wanted
+    (states ++ s ∷ [])
+first_more graph preconditions wanted states built s precondition marked inputs sound low stands
+    marks
     used is are_built closed are = record {
       each = λ run opening same stand want.
           by run opening same (subst IsSound (sym same) sound)
-          (subst (λ (g : Graph). AreStandings (terms_of run) opening g.nodes standings) (sym same)
+          (subst (λ (g : Graph). ArePreconditions (terms_of run) opening g.nodes preconditions)
+          (sym same)
           stand) want (are.each run opening same stand want);
     }
   where
     by : (run : Run) (opening : List Entry) → run.graph ≡ graph → IsSound run.graph
-        → AreStandings (terms_of run) opening run.graph.nodes standings → AreWanted run opening wanted
+        → ArePreconditions (terms_of run) opening run.graph.nodes preconditions
+        → AreWanted run opening wanted
         → states ≡ states_by (built_table (rows_of run opening [])) (length states)
         → states ++ s ∷ []
         ≡ states_by (built_table (rows_of run opening [])) (length (states ++ s ∷ []))
@@ -334,17 +339,17 @@ first_more graph standings wanted states built s standing marked inputs sound lo
         subst (λ (g : Graph). d < length g.nodes) (sym same) low in
         let here : s ≡ rule (state_at states) d =
         is
-        ∙ ap (λ b. built_if_ready (by_validity standing (if b then Reused
-        else by_hindrance standing (by_inputs (state_at states) inputs))))
+        ∙ ap (λ b. built_if_ready (by_validity precondition (if b then Reused
+        else by_hindrance precondition (by_inputs (state_at states) inputs))))
         (marks ∙ ap (λ (g : Graph). slice_index_or built (first_twin_of g.nodes d) false)
         (sym same))
-        ∙ ap (λ l. built_if_ready (by_validity standing
+        ∙ ap (λ l. built_if_ready (by_validity precondition
         (if slice_index_or built (first_twin_of run.graph.nodes d) false then Reused
-        else by_hindrance standing (by_inputs (state_at states) l))))
+        else by_hindrance precondition (by_inputs (state_at states) l))))
         (used ∙ ap (λ (g : Graph). inputs_at g.nodes (slice_get g.nodes d)) (sym same))
         ∙ sym (table_here run opening sound_here wanted want states built
         (subst (λ (g : Graph). AreBuilt g.nodes wanted states built) (sym same) are_built) closed
-        low_here standing (stands ∙ stand.each d low_here)) in
+        low_here precondition (stands ∙ stand.each d low_here)) in
         let count : length (states ++ s ∷ []) ≡ suc d =
         omega (arith, length-append states (s ∷ [])) in
         ap (λ t. states ++ t ∷ []) here
@@ -353,18 +358,20 @@ first_more graph standings wanted states built s standing marked inputs sound lo
 
 -- ---- one derivation more, by its number
 
-pub first_next : (graph : Graph) (standings : List Precondition) (wanted : List Bool)
+pub first_next : (graph : Graph) (preconditions : List Precondition) (wanted : List Bool)
     (states longer : List State) (built : List Bool) (d : ℕ) (s : State)
-    (standing : Precondition) (marked : Bool) (inputs : List ℕ) → IsSound graph
-    → length states ≡ d → d < length graph.nodes → standing ≡ slice_index_or standings d Free
+    (precondition : Precondition) (marked : Bool) (inputs : List ℕ) → IsSound graph
+    → length states ≡ d → d < length graph.nodes → precondition
+    ≡ slice_index_or preconditions d Free
     → marked ≡ slice_index_or built (first_twin_of graph.nodes d) false
     → inputs ≡ inputs_at graph.nodes (slice_get graph.nodes d)
-    → s ≡ built_if_ready (by_validity standing (if marked then Reused
-    else by_hindrance standing (by_inputs (state_at states) inputs)))
+    → s ≡ built_if_ready (by_validity precondition (if marked then Reused
+    else by_hindrance precondition (by_inputs (state_at states) inputs)))
     → longer ≡ states ++ s ∷ []
     → AreBuilt graph.nodes wanted states built → AreClosed states
-    → AreFirst graph standings wanted states → AreFirst graph standings wanted longer
-first_next graph standings wanted states longer built d s standing marked inputs sound count low
+    → AreFirst graph preconditions wanted states → AreFirst graph preconditions wanted longer
+first_next graph preconditions wanted states longer built d s precondition marked inputs sound count
+    low
     stands marks used is added are_built closed are = search (rules, first_more, inputs)
 
 pub marked_next : (nodes : List Node) (wanted : List Bool) (states longer : List State)
@@ -393,10 +400,11 @@ kept_next nodes wanted states longer built after d s count neither added same ar
     (λ is done. neither (ap (λ n. slice_index_or wanted n false) (sym count) ∙ is) done) are))
 
 -- in the end they foretell all states
-pub all_first : (graph : Graph) (standings : List Precondition) (wanted : List Bool)
+pub all_first : (graph : Graph) (preconditions : List Precondition) (wanted : List Bool)
     (states : List State) → length states ≡ length graph.nodes
-    → AreFirst graph standings wanted states
+    → AreFirst graph preconditions wanted states
     → (run : Run) (opening : List Entry) → run.graph ≡ graph
-    → AreStandings (terms_of run) opening graph.nodes standings → AreWanted run opening wanted
+    → ArePreconditions (terms_of run) opening graph.nodes preconditions
+    → AreWanted run opening wanted
     → AreForetold run opening states
-all_first graph standings wanted states count are run opening same stand want = search rules
+all_first graph preconditions wanted states count are run opening same stand want = search rules

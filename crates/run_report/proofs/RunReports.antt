@@ -1,15 +1,15 @@
--- The report of a course is that of its run, and what else tells of the derivations by path.
+-- The report of a state table is that of its run, and what else tells of derivations by path.
 use Rattle.std.proofs.Common.{◌≡◌, ◌∙◌, ◌<◌, ℕ, Option, List, [], ◌∷◌, ◌++◌, length, refl, sym, ap, subst, rules}
 use Rattle.std.specs.Prelude.{◌↔◌, Bool, flat_map}
 use Rattle.drv_graph.specs.Nodes.{Node}
 use Rattle.drv_graph.specs.Plans.{Graph}
 use Rattle.valid_table.specs.declared.entry.Entry.{Entry}
-use Rattle.run_states.specs.StateTables.{AreWanted, StateTable, course_state}
+use Rattle.run_states.specs.StateTables.{AreWanted, StateTable, table_state}
 use Rattle.run_report.specs.Listing.{IsMarked}
 use Rattle.run_report.specs.NamedPaths.{IsNamedIn, named_at}
 use Rattle.run_report.specs.Reports.{AreByPath, IsReport, IsReportIn, IsReportOf, IsTold, IsWantedIn, outputs_at, told_at}
-use Rattle.run_report.specs.declared.tense.Tense.{Tense}
-use Rattle.run_report.specs.declared.tense.Tense.TheVariants.{Past}
+use Rattle.run_report.specs.declared.report.tense.Tense.{Tense}
+use Rattle.run_report.specs.declared.report.tense.Tense.TheVariants.{Past}
 use Rattle.run_states.specs.Runs.{History, IsWanted, Run, state_in}
 use Rattle.run_states.specs.declared.state.State.{State}
 use Rattle.run_states.proofs.Wanting.{marked_within}
@@ -67,34 +67,34 @@ told_moved tense graph is_wanted is_wanted' is_named is_named' state state' text
         (same_texts (outputs_at graph.nodes state) (outputs_at graph.nodes state') graph.roots
         (λ d. ap (λ (s : State). outputs_at graph.nodes (λ _. s) d) (states_same d)))
 
--- where a course says of each derivation of a run whether it is wanted, and has its state, and a
--- list has the path that the line of each names
-pub report_in : (run : Run) (history : History) (course : StateTable)
-    (named : List (Option (List ℕ))) (text : List ℕ) → course.graph ≡ run.graph
-    → AreWanted run history.opening course.wanted
-    → ((d : ℕ) → course_state course d ≡ state_in run history d)
-    → ((d : ℕ) → d < length course.graph.nodes
-    → IsNamedIn course.graph history.entries d (course_state course d) (named_at named d))
-    → IsReportOf course named text → IsReportIn run history text
-report_in run history course named text graph_is are_wanted states are_named report =
+-- where a state table says of each derivation of a run whether it is wanted, and has its state,
+-- and a list has the path that the line of each names
+pub report_in : (run : Run) (history : History) (table : StateTable)
+    (named : List (Option (List ℕ))) (text : List ℕ) → table.graph ≡ run.graph
+    → AreWanted run history.opening table.wanted
+    → ((d : ℕ) → table_state table d ≡ state_in run history d)
+    → ((d : ℕ) → d < length table.graph.nodes
+    → IsNamedIn table.graph history.entries d (table_state table d) (named_at named d))
+    → IsReportOf table named text → IsReportIn run history text
+report_in run history table named text graph_is are_wanted states are_named report =
     subst (λ (g : Graph). IsReport g (IsWanted run history.opening)
     (λ d path. IsNamedIn g history.entries d (state_in run history d) path)
     (state_in run history) text) graph_is
-    (told_moved Past course.graph (IsWantedIn course) (IsWanted run history.opening)
+    (told_moved Past table.graph (IsWantedIn table) (IsWanted run history.opening)
     (λ d path. path ≡ named_at named d)
-    (λ d path. IsNamedIn course.graph history.entries d (state_in run history d) path)
-    (course_state course) (state_in run history) text wanted named_in states report)
+    (λ d path. IsNamedIn table.graph history.entries d (state_in run history d) path)
+    (table_state table) (state_in run history) text wanted named_in states report)
   where
-    wanted : (d : ℕ) → IsWantedIn course d ↔ IsWanted run history.opening d
+    wanted : (d : ℕ) → IsWantedIn table d ↔ IsWanted run history.opening d
     wanted d =
-        subst (λ (g : Graph). IsMarked course.wanted (length g.nodes) d
+        subst (λ (g : Graph). IsMarked table.wanted (length g.nodes) d
         ↔ IsWanted run history.opening d) (sym graph_is)
-        (marks_told run history.opening course.wanted are_wanted d)
+        (marks_told run history.opening table.wanted are_wanted d)
 
-    named_in : (d : ℕ) (path : Option (List ℕ)) → IsWantedIn course d → path ≡ named_at named d
-        → IsNamedIn course.graph history.entries d (state_in run history d) path
+    named_in : (d : ℕ) (path : Option (List ℕ)) → IsWantedIn table d → path ≡ named_at named d
+        → IsNamedIn table.graph history.entries d (state_in run history d) path
     named_in d path is at =
-        subst (λ (n : Option (List ℕ)). IsNamedIn course.graph history.entries d
+        subst (λ (n : Option (List ℕ)). IsNamedIn table.graph history.entries d
         (state_in run history d) n) (sym at)
-        (subst (λ (s : State). IsNamedIn course.graph history.entries d s (named_at named d))
+        (subst (λ (s : State). IsNamedIn table.graph history.entries d s (named_at named d))
         (states d) (are_named d is.0))

@@ -127,7 +127,7 @@ module _ (run : Run) (history : History) (ended : HasEnded run history) where
       by (Broken reason) is there = search (rules, fails)
 
   foretold_aside : (d : ℕ)
-      → (rows.standing d ≡ Free → (i : ℕ) → Contains (rows.inputs d) i
+      → (rows.precondition d ≡ Free → (i : ℕ) → Contains (rows.inputs d) i
       → state_in run history i ≡ foretold run history.opening i)
       → ((t : ℕ) → Contains (rows.twins d) t
       → state_in run history t ≡ foretold run history.opening t)

@@ -17,8 +17,8 @@ use Rattle.run_report.proofs.OneReport.{lines_alike}
 use Rattle.run_states.proofs.StateLaws.{all_same}
 use Rattle.run_report.specs.Forecasts.{foretold}
 use Rattle.run_report.specs.Truths.{Build, ForecastLine, Output, Refuse, ReportsComeTrue, Reuse, WholeComesTrue, telling}
-use Rattle.run_report.specs.declared.tense.Tense.{Tense}
-use Rattle.run_report.specs.declared.tense.Tense.TheVariants.{Future, Past}
+use Rattle.run_report.specs.declared.report.tense.Tense.{Tense}
+use Rattle.run_report.specs.declared.report.tense.Tense.TheVariants.{Future, Past}
 use Rattle.run_report.proofs.Foretelling.{IsClosed, forecasts_are_closed}
 use Rattle.run_report.proofs.Spared.{states_come_true}
 

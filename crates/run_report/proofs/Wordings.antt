@@ -62,7 +62,7 @@ value_added answer out a b c d name value named opened valued closed =
     ∙ append_assoc out (name ++ codes "(" ++ value) (codes ")") in
     subst (λ (l : List ℕ). OnOk answer (d ≡ l)) same closed
 
--- three texts behind another, as one
+-- a text and three more after it, as one
 pub joined : (a x y z : List ℕ) → a ++ x ++ y ++ z ≡ a ++ (x ++ y ++ z)
 joined a x y z = ap (λ (l : List ℕ). l ++ z) (append_assoc a x y) ∙ append_assoc a (x ++ y) z
 

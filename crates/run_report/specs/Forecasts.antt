@@ -11,7 +11,7 @@ use Rattle.run_states.specs.declared.state.Refusal.{Refusal}
 use Rattle.run_states.specs.declared.state.State.{State}
 use Rattle.run_states.specs.declared.state.State.TheVariants.{Done, Failed, Building, Reused, Refused, Ready, Blocked}
 use Rattle.run_report.specs.Reports.{IsTold}
-use Rattle.run_report.specs.declared.tense.Tense.TheVariants.{Future}
+use Rattle.run_report.specs.declared.report.tense.Tense.TheVariants.{Future}
 
 -- What a forecast is of: a run, and the entries that its journal opens with.
 pub record Opening : Type 0 where

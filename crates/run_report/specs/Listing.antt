@@ -4,8 +4,8 @@ use Rattle.std.specs.List.{slice_index_or}
 use Rattle.nix_names.specs.Bytes.{Path}
 use Rattle.drv_graph.specs.Loading.{AreDistinct}
 use Rattle.drv_graph.specs.Nodes.{Node, paths_of}
-use Rattle.run_report.specs.declared.listing.Keyed.{Keyed}
-use Rattle.run_report.specs.declared.listing.Listed.{Listed}
+use Rattle.run_report.specs.declared.report.listing.Keyed.{Keyed}
+use Rattle.run_report.specs.declared.report.listing.Listed.{Listed}
 
 -- the numbers of listed derivations
 abbrev pub numbers_of : List Listed → List ℕ
@@ -16,8 +16,8 @@ abbrev pub listed_paths : List Listed → List Path
 listed_paths listed = map (λ (l : Listed). l.path.now) listed
 
 -- the derivations after their keys
-abbrev pub listed_behind : List Keyed → List Listed
-listed_behind keyed = map (λ (k : Keyed). k.listed) keyed
+abbrev pub listed_in : List Keyed → List Listed
+listed_in keyed = map (λ (k : Keyed). k.listed) keyed
 
 -- a derivation is listed with its path
 abbrev pub HasItsPath : List Node → Listed → Type 0

@@ -7,13 +7,13 @@ use Rattle.nix_names.specs.Rising.{IsRising}
 use Rattle.drv_graph.specs.Nodes.{Node, paths_of}
 use Rattle.drv_graph.specs.PlanNodes.{output_paths_of}
 use Rattle.drv_graph.specs.Plans.{Graph}
-use Rattle.run_states.specs.StateTables.{StateTable, course_state}
+use Rattle.run_states.specs.StateTables.{StateTable, table_state}
 use Rattle.run_states.specs.Runs.{History, IsWanted, Run, state_in}
 use Rattle.run_states.specs.States.{is_good}
 use Rattle.run_report.specs.NamedPaths.{IsNamedIn, named_at}
 use Rattle.run_report.specs.Words.{reason_words, refusal_words}
-use Rattle.run_report.specs.declared.tense.Tense.{Tense}
-use Rattle.run_report.specs.declared.tense.Tense.TheVariants.{Past, Future}
+use Rattle.run_report.specs.declared.report.tense.Tense.{Tense}
+use Rattle.run_report.specs.declared.report.tense.Tense.TheVariants.{Past, Future}
 use Rattle.run_states.specs.declared.state.State.{State}
 use Rattle.run_states.specs.declared.state.State.TheVariants.{Done, Failed, Reused, Refused}
 
@@ -104,15 +104,15 @@ abbrev pub IsReport : Graph → (is_wanted : ℕ → Type 0) → (is_named : ℕ
     → (state : ℕ → State) → (text : Bytes) → Type 0
 IsReport graph is_wanted is_named state text = IsTold Past graph is_wanted is_named state text
 
--- a derivation of a course is wanted
+-- a derivation of a state table is wanted
 abbrev pub IsWantedIn : StateTable → ℕ → Type 0
-IsWantedIn course d = (d < length course.graph.nodes)
-    × (slice_index_or course.wanted d false ≡ true)
+IsWantedIn table d = (d < length table.graph.nodes)
+    × (slice_index_or table.wanted d false ≡ true)
 
--- the text is the report of a course, where each line names the path that a list has for it
+-- the text is the report of a state table, where each line names the path that a list has for it
 abbrev pub IsReportOf : StateTable → (named : List (Option Path)) → (text : Bytes) → Type 0
-IsReportOf course named text = IsReport course.graph (IsWantedIn course)
-    (λ d path. path ≡ named_at named d) (course_state course) text
+IsReportOf table named text = IsReport table.graph (IsWantedIn table)
+    (λ d path. path ≡ named_at named d) (table_state table) text
 
 -- the text is the report of a run with this history
 abbrev pub IsReportIn : Run → History → (text : Bytes) → Type 0

@@ -12,8 +12,8 @@ use Rattle.run_states.specs.States.{is_good}
 use Rattle.run_states.specs.declared.state.Event.TheVariants.{Fail}
 use Rattle.build_outcome.specs.declared.reason.Reason.{Reason}
 use Rattle.run_report.specs.Forecasts.{IsForecast, foretold, is_whole}
-use Rattle.run_report.specs.declared.tense.Tense.{Tense}
-use Rattle.run_report.specs.declared.tense.Tense.TheVariants.{Past, Future}
+use Rattle.run_report.specs.declared.report.tense.Tense.{Tense}
+use Rattle.run_report.specs.declared.report.tense.Tense.TheVariants.{Past, Future}
 
 -- A run over a loaded plan went to its end: its history is legal, and no wanted derivation is
 -- Blocked, Ready or Building.

@@ -1,21 +1,31 @@
 //! What is foretold of a plan before anything is built.
+//!
+//! | Module | What is in it |
+//! |---|---|
+//! | `foretold` | what is foretold of all derivations, by one pass in the order of the plan |
+//! | `picture` | the picture of a forecast |
+//! | `edges` | the edges of that picture |
 ghost use Rattle.std.specs.Prelude.{◌≡◌, ◌<◌, IfOk, None, length};
 ghost use Rattle.run_report.specs.Forecasts.{IsForecast, foretold, is_whole};
 ghost use Rattle.run_report.specs.Pictures.{IsPicture};
 
-use crate::foretold::{foretold, is_good};
-use crate::picture::picture_of;
+mod edges;
+mod foretold;
+mod picture;
+
+use crate::forecast::foretold::{foretold, is_good};
+use crate::forecast::picture::picture_of;
+use crate::report::tense::Tense;
 use crate::report::{States, told};
-use crate::tense::Tense;
 use drv_graph::Plan;
 use nix_names::StorePath;
-use run_states::{State, System, standings_of, wanted_of};
+use run_states::{State, System, preconditions_of, wanted_of};
 use std::alloc::{AllocError, Global};
 use std::marker::Model;
 use valid_table::Journal;
 
-/// What a run over a plan, which opens with a journal, would come to if each builder that it starts
-/// made its outputs: whatever the number of workers, and the order in which they end.
+/// How a run over a plan, which opens with a journal, would end if each builder that it starts made
+/// its outputs: whatever the number of workers, and the order in which they end.
 #[derive(Debug, Drop)]
 pub struct Forecast {
     plan: Plan,
@@ -75,9 +85,9 @@ impl Forecast {
         ensures run { IfOk result (λ f. f.run ≡ record { graph = plan; system = system }) }
         ensures entries { IfOk result (λ f. f.entries ≡ journal.entries) }
     {
-        let standings = standings_of(alloc, &plan, &journal, &system)?;
-        let wanted = wanted_of(alloc, &plan, &standings)?;
-        let states = foretold(alloc, &plan, &standings, &wanted)?;
+        let preconditions = preconditions_of(alloc, &plan, &journal, &system)?;
+        let wanted = wanted_of(alloc, &plan, &preconditions)?;
+        let states = foretold(alloc, &plan, &preconditions, &wanted)?;
         Ok(Forecast {
             plan,
             journal,

@@ -1,21 +1,30 @@
 //! What is told of a plan, in either tense: a line for each wanted derivation, and the outputs of
 //! the roots. And the report of a run.
+//!
+//! | Module | What is in it |
+//! |---|---|
+//! | `tense` | the words of a report and of a forecast |
+//! | `listing` | the derivations by path |
+//! | `lines` | the lines of one derivation |
 ghost use Rattle.std.specs.Prelude.{◌≡◌, ◌<◌, ◌++◌, ℕ, IfOk, OnOk, Option, codes, flat_map, length};
 ghost use Rattle.std.specs.Option.{option_map};
 ghost use Rattle.nix_names.specs.Bytes.{Path};
 ghost use Rattle.drv_graph.specs.Plans.{Graph};
-ghost use Rattle.drv_graph.specs.SoundGraphs.{IsSound};
-ghost use Rattle.run_states.specs.StateTables.{course_state};
+ghost use Rattle.run_states.specs.StateTables.{table_state};
 ghost use Rattle.run_report.specs.Listing.{AreWithin, IsMarked};
 ghost use Rattle.run_report.specs.NamedPaths.{named_at};
 ghost use Rattle.run_report.specs.Reports.{IsReportOf, IsTold, outputs_at, told_at};
 ghost use Rattle.run_report.specs.Words.{reason_words};
-ghost use Rattle.run_report.specs.declared.listing.Listed.{Listed};
+ghost use Rattle.run_report.specs.declared.report.listing.Listed.{Listed};
 ghost use Rattle.run_states.specs.declared.state.State.{State};
 
-use crate::lines::{write_line_start, write_outputs, write_path_line, write_refused};
-use crate::listing::{Listed, marked_by_path};
-use crate::tense::Tense;
+pub(crate) mod lines;
+pub(crate) mod listing;
+pub(crate) mod tense;
+
+use crate::report::lines::{write_line_start, write_outputs, write_path_line, write_refused};
+use crate::report::listing::{Listed, marked_by_path};
+use crate::report::tense::Tense;
 use crate::words::write_reason;
 use build_outcome::Reason;
 use drv_graph::Plan;
@@ -49,19 +58,19 @@ pub(crate) trait States {
         ensures { option_map (λ path. path.now) result ≡ names self.now d };
 }
 
-// A course, and the path that the line of each derivation names.
+// A state table, and the path that the line of each derivation names.
 #[derive(Drop)]
-struct Course<'a> {
+struct NamedTable<'a> {
     states: &'a StateTable,
     named: &'a [Option<StorePath>],
 }
 
-impl<'a> States for Course<'a> {
-    ghost graph = { λ course. course.states.now.graph };
+impl<'a> States for NamedTable<'a> {
+    ghost graph = { λ table. table.states.now.graph };
 
-    ghost states = { λ course. course_state course.states.now };
+    ghost states = { λ table. table_state table.states.now };
 
-    ghost names = { λ course. named_at course.named.now };
+    ghost names = { λ table. named_at table.named.now };
 
     fn plan(&self) -> &Plan {
         self.states.plan()
@@ -79,7 +88,7 @@ impl<'a> States for Course<'a> {
     }
 }
 
-/// The report of a course. For each wanted derivation, by path, a line `built P`, `reused P`,
+/// The report of a state table. For each wanted derivation, by path, a line `built P`, `reused P`,
 /// `failed P: WHY` or `refused P: WHY`, or none while it is Blocked, Ready or Building. Then for
 /// each root that was built or reused, in the order of the roots, a line `output O` for each of its
 /// outputs. Where a derivation failed since an output refers to a path to which it may not, WHY
@@ -88,14 +97,14 @@ impl<'a> States for Course<'a> {
 /// else time in proportion to the plan's derivations and the text.
 pub fn report_of(
     alloc: Global,
-    course: &StateTable,
+    table: &StateTable,
     named: &[Option<StorePath>],
 ) -> Result<Vec<u8>, AllocError>
-    ensures { IfOk result (λ text. IsReportOf course.now named.now text.items) }
+    ensures { IfOk result (λ text. IsReportOf table.now named.now text.items) }
 {
-    let wanted = course.wanted_marks(alloc)?;
-    let states = Course {
-        states: course,
+    let wanted = table.wanted_marks(alloc)?;
+    let states = NamedTable {
+        states: table,
         named,
     };
     told(alloc, &states, &wanted, Tense::Past)

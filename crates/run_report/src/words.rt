@@ -1,11 +1,17 @@
 //! The words for why a derivation was not built: a name, and its value in parentheses.
+//!
+//! | Module | What is in it |
+//! |---|---|
+//! | `named` | a name and its value |
 ghost use Rattle.std.specs.Prelude.{◌≡◌, ◌++◌, OnOk, codes};
 ghost use Rattle.std.specs.Option.{option_map};
 ghost use Rattle.drv_graph.specs.Nodes.{paths_of};
 ghost use Rattle.drv_graph.specs.PlanNodes.{output_paths_of};
 ghost use Rattle.run_report.specs.Words.{output_words, reason_words, refusal_words, spelled_features, text_or_number, with_text, with_value};
 
-use crate::named::{
+pub(crate) mod named;
+
+use crate::words::named::{
     write_name, write_number, write_with_number, write_with_string, write_with_value,
 };
 use build_outcome::Reason;

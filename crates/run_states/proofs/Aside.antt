@@ -7,10 +7,10 @@ use Rattle.run_states.specs.declared.precondition.Precondition.{Precondition}
 use Rattle.run_states.specs.declared.precondition.Precondition.TheVariants.{AllValid, Hindered, Free}
 use Rattle.run_states.proofs.StateLaws.{all_same, any_same, find_same, states_agree}
 
--- by its standing, its earlier twins and its inputs, in these states
+-- by its precondition, its earlier twins and its inputs, in these states
 abbrev pub aside : Rows → (state : ℕ → State) → ℕ → State
-aside rows f d = by_validity (rows.standing d) (by_twins f (rows.twins d)
-    (by_hindrance (rows.standing d) (by_inputs f (rows.inputs d))))
+aside rows f d = by_validity (rows.precondition d) (by_twins f (rows.twins d)
+    (by_hindrance (rows.precondition d) (by_inputs f (rows.inputs d))))
 
 pub table_is : (rows : Rows) (f : ℕ → State) (d : ℕ)
     → table rows f d ≡ by_phase (rows.phase d) (aside rows f d)
@@ -34,11 +34,11 @@ by_twins_same f g twins other same =
 
 -- the inputs matter to one alone that stands free
 pub aside_same : (rows : Rows) (f g : ℕ → State) (d : ℕ)
-    → (rows.standing d ≡ Free → (i : ℕ) → Contains (rows.inputs d) i → f i ≡ g i)
+    → (rows.precondition d ≡ Free → (i : ℕ) → Contains (rows.inputs d) i → f i ≡ g i)
     → ((t : ℕ) → Contains (rows.twins d) t → f t ≡ g t) → aside rows f d ≡ aside rows g d
-aside_same rows f g d inputs twins = by (rows.standing d) refl
+aside_same rows f g d inputs twins = by (rows.precondition d) refl
   where
-    by : (s : Precondition) → rows.standing d ≡ s
+    by : (s : Precondition) → rows.precondition d ≡ s
         → by_validity s (by_twins f (rows.twins d) (by_hindrance s (by_inputs f (rows.inputs d))))
         ≡ by_validity s (by_twins g (rows.twins d) (by_hindrance s (by_inputs g (rows.inputs d))))
     by AllValid is = refl

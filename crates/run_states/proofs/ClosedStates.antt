@@ -179,32 +179,32 @@ table_stays f g stay p s twins inputs =
 -- where an event is of a derivation that was open
 module _ (rows : Rows) (phase : ℕ → Phase)
     (moves : (d : ℕ) → (phase d ≡ rows.phase d) ⊎ (is_open (state rows d) ≡ true)) where
-  abbrev behind : Rows
-  behind = record rows { phase = phase }
+  abbrev next_rows : Rows
+  next_rows = record rows { phase = phase }
 
   moved_stays : (a b c d : State) → a ≡ c → b ≡ d → Stays c d → Stays a b
   moved_stays a b c d first second stay = search rules
 
-  below_stay : (bound d : ℕ) → d < bound → Stays (state rows d) (state behind d)
+  below_stay : (bound d : ℕ) → d < bound → Stays (state rows d) (state next_rows d)
   unfolding state table
   below_stay zero d low = absurd (omega arith)
   below_stay (suc bound) d low = ⊎_elim
       (λ same.
-      subst (λ p. Stays (state rows d) (by_phase p (by_validity (rows.standing d)
-      (by_twins after (rows.twins d) (by_hindrance (rows.standing d)
+      subst (λ p. Stays (state rows d) (by_phase p (by_validity (rows.precondition d)
+      (by_twins after (rows.twins d) (by_hindrance (rows.precondition d)
       (by_inputs after (rows.inputs d))))))) (sym same)
-      (table_stays before after (reads (below_stay bound)) (rows.phase d) (rows.standing d)
+      (table_stays before after (reads (below_stay bound)) (rows.phase d) (rows.precondition d)
       (rows.twins d) (rows.inputs d)))
-      (λ still. open_stays (state rows d) (state behind d) still)
+      (λ still. open_stays (state rows d) (state next_rows d) still)
       (moves d)
     where
       before : ℕ → State
       before = reads_at (table rows) d
 
       after : ℕ → State
-      after = reads_at (table behind) d
+      after = reads_at (table next_rows) d
 
-      reads : ((i : ℕ) → i < bound → Stays (state rows i) (state behind i)) → (i : ℕ)
+      reads : ((i : ℕ) → i < bound → Stays (state rows i) (state next_rows i)) → (i : ℕ)
           → Stays (before i) (after i)
       reads earlier i =
           search (
@@ -212,14 +212,14 @@ module _ (rows : Rows) (phase : ℕ → Phase)
             moved_stays,
             before,
             after,
-            behind,
+            next_rows,
             state_at,
             open_stays,
             state_past,
             cases_lt,
           )
 
-  pub states_stay : (d : ℕ) → Stays (state rows d) (state behind d)
+  pub states_stay : (d : ℕ) → Stays (state rows d) (state next_rows d)
   states_stay d = below_stay (suc d) d (omega arith)
 
 -- ---- of some numbers

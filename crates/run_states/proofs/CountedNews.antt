@@ -4,7 +4,7 @@ use Rattle.std.specs.List.{position_or_len, slice_index_or}
 use Rattle.std.proofs.Math.Nat.{eq-or-lt_of_le}
 use Rattle.std.proofs.lemmas.List.{get_or-map, take_all, take_more}
 use Rattle.std.proofs.lemmas.List.Sums.{position_or_len_is}
-use Rattle.run_states.specs.Coursing.{kept}
+use Rattle.run_states.specs.StateLists.{kept}
 use Rattle.run_states.specs.States.{is_bad, is_good}
 use Rattle.run_states.specs.Nearest.{News, Open, Good, Bad, news_of}
 use Rattle.run_states.specs.NodeStates.{is_bad_news, is_good_news, news_in, states_in, waiting}

@@ -3,10 +3,10 @@ use Rattle.std.proofs.Common.{◌≡◌, ℕ, zero, suc, ◌+◌, ◌<◌, Bool,
 use Rattle.std.specs.Prelude.{All, Contains, slice_get}
 use Rattle.std.specs.List.Sorted.{IsStrictlyIncreasing}
 use Rattle.nix_names.proofs.Lists.{All-from_contains, Contains-cons_cases, Contains-first, Contains-later, Contains-nothing}
-use Rattle.run_states.specs.Agendas.{memo_count}
+use Rattle.run_states.specs.WorkQueues.{memo_count}
 use Rattle.run_states.specs.Counts.{HasCount}
 use Rattle.run_states.specs.declared.node_states.NodeState.{NodeState}
-use Rattle.run_states.proofs.Agendas.{one}
+use Rattle.run_states.proofs.WorkQueues.{one}
 
 -- a number before others, if it is to stand there
 abbrev before_if : Bool → ℕ → List ℕ → List ℕ
@@ -52,7 +52,8 @@ places_hold test from (memo ∷ memos) d has =
     by false passes rest has = rest has
 
 -- and the place of each that passes is listed
-places_have : (test : NodeState → Bool) (from : ℕ) (memos : List NodeState) (i : ℕ) (memo : NodeState)
+places_have : (test : NodeState → Bool) (from : ℕ) (memos : List NodeState) (i : ℕ)
+    (memo : NodeState)
     → slice_get memos i ≡ Some memo → test memo ≡ true
     → Contains (places test from memos) (from + i)
 places_have test from [] i memo at passes = absurd cc

@@ -8,12 +8,12 @@ use Rattle.nix_names.proofs.Lists.{either_side}
 use Rattle.drv_graph.specs.Nodes.{Node}
 use Rattle.drv_graph.specs.PlanNodes.{output_paths_of}
 use Rattle.valid_table.specs.declared.entry.Entry.{Entry}
-use Rattle.run_states.specs.Runs.{Run, Terms, by_cause, earlier_twins, is_valid, is_wanted, own_cause, rows_of, standing_at, terms_of}
+use Rattle.run_states.specs.Runs.{Run, Terms, by_cause, earlier_twins, is_valid, is_wanted, own_cause, precondition_at, rows_of, terms_of}
 use Rattle.run_states.specs.States.{Rows}
 use Rattle.drv_graph.specs.Twins.{are_twins_at}
 use Rattle.run_states.specs.declared.state.Event.{Event}
 use Rattle.run_states.specs.declared.precondition.Precondition.TheVariants.{AllValid}
-use Rattle.run_states.proofs.Seeds.{standing_all}
+use Rattle.run_states.proofs.Seeds.{precondition_all}
 use Rattle.run_states.proofs.Tests.{all_pass, list_all_has, range_more, same_test}
 use Rattle.run_states.proofs.TwinLaws.{IsEarlierTwin, is_earlier_twin, through, turned, twins_path}
 
@@ -30,13 +30,13 @@ same_twins a b c are = search (rules, same_test, through, turned)
 
 -- where all outputs of one were valid, those of its twin were
 valid_twin : (terms : Terms) (opening : List Entry) (a b : Option Node)
-    → are_twins_at a b ≡ true → standing_at terms opening a ≡ AllValid
-    → standing_at terms opening b ≡ AllValid
+    → are_twins_at a b ≡ true → precondition_at terms opening a ≡ AllValid
+    → precondition_at terms opening b ≡ AllValid
 valid_twin terms opening (Some a) (Some b) are valid =
     let x = output_paths_of a.drv in
     let y = output_paths_of b.drv in
     let one : list_all (is_valid opening) x ≡ true =
-    standing_all _ _ valid in
+    precondition_all _ _ valid in
     let two : list_all (is_valid opening) y ≡ true =
     all_pass (is_valid opening) y (λ path has.
     list_all_has (is_valid opening) x _ one
@@ -123,8 +123,8 @@ pub record HaveTwins (rows : Rows) : Type 0 where
       → Contains (rows.twins d) u
   pub last : (d : ℕ) → (rows.twins d ≡ [])
       ⊎ ((t : ℕ) × (rows.twins d ≡ rows.twins t ++ t ∷ []))
-  pub valid : (d t : ℕ) → Contains (rows.twins d) t → rows.standing t ≡ AllValid
-      → rows.standing d ≡ AllValid
+  pub valid : (d t : ℕ) → Contains (rows.twins d) t → rows.precondition t ≡ AllValid
+      → rows.precondition d ≡ AllValid
 
 module _ (run : Run) (opening : List Entry) where
   abbrev node : ℕ → Option Node
@@ -180,8 +180,8 @@ module _ (run : Run) (opening : List Entry) where
       )
 
   twins_valid : (d t : ℕ) → Contains (earlier_twins run opening d) t
-      → standing_at (terms_of run) opening (node t) ≡ AllValid
-      → standing_at (terms_of run) opening (node d) ≡ AllValid
+      → precondition_at (terms_of run) opening (node t) ≡ AllValid
+      → precondition_at (terms_of run) opening (node d) ≡ AllValid
   twins_valid d t has = search (rules, valid_twin, node, has_twin)
 
   -- whatever happened in a run

@@ -7,7 +7,7 @@ use Rattle.std.proofs.lemmas.List.{ext_get_or, get_or-map, get_or-set_other, get
 use Rattle.std.proofs.lemmas.Option.{get_or_from_slice_get, none-some, same_Some, slice_get-get_or, slice_get_within}
 use Rattle.nix_names.proofs.Lists.{Contains-from_get, element_at, get_mapped, get_push_cases, same_element}
 use Rattle.run_states.specs.StateTables.{Awaited, all_of}
-use Rattle.run_states.specs.Coursing.{AreStatesOf, kept, phase_in}
+use Rattle.run_states.specs.StateLists.{AreStatesOf, kept, phase_in}
 use Rattle.run_states.specs.Nearest.{News, Open, Good, Bad, by_twin_news, near_table, news_of}
 use Rattle.run_states.specs.States.{Idle, IsInOrder, Rows, by_hindrance, by_phase, by_validity}
 use Rattle.run_states.proofs.KnownNews.{by_news_in}
@@ -223,7 +223,7 @@ heard_turned inputs count users memos d memo after left long are at turns begun 
       is = record {
         one = hears.is.one;
         count = hears.is.count;
-        state = by_event after begun (by_heard memo.standing (inputs d) hears.heard);
+        state = by_event after begun (by_heard memo.precondition (inputs d) hears.heard);
         inputs = hears.is.inputs;
         waits = hears.is.waits;
         first = hears.is.first;
@@ -381,7 +381,7 @@ news_of_parts state (x ∷ xs) ys = search (rules, state, news_of_parts state xs
 
 pub heard_states : (rows : Rows) (memos : List NodeState) → IsInOrder rows
     → ((d : ℕ) (memo : NodeState) → slice_get memos d ≡ Some memo
-    → (memo.standing ≡ rows.standing d) × (phase_in memo.state ≡ rows.phase d))
+    → (memo.precondition ≡ rows.precondition d) × (phase_in memo.state ≡ rows.phase d))
     → HaveHeard (λ d. record { inputs = rows.inputs d; twins = rows.twins d }) memos []
     → AreStatesOf rows (length memos) (states_in memos)
 unfolding near_table
@@ -411,15 +411,15 @@ heard_states rows memos first stand have = near_are_one _ state _ first
         ap (take (length (rows.inputs d))) whole ∙ parts.0 in
         let tws : of_twins (awaited d) hears.heard ≡ news_in state (rows.twins d) =
         ap (drop (length (rows.inputs d))) whole ∙ parts.1 in
-        let (standing, phase) = stand d memo at in
+        let (precondition, phase) = stand d memo at in
         is ∙ hears.is.state
-        ∙ ap (λ l. by_phase (phase_in memo.state) (by_validity memo.standing (by_twin_news
-        (of_twins (awaited d) hears.heard) (by_hindrance memo.standing
+        ∙ ap (λ l. by_phase (phase_in memo.state) (by_validity memo.precondition (by_twin_news
+        (of_twins (awaited d) hears.heard) (by_hindrance memo.precondition
         (by_news (rows.inputs d) l))))) ins
-        ∙ ap (λ l. by_phase (phase_in memo.state) (by_validity memo.standing (by_twin_news l
-        (by_hindrance memo.standing
+        ∙ ap (λ l. by_phase (phase_in memo.state) (by_validity memo.precondition (by_twin_news l
+        (by_hindrance memo.precondition
         (by_news (rows.inputs d) (news_in state (rows.inputs d))))))) tws
-        ∙ ap (λ s. by_phase (phase_in memo.state) (by_validity memo.standing (by_twin_news
-        (news_in state (rows.twins d)) (by_hindrance memo.standing s))))
+        ∙ ap (λ s. by_phase (phase_in memo.state) (by_validity memo.precondition (by_twin_news
+        (news_in state (rows.twins d)) (by_hindrance memo.precondition s))))
         (by_news_in state (rows.inputs d))
-        ∙ rw (standing, phase) refl
+        ∙ rw (precondition, phase) refl

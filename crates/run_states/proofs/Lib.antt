@@ -1,4 +1,3 @@
-pub mod Agendas
 pub mod Aside
 pub mod Attributes
 pub mod Causes
@@ -11,11 +10,11 @@ pub mod Hearing
 pub mod Histories
 pub mod KnownNews
 pub mod LastTwins
-pub mod MemoCourses
+pub mod LookUps
+pub mod MemoTables
 pub mod NearestTwins
 pub mod OneStates
 pub mod OtherEvents
-pub mod OwnStandings
 pub mod PlanInputs
 pub mod Platforms
 pub mod Registering
@@ -31,3 +30,4 @@ pub mod Unhindered
 pub mod UserCounts
 pub mod UserSpans
 pub mod Wanting
+pub mod WorkQueues

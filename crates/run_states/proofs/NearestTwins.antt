@@ -52,7 +52,7 @@ module _ (rows : Rows) where
   any_read twins test d = any_same test (reads_at (table rows) d) (state rows) (rows.twins d)
       (λ t has. read_at d t (twins.first d t has))
 
-  state_read : (d : ℕ) → state rows d ≡ stands_by (rows.phase d) (rows.standing d)
+  state_read : (d : ℕ) → state rows d ≡ stands_by (rows.phase d) (rows.precondition d)
       (list_any (λ t. is_done (reads_at (table rows) d t)) (rows.twins d))
       (list_any (λ t. is_open (reads_at (table rows) d t)) (rows.twins d)) (first_bad d)
       (all_good d)
@@ -60,14 +60,14 @@ module _ (rows : Rows) where
   state_read d = refl
 
   pub state_is : HaveTwins rows → (d : ℕ) → state rows d
-      ≡ stands_by (rows.phase d) (rows.standing d) (any_twin is_done d) (any_twin is_open d)
+      ≡ stands_by (rows.phase d) (rows.precondition d) (any_twin is_done d) (any_twin is_open d)
       (first_bad d) (all_good d)
   state_is twins d =
       state_read d
-      ∙ ap (λ b. stands_by (rows.phase d) (rows.standing d) b
+      ∙ ap (λ b. stands_by (rows.phase d) (rows.precondition d) b
       (list_any (λ t. is_open (reads_at (table rows) d t)) (rows.twins d)) (first_bad d)
       (all_good d)) (any_read twins is_done d)
-      ∙ ap (λ b. stands_by (rows.phase d) (rows.standing d) (any_twin is_done d) b (first_bad d)
+      ∙ ap (λ b. stands_by (rows.phase d) (rows.precondition d) (any_twin is_done d) b (first_bad d)
       (all_good d)) (any_read twins is_open d)
 
 -- ---- once a derivation has begun
@@ -109,18 +109,18 @@ module _ (rows : Rows) (twins : HaveTwins rows) where
   pub ready_ended : (d t : ℕ) → state rows d ≡ Ready → Contains (rows.twins d) t
       → is_bad (state rows t) ≡ true
   ready_ended d t ready has =
-      let facts = ready_by (rows.phase d) (rows.standing d) (any_twin rows is_done d)
+      let facts = ready_by (rows.phase d) (rows.precondition d) (any_twin rows is_done d)
       (any_twin rows is_open d) (by_first (first_bad rows d) (all_good rows d))
       (sym (state_is rows twins d) ∙ ready) in
       let none_built : any_twin rows is_done t ≡ false =
       none_from (λ u. is_done (state rows u)) (rows.twins t) (λ u more.
       none_has (λ v. is_done (state rows v)) (rows.twins d) u facts.none_built
       (twins.shared d t u has more)) in
-      let not_valid : rows.standing t ≡ AllValid → ⊥ = λ valid.
+      let not_valid : rows.precondition t ≡ AllValid → ⊥ = λ valid.
       let clash : Free ≡ AllValid = sym facts.free ∙ twins.valid d t has valid in absurd cc in
       let same = state_is rows twins t in
       ap is_bad same
-      ∙ bad_by (rows.phase t) (rows.standing t) (any_twin rows is_done t)
+      ∙ bad_by (rows.phase t) (rows.precondition t) (any_twin rows is_done t)
       (any_twin rows is_open t) (first_bad rows t) (all_good rows t) not_valid none_built
       (ap is_done (sym same)
       ∙ none_has (λ u. is_done (state rows u)) (rows.twins d) t facts.none_built has)
@@ -212,9 +212,9 @@ module _ (rows : Rows) (twins : HaveTwins rows) (ended : HaveEnded rows) where
   begun_none t begun = search (rules, none_from, bad_is_not_done, bad_is_closed)
 
   -- what is read of the earlier twins
-  any_behind : (test : State → Bool) (d t : ℕ) → rows.twins d ≡ rows.twins t ++ t ∷ []
+  any_after : (test : State → Bool) (d t : ℕ) → rows.twins d ≡ rows.twins t ++ t ∷ []
       → any_twin rows test d ≡ (any_twin rows test t || test (state rows t))
-  any_behind test d t parts =
+  any_after test d t parts =
       ap (list_any (λ u. test (state rows u))) parts
       ∙ list_any-append (λ u. test (state rows u)) (rows.twins t) (t ∷ [])
       ∙ ap (λ b. any_twin rows test t || b) (alone (test (state rows t)))
@@ -223,7 +223,7 @@ module _ (rows : Rows) (twins : HaveTwins rows) (ended : HaveEnded rows) where
       alone true = refl
       alone false = refl
 
-  twins_told : (d : ℕ) (other : State) → (rows.standing d ≡ AllValid → ⊥)
+  twins_told : (d : ℕ) (other : State) → (rows.precondition d ≡ AllValid → ⊥)
       → by_twins (reads_at (table rows) d) (rows.twins d) other
       ≡ by_twin_news (map (λ t. news_of (reads_at (table rows) d t)) (last_alone (rows.twins d)))
       other
@@ -241,16 +241,16 @@ module _ (rows : Rows) (twins : HaveTwins rows) (ended : HaveEnded rows) where
           subst (λ l. Contains l t) (sym parts) (Contains-push (rows.twins t) t) in
           let same = state_is rows twins t in
           let p = rows.phase t in
-          let s = rows.standing t in
+          let s = rows.precondition t in
           let built = any_twin rows is_done t in
           let still = any_twin rows is_open t in
           let its = stands_by p s built still (first_bad rows t) (all_good rows t) in
           ap (λ b. if b then Reused else if list_any (λ u. is_open (reads u)) (rows.twins d) then
           Blocked else other)
-          (any_read rows twins is_done d ∙ any_behind is_done d t parts
+          (any_read rows twins is_done d ∙ any_after is_done d t parts
           ∙ ap (λ r. built || is_done r) same)
           ∙ ap (λ b. if built || is_done its then Reused else if b then Blocked else other)
-          (any_read rows twins is_open d ∙ any_behind is_open d t parts
+          (any_read rows twins is_open d ∙ any_after is_open d t parts
           ∙ ap (λ r. still || is_open r) same)
           ∙ one_twin p s built still (first_bad rows t) (all_good rows t) other
           (λ valid. not_valid (twins.valid d t has valid)) (begun_none t)
@@ -262,12 +262,12 @@ module _ (rows : Rows) (twins : HaveTwins rows) (ended : HaveEnded rows) where
   tables_alike : (d : ℕ) → table rows (reads_at (table rows) d) d
       ≡ near_table (nearest rows) (reads_at (table rows) d) d
   unfolding table near_table
-  tables_alike d = ap (by_phase (rows.phase d)) (by (rows.standing d) refl)
+  tables_alike d = ap (by_phase (rows.phase d)) (by (rows.precondition d) refl)
     where
       reads : ℕ → State
       reads = reads_at (table rows) d
 
-      by : (s : Precondition) → rows.standing d ≡ s
+      by : (s : Precondition) → rows.precondition d ≡ s
           → by_validity s (by_twins reads (rows.twins d)
           (by_hindrance s (by_inputs reads (rows.inputs d))))
           ≡ by_validity s

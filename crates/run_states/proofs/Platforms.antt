@@ -48,30 +48,30 @@ pub find_mapped : {X Y : Type 0} (p : Y → Bool) (h : X → Y) (xs : List X) �
 find_mapped p h [] = refl
 find_mapped p h (x ∷ xs) = find_step h (p (h x)) x _ _ (find_mapped p h xs)
 
--- the value of an entry, by the environment as it is lent
+-- the value of an entry, by the entries of the environment in memory
 pub value_told : (drv : Drv) (key : List ℕ) (env : List EnvEntryStruct)
     (found : Option EnvEntryStruct) → map entry_of env ≡ drv.env
     → found ≡ find (λ (e : EnvEntryStruct). same_bytes e.key.items key) env
     → option_map (λ (e : EnvEntryStruct). e.value.items) found ≡ value_of key drv
-value_told drv key env found lent is =
-    rw (sym lent, find_mapped (λ (e : EnvEntry). same_bytes e.key key) entry_of env, sym is)
+value_told drv key env found deref_is is =
+    rw (sym deref_is, find_mapped (λ (e : EnvEntry). same_bytes e.key key) entry_of env, sym is)
     (mapped_twice (λ (e : EnvEntry). e.value) entry_of found)
 
--- whether a system offers a feature, by its features as they are lent
+-- whether a system offers a feature, by its features in memory
 pub offer_told : (system : Platform) (feature : List ℕ) (features : List (Vec ℕ Global))
     (told : Bool) → map bytes_of features ≡ system.features
     → told ≡ list_any (λ (v : Vec ℕ Global). same_bytes feature v.items) features
     → told ≡ offers system feature
-offer_told system feature features told lent is =
+offer_told system feature features told deref_is is =
     is ∙ sym (any_mapped (same_bytes feature) bytes_of features)
-    ∙ ap (list_any (same_bytes feature)) lent
+    ∙ ap (list_any (same_bytes feature)) deref_is
 
--- whether a text is another one behind a mark
-same_behind : (mark text rest : List ℕ) → same_bytes text (mark ++ rest)
+-- whether a text is a mark with another text after it
+same_after_mark : (mark text rest : List ℕ) → same_bytes text (mark ++ rest)
     ≡ (same_bytes (take (length mark) text) mark && same_bytes (drop (length mark) text) rest)
-same_behind [] text rest = search rules
-same_behind (m ∷ mark) [] rest = search rules
-same_behind (m ∷ mark) (t ∷ text) rest = search (rules, same_behind mark text rest)
+same_after_mark [] text rest = search rules
+same_after_mark (m ∷ mark) [] rest = search rules
+same_after_mark (m ∷ mark) (t ∷ text) rest = search (rules, same_after_mark mark text rest)
 
 any_none : (texts : List (List ℕ)) → list_any (λ name. false) texts ≡ false
 any_none [] = refl
@@ -83,17 +83,17 @@ pub program_told : (system : Platform) (drv : Drv) (name : List ℕ)
     → same_bytes (take 8 drv.builder) (codes "builtin:") ≡ true → name ≡ drop 8 drv.builder
     → told ≡ list_any (λ (v : Vec ℕ Global). same_bytes name v.items) builtins
     → told ≡ has_program system drv
-program_told system drv name builtins told lent begins is_name is =
-    simp (same_behind (codes "builtin:") drv.builder, begins)
+program_told system drv name builtins told deref_is begins is_name is =
+    simp (same_after_mark (codes "builtin:") drv.builder, begins)
     (is ∙ sym (any_mapped (same_bytes name) bytes_of builtins)
     ∙ ap (λ (n : List ℕ). list_any (same_bytes n) (map bytes_of builtins)) is_name
-    ∙ ap (list_any (same_bytes (drop 8 drv.builder))) lent)
+    ∙ ap (list_any (same_bytes (drop 8 drv.builder))) deref_is)
 
 -- any other builder has none
 pub no_program : (system : Platform) (drv : Drv)
     → same_bytes (take 8 drv.builder) (codes "builtin:") ≡ false → false ≡ has_program system drv
 no_program system drv begins =
-    simp (same_behind (codes "builtin:") drv.builder, begins) (sym (any_none system.builtins))
+    simp (same_after_mark (codes "builtin:") drv.builder, begins) (sym (any_none system.builtins))
 
 -- the name and the features of a system
 abbrev offer_of : Platform → List ℕ × List (List ℕ)

@@ -25,7 +25,7 @@ use Rattle.nix_names.proofs.RisingLists.{equal_from_eq}
 use Rattle.run_states.specs.Headline.{PermittedStays, SeedsAreValid}
 use Rattle.build_outcome.specs.Jobs.{named_outputs, paths_of_found, seeds_of}
 use Rattle.run_states.specs.Legal.{IsLegal, legal_opening, legal_begin, legal_done, legal_fail, begins}
-use Rattle.run_states.specs.Runs.{History, Run, by_cause, cause_at, input_numbers, inputs_at, is_for, is_unsupported, is_valid, missing_of, or_else, rows_of, standing_at, standing_of, state_in, terms_of}
+use Rattle.run_states.specs.Runs.{History, Run, by_cause, cause_at, input_numbers, inputs_at, is_for, is_unsupported, is_valid, missing_of, or_else, precondition_at, precondition_of, rows_of, state_in, terms_of}
 use Rattle.run_states.specs.States.{Phase, Idle, Begun, Ended, Broken, Rows, by_first, by_hindrance, by_phase, by_validity, is_done, is_good, later, phase_by, phase_of, state, states_by, table}
 use Rattle.run_states.specs.declared.state.Event.{Event}
 use Rattle.run_states.specs.declared.state.Event.TheVariants.{Begin, Done as Finish, Fail}
@@ -79,9 +79,9 @@ ended_by_done false p is = inr is
 pub same_number : (a b : ℕ) → eqb a b ≡ true → a ≡ b
 same_number a b e = eqb_yes (subst T (sym e) tt)
 
-pub valid_behind : (entries : List Entry) (entry : Entry) (path : List ℕ)
+pub valid_after : (entries : List Entry) (entry : Entry) (path : List ℕ)
     → IsValid (registered entries) path → IsValid (registered (entries ++ entry ∷ [])) path
-valid_behind entries entry path valid =
+valid_after entries entry path valid =
     subst (λ (rs : List Registration). IsValid rs path) (sym (registered_push entries entry))
     (still_valid (registered entries) (registered_by entry) path valid)
 
@@ -116,7 +116,7 @@ ended_is_valid run _
     (sym (registered_push history.entries entry))
     (valid_by_some (registered history.entries) _ _
     (subst (λ (x : Entry). IsValid (registered_by x) path) (sym is_entry.is_done) there)))
-    (λ before. valid_behind history.entries entry _
+    (λ before. valid_after history.entries entry _
     (ended_is_valid run history legal d node is_node before _ has))
     (ended_by_done _ _
     (sym (phase_push history.events (Finish e lease) d) ∙ ended))
@@ -218,19 +218,19 @@ done_by (Begun n) s built still first all is = absurd cc
 done_by Ended s built still first all is = refl
 done_by (Broken reason) s built still first all is = absurd cc
 
--- ---- what standings say
+-- ---- what preconditions say
 
-pub standing_all : (all : Bool) (cause : Option Refusal)
+pub precondition_all : (all : Bool) (cause : Option Refusal)
     → (if all then AllValid else by_cause cause) ≡ AllValid → all ≡ true
-standing_all true cause is = refl
-standing_all false (Some cause) is = absurd cc
-standing_all false None is = absurd cc
+precondition_all true cause is = refl
+precondition_all false (Some cause) is = absurd cc
+precondition_all false None is = absurd cc
 
-pub standing_free : (all : Bool) (cause : Option Refusal)
+pub precondition_free : (all : Bool) (cause : Option Refusal)
     → (if all then AllValid else by_cause cause) ≡ Free → cause ≡ None
-standing_free true cause is = absurd cc
-standing_free false (Some cause) is = absurd cc
-standing_free false None is = refl
+precondition_free true cause is = absurd cc
+precondition_free false (Some cause) is = absurd cc
+precondition_free false None is = refl
 
 pub or_else_none : (a b : Option Refusal) → or_else a b ≡ None → b ≡ None
 or_else_none (Some cause) b is = absurd cc
@@ -285,9 +285,9 @@ at_number run history legal i good node is_node path has =
     (λ ended. ended_is_valid _ _ legal i _ is_node ended _ has)
     (λ other. ⊎_elim
     (λ all.
-    let own : standing_of (terms_of run) history.opening node.drv ≡ AllValid =
-    sym (ap (standing_at (terms_of run) history.opening) is_node) ∙ all in
-    let there = standing_all _
+    let own : precondition_of (terms_of run) history.opening node.drv ≡ AllValid =
+    sym (ap (precondition_at (terms_of run) history.opening) is_node) ∙ all in
+    let there = precondition_all _
     _ own in
     opening_stays_valid _ _ legal _
     (list_all_has (is_valid history.opening) _ _ there has))
@@ -375,9 +375,9 @@ seeds_at run history legal d ready node is_node path has =
     let facts = ready_by _ _
     _ _
     _ ready in
-    let free : standing_of (terms_of run) history.opening node.drv
-    ≡ Free = sym (ap (standing_at (terms_of run) history.opening) is_node) ∙ facts.free in
-    let no_cause = standing_free _
+    let free : precondition_of (terms_of run) history.opening node.drv
+    ≡ Free = sym (ap (precondition_at (terms_of run) history.opening) is_node) ∙ facts.free in
+    let no_cause = precondition_free _
     _ free in
     let none_missing = cause_none MissingSource
     _
@@ -441,7 +441,7 @@ seeds_are_valid run _
     (legal_done history e number own infos entry legal phase is_own allowed is_entry) d lease has
     node is_node path seed =
     ⊎_elim
-    (λ before. valid_behind history.entries entry _
+    (λ before. valid_after history.entries entry _
     (seeds_are_valid run history legal d lease before node is_node path seed))
     (λ last. ⊎_elim (λ same. absurd cc) (λ none. absurd (Contains-nothing _ none))
     (Contains-cons_cases _ [] (Begin d lease) last))

@@ -182,7 +182,7 @@ near_are_one rows other count order =
 pub record AreSame (a b : Rows) : Type 0 where
   pub inputs : (d : ℕ) → a.inputs d ≡ b.inputs d
   pub twins : (d : ℕ) → a.twins d ≡ b.twins d
-  pub standing : (d : ℕ) → a.standing d ≡ b.standing d
+  pub precondition : (d : ℕ) → a.precondition d ≡ b.precondition d
   pub phase : (d : ℕ) → a.phase d ≡ b.phase d
 
 table_rows : (a b : Rows) → AreSame a b → (f : ℕ → State) (d : ℕ) → table a f d ≡ table b f d

@@ -7,9 +7,9 @@ use Rattle.std.proofs.lemmas.List.{append-nil, append_assoc, drop_more, get_or-m
 use Rattle.std.proofs.lemmas.List.Elements.{All-drop}
 use Rattle.std.proofs.lemmas.Option.{get_or_from_slice_get, slice_get-get_or, slice_get_within}
 use Rattle.nix_names.proofs.Lists.{Contains-from_get}
-use Rattle.run_states.specs.Agendas.{WorkQueues, AreSameElse, IsAgenda, IsFresh, IsSpreading, IsSteady, alone_if, ends, noted, phases_in, settles, standings_in, to_end, twins_in, wanted_in}
+use Rattle.run_states.specs.WorkQueues.{AreQueues, WorkQueues, AreSameElse, IsFresh, IsSpreading, IsSteady, alone_if, ends, noted, phases_in, preconditions_in, settles, to_end, twins_in, wanted_in}
 use Rattle.run_states.specs.StateTables.{Awaited, all_of}
-use Rattle.run_states.specs.Coursing.{kept, phase_in}
+use Rattle.run_states.specs.StateLists.{kept, phase_in}
 use Rattle.run_states.specs.Nearest.{News, Open, news_of}
 use Rattle.run_states.specs.States.{Idle, is_good, is_open}
 use Rattle.run_states.specs.NodeStates.{CanHear, HaveHeard, IsSameElse, IsMemo, Turns, are_news, news_by, states_in, to_tell}
@@ -19,7 +19,7 @@ use Rattle.run_states.specs.declared.state.State.{State}
 use Rattle.run_states.specs.declared.state.State.TheVariants.{Done, Failed, Building, Reused, Refused, Ready, Blocked}
 use Rattle.run_states.specs.declared.node_states.NodeState.{NodeState}
 use Rattle.run_states.specs.declared.users.Edge.{Edge}
-use Rattle.run_states.proofs.Agendas.{noted_agenda, noted_measure, one, settles_most, turn_open}
+use Rattle.run_states.proofs.WorkQueues.{noted_measure, noted_queues, one, settles_most, turn_open}
 use Rattle.run_states.proofs.Hearing.{can_hear, heard_told, heard_turned}
 use Rattle.run_states.proofs.KnownNews.{known_news}
 
@@ -86,17 +86,17 @@ length_of_alone users true u = ap length (append-nil (users_of users u))
 length_of_alone users false u = refl
 
 -- those that lead from what is on the work come in their place
-pub noted_edges : (users : List (List Edge)) (memos : List NodeState) (agenda : WorkQueues) (u : ℕ)
+pub noted_edges : (users : List (List Edge)) (memos : List NodeState) (queues : WorkQueues) (u : ℕ)
     (before after : NodeState) → slice_get memos u ≡ Some before → Turns before.state after.state
     → open_edges (sizes users) (set memos u after)
-    + length (users_of_all users (noted agenda u before after).work)
-    ≡ open_edges (sizes users) memos + length (users_of_all users agenda.work)
-noted_edges users memos agenda u before after at turns =
+    + length (users_of_all users (noted queues u before after).work)
+    ≡ open_edges (sizes users) memos + length (users_of_all users queues.work)
+noted_edges users memos queues u before after at turns =
     omega (
       arith,
       edges_set (sizes users) memos u before after at,
-      ap length (users_of_more users agenda.work (alone_if (ends before after) u)),
-      length-append (users_of_all users agenda.work)
+      ap length (users_of_more users queues.work (alone_if (ends before after) u)),
+      length-append (users_of_all users queues.work)
           (users_of_all users (alone_if (ends before after) u)),
       length_of_alone users (ends before after) u,
       edges_one (is_open before.state) (is_open after.state) (sizes users u)
@@ -141,11 +141,11 @@ news_end (Failed reason) t = refl
 news_end (Refused cause) t = refl
 
 -- what is left to tell once a memo was noted
-left_noted : (users : List (List Edge)) (agenda : WorkQueues) (u : ℕ) (before after : NodeState)
+left_noted : (users : List (List Edge)) (queues : WorkQueues) (u : ℕ) (before after : NodeState)
     (left : List Edge)
-    → (left ++ users_of_all users agenda.work) ++ to_tell before.state after.state
-    (users_of users u) ≡ left ++ users_of_all users (noted agenda u before after).work
-left_noted users agenda u before after left =
+    → (left ++ users_of_all users queues.work) ++ to_tell before.state after.state
+    (users_of users u) ≡ left ++ users_of_all users (noted queues u before after).work
+left_noted users queues u before after left =
     search (rules, append_assoc, users_of_more, before, after, users_alone, news_end)
 
 -- ---- what telling leaves as it was
@@ -154,7 +154,8 @@ pub same_then : (a b c : List NodeState) → AreSameElse a b → AreSameElse b c
 same_then a b c first second = search rules
 
 -- a part of memos that a new memo has as the old one
-part_stays : {X : Type 0} (part : NodeState → X) (memos : List NodeState) (u : ℕ) (before after : NodeState)
+part_stays : {X : Type 0} (part : NodeState → X) (memos : List NodeState) (u : ℕ)
+    (before after : NodeState)
     → slice_get memos u ≡ Some before → part after ≡ part before
     → map part (set memos u after) ≡ map part memos
 part_stays part [] u before after at same = refl
@@ -176,9 +177,9 @@ same_set memos u before after at same =
 -- ---- one user is told
 
 module _ (inputs : ℕ → Awaited) (users : List (List Edge)) (memos : List NodeState)
-    (agenda : WorkQueues) (w i : ℕ) (no_edge : Edge) (no_memo : NodeState) (row : List Edge)
+    (queues : WorkQueues) (w i : ℕ) (no_edge : Edge) (no_memo : NodeState) (row : List Edge)
     (low : w < length memos) (row_is : row ≡ users_of users w) (here : i < length row)
-    (is : IsSpreading inputs users memos agenda (drop i (users_of users w))) where
+    (is : IsSpreading inputs users memos queues (drop i (users_of users w))) where
   abbrev edge : Edge
   edge = get_or row i no_edge
 
@@ -196,7 +197,7 @@ module _ (inputs : ℕ → Awaited) (users : List (List Edge)) (memos : List Nod
   at = slice_get-get_or _ _ _ user_within
 
   abbrev rest : List Edge
-  rest = drop (i + 1) (users_of users w) ++ users_of_all users agenda.work
+  rest = drop (i + 1) (users_of users w) ++ users_of_all users queues.work
 
   heard : HaveHeard inputs memos (edge ∷ rest)
   heard = search (rules, drop_more, edge)
@@ -223,18 +224,18 @@ module _ (inputs : ℕ → Awaited) (users : List (List Edge)) (memos : List Nod
 
   module _ (after : NodeState) (turns : Turns before.state after.state)
       (same : IsSameElse before after) where
-    -- the agenda, noted
-    pub told_agenda : IsAgenda (set memos edge.user after)
-        (noted agenda edge.user before after)
-    told_agenda = noted_agenda _ _ _ _ _ at turns same.wanted is.listed
+    -- the work queues, noted
+    pub told_queues : AreQueues (set memos edge.user after)
+        (noted queues edge.user before after)
+    told_queues = noted_queues _ _ _ _ _ at turns same.wanted is.listed
 
-    pub told_room : length (noted agenda edge.user before after).ring ≤ agenda.room
-    told_room = omega (arith, told_agenda.room)
+    pub told_room : length (noted queues edge.user before after).ring ≤ queues.room
+    told_room = omega (arith, told_queues.room)
 
-    pub told_space : length (noted agenda edge.user before after).work ≤ agenda.space
-    told_space = omega (arith, told_agenda.space)
+    pub told_space : length (noted queues edge.user before after).work ≤ queues.space
+    told_space = omega (arith, told_queues.space)
 
-    pub told_settles : one (settles before after) ≤ agenda.unsettled
+    pub told_settles : one (settles before after) ≤ queues.unsettled
     told_settles = search (rules, settles_most, before, after, at)
 
     pub told_good : kept (states_in (set memos edge.user after)) w
@@ -245,32 +246,32 @@ module _ (inputs : ℕ → Awaited) (users : List (List Edge)) (memos : List Nod
     told_same = same_set _ _ _ _ at same
 
     pub told_measure : to_end (set memos edge.user after)
-        (noted agenda edge.user before after) ≡ to_end memos agenda
-    told_measure = noted_measure memos agenda edge.user before after at turns
+        (noted queues edge.user before after) ≡ to_end memos queues
+    told_measure = noted_measure memos queues edge.user before after at turns
 
     pub told_edges : open_edges (sizes users) (set memos edge.user after)
-        + length (users_of_all users (noted agenda edge.user before after).work)
-        ≡ open_edges (sizes users) memos + length (users_of_all users agenda.work)
-    told_edges = noted_edges _ _ agenda _ _ _ at turns
+        + length (users_of_all users (noted queues edge.user before after).work)
+        ≡ open_edges (sizes users) memos + length (users_of_all users queues.work)
+    told_edges = noted_edges _ _ queues _ _ _ at turns
 
     pub told_user : (good : Bool) → good ≡ is_good (kept (states_in memos) w)
         → ((ins : Awaited) (heard : List News) → CanHear ins heard before edge.place w
         → IsMemo ins (slice_set heard edge.place (news_by good)) after)
         → IsSpreading inputs users (set memos edge.user after)
-        (noted agenda edge.user before after) (drop (i + 1) (users_of users w))
+        (noted queues edge.user before after) (drop (i + 1) (users_of users w))
     told_user good good_is told = record {
       first = is.first;
       edges = subst (λ n. AreUsers (λ e. all_of (inputs e)) n users)
           (sym (length-set memos edge.user after)) is.edges;
       heard = subst (HaveHeard inputs (set memos edge.user after))
-          (left_noted users agenda edge.user before after _)
+          (left_noted users queues edge.user before after _)
           (heard_told inputs _ users memos edge w before after rest refl is.edges
           at its.1 heard
           (λ known can. subst
           (λ news. IsMemo (inputs edge.user) (slice_set known edge.place news) after)
           (ap news_by good_is ∙ known_news (kept (states_in memos) w) has_news)
           (told (inputs edge.user) known can)) turns);
-      listed = told_agenda;
+      listed = told_queues;
     }
 
 -- ---- the next whose users are to be told
@@ -280,11 +281,11 @@ first_work [] w at = absurd cc
 first_work (x ∷ xs) w at = search rules
 
 pub work_taken : (inputs : ℕ → Awaited) (users : List (List Edge)) (memos : List NodeState)
-    (agenda : WorkQueues) (w : ℕ) → slice_get agenda.work 0 ≡ Some w
-    → IsSpreading inputs users memos agenda []
-    → IsSpreading inputs users memos (record agenda { work = drop 1 agenda.work })
+    (queues : WorkQueues) (w : ℕ) → slice_get queues.work 0 ≡ Some w
+    → IsSpreading inputs users memos queues []
+    → IsSpreading inputs users memos (record queues { work = drop 1 queues.work })
     (users_of users w)
-work_taken inputs users memos agenda w at is = record {
+work_taken inputs users memos queues w at is = record {
   first = is.first;
   edges = is.edges;
   heard = subst (λ l. HaveHeard inputs memos (users_of_all users l)) (first_work _ w at)
@@ -300,10 +301,10 @@ work_taken inputs users memos agenda w at is = record {
 }
 
 -- its edges are followed
-pub work_edges : (users : List (List Edge)) (agenda : WorkQueues) (w : ℕ)
-    → slice_get agenda.work 0 ≡ Some w → length (users_of_all users agenda.work)
-    ≡ sizes users w + length (users_of_all users (drop 1 agenda.work))
-work_edges users agenda w at = search (rules, first_work, at, length-append)
+pub work_edges : (users : List (List Edge)) (queues : WorkQueues) (w : ℕ)
+    → slice_get queues.work 0 ≡ Some w → length (users_of_all users queues.work)
+    ≡ sizes users w + length (users_of_all users (drop 1 queues.work))
+work_edges users queues w at = search (rules, first_work, at, length-append)
 
 -- ---- an event
 
@@ -312,7 +313,7 @@ pub state_read : (memos : List NodeState) (d : ℕ) (none : NodeState) → d < l
     → kept (states_in memos) d ≡ (get_or memos d none).state
 state_read memos d none low = search (rules, get_or-map)
 
-module _ (memos : List NodeState) (agenda : WorkQueues) (d : ℕ) (none : NodeState) (state : State)
+module _ (memos : List NodeState) (queues : WorkQueues) (d : ℕ) (none : NodeState) (state : State)
     (low : d < length memos) (turns : Turns (kept (states_in memos) d) state) where
   abbrev old : NodeState
   old = get_or memos d none
@@ -326,21 +327,21 @@ module _ (memos : List NodeState) (agenda : WorkQueues) (d : ℕ) (none : NodeSt
   turned : Turns old.state state
   turned = search (rules, state_read)
 
-  module _ (listed : IsAgenda memos agenda) where
-    pub turned_agenda : IsAgenda (set memos d now) (noted agenda d old now)
-    turned_agenda = noted_agenda _ _ d _ _ old_at turned refl listed
+  module _ (listed : AreQueues memos queues) where
+    pub turned_queues : AreQueues (set memos d now) (noted queues d old now)
+    turned_queues = noted_queues _ _ d _ _ old_at turned refl listed
 
-    pub turned_room : length (noted agenda d old now).ring ≤ agenda.room
-    turned_room = omega (arith, turned_agenda.room)
+    pub turned_room : length (noted queues d old now).ring ≤ queues.room
+    turned_room = omega (arith, turned_queues.room)
 
-    pub turned_space : length (noted agenda d old now).work ≤ agenda.space
-    turned_space = omega (arith, turned_agenda.space)
+    pub turned_space : length (noted queues d old now).work ≤ queues.space
+    turned_space = omega (arith, turned_queues.space)
 
-    pub turned_settles : one (settles old now) ≤ agenda.unsettled
+    pub turned_settles : one (settles old now) ≤ queues.unsettled
     turned_settles = settles_most _ _ d old now old_at turned refl listed
 
-  pub turned_standings : standings_in (set memos d now) ≡ standings_in memos
-  turned_standings = search (rules, part_stays, old, now, old_at)
+  pub turned_preconditions : preconditions_in (set memos d now) ≡ preconditions_in memos
+  turned_preconditions = search (rules, part_stays, old, now, old_at)
 
   pub turned_wanted : wanted_in (set memos d now) ≡ wanted_in memos
   turned_wanted = search (rules, part_stays, old, now, old_at)
@@ -352,26 +353,26 @@ module _ (memos : List NodeState) (agenda : WorkQueues) (d : ℕ) (none : NodeSt
   turned_phases = search (rules, map-set, now)
 
   pub turned_edges : (users : List (List Edge)) → open_edges (sizes users) (set memos d now)
-      + length (users_of_all users (noted agenda d old now).work)
-      ≡ open_edges (sizes users) memos + length (users_of_all users agenda.work)
-  turned_edges users = noted_edges _ _ agenda d old now old_at turned
+      + length (users_of_all users (noted queues d old now).work)
+      ≡ open_edges (sizes users) memos + length (users_of_all users queues.work)
+  turned_edges users = noted_edges _ _ queues d old now old_at turned
 
   pub turned_spreading : (inputs : ℕ → Awaited) (users : List (List Edge))
-      → (phase_in state ≡ Idle → ⊥) → IsSpreading inputs users memos agenda []
-      → IsSpreading inputs users (set memos d now) (noted agenda d old now) []
+      → (phase_in state ≡ Idle → ⊥) → IsSpreading inputs users memos queues []
+      → IsSpreading inputs users (set memos d now) (noted queues d old now) []
   turned_spreading inputs users begun is = record {
     first = is.first;
     edges = subst (λ n. AreUsers (λ e. all_of (inputs e)) n users) (sym (length-set memos d now))
         is.edges;
-    heard = subst (HaveHeard inputs (set memos d now)) (left_noted users agenda d old now [])
+    heard = subst (HaveHeard inputs (set memos d now)) (left_noted users queues d old now [])
         (heard_turned inputs (length memos) users memos d old state
-        (users_of_all users agenda.work) refl is.edges old_at turned begun is.heard);
-    listed = turned_agenda is.listed;
+        (users_of_all users queues.work) refl is.edges old_at turned begun is.heard);
+    listed = turned_queues is.listed;
   }
 
 -- all users were told, and what has begun was taken off the ring's front
 pub steady_after : (inputs : ℕ → Awaited) (users : List (List Edge)) (memos : List NodeState)
-    (agenda later : WorkQueues) → IsSpreading inputs users memos agenda [] → agenda.work ≡ []
-    → IsAgenda memos later → IsFresh memos later → later.work ≡ agenda.work
+    (queues later : WorkQueues) → IsSpreading inputs users memos queues [] → queues.work ≡ []
+    → AreQueues memos later → IsFresh memos later → later.work ≡ queues.work
     → IsSteady inputs users memos later
-steady_after inputs users memos agenda later is none listed fresh same = search (rules, heard)
+steady_after inputs users memos queues later is none listed fresh same = search (rules, heard)

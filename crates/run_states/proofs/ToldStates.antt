@@ -9,7 +9,7 @@ use Rattle.std.proofs.lemmas.List.Folds.{position_or_len-set}
 use Rattle.std.proofs.lemmas.List.Sums.{fails_before_first, passes_at_first, position_or_len_is}
 use Rattle.std.proofs.lemmas.Option.{get_or_from_slice_get, none-some, same_Some, slice_get_past, slice_get_read, slice_get_within}
 use Rattle.run_states.specs.StateTables.{Awaited, all_of, listed}
-use Rattle.run_states.specs.Coursing.{kept, phase_in}
+use Rattle.run_states.specs.StateLists.{kept, phase_in}
 use Rattle.run_states.specs.Nearest.{News, Open, Good, Bad, news_of}
 use Rattle.run_states.specs.States.{Idle, by_first, by_hindrance, by_phase, by_validity, is_good, is_open}
 use Rattle.run_states.specs.NodeStates.{CanHear, Hears, IsMemo, by_all, by_news, is_bad_news, is_held, news_by, news_in, of_inputs, of_twins, states_in, waiting}
@@ -123,7 +123,7 @@ module _ (heard : List News) (place : ℕ) (at : slice_get heard place ≡ Some 
 -- the state that it has by its counts
 abbrev pub IsCounted : (awaited : Awaited) → List News → NodeState → Type 0
 IsCounted awaited heard memo = memo.state
-    ≡ by_phase (phase_in memo.state) (by_all memo.standing (of_twins awaited heard)
+    ≡ by_phase (phase_in memo.state) (by_all memo.precondition (of_twins awaited heard)
     (by_first (slice_get awaited.inputs memo.first) (memo.waits == 0)))
 
 by_counts : (inputs : List ℕ) (heard : List News) (memo : NodeState) → length heard ≡ length inputs
@@ -150,11 +150,11 @@ pub memo_from_counts : (awaited : Awaited) (heard : List News) (memo : NodeState
 memo_from_counts awaited heard memo one count inputs waits first failed held is =
     search (rules, count, by_counts, count_of_inputs)
 
--- the element that a slice lends
+-- the element that a look-up in a slice gives
 pub read_at : (xs : List ℕ) (i : ℕ) (r : Option (Bor ℕ)) → IsItemAt xs i r
     → option_copied r ≡ slice_get xs i
-read_at xs i None lent = sym (slice_get_past xs i lent.3)
-read_at xs i (Some x) lent = search (rules, slice_get_read)
+read_at xs i None is_item = sym (slice_get_past xs i is_item.3)
+read_at xs i (Some x) is_item = search (rules, slice_get_read)
 
 -- ---- a memo that is told of an input
 
@@ -225,16 +225,16 @@ module _ (memo : NodeState) (awaited : Awaited) (heard : List News) (place input
   told_held = can.is.held
 
   pub told_before : memo.state ≡ by_phase (phase_in memo.state)
-      (by_all memo.standing tws (by_first (slice_get awaited.inputs memo.first) false))
+      (by_all memo.precondition tws (by_first (slice_get awaited.inputs memo.first) false))
   told_before = can.is.state
-      ∙ ap (λ s. by_phase (phase_in memo.state) (by_all memo.standing tws s))
+      ∙ ap (λ s. by_phase (phase_in memo.state) (by_all memo.precondition tws s))
       (by_counts awaited.inputs ins memo (count_of_inputs awaited heard can.is.count) can.is.waits
       can.is.first
       ∙ ap (by_first (slice_get awaited.inputs memo.first))
       (ne_eqb memo.waits 0 (λ none. omega (arith, none, told_waits))))
 
   pub told_good : (good : Bool) → good ≡ true → (state : State)
-      → state ≡ by_phase (phase_in state) (by_all memo.standing tws
+      → state ≡ by_phase (phase_in state) (by_all memo.precondition tws
       (by_first (slice_get awaited.inputs memo.first) ((memo.waits - 1) == 0)))
       → IsMemo awaited (slice_set heard place (news_by good))
       (record memo { state = state; waits = memo.waits - 1 })
@@ -246,13 +246,13 @@ module _ (memo : NodeState) (awaited : Awaited) (heard : List News) (place input
       (omega (arith, number Good, none))
       (can.is.first ∙ sym (ap (position_or_len is_bad_news) (ins_now Good)
       ∙ first-good ins place unknown)) can.is.failed (held_now Good)
-      (is ∙ ap (λ t. by_phase (phase_in state) (by_all memo.standing t
+      (is ∙ ap (λ t. by_phase (phase_in state) (by_all memo.precondition t
       (by_first (slice_get awaited.inputs memo.first) ((memo.waits - 1) == 0))))
       (sym (tws_now Good))))
 
   pub told_bad : (good : Bool) → good ≡ false → place < memo.first → (state : State)
       → state ≡ by_phase (phase_in state)
-      (by_all memo.standing tws (by_first (Some input) false))
+      (by_all memo.precondition tws (by_first (Some input) false))
       → IsMemo awaited (slice_set heard place (news_by good))
       (record memo { state = state; first = place; failed = Some input })
   told_bad good failed sooner state is =
@@ -265,9 +265,9 @@ module _ (memo : NodeState) (awaited : Awaited) (heard : List News) (place input
       ∙ first-bad ins place unknown (omega (arith, sooner, can.is.first))))
       (sym input_is) (held_now Bad)
       (is ∙ ap (λ t. by_phase (phase_in state)
-      (by_all memo.standing t (by_first (Some input) false))) (sym (tws_now Bad))
+      (by_all memo.precondition t (by_first (Some input) false))) (sym (tws_now Bad))
       ∙ ap (λ s. by_phase (phase_in state)
-      (by_all memo.standing (of_twins awaited (set heard place Bad)) s))
+      (by_all memo.precondition (of_twins awaited (set heard place Bad)) s))
       (sym (ap (λ o. by_first o (memo.waits == 0)) input_is
       ∙ ap (by_first (Some input)) (ne_eqb memo.waits 0
       (λ none. omega (arith, none, told_waits)))))))
@@ -299,8 +299,8 @@ module _ (memo : NodeState) (awaited : Awaited) (heard : List News) (twin : ℕ)
   abbrev n : ℕ
   n = length awaited.inputs
 
-  abbrev behind : List News
-  behind = drop (n + 1) heard
+  abbrev others : List News
+  others = drop (n + 1) heard
 
   unknown_twin : slice_get heard n ≡ Some Open
   unknown_twin = search rules
@@ -315,17 +315,17 @@ module _ (memo : NodeState) (awaited : Awaited) (heard : List News) (twin : ℕ)
   by_own = by_first (slice_get awaited.inputs memo.first) (memo.waits == 0)
 
   pub released_before : memo.state
-      ≡ by_phase (phase_in memo.state) (by_all memo.standing (Open ∷ behind) by_own)
+      ≡ by_phase (phase_in memo.state) (by_all memo.precondition (Open ∷ others) by_own)
   released_before = can.is.state
-      ∙ ap (λ t. by_phase (phase_in memo.state) (by_all memo.standing t
+      ∙ ap (λ t. by_phase (phase_in memo.state) (by_all memo.precondition t
       (by_news awaited.inputs (of_inputs awaited heard)))) (drop_more heard n Open twin_within
-      ∙ ap (λ x. x ∷ behind) (get_or_from_slice_get heard n Open Open unknown_twin))
-      ∙ ap (λ s. by_phase (phase_in memo.state) (by_all memo.standing (Open ∷ behind) s))
+      ∙ ap (λ x. x ∷ others) (get_or_from_slice_get heard n Open Open unknown_twin))
+      ∙ ap (λ s. by_phase (phase_in memo.state) (by_all memo.precondition (Open ∷ others) s))
       (by_counts awaited.inputs (of_inputs awaited heard) memo
       (count_of_inputs awaited heard can.is.count) can.is.waits can.is.first)
 
   pub released_is : (good : Bool) (state : State)
-      → state ≡ by_phase (phase_in state) (by_all memo.standing (news_by good ∷ behind) by_own)
+      → state ≡ by_phase (phase_in state) (by_all memo.precondition (news_by good ∷ others) by_own)
       → IsMemo awaited (slice_set heard memo.inputs (news_by good))
       (record memo { state = state; held = false })
   released_is good state is =
@@ -337,61 +337,61 @@ module _ (memo : NodeState) (awaited : Awaited) (heard : List News) (twin : ℕ)
       (can.is.waits ∙ sym (ap waiting same))
       (can.is.first ∙ sym (ap (position_or_len is_bad_news) same)) can.is.failed
       (sym (ap is_held front ∙ ended good))
-      (is ∙ ap (λ t. by_phase (phase_in state) (by_all memo.standing t by_own)) (sym front)))
+      (is ∙ ap (λ t. by_phase (phase_in state) (by_all memo.precondition t by_own)) (sym front)))
     where
       same : of_inputs awaited (set heard n (news_by good)) ≡ of_inputs awaited heard
       same = take-set heard n (news_by good)
 
-      front : of_twins awaited (set heard n (news_by good)) ≡ news_by good ∷ behind
+      front : of_twins awaited (set heard n (news_by good)) ≡ news_by good ∷ others
       front = drop-set heard n (news_by good) twin_within
 
-      ended : (good : Bool) → is_held (news_by good ∷ behind) ≡ false
+      ended : (good : Bool) → is_held (news_by good ∷ others) ≡ false
       ended true = refl
       ended false = refl
 
   blocked_before : memo.state ≡ Blocked
-      → Blocked ≡ by_all memo.standing (Open ∷ behind) by_own
-  blocked_before blocked = search (rules, behind, by_own, released_before)
+      → Blocked ≡ by_all memo.precondition (Open ∷ others) by_own
+  blocked_before blocked = search (rules, others, by_own, released_before)
 
   pub released_good : (good : Bool) → good ≡ true → memo.state ≡ Blocked
       → IsMemo awaited (slice_set heard memo.inputs (news_by good))
       (record memo { state = Reused; held = false })
   released_good good built blocked = released_is good Reused
-      (sym (ap (λ b. if b then Reused else by_hindrance memo.standing by_own) built)
-      ∙ released_now memo.standing behind by_own good (blocked_before blocked))
+      (sym (ap (λ b. if b then Reused else by_hindrance memo.precondition by_own) built)
+      ∙ released_now memo.precondition others by_own good (blocked_before blocked))
 
   pub released_bad : (good : Bool) (state : State) → good ≡ false → memo.state ≡ Blocked
-      → state ≡ by_hindrance memo.standing (by_first memo.failed (memo.waits == 0))
+      → state ≡ by_hindrance memo.precondition (by_first memo.failed (memo.waits == 0))
       → IsMemo awaited (slice_set heard memo.inputs (news_by good))
       (record memo { state = state; held = false })
   released_bad good state failed blocked own = released_is good state
-      (same ∙ sym (ap (λ p. by_phase p (by_all memo.standing (news_by good ∷ behind) by_own))
+      (same ∙ sym (ap (λ p. by_phase p (by_all memo.precondition (news_by good ∷ others) by_own))
       (ap phase_in same ∙ rests)))
     where
-      own_here : state ≡ by_hindrance memo.standing by_own
+      own_here : state ≡ by_hindrance memo.precondition by_own
       own_here = search (rules, own)
 
-      same : state ≡ by_all memo.standing (news_by good ∷ behind) by_own
-      same = search (rules, own_here, by_own, released_now, behind, blocked_before)
+      same : state ≡ by_all memo.precondition (news_by good ∷ others) by_own
+      same = search (rules, own_here, by_own, released_now, others, blocked_before)
 
-      rests : phase_in (by_all memo.standing (news_by good ∷ behind) by_own) ≡ Idle
+      rests : phase_in (by_all memo.precondition (news_by good ∷ others) by_own) ≡ Idle
       rests = search (rules, same, own_here, own_is_idle)
 
   pub released_else : (good : Bool) → (memo.state ≡ Blocked → ⊥)
       → IsMemo awaited (slice_set heard memo.inputs (news_by good))
       (record memo { held = false })
   released_else good apart =
-      search (rules, released_is, not_released, behind, by_own, released_before)
+      search (rules, released_is, not_released, others, by_own, released_before)
 
 -- ---- a memo that was counted
 
-module _ (standing : Precondition) (wanted : Bool) (twin : Option ℕ) (inputs : List ℕ)
+module _ (precondition : Precondition) (wanted : Bool) (twin : Option ℕ) (inputs : List ℕ)
     (state_of : ℕ → State) (place waits first : ℕ) (state : State) (held : Bool)
     (past : length inputs ≤ place) (within : place ≤ length inputs)
     (are : AreCounted (news_in state_of inputs) place waits first)
     (says : held ≡ is_held (map (λ t. Open) (listed twin)))
-    (is : state ≡ by_validity standing (if held then Blocked
-    else by_hindrance standing (by_first (slice_get inputs first) (waits == 0)))) where
+    (is : state ≡ by_validity precondition (if held then Blocked
+    else by_hindrance precondition (by_first (slice_get inputs first) (waits == 0)))) where
   abbrev awaited_here : Awaited
   awaited_here = record { inputs = inputs; twins = listed twin }
 
@@ -425,14 +425,14 @@ module _ (standing : Precondition) (wanted : Bool) (twin : Option ℕ) (inputs :
   at_most_one (Some t) = omega arith
 
   by_twin : (twin : Option ℕ) (held : Bool) → held ≡ is_held (map (λ t. Open) (listed twin))
-      → by_validity standing (if held then Blocked else by_hindrance standing own)
-      ≡ by_all standing (map (λ t. Open) (listed twin)) own
+      → by_validity precondition (if held then Blocked else by_hindrance precondition own)
+      ≡ by_all precondition (map (λ t. Open) (listed twin)) own
   by_twin None held says = rw says refl
   by_twin (Some t) held says = rw says refl
 
   -- the memo of one that waits for these, of all but the twin of which the news are known
   pub counted_memo : IsMemo awaited_here (known ++ unheard) (record {
-    standing = standing;
+    precondition = precondition;
     wanted = wanted;
     twin = twin;
     state = state;
@@ -444,7 +444,7 @@ module _ (standing : Precondition) (wanted : Bool) (twin : Option ℕ) (inputs :
   })
   counted_memo =
       memo_from_counts awaited_here (known ++ unheard) (record {
-        standing = standing;
+        precondition = precondition;
         wanted = wanted;
         twin = twin;
         state = state;
@@ -460,8 +460,8 @@ module _ (standing : Precondition) (wanted : Bool) (twin : Option ℕ) (inputs :
       refl (counts.0 ∙ sym (ap waiting front))
       (counts.1 ∙ sym (ap (position_or_len is_bad_news) front))
       refl (says ∙ sym (ap is_held back))
-      (is ∙ by_twin twin held says ∙ ap (λ t. by_all standing t own) (sym back)
-      ∙ ap (λ p. by_phase p (by_all standing (of_twins awaited_here (known ++ unheard)) own))
+      (is ∙ by_twin twin held says ∙ ap (λ t. by_all precondition t own) (sym back)
+      ∙ ap (λ p. by_phase p (by_all precondition (of_twins awaited_here (known ++ unheard)) own))
       (sym idle))
 
 -- where all is known, each place has the news of what stands there

@@ -21,7 +21,7 @@ use Rattle.run_states.proofs.OtherEvents.{number_of, same_or_other, phase_other,
 
 -- Nothing but its own events is in the way of a derivation.
 pub record IsUnhindered (rows : Rows) (d : ℕ) : Type 0 where
-  pub free : rows.standing d ≡ Free
+  pub free : rows.precondition d ≡ Free
   pub spent : (t : ℕ) → Contains (rows.twins d) t → is_bad (state rows t) ≡ true
   pub good : (i : ℕ) → Contains (rows.inputs d) i → is_good (state rows i) ≡ true
 
@@ -38,7 +38,7 @@ pub ready_unhindered : (run : Run) (history : History) → IsSound run.graph →
 ready_unhindered run history sound d ready =
     let rows = rows_of run history.opening history.events in
     let f = state rows in
-    let facts = ready_by (rows.phase d) (rows.standing d)
+    let facts = ready_by (rows.phase d) (rows.precondition d)
     (list_any (λ t. is_done (f t)) (rows.twins d)) (list_any (λ t. is_open (f t)) (rows.twins d))
     (by_inputs f (rows.inputs d))
     (sym (state_aside rows (rows_in_order run history.opening history.events sound) d
@@ -56,10 +56,10 @@ ready_unhindered run history sound d ready =
 
 module _ (rows : Rows) (phase : ℕ → Phase)
     (moves : (d : ℕ) → (phase d ≡ rows.phase d) ⊎ (is_open (state rows d) ≡ true)) where
-  abbrev behind : Rows
-  behind = record rows { phase = phase }
+  abbrev next_rows : Rows
+  next_rows = record rows { phase = phase }
 
-  good_stays : (i : ℕ) → is_good (state rows i) ≡ true → is_good (state behind i) ≡ true
+  good_stays : (i : ℕ) → is_good (state rows i) ≡ true → is_good (state next_rows i) ≡ true
   good_stays i good =
       search (
         rules,
@@ -69,15 +69,15 @@ module _ (rows : Rows) (phase : ℕ → Phase)
         good_is_closed,
         good,
         closed_is_good,
-        behind,
+        next_rows,
         good_not_bad,
       )
 
-  bad_stays : (i : ℕ) → is_bad (state rows i) ≡ true → is_bad (state behind i) ≡ true
+  bad_stays : (i : ℕ) → is_bad (state rows i) ≡ true → is_bad (state next_rows i) ≡ true
   bad_stays i bad =
       (states_stay rows phase moves i (bad_is_closed (state rows i) bad)).2 ∙ bad
 
-  unhindered_stays : (d : ℕ) → IsUnhindered rows d → IsUnhindered behind d
+  unhindered_stays : (d : ℕ) → IsUnhindered rows d → IsUnhindered next_rows d
   unhindered_stays d un = record {
     free = un.free;
     spent = λ t has. bad_stays t (un.spent t has);
@@ -96,9 +96,9 @@ module _ (run : Run) (opening : _) (events : List Event) (x : Event)
       ⊎ (is_open (state rows d) ≡ true)
   moves d = search (rules, rows, phase_other, same_or_other, number_of)
 
-  pub behind_event : (d : ℕ) → IsUnhindered rows d
+  pub after_event : (d : ℕ) → IsUnhindered rows d
       → IsUnhindered (rows_of run opening (events ++ x ∷ [])) d
-  behind_event d un = unhindered_stays rows (phase_of (events ++ x ∷ [])) moves d un
+  after_event d un = unhindered_stays rows (phase_of (events ++ x ∷ [])) moves d un
 
 -- ---- in a legal history
 
@@ -115,7 +115,7 @@ module _ (run : Run) (sound : IsSound run.graph) where
       → IsUnhindered (rows_of run history.opening history.events) d
   begun_unhindered _ (legal_opening entries journal) d moved = absurd (moved refl)
   begun_unhindered _ (legal_begin history e legal within wanted ready) d moved =
-      behind_event run history.opening history.events (Begin e (begins history.events))
+      after_event run history.opening history.events (Begin e (begins history.events))
       (ap is_open ready) d
       (⊎_elim
       (λ same. subst (IsUnhindered (rows_of run history.opening history.events)) same
@@ -125,7 +125,7 @@ module _ (run : Run) (sound : IsSound run.graph) where
       (same_or_other e d))
   begun_unhindered _ (legal_done history e lease node infos entry legal phase at allowed is) d
       moved =
-      behind_event run history.opening history.events (Finish e lease)
+      after_event run history.opening history.events (Finish e lease)
       (building_is_open run sound history e lease phase) d
       (⊎_elim
       (λ same. begun_unhindered history legal d
@@ -135,7 +135,7 @@ module _ (run : Run) (sound : IsSound run.graph) where
       (phase_other history.events (Finish e lease) d other ∙ idle)))
       (same_or_other e d))
   begun_unhindered _ (legal_fail history e lease reason legal phase) d moved =
-      behind_event run history.opening history.events (Fail e lease reason)
+      after_event run history.opening history.events (Fail e lease reason)
       (building_is_open run sound history e lease phase) d
       (⊎_elim
       (λ same. begun_unhindered history legal d

@@ -11,9 +11,9 @@ use Rattle.drv_graph.specs.Nodes.{Node, inputs_of}
 use Rattle.drv_graph.specs.Plans.{AreNumbers, Graph}
 use Rattle.drv_graph.specs.SoundGraphs.{IsSound}
 use Rattle.valid_table.specs.declared.entry.Entry.{Entry}
-use Rattle.run_states.specs.StateTables.{AreStandings, AreWanted}
+use Rattle.run_states.specs.StateTables.{ArePreconditions, AreWanted}
 use Rattle.run_states.specs.PlanLaws.{WantedIsTold}
-use Rattle.run_states.specs.Runs.{IsWanted, Run, inputs_at, is_free, is_one_of, is_used_by, is_wanted_over, standing_at, wanted_input, wanted_root, terms_of}
+use Rattle.run_states.specs.Runs.{IsWanted, Run, inputs_at, is_free, is_one_of, is_used_by, is_wanted_over, precondition_at, wanted_input, wanted_root, terms_of}
 use Rattle.run_states.specs.declared.precondition.Precondition.{Precondition}
 use Rattle.run_states.specs.declared.precondition.Precondition.TheVariants.{AllValid, Free, Hindered}
 use Rattle.run_states.proofs.PlanInputs.{inputs_first, numbers_at}
@@ -56,7 +56,7 @@ wanted_if_told (suc users) run opening d is =
     let user = found.0 in
     let parts = and_parts (is_used_by run opening d user)
     (is_wanted_over users run opening user) found.2 in
-    let stands = standing_at (terms_of run) opening (slice_get run.graph.nodes user) in
+    let stands = precondition_at (terms_of run) opening (slice_get run.graph.nodes user) in
     let inputs = inputs_at run.graph.nodes (slice_get run.graph.nodes user) in
     let used = and_parts (is_free stands) (is_one_of inputs d) parts.0 in
     wanted_input user d (wanted_if_told users run opening user parts.1)
@@ -124,15 +124,16 @@ marks_none old = record {
 
 -- The marked derivations are wanted, the roots and all inputs of wanted ones from a number on among
 -- them.
-pub record AreMarked (graph : Graph) (standings : List Precondition) (wanted : List Bool) (rest : ℕ)
+pub record AreMarked (graph : Graph) (preconditions : List Precondition) (wanted : List Bool)
+    (rest : ℕ)
     : Type 0 where
   pub count : length wanted ≡ length graph.nodes
   pub roots : (d : ℕ) → Contains graph.roots d → IsMarked wanted d
   pub sound : (run : Run) (opening : List Entry) → run.graph ≡ graph
-      → AreStandings (terms_of run) opening graph.nodes standings
+      → ArePreconditions (terms_of run) opening graph.nodes preconditions
       → (d : ℕ) → IsMarked wanted d → IsWanted run opening d
   pub closed : (user d : ℕ) → rest ≤ user → IsMarked wanted user
-      → slice_index_or standings user Free ≡ Free
+      → slice_index_or preconditions user Free ≡ Free
       → Contains (inputs_at graph.nodes (slice_get graph.nodes user)) d → IsMarked wanted d
 
 -- what is marked stands within the list
@@ -144,15 +145,16 @@ pub none_marked : (n d : ℕ) → slice_index_or (replicate n false) d false ≡
 none_marked n d = search (rules, get_or-replicate, get_or_past, length-replicate, cases_lt)
 
 -- the roots are marked
-pub roots_marked : (graph : Graph) (standings : List Precondition) (old new : List Bool) (n : ℕ) → n
+pub roots_marked : (graph : Graph) (preconditions : List Precondition) (old new : List Bool)
+    (n : ℕ) → n
     ≡ length graph.nodes → old ≡ replicate n false → Marks old new graph.roots
-    → AreMarked graph standings new n
-roots_marked graph standings old new n all none marks =
+    → AreMarked graph preconditions new n
+roots_marked graph preconditions old new n all none marks =
     let size : length new ≡ n = marks.count ∙ ap length none ∙ length-replicate n false in
     record {
       count = size ∙ all;
       roots = λ d has. (marks.each d).1 (inr has);
-      sound = λ run opening same standing d is. ⊎_elim
+      sound = λ run opening same precondition d is. ⊎_elim
           (λ was. absurd (false≢true (sym (unmarked d) ∙ was)))
           (λ has. wanted_root d (subst (λ (g : Graph). Contains g.roots d) (sym same) has))
           ((marks.each d).0 is);
@@ -164,18 +166,19 @@ roots_marked graph standings old new n all none marks =
     unmarked d = search (rules, none_marked)
 
 -- a derivation whose inputs aren't wanted for it is passed
-pub passed_over : (graph : Graph) (standings : List Precondition) (wanted : List Bool) (rest d : ℕ)
+pub passed_over : (graph : Graph) (preconditions : List Precondition) (wanted : List Bool)
+    (rest d : ℕ)
     → rest ≡ d + 1
-    → (IsMarked wanted d → slice_index_or standings d Free ≡ Free → ⊥)
-    → AreMarked graph standings wanted rest → AreMarked graph standings wanted d
-passed_over graph standings wanted rest d next none before = record {
+    → (IsMarked wanted d → slice_index_or preconditions d Free ≡ Free → ⊥)
+    → AreMarked graph preconditions wanted rest → AreMarked graph preconditions wanted d
+passed_over graph preconditions wanted rest d next none before = record {
   count = before.count;
   roots = before.roots;
   sound = before.sound;
   closed = λ user e past is free has. ⊎_elim
       (λ same. absurd
       (none (subst (IsMarked wanted) same is)
-      (subst (λ n. slice_index_or standings n Free ≡ Free) same free)))
+      (subst (λ n. slice_index_or preconditions n Free ≡ Free) same free)))
       (λ apart. before.closed user e
       (⊎_elim (λ less. omega (arith, past, less)) (λ less. omega (arith, next, less)) apart) is
       free has)
@@ -183,18 +186,18 @@ passed_over graph standings wanted rest d next none before = record {
 }
 
 -- the inputs of a wanted derivation are marked
-pub inputs_marked : (graph : Graph) (standings : List Precondition) (old new : List Bool)
+pub inputs_marked : (graph : Graph) (preconditions : List Precondition) (old new : List Bool)
     (numbers : List ℕ) (rest d : ℕ) → IsSound graph → d < length graph.nodes → rest ≡ d + 1
     → IfSome (slice_get graph.nodes d) (λ node. AreNumbers graph.nodes numbers (inputs_of node.drv))
-    → IsMarked old d → slice_index_or standings d Free ≡ Free → Marks old new numbers
-    → AreMarked graph standings old rest → AreMarked graph standings new d
-inputs_marked graph standings old new numbers rest d is_sound low next are marked stands marks
+    → IsMarked old d → slice_index_or preconditions d Free ≡ Free → Marks old new numbers
+    → AreMarked graph preconditions old rest → AreMarked graph preconditions new d
+inputs_marked graph preconditions old new numbers rest d is_sound low next are marked stands marks
     before = record {
       count = marks.count ∙ before.count;
       roots = λ e has. (marks.each e).1 (inl (before.roots e has));
-      sound = λ run opening same standing e is. ⊎_elim
-          (λ was. before.sound run opening same standing e was)
-          (λ has. by_user run opening same standing e has)
+      sound = λ run opening same precondition e is. ⊎_elim
+          (λ was. before.sound run opening same precondition e was)
+          (λ has. by_user run opening same precondition e has)
           ((marks.each e).0 is);
       closed = λ user e past is free has. (marks.each e).1
           (closed_at user e past is free has (either_side _ d));
@@ -204,12 +207,13 @@ inputs_marked graph standings old new numbers rest d is_sound low next are marke
     same_numbers = numbers_at _ d _ low is_sound are
 
     by_user : (run : Run) (opening : List Entry) → run.graph ≡ graph
-        → AreStandings (terms_of run) opening graph.nodes standings → (e : ℕ) → Contains numbers e
+        → ArePreconditions (terms_of run) opening graph.nodes preconditions → (e : ℕ)
+        → Contains numbers e
         → IsWanted run opening e
-    by_user run opening same standing e has =
-        wanted_input d e (before.sound run opening same standing d marked)
-        (subst (λ (g : Graph). standing_at (terms_of run) opening (slice_get g.nodes d) ≡ Free)
-        (sym same) (sym (standing.each d low) ∙ stands))
+    by_user run opening same precondition e has =
+        wanted_input d e (before.sound run opening same precondition d marked)
+        (subst (λ (g : Graph). precondition_at (terms_of run) opening (slice_get g.nodes d) ≡ Free)
+        (sym same) (sym (precondition.each d low) ∙ stands))
         (subst (λ (g : Graph). Contains (inputs_at g.nodes (slice_get g.nodes d)) e) (sym same)
         (subst (λ l. Contains l e) same_numbers has))
 
@@ -220,7 +224,7 @@ inputs_marked graph standings old new numbers rest d is_sound low next are marke
     was_marked user past is = ⊎_elim (λ was. was)
         (λ has. absurd (omega (arith, past, smaller user has))) ((marks.each user).0 is)
 
-    closed_at : (user e : ℕ) → d ≤ user → IsMarked new user → slice_index_or standings user Free
+    closed_at : (user e : ℕ) → d ≤ user → IsMarked new user → slice_index_or preconditions user Free
         ≡ Free → Contains (inputs_at graph.nodes (slice_get graph.nodes user)) e
         → (user ≡ d) ⊎ ((user < d) ⊎ (d < user)) → IsMarked old e ⊎ Contains numbers e
     closed_at user e past is free has (inl same) = search (rules, same_numbers)
@@ -243,25 +247,31 @@ pub written : (new rest : List Bool) (n : ℕ) → n ≡ length new → take n (
 written new rest n size = search (rules, take-append_seam)
 
 -- all are marked that are wanted
-all_wanted : (run : Run) (opening : List Entry) (standings : List Precondition) (wanted : List Bool)
-    → AreStandings (terms_of run) opening run.graph.nodes standings
-    → AreMarked run.graph standings wanted 0 → (d : ℕ) → IsWanted run opening d → IsMarked wanted d
-all_wanted run opening standings wanted standing marked d (wanted_root _ has) = marked.roots d has
-all_wanted run opening standings wanted standing marked d (wanted_input user _ by_user free has) =
-    search (rules, by_user, marked_within, all_wanted _ _ _ _ standing marked _ by_user)
+all_wanted : (run : Run) (opening : List Entry) (preconditions : List Precondition)
+    (wanted : List Bool)
+    → ArePreconditions (terms_of run) opening run.graph.nodes preconditions
+    → AreMarked run.graph preconditions wanted 0 → (d : ℕ) → IsWanted run opening d
+    → IsMarked wanted d
+all_wanted run opening preconditions wanted precondition marked d (wanted_root _ has) =
+    marked.roots d has
+all_wanted run opening preconditions wanted precondition marked d
+    (wanted_input user _ by_user free has) =
+    search (rules, by_user, marked_within, all_wanted _ _ _ _ precondition marked _ by_user)
 
-pub wanted_are : (graph : Graph) (standings : List Precondition) (wanted : List Bool)
-    → AreMarked graph standings wanted 0
+pub wanted_are : (graph : Graph) (preconditions : List Precondition) (wanted : List Bool)
+    → AreMarked graph preconditions wanted 0
     → (run : Run) (opening : List Entry) → run.graph ≡ graph
-    → AreStandings (terms_of run) opening graph.nodes standings → AreWanted run opening wanted
-wanted_are graph standings wanted marked run opening same standing =
-    let marked_here : AreMarked run.graph standings wanted 0 =
-    subst (λ g. AreMarked g standings wanted 0) (sym same) marked in
-    let standing_here : AreStandings (terms_of run) opening run.graph.nodes standings =
-    subst (λ (g : Graph). AreStandings (terms_of run) opening g.nodes standings) (sym same) standing
+    → ArePreconditions (terms_of run) opening graph.nodes preconditions
+    → AreWanted run opening wanted
+wanted_are graph preconditions wanted marked run opening same precondition =
+    let marked_here : AreMarked run.graph preconditions wanted 0 =
+    subst (λ g. AreMarked g preconditions wanted 0) (sym same) marked in
+    let precondition_here : ArePreconditions (terms_of run) opening run.graph.nodes preconditions =
+    subst (λ (g : Graph). ArePreconditions (terms_of run) opening g.nodes preconditions)
+    (sym same) precondition
     in
     record {
       count = marked_here.count;
-      yes = λ d is. marked.sound run opening same standing d is;
-      no = λ d is. all_wanted _ _ _ _ standing_here marked_here d is;
+      yes = λ d is. marked.sound run opening same precondition d is;
+      no = λ d is. all_wanted _ _ _ _ precondition_here marked_here d is;
     }

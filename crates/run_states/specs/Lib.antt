@@ -1,8 +1,8 @@
 -- What public contracts cite, and what that rests on.
-pub mod Agendas
+pub mod WorkQueues
 pub mod Counts
 pub mod StateTables
-pub mod Coursing
+pub mod StateLists
 pub mod FollowedEdges
 pub mod Headline
 pub mod Legal

@@ -44,9 +44,9 @@ by_twin_news (Bad ∷ more) other = other
 -- the table of states, of rows with at most one twin each
 unfoldable pub near_table : Rows → (state : ℕ → State) → ℕ → State
 near_table rows state d =
-    by_phase (rows.phase d) (by_validity (rows.standing d)
+    by_phase (rows.phase d) (by_validity (rows.precondition d)
     (by_twin_news (map (λ t. news_of (state t)) (rows.twins d))
-    (by_hindrance (rows.standing d) (by_inputs state (rows.inputs d)))))
+    (by_hindrance (rows.precondition d) (by_inputs state (rows.inputs d)))))
 
 -- the state of a derivation, by this table
 unfoldable pub near_state : Rows → ℕ → State

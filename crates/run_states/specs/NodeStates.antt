@@ -3,7 +3,7 @@
 use Rattle.std.specs.Prelude.{◌≡◌, ◌⊎◌, ◌+◌, ◌≤◌, ℕ, Bool, true, false, Option, Some, None, List, [], ◌∷◌, drop, length, map, slice_get, take, if◌then◌else◌}
 use Rattle.std.specs.List.{list_all, position, position_or_len, slice_index_or}
 use Rattle.run_states.specs.StateTables.{Awaited, all_of}
-use Rattle.run_states.specs.Coursing.{kept, phase_in}
+use Rattle.run_states.specs.StateLists.{kept, phase_in}
 use Rattle.run_states.specs.Nearest.{News, Open, Good, Bad, by_twin_news, news_of}
 use Rattle.run_states.specs.States.{by_first, by_hindrance, by_phase, by_validity}
 use Rattle.run_states.specs.Users.{times}
@@ -66,12 +66,12 @@ of_twins awaited heard = drop (length awaited.inputs) heard
 -- the state of a derivation without an event, by what is known of the twin, and by what the inputs
 -- alone would make it
 abbrev pub by_all : Precondition → (twins : List News) → (by_inputs : State) → State
-by_all standing twins by_inputs =
-    by_validity standing (by_twin_news twins (by_hindrance standing by_inputs))
+by_all precondition twins by_inputs =
+    by_validity precondition (by_twin_news twins (by_hindrance precondition by_inputs))
 
 -- the same, by what is known of all that the derivation waits for
 abbrev pub by_heard : Precondition → Awaited → List News → State
-by_heard standing awaited heard = by_all standing (of_twins awaited heard)
+by_heard precondition awaited heard = by_all precondition (of_twins awaited heard)
     (by_news awaited.inputs (of_inputs awaited heard))
 
 -- A memo is right for what is known of all that the derivation waits for: the state is the
@@ -83,14 +83,14 @@ pub record IsMemo (awaited : Awaited) (heard : List News) (memo : NodeState) : T
   pub one : length awaited.twins ≤ 1
   pub count : length heard ≡ length (all_of awaited)
   pub state : memo.state
-      ≡ by_phase (phase_in memo.state) (by_heard memo.standing awaited heard)
+      ≡ by_phase (phase_in memo.state) (by_heard memo.precondition awaited heard)
   pub inputs : memo.inputs ≡ length awaited.inputs
   pub waits : memo.waits ≡ waiting (of_inputs awaited heard)
   pub first : memo.first ≡ position_or_len is_bad_news (of_inputs awaited heard)
   pub failed : memo.failed ≡ slice_get awaited.inputs memo.first
   pub held : memo.held ≡ is_held (of_twins awaited heard)
 
--- what is known of an awaited derivation is what it has come to, and nothing is left to tell; or
+-- what is known of an awaited derivation is how it stands now, and nothing is left to tell; or
 -- nothing is known, it has ended, and its end is left to be told once
 abbrev pub Knows : (known now : News) → (left : ℕ) → Type 0
 Knows known now left =
@@ -148,7 +148,7 @@ pub data Turns : (before after : State) → Type 0 where
 
 -- what telling doesn't change of a memo
 pub record IsSameElse (before after : NodeState) : Type 0 where
-  pub standing : after.standing ≡ before.standing
+  pub precondition : after.precondition ≡ before.precondition
   pub wanted : after.wanted ≡ before.wanted
   pub twin : after.twin ≡ before.twin
   pub phase : phase_in after.state ≡ phase_in before.state

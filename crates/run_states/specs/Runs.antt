@@ -128,15 +128,15 @@ own_cause terms opening drv =
     (or_else (cause_at PartlyValid (position (is_valid opening) (output_paths_of drv)))
     (cause_at MissingSource (position (λ path. not (is_valid opening path)) drv.sources)))))
 
--- the standing of a derivation with this cause, if it has one
+-- the precondition of a derivation with this cause, if it has one
 abbrev pub by_cause : Option Refusal → Precondition
 by_cause (Some cause) = Hindered cause
 by_cause None = Free
 
--- a derivation's standing after these entries: all its outputs are valid, else it has a cause for
--- which it can't be begun, else neither
-abbrev pub standing_of : Terms → (opening : List Entry) → Drv → Precondition
-standing_of terms opening drv =
+-- a derivation's precondition after these entries: all its outputs are valid, else it has a cause
+-- for which it can't be begun, else neither
+abbrev pub precondition_of : Terms → (opening : List Entry) → Drv → Precondition
+precondition_of terms opening drv =
     if list_all (is_valid opening) (output_paths_of drv) then AllValid
     else by_cause (own_cause terms opening drv)
 
@@ -150,24 +150,24 @@ abbrev pub inputs_at : List Node → Option Node → List ℕ
 inputs_at nodes (Some node) = input_numbers nodes node.drv
 inputs_at nodes None = []
 
--- a node's standing; Free where there is no node
-abbrev pub standing_at : Terms → (opening : List Entry) → Option Node → Precondition
-standing_at terms opening (Some node) = standing_of terms opening node.drv
-standing_at terms opening None = Free
+-- a node's precondition; Free where there is no node
+abbrev pub precondition_at : Terms → (opening : List Entry) → Option Node → Precondition
+precondition_at terms opening (Some node) = precondition_of terms opening node.drv
+precondition_at terms opening None = Free
 
 -- A derivation is wanted: it is a root, or an input of a wanted user whose outputs aren't all valid
 -- and that has no own cause.
 pub data IsWanted (run : Run) (opening : List Entry) : ℕ → Type 0 where
   wanted_root : (d : ℕ) → Contains run.graph.roots d → IsWanted run opening d
   wanted_input : (user d : ℕ) → IsWanted run opening user
-      → standing_at (terms_of run) opening (slice_get run.graph.nodes user) ≡ Free
+      → precondition_at (terms_of run) opening (slice_get run.graph.nodes user) ≡ Free
       → Contains (inputs_at run.graph.nodes (slice_get run.graph.nodes user)) d
       → IsWanted run opening d
 
--- whether a standing is Free
+-- whether a precondition is Free
 abbrev pub is_free : Precondition → Bool
 is_free Free = true
-is_free standing = false
+is_free precondition = false
 
 -- whether a number is in a list
 abbrev pub is_one_of : List ℕ → ℕ → Bool
@@ -177,7 +177,7 @@ is_one_of numbers n = list_any (λ m. m == n) numbers
 -- of its own
 abbrev pub is_used_by : Run → (opening : List Entry) → (input user : ℕ) → Bool
 is_used_by run opening input user =
-    is_free (standing_at (terms_of run) opening (slice_get run.graph.nodes user))
+    is_free (precondition_at (terms_of run) opening (slice_get run.graph.nodes user))
     && is_one_of (inputs_at run.graph.nodes (slice_get run.graph.nodes user)) input
 
 -- whether a derivation is wanted over at most `users` users: it is a root, or an input of a Free
@@ -204,7 +204,7 @@ abbrev pub rows_of : Run → (opening : List Entry) → List Event → Rows
 rows_of run opening events = record {
   inputs = λ d. inputs_at run.graph.nodes (slice_get run.graph.nodes d);
   twins = earlier_twins run opening;
-  standing = λ d. standing_at (terms_of run) opening (slice_get run.graph.nodes d);
+  precondition = λ d. precondition_at (terms_of run) opening (slice_get run.graph.nodes d);
   phase = phase_of events;
 }
 

@@ -1,4 +1,4 @@
--- *Course*: a plan, and what the state of each of its derivations follows from (this product's
+-- *State table*: a plan, and what the state of each of its derivations follows from (this product's
 -- own).
 use Rattle.std.specs.Prelude.{◌≡◌, ◌<◌, ◌⊎◌, Bool, true, false, ℕ, Option, Some, None, List, [], ◌∷◌, ◌++◌, length, slice_get}
 use Rattle.std.specs.List.{slice_index_or}
@@ -6,7 +6,7 @@ use Rattle.drv_graph.specs.Nodes.{Node}
 use Rattle.drv_graph.specs.Plans.{Graph}
 use Rattle.valid_table.specs.declared.entry.Entry.{Entry}
 use Rattle.run_states.specs.Nearest.{last_alone, near_state}
-use Rattle.run_states.specs.Runs.{IsWanted, Run, Terms, earlier_twins, inputs_at, standing_at}
+use Rattle.run_states.specs.Runs.{IsWanted, Run, Terms, earlier_twins, inputs_at, precondition_at}
 use Rattle.run_states.specs.States.{Phase, Idle, Begun, Rows}
 use Rattle.run_states.specs.declared.state.State.{State}
 use Rattle.run_states.specs.declared.state.State.TheVariants.{Building, Ready, Blocked}
@@ -14,11 +14,11 @@ use Rattle.run_states.specs.declared.precondition.Precondition.{Precondition}
 use Rattle.run_states.specs.declared.precondition.Precondition.TheVariants.{Free}
 use Rattle.run_states.specs.Runs.{History, state_in}
 
--- What is known of a plan's derivations, of each at its number: its standing, whether it is wanted,
--- its nearest earlier twin, and its phase.
+-- What is known of a plan's derivations, of each at its number: its precondition, whether it is
+-- wanted, its nearest earlier twin, and its phase.
 pub record StateTable : Type 0 where
   pub graph : Graph
-  pub standings : List Precondition
+  pub preconditions : List Precondition
   pub wanted : List Bool
   pub twins : List (Option ℕ)
   pub phases : List Phase
@@ -46,28 +46,28 @@ awaited_at graph twins d = record {
   twins = listed (slice_index_or twins d None);
 }
 
--- the rows from which the states of a course follow
-abbrev pub course_rows : StateTable → Rows
-course_rows course = record {
-  inputs = λ d. inputs_at course.graph.nodes (slice_get course.graph.nodes d);
-  twins = λ d. listed (slice_index_or course.twins d None);
-  standing = λ d. slice_index_or course.standings d Free;
-  phase = λ d. slice_index_or course.phases d Idle;
+-- the rows from which the states of a state table follow
+abbrev pub rows_of_table : StateTable → Rows
+rows_of_table table = record {
+  inputs = λ d. inputs_at table.graph.nodes (slice_get table.graph.nodes d);
+  twins = λ d. listed (slice_index_or table.twins d None);
+  precondition = λ d. slice_index_or table.preconditions d Free;
+  phase = λ d. slice_index_or table.phases d Idle;
 }
 
--- the state of a derivation of a course
-abbrev pub course_state : StateTable → ℕ → State
-course_state course d = near_state (course_rows course) d
+-- the state of a derivation of a state table
+abbrev pub table_state : StateTable → ℕ → State
+table_state table d = near_state (rows_of_table table) d
 
 -- a derivation is wanted and can be begun
 abbrev pub IsNext : StateTable → ℕ → Type 0
-IsNext course d = (d < length course.graph.nodes) × (slice_index_or course.wanted d false ≡ true)
-    × (course_state course d ≡ Ready)
+IsNext table d = (d < length table.graph.nodes) × (slice_index_or table.wanted d false ≡ true)
+    × (table_state table d ≡ Ready)
 
 -- a derivation has begun under some lease and not ended
 abbrev pub HasBegun : StateTable → ℕ → Type 0
-HasBegun course d = (d < length course.graph.nodes)
-    × ((lease : ℕ) × (slice_index_or course.phases d Idle ≡ Begun lease))
+HasBegun table d = (d < length table.graph.nodes)
+    × ((lease : ℕ) × (slice_index_or table.phases d Idle ≡ Begun lease))
 
 -- a derivation in this state is Blocked, Ready or Building
 abbrev pub IsOpen : State → Type 0
@@ -75,20 +75,20 @@ IsOpen state = (state ≡ Blocked) ⊎ (state ≡ Ready) ⊎ ((lease : ℕ) × (
 
 -- a derivation is wanted, and Blocked, Ready or Building
 abbrev pub IsUnsettledIn : StateTable → ℕ → Type 0
-IsUnsettledIn course d = (d < length course.graph.nodes)
-    × (slice_index_or course.wanted d false ≡ true) × IsOpen (course_state course d)
+IsUnsettledIn table d = (d < length table.graph.nodes)
+    × (slice_index_or table.wanted d false ≡ true) × IsOpen (table_state table d)
 
 -- no wanted derivation is Blocked, Ready or Building
 abbrev pub IsSettled : StateTable → Type 0
-IsSettled course = (d : ℕ) → d < length course.graph.nodes → slice_index_or course.wanted d false
-    ≡ true → IsOpen (course_state course d) → ⊥
+IsSettled table = (d : ℕ) → d < length table.graph.nodes → slice_index_or table.wanted d false
+    ≡ true → IsOpen (table_state table d) → ⊥
 
--- the standing of each derivation after these entries, in a run by these terms
-pub record AreStandings (terms : Terms) (entries : List Entry) (nodes : List Node)
-    (standings : List Precondition) : Type 0 where
-  pub count : length standings ≡ length nodes
-  pub each : (d : ℕ) → d < length nodes → slice_index_or standings d Free
-      ≡ standing_at terms entries (slice_get nodes d)
+-- the precondition of each derivation after these entries, in a run by these terms
+pub record ArePreconditions (terms : Terms) (entries : List Entry) (nodes : List Node)
+    (preconditions : List Precondition) : Type 0 where
+  pub count : length preconditions ≡ length nodes
+  pub each : (d : ℕ) → d < length nodes → slice_index_or preconditions d Free
+      ≡ precondition_at terms entries (slice_get nodes d)
 
 -- of each derivation, whether it is wanted
 pub record AreWanted (run : Run) (opening : List Entry) (wanted : List Bool) : Type 0 where

@@ -36,11 +36,11 @@ phase_of [] d = Idle
 phase_of (event ∷ events) d = later (phase_by event d) (phase_of events d)
 
 -- What the states of derivations follow from: of each, by its number, its inputs' numbers in its
--- text's order, its earlier twins' numbers, its standing and its phase.
+-- text's order, its earlier twins' numbers, its precondition and its phase.
 pub record Rows : Type 0 where
   pub inputs : ℕ → List ℕ
   pub twins : ℕ → List ℕ
-  pub standing : ℕ → Precondition
+  pub precondition : ℕ → Precondition
   pub phase : ℕ → Phase
 
 -- whether a user can be begun after an input in this state
@@ -82,7 +82,7 @@ by_inputs state inputs = by_first (find (λ i. is_bad (state i)) inputs)
 -- the state by the derivation's own cause, if it has one
 abbrev pub by_hindrance : Precondition → State → State
 by_hindrance (Hindered cause) other = Refused cause
-by_hindrance standing other = other
+by_hindrance precondition other = other
 
 -- the state by the states of the earlier twins: the derivation is reused where one was built, and
 -- waits where one is Blocked, Ready or Building
@@ -95,7 +95,7 @@ by_twins state twins other =
 -- the state by whether all outputs of the derivation were valid
 abbrev pub by_validity : Precondition → State → State
 by_validity AllValid other = Reused
-by_validity standing other = other
+by_validity precondition other = other
 
 -- the state by the phase, if the derivation has an event
 abbrev pub by_phase : Phase → State → State
@@ -108,8 +108,8 @@ by_phase (Broken reason) other = Failed reason
 -- outputs were valid, its earlier twins, its own cause, and its inputs
 unfoldable pub table : Rows → (state : ℕ → State) → ℕ → State
 table rows state d =
-    by_phase (rows.phase d) (by_validity (rows.standing d) (by_twins state (rows.twins d)
-    (by_hindrance (rows.standing d) (by_inputs state (rows.inputs d)))))
+    by_phase (rows.phase d) (by_validity (rows.precondition d) (by_twins state (rows.twins d)
+    (by_hindrance (rows.precondition d) (by_inputs state (rows.inputs d)))))
 
 -- the states of the first `count` derivations, each by a rule from the states before it
 unfoldable pub states_by : (rule : (ℕ → State) → ℕ → State) → (count : ℕ) → List State

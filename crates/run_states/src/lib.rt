@@ -11,7 +11,7 @@
 //! | `users` | the edges from each derivation to those that wait for it |
 //! | `work_queues` | which derivations can be begun, and which ends are still to be told |
 //! | `propagate` | how an event changes a state, and those that wait are told of it |
-//! | `preconditions` | the standings of a plan's derivations |
+//! | `preconditions` | the preconditions of a plan's derivations |
 //! | `wanted`, `twins` | which derivations of a plan are wanted, and their nearest earlier twins |
 //! | `fault` | why a call of a book refuses |
 #![tactic(auto)]
@@ -35,7 +35,7 @@ mod work_queues;
 pub use fault::BookFault;
 pub use features::required_feature;
 pub use precondition::Precondition;
-pub use preconditions::{is_left_out, standings_of};
+pub use preconditions::{is_left_out, preconditions_of};
 pub use state::{Event, Refusal, State};
 pub use state_table::StateTable;
 pub use system::System;

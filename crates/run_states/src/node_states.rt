@@ -1,7 +1,7 @@
 //! What is kept of a derivation, so that its state needs no look at what it waits for.
 ghost use Rattle.std.specs.Prelude.{◌≡◌, ◌<◌, ◌++◌, All, List, Option, Some, false, ℕ, if◌then◌else◌, length, map, slice_set};
 ghost use Rattle.run_states.specs.StateTables.{Awaited, listed};
-ghost use Rattle.run_states.specs.Coursing.{kept, phase_in};
+ghost use Rattle.run_states.specs.StateLists.{kept, phase_in};
 ghost use Rattle.run_states.specs.Nearest.{News, Open};
 ghost use Rattle.run_states.specs.States.{Idle, by_first, by_hindrance, by_phase, by_validity};
 ghost use Rattle.run_states.specs.NodeStates.{CanHear, Hears, IsSameElse, IsMemo, Turns, by_all, is_held, news_by, news_in, states_in};
@@ -11,13 +11,13 @@ use crate::precondition::Precondition;
 use crate::state::{Refusal, State};
 use crate::states::{fails, is_open, serves};
 
-// What is kept of a derivation: its standing, whether it is wanted, its nearest earlier twin, its
-// state, how many inputs it has, how many of these are neither Done nor Reused, the place of the
-// first that failed or is refused (where none did, the number of inputs) with its number, and
+// What is kept of a derivation: its precondition, whether it is wanted, its nearest earlier twin,
+// its state, how many inputs it has, how many of these are neither Done nor Reused, the place of
+// the first that failed or is refused (where none did, the number of inputs) with its number, and
 // whether the twin is Blocked, Ready or Building.
 #[derive(Clone, Copy, Debug)]
 pub(crate) struct NodeState {
-    pub(crate) standing: Precondition,
+    pub(crate) precondition: Precondition,
     pub(crate) wanted: bool,
     pub(crate) twin: Option<usize>,
     pub(crate) state: State,
@@ -31,7 +31,7 @@ pub(crate) struct NodeState {
 // The memo of a derivation that hasn't begun, by the memos of its inputs and of its nearest
 // earlier twin, which are among these.
 pub(crate) fn memo_of(
-    standing: Precondition,
+    precondition: Precondition,
     wanted: bool,
     twin: Option<usize>,
     inputs: &[usize],
@@ -41,12 +41,12 @@ pub(crate) fn memo_of(
     requires twin { All (λ t. t < length memos.now) (listed twin) }
     ensures hears { Hears (record { inputs = inputs.now; twins = listed twin })
         (kept (states_in memos.now)) (λ place. 0) result }
-    ensures standing { result.standing ≡ standing }
+    ensures precondition { result.precondition ≡ precondition }
     ensures wanted { result.wanted ≡ wanted }
     ensures twin { result.twin ≡ twin }
     ensures idle { phase_in result.state ≡ Idle }
 {
-    let memo = memo_by_inputs(standing, wanted, twin, inputs, memos);
+    let memo = memo_by_inputs(precondition, wanted, twin, inputs, memos);
     let Some(t) = twin else {
         return memo;
     };
@@ -61,7 +61,7 @@ pub(crate) fn memo_of(
 // The memo of a derivation that hasn't begun, by the memos of its inputs, as though nothing were
 // known of its nearest earlier twin.
 fn memo_by_inputs(
-    standing: Precondition,
+    precondition: Precondition,
     wanted: bool,
     twin: Option<usize>,
     inputs: &[usize],
@@ -71,7 +71,7 @@ fn memo_by_inputs(
     ensures is { IsMemo (record { inputs = inputs.now; twins = listed twin })
         (news_in (kept (states_in memos.now)) inputs.now ++ map (λ t. Open) (listed twin))
         result }
-    ensures standing { result.standing ≡ standing }
+    ensures precondition { result.precondition ≡ precondition }
     ensures wanted { result.wanted ≡ wanted }
     ensures twin { result.twin ≡ twin }
     ensures idle { phase_in result.state ≡ Idle }
@@ -88,9 +88,9 @@ fn memo_by_inputs(
     }
     let failed = inputs.get(first).copied();
     let held = twin.is_some();
-    let state = opening_state(standing, held, failed, waits == 0);
+    let state = opening_state(precondition, held, failed, waits == 0);
     NodeState {
-        standing,
+        precondition,
         wanted,
         twin,
         state,
@@ -123,7 +123,7 @@ pub(crate) fn input_ended(memo: NodeState, place: usize, ended: usize, good: boo
             ..memo
         }
     } else if place < memo.first {
-        let state = state_after_bad(memo.standing, memo.state, memo.held, ended);
+        let state = state_after_bad(memo.precondition, memo.state, memo.held, ended);
         NodeState {
             state,
             first: place,
@@ -151,7 +151,7 @@ fn hear_twin_end(memo: NodeState, good: bool) -> NodeState
             if good {
                 State::Reused
             } else {
-                own_state(memo.standing, memo.failed, memo.waits == 0)
+                own_state(memo.precondition, memo.failed, memo.waits == 0)
             }
         }
         state => state,
@@ -166,17 +166,17 @@ fn hear_twin_end(memo: NodeState, good: bool) -> NodeState
 // The state of a derivation that hasn't begun, by whether its nearest earlier twin holds it, by the
 // first of its inputs that failed or is refused, if there is one, and by whether all inputs were
 // built or were valid.
-fn opening_state(standing: Precondition, held: bool, first: Option<usize>, all: bool) -> State
-    ensures { result ≡ by_validity standing
-        (if held then Blocked else by_hindrance standing (by_first first all)) }
+fn opening_state(precondition: Precondition, held: bool, first: Option<usize>, all: bool) -> State
+    ensures { result ≡ by_validity precondition
+        (if held then Blocked else by_hindrance precondition (by_first first all)) }
 {
-    match standing {
+    match precondition {
         Precondition::AllValid => State::Reused,
         Precondition::Hindered(_) | Precondition::Free => {
             if held {
                 State::Blocked
             } else {
-                own_state(standing, first, all)
+                own_state(precondition, first, all)
             }
         }
     }
@@ -184,10 +184,10 @@ fn opening_state(standing: Precondition, held: bool, first: Option<usize>, all: 
 
 // The state of a derivation that hasn't begun, by its own cause and its inputs. It has no earlier
 // twin, or its nearest one failed or is refused.
-fn own_state(standing: Precondition, first: Option<usize>, all: bool) -> State
-    ensures { result ≡ by_hindrance standing (by_first first all) }
+fn own_state(precondition: Precondition, first: Option<usize>, all: bool) -> State
+    ensures { result ≡ by_hindrance precondition (by_first first all) }
 {
-    match (standing, first) {
+    match (precondition, first) {
         (Precondition::Hindered(cause), _) => State::Refused(cause),
         (_, Some(input)) => State::Refused(Refusal::InputNotRealised(input)),
         (_, None) if all => State::Ready,
@@ -198,10 +198,10 @@ fn own_state(standing: Precondition, first: Option<usize>, all: bool) -> State
 // The state after one more input was built or was valid, by whether the nearest earlier twin holds
 // the derivation, and by whether all inputs were built or were valid by now.
 fn state_after_good(state: State, held: bool, all: bool) -> State
-    ensures is { (standing : Precondition) (twins : List News) (first : Option ℕ)
+    ensures is { (precondition : Precondition) (twins : List News) (first : Option ℕ)
         → held ≡ is_held twins
-        → state ≡ by_phase (phase_in state) (by_all standing twins (by_first first false))
-        → result ≡ by_phase (phase_in result) (by_all standing twins (by_first first all)) }
+        → state ≡ by_phase (phase_in state) (by_all precondition twins (by_first first false))
+        → result ≡ by_phase (phase_in result) (by_all precondition twins (by_first first all)) }
     ensures phase { phase_in result ≡ phase_in state }
     ensures turns { Turns state result }
 {
@@ -218,18 +218,18 @@ fn state_after_good(state: State, held: bool, all: bool) -> State
 }
 
 // The state after this input failed or was refused, before all others that did.
-fn state_after_bad(standing: Precondition, state: State, held: bool, input: usize) -> State
+fn state_after_bad(precondition: Precondition, state: State, held: bool, input: usize) -> State
     ensures is { (twins : List News) (first : Option ℕ) → held ≡ is_held twins
-        → state ≡ by_phase (phase_in state) (by_all standing twins (by_first first false))
+        → state ≡ by_phase (phase_in state) (by_all precondition twins (by_first first false))
         → result ≡ by_phase (phase_in result)
-        (by_all standing twins (by_first (Some input) false)) }
+        (by_all precondition twins (by_first (Some input) false)) }
     ensures phase { phase_in result ≡ phase_in state }
     ensures turns { Turns state result }
 {
     if held {
         return state;
     }
-    match standing {
+    match precondition {
         Precondition::Free => match state {
             State::Blocked | State::Refused(_) => {
                 State::Refused(Refusal::InputNotRealised(input))

@@ -1,9 +1,9 @@
-//! The standings of a plan's derivations, before anything is begun.
+//! The preconditions of a plan's derivations, before anything is begun.
 ghost use Rattle.std.specs.Prelude.{◌≡◌, ◌<◌, ◌&&◌, ◌||◌, IfOk, IfSome, codes, length, not, slice_get, vec_capacity};
 ghost use Rattle.std.specs.List.{list_all, list_any, position};
 ghost use Rattle.nix_names.specs.Names.{same_bytes};
-ghost use Rattle.run_states.specs.StateTables.{AreStandings};
-ghost use Rattle.run_states.specs.Runs.{demand_cause, has_left_out, has_tree, is_for_under, is_valid, left_out, own_cause, standing_at, structured_cause};
+ghost use Rattle.run_states.specs.StateTables.{ArePreconditions};
+ghost use Rattle.run_states.specs.Runs.{demand_cause, has_left_out, has_tree, is_for_under, is_valid, left_out, own_cause, precondition_at, structured_cause};
 ghost use Rattle.run_states.specs.Structured.{attributes_of_text};
 ghost use Rattle.run_states.specs.Systems.{is_builtin};
 
@@ -18,31 +18,32 @@ use nix_names::StorePath;
 use std::alloc::{AllocError, Global};
 use valid_table::Journal;
 
-/// The standing of each derivation after the journal's entries, in a run for the system. An error
-/// where memory is refused, and no other. Costs a look-up by hash for each output, up to two where
-/// not all are valid, and for each source, and a few comparisons for each entry of an environment;
-/// under `nix` also one for each pair of a feature that a derivation asks for and one that the
-/// system offers, and one pass over structured attributes, with memory for them until it is over.
-pub fn standings_of(
+/// The precondition of each derivation after the journal's entries, in a run for the system. An
+/// error where memory is refused, and no other. Costs a look-up by hash for each output, up to two
+/// where not all are valid, and for each source, and a few comparisons for each entry of an
+/// environment; under `nix` also one for each pair of a feature that a derivation asks for and one
+/// that the system offers, and one pass over structured attributes, with memory for them until it
+/// is over.
+pub fn preconditions_of(
     alloc: Global,
     plan: &Plan,
     journal: &Journal,
     system: &System,
 ) -> Result<Vec<Precondition>, AllocError>
     ensures ok { IfOk result
-        (λ standings. AreStandings (record { profile = plan.now.profile; system = system.now })
-        journal.now.entries plan.now.nodes standings.items) }
-    ensures room { IfOk result (λ standings. vec_capacity standings ≡ length plan.now.nodes) }
+        (λ found. ArePreconditions (record { profile = plan.now.profile; system = system.now })
+        journal.now.entries plan.now.nodes found.items) }
+    ensures room { IfOk result (λ found. vec_capacity found ≡ length plan.now.nodes) }
 {
-    let mut standings = Vec::with_capacity(alloc, plan.len())?;
+    let mut preconditions = Vec::with_capacity(alloc, plan.len())?;
     for d in 0..plan.len() {
-        standings.push_reserved(standing_of(alloc, plan, d, journal, system)?);
+        preconditions.push_reserved(precondition_of(alloc, plan, d, journal, system)?);
     }
-    Ok(standings)
+    Ok(preconditions)
 }
 
-// The standing of the derivation with this number.
-fn standing_of(
+// The precondition of the derivation with this number.
+fn precondition_of(
     alloc: Global,
     plan: &Plan,
     d: usize,
@@ -50,8 +51,8 @@ fn standing_of(
     system: &System,
 ) -> Result<Precondition, AllocError>
     requires { d < length plan.now.nodes }
-    ensures { IfOk result (λ standing. standing
-        ≡ standing_at (record { profile = plan.now.profile; system = system.now })
+    ensures { IfOk result (λ precondition. precondition
+        ≡ precondition_at (record { profile = plan.now.profile; system = system.now })
         journal.now.entries (slice_get plan.now.nodes d)) }
 {
     if are_all_valid(journal, plan.output_paths(d)) {
@@ -145,7 +146,7 @@ fn structured_cause(
 }
 
 // Whether a derivation asks for what is left out under `plain`.
-#[tactic(auto, using(crate::proofs::OwnStandings::keys_told, crate::proofs::OwnStandings::trees_told))]
+#[tactic(auto, using(crate::proofs::LookUps::keys_told, crate::proofs::LookUps::trees_told))]
 fn is_unsupported(drv: &Derivation) -> bool
     ensures { result ≡ (is_builtin drv.now || has_left_out drv.now || has_tree drv.now) }
 {

@@ -1,8 +1,8 @@
 //! How the state of a derivation changes, and how all that wait for it are told.
 ghost use Rattle.std.specs.Prelude.{◌≡◌, ◌<◌, ◌+◌, ◌^◌, [], ℕ, length, slice_set};
-ghost use Rattle.run_states.specs.Agendas.{AreSameElse, IsSpreading, IsSteady, phases_in, standings_in, to_end, twins_in, wanted_in};
+ghost use Rattle.run_states.specs.WorkQueues.{AreSameElse, IsSpreading, IsSteady, phases_in, preconditions_in, to_end, twins_in, wanted_in};
 ghost use Rattle.run_states.specs.StateTables.{Awaited};
-ghost use Rattle.run_states.specs.Coursing.{kept, phase_in};
+ghost use Rattle.run_states.specs.StateLists.{kept, phase_in};
 ghost use Rattle.run_states.specs.States.{Idle};
 ghost use Rattle.run_states.specs.NodeStates.{Turns, states_in};
 ghost use Rattle.run_states.specs.FollowedEdges.{open_edges, sizes};
@@ -20,7 +20,7 @@ use crate::work_queues::WorkQueues;
 pub(crate) fn change_state(
     users: &Users,
     memos: &mut [NodeState],
-    agenda: &mut WorkQueues,
+    queues: &mut WorkQueues,
     d: usize,
     state: State,
 ) -> usize
@@ -28,11 +28,11 @@ pub(crate) fn change_state(
     requires turns { Turns (kept (states_in memos.old) d) state }
     requires begun { phase_in state ≡ Idle → ⊥ }
     requires steady { (awaited : ℕ → Awaited)
-        × IsSteady awaited users.now memos.old agenda.old }
+        × IsSteady awaited users.now memos.old queues.old }
     requires few { open_edges (sizes users.now) memos.old < 2 ^ 64 }
-    ensures steady { (awaited : ℕ → Awaited) → IsSteady awaited users.now memos.old agenda.old
-        → IsSteady awaited users.now memos.new agenda.new }
-    ensures standings { standings_in memos.new ≡ standings_in memos.old }
+    ensures steady { (awaited : ℕ → Awaited) → IsSteady awaited users.now memos.old queues.old
+        → IsSteady awaited users.now memos.new queues.new }
+    ensures preconditions { preconditions_in memos.new ≡ preconditions_in memos.old }
     ensures wanted { wanted_in memos.new ≡ wanted_in memos.old }
     ensures twins { twins_in memos.new ≡ twins_in memos.old }
     ensures phases { phases_in memos.new ≡ slice_set (phases_in memos.old) d (phase_in state) }
@@ -42,30 +42,30 @@ pub(crate) fn change_state(
     let before = memos[d];
     let after = NodeState { state, ..before };
     memos[d] = after;
-    agenda.note(d, before, after);
-    let followed = spread_ends(users, memos, agenda);
-    agenda.drop_begun(memos);
+    queues.note(d, before, after);
+    let followed = spread_ends(users, memos, queues);
+    queues.drop_begun(memos);
     followed
 }
 
-// Tells the ends of all that are on the agenda's work, and of all that come there meanwhile.
+// Tells the ends of all that are in the queues' work, and of all that come there meanwhile.
 // Answers how many edges it followed.
-fn spread_ends(users: &Users, memos: &mut [NodeState], agenda: &mut WorkQueues) -> usize
+fn spread_ends(users: &Users, memos: &mut [NodeState], queues: &mut WorkQueues) -> usize
     requires told { (awaited : ℕ → Awaited)
-        × IsSpreading awaited users.now memos.old agenda.old [] }
+        × IsSpreading awaited users.now memos.old queues.old [] }
     requires few { open_edges (sizes users.now) memos.old
-        + length (users_of_all users.now agenda.old.work) < 2 ^ 64 }
-    ensures told { (awaited : ℕ → Awaited) → IsSpreading awaited users.now memos.old agenda.old []
-        → IsSpreading awaited users.now memos.new agenda.new [] }
-    ensures none { agenda.new.work ≡ [] }
+        + length (users_of_all users.now queues.old.work) < 2 ^ 64 }
+    ensures told { (awaited : ℕ → Awaited) → IsSpreading awaited users.now memos.old queues.old []
+        → IsSpreading awaited users.now memos.new queues.new [] }
+    ensures none { queues.new.work ≡ [] }
     ensures same { AreSameElse memos.old memos.new }
     ensures edges { result + open_edges (sizes users.now) memos.new
         ≡ open_edges (sizes users.now) memos.old
-        + length (users_of_all users.now agenda.old.work) }
+        + length (users_of_all users.now queues.old.work) }
 {
     let mut edges: usize = 0;
-    while let Some(ended) = agenda.take() {
-        edges += tell_users(users, ended, memos, agenda);
+    while let Some(ended) = queues.take() {
+        edges += tell_users(users, ended, memos, queues);
     }
     edges
 }
@@ -76,21 +76,21 @@ fn tell_users(
     users: &Users,
     ended: usize,
     memos: &mut [NodeState],
-    agenda: &mut WorkQueues,
+    queues: &mut WorkQueues,
 ) -> usize
     requires within { ended < length memos.old }
     requires told { (awaited : ℕ → Awaited)
-        × IsSpreading awaited users.now memos.old agenda.old (users_of users.now ended) }
+        × IsSpreading awaited users.now memos.old queues.old (users_of users.now ended) }
     ensures told { (awaited : ℕ → Awaited)
-        → IsSpreading awaited users.now memos.old agenda.old (users_of users.now ended)
-        → IsSpreading awaited users.now memos.new agenda.new [] }
+        → IsSpreading awaited users.now memos.old queues.old (users_of users.now ended)
+        → IsSpreading awaited users.now memos.new queues.new [] }
     ensures same { AreSameElse memos.old memos.new }
-    ensures measure { to_end memos.new agenda.new ≡ to_end memos.old agenda.old }
+    ensures measure { to_end memos.new queues.new ≡ to_end memos.old queues.old }
     ensures edges { result ≡ sizes users.now ended }
     ensures ahead { open_edges (sizes users.now) memos.new
-        + length (users_of_all users.now agenda.new.work)
+        + length (users_of_all users.now queues.new.work)
         ≡ open_edges (sizes users.now) memos.old
-        + length (users_of_all users.now agenda.old.work) }
+        + length (users_of_all users.now queues.old.work) }
 {
     let good = serves(memos[ended].state);
     let edges = users.of(ended);
@@ -98,7 +98,7 @@ fn tell_users(
         let before = memos[edge.user];
         let after = input_ended(before, edge.place, ended, good);
         memos[edge.user] = after;
-        agenda.note(edge.user, before, after);
+        queues.note(edge.user, before, after);
     }
     edges.len()
 }

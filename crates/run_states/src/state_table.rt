@@ -1,16 +1,14 @@
 //! The state of each derivation of a plan.
-ghost use Rattle.std.specs.Prelude.{◌≡◌, ◌<◌, ◌↔◌, ℕ, All, IfErr, IfOk, IsTrue, MatchOption, None, length, slice_set, vec_capacity};
+ghost use Rattle.std.specs.Prelude.{◌≡◌, ◌<◌, ◌↔◌, ℕ, All, IfOk, IsTrue, MatchOption, None, length, slice_set, vec_capacity};
 ghost use Rattle.std.specs.List.{slice_index_or};
-ghost use Rattle.run_states.specs.Agendas.{AreOpening, wanted_in};
+ghost use Rattle.run_states.specs.WorkQueues.{AreOpening, wanted_in};
 ghost use Rattle.run_states.specs.Counts.{HasCount};
-ghost use Rattle.run_states.specs.StateTables.{HasBegun, IsNext, IsSettled, IsUnsettledIn, course_state, listed};
-ghost use Rattle.run_states.specs.Coursing.{phase_in};
+ghost use Rattle.run_states.specs.StateTables.{HasBegun, IsNext, IsSettled, IsUnsettledIn, listed, table_state};
+ghost use Rattle.run_states.specs.StateLists.{phase_in};
 ghost use Rattle.run_states.specs.States.{Begun, Broken, Ended, Idle};
 ghost use Rattle.run_states.specs.NodeStates.{Turns};
-ghost use Rattle.run_states.specs.FollowedEdges.{course_followed};
-ghost use Rattle.run_states.specs.declared.fault.BookFault.TheVariants.{NoMemory};
+ghost use Rattle.run_states.specs.FollowedEdges.{table_followed};
 
-use crate::fault::BookFault;
 use crate::node_states::{NodeState, memo_of};
 use crate::precondition::Precondition;
 use crate::propagate::change_state;
@@ -31,57 +29,56 @@ pub struct StateTable {
     plan: Plan,
     memos: Vec<NodeState>,
     users: Users,
-    agenda: WorkQueues,
+    queues: WorkQueues,
     // Along how many edges an end was told.
     followed: usize,
 }
 
 impl Model for StateTable {
     ghost use Rattle.run_states.specs.StateTables.{StateTable};
-    ghost use Rattle.run_states.specs.Agendas.{IsCourse, course_by};
+    ghost use Rattle.run_states.specs.WorkQueues.{IsStateTable, table_by};
     ghost use Rattle.run_states.specs.FollowedEdges.{HasFollowed};
 
     ghost Value = { StateTable };
 
-    ghost view = { λ c. course_by c.plan c.memos.items };
+    ghost view = { λ c. table_by c.plan c.memos.items };
 
-    ghost invariant = { λ c. IsCourse c.plan c.memos.items c.users c.agenda
+    ghost invariant = { λ c. IsStateTable c.plan c.memos.items c.users c.queues
         × HasFollowed c.plan c.memos.items c.users c.followed };
 }
 
 impl StateTable {
-    /// A course on which nothing has begun, by what is known of each derivation of the plan, at its
-    /// number: its standing, whether it is wanted, and its nearest earlier twin. `NoMemory`, the
-    /// only fault, where memory is refused. Costs a few steps for each derivation and each pair of
-    /// one and what it waits for.
+    /// A state table in which nothing has begun, by what is known of each derivation of the plan,
+    /// at its number: its precondition, whether it is wanted, and its nearest earlier twin. An
+    /// error where memory is refused, and no other. Costs a few steps for each derivation and each
+    /// pair of one and what it waits for.
     pub fn open(
         alloc: Global,
         plan: Plan,
-        standings: Vec<Precondition>,
+        preconditions: Vec<Precondition>,
         wanted: Vec<bool>,
         twins: Vec<Option<usize>>,
-    ) -> Result<StateTable, BookFault>
-        requires standings { length standings.items ≡ length plan.nodes }
+    ) -> Result<StateTable, AllocError>
+        requires preconditions { length preconditions.items ≡ length plan.nodes }
         requires wanted { length wanted.items ≡ length plan.nodes }
         requires twins { length twins.items ≡ length plan.nodes }
         requires smaller { (d : ℕ) → All (λ t. t < d) (listed (slice_index_or twins.items d None)) }
-        ensures graph { IfOk result (λ course. course.graph ≡ plan) }
-        ensures standings { IfOk result (λ course. course.standings ≡ standings.items) }
-        ensures wanted { IfOk result (λ course. course.wanted ≡ wanted.items) }
-        ensures twins { IfOk result (λ course. course.twins ≡ twins.items) }
-        ensures phases { IfOk result (λ course. length course.phases ≡ length plan.nodes) }
-        ensures idle { IfOk result (λ course. (d : ℕ) → slice_index_or course.phases d Idle
+        ensures graph { IfOk result (λ table. table.graph ≡ plan) }
+        ensures preconditions { IfOk result (λ table. table.preconditions ≡ preconditions.items) }
+        ensures wanted { IfOk result (λ table. table.wanted ≡ wanted.items) }
+        ensures twins { IfOk result (λ table. table.twins ≡ twins.items) }
+        ensures phases { IfOk result (λ table. length table.phases ≡ length plan.nodes) }
+        ensures idle { IfOk result (λ table. (d : ℕ) → slice_index_or table.phases d Idle
             ≡ Idle) }
-        ensures err { IfErr result (λ fault. fault ≡ NoMemory) }
     {
         let users = Users::open(alloc, &plan, &twins)?;
-        let memos = memos_of(alloc, &plan, &standings, &wanted, &twins)?;
-        let agenda = WorkQueues::open(alloc, &memos)?;
+        let memos = memos_of(alloc, &plan, &preconditions, &wanted, &twins)?;
+        let queues = WorkQueues::open(alloc, &memos)?;
         Ok(StateTable {
             plan,
             memos,
             users,
-            agenda,
+            queues,
             followed: 0,
         })
     }
@@ -105,7 +102,7 @@ impl StateTable {
     /// The state of the derivation with this number.
     pub fn state(&self, d: usize) -> State
         requires { d < length self.now.graph.nodes }
-        ensures { result ≡ course_state self.now d }
+        ensures { result ≡ table_state self.now d }
     {
         self.memos[d].state
     }
@@ -114,7 +111,7 @@ impl StateTable {
     pub fn next(&self) -> Option<usize>
         ensures { MatchOption result ((d : ℕ) → IsNext self.now d → ⊥) (λ d. IsNext self.now d) }
     {
-        self.agenda.first()
+        self.queues.first()
     }
 
     /// Begins a derivation under the lease with this number. Takes no memory.
@@ -147,19 +144,19 @@ impl StateTable {
     pub fn settled(&self) -> bool
         ensures { IsTrue result ↔ IsSettled self.now }
     {
-        self.agenda.is_settled()
+        self.queues.is_settled()
     }
 
     /// How many wanted derivations are Blocked, Ready or Building.
     pub fn unsettled(&self) -> usize
         ensures { HasCount (IsUnsettledIn self.now) result }
     {
-        self.agenda.unsettled()
+        self.queues.unsettled()
     }
 
     /// Along how many edges an end was told.
     pub fn followed_edges(&self) -> usize
-        ensures { result ≡ course_followed self.now }
+        ensures { result ≡ table_followed self.now }
     {
         self.followed
     }
@@ -167,12 +164,12 @@ impl StateTable {
     // Notes the state of a derivation, by its last event.
     fn note(&mut self, d: usize, state: State)
         requires within { d < length self.old.graph.nodes }
-        requires turns { Turns (course_state self.old d) state }
+        requires turns { Turns (table_state self.old d) state }
         requires begun { phase_in state ≡ Idle → ⊥ }
         ensures { self.new
             ≡ record self.old { phases = slice_set self.old.phases d (phase_in state) } }
     {
-        let followed = change_state(&self.users, &mut self.memos, &mut self.agenda, d, state);
+        let followed = change_state(&self.users, &mut self.memos, &mut self.queues, d, state);
         self.followed += followed;
     }
 }
@@ -189,22 +186,22 @@ fn wanted_in(alloc: Global, memos: &[NodeState]) -> Result<Vec<bool>, AllocError
 fn memos_of(
     alloc: Global,
     plan: &Plan,
-    standings: &[Precondition],
+    preconditions: &[Precondition],
     wanted: &[bool],
     twins: &[Option<usize>],
 ) -> Result<Vec<NodeState>, AllocError>
-    requires standings { length standings.now ≡ length plan.now.nodes }
+    requires preconditions { length preconditions.now ≡ length plan.now.nodes }
     requires wanted { length wanted.now ≡ length plan.now.nodes }
     requires twins { length twins.now ≡ length plan.now.nodes }
     requires smaller { (d : ℕ) → All (λ t. t < d) (listed (slice_index_or twins.now d None)) }
     ensures ok { IfOk result
-        (λ memos. AreOpening plan.now standings.now wanted.now twins.now memos.items) }
+        (λ memos. AreOpening plan.now preconditions.now wanted.now twins.now memos.items) }
     ensures room { IfOk result (λ memos. vec_capacity memos ≡ length plan.now.nodes) }
 {
     let mut memos = Vec::with_capacity(alloc, plan.len())?;
     for d in 0..plan.len() {
         let inputs = inputs_of(plan, d);
-        let memo = memo_of(standings[d], wanted[d], twins[d], inputs, &memos);
+        let memo = memo_of(preconditions[d], wanted[d], twins[d], inputs, &memos);
         memos.push_reserved(memo);
     }
     Ok(memos)

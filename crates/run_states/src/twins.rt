@@ -1,24 +1,21 @@
 //! The nearest earlier twins of a plan's derivations.
-ghost use Rattle.std.specs.Prelude.{◌≡◌, ◌<◌, ◌≤◌, ℕ, All, IfErr, IfOk, List, None, length, vec_capacity};
+ghost use Rattle.std.specs.Prelude.{◌≡◌, ◌<◌, ℕ, All, IfOk, List, None, length, vec_capacity};
 ghost use Rattle.std.specs.List.{slice_index_or};
-ghost use Rattle.drv_graph.specs.SoundGraphs.{IsSound};
 ghost use Rattle.valid_table.specs.declared.entry.Entry.{Entry};
 ghost use Rattle.run_states.specs.StateTables.{AreNearest, AreWanted, listed};
 ghost use Rattle.run_states.specs.Runs.{Run};
-ghost use Rattle.drv_graph.specs.Twins.{first_twin_of};
 
-use crate::fault::BookFault;
 use drv_graph::Plan;
-use std::alloc::Global;
+use std::alloc::{AllocError, Global};
 
 /// Of each derivation, its nearest earlier twin: the last wanted one of a smaller number with the
-/// same output paths. `wanted` says of each derivation, by its number, whether it is wanted. Answers
-/// `NoMemory` where memory is refused, and no other fault. Costs a few steps for each derivation.
+/// same output paths. `wanted` says of each derivation, by its number, whether it is wanted. An
+/// error where memory is refused, and no other. Costs a few steps for each derivation.
 pub fn nearest_twins(
     alloc: Global,
     plan: &Plan,
     wanted: &[bool],
-) -> Result<Vec<Option<usize>>, BookFault>
+) -> Result<Vec<Option<usize>>, AllocError>
     requires { length wanted.now ≡ length plan.now.nodes }
     ensures ok { IfOk result (λ twins. (run : Run) (opening : List Entry) → run.graph ≡ plan.now
         → AreWanted run opening wanted.now → AreNearest run opening twins.items) }
@@ -26,7 +23,6 @@ pub fn nearest_twins(
     ensures smaller { IfOk result
         (λ twins. (d : ℕ) → All (λ t. t < d) (listed (slice_index_or twins.items d None))) }
     ensures room { IfOk result (λ twins. vec_capacity twins ≡ length plan.now.nodes) }
-    ensures err { IfErr result (λ fault. fault ≡ BookFault.NoMemory) }
 {
     // Of each first twin, the last wanted one so far.
     let mut last = vec![in alloc; None; plan.len()]?;

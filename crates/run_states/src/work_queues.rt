@@ -1,7 +1,7 @@
 //! What is still to be done of a plan: which derivations can be begun, and which ended ones have
 //! users that are still to be told.
-ghost use Rattle.std.specs.Prelude.{◌≡◌, ◌≤◌, ◌==◌, [], IfErr, IfOk, Option, if◌then◌else◌, length, slice_get, drop};
-ghost use Rattle.run_states.specs.Agendas.{IsAgenda, IsFresh, is_blocked, is_ready, noted, settles};
+ghost use Rattle.std.specs.Prelude.{◌≡◌, ◌≤◌, ◌==◌, [], IfOk, Option, if◌then◌else◌, length, slice_get, drop};
+ghost use Rattle.run_states.specs.WorkQueues.{AreQueues, IsFresh, is_blocked, is_ready, noted, settles};
 
 use crate::node_states::NodeState;
 use crate::state::State;
@@ -23,7 +23,7 @@ pub(crate) struct WorkQueues {
 }
 
 impl Model for WorkQueues {
-    ghost use Rattle.run_states.specs.Agendas.{WorkQueues};
+    ghost use Rattle.run_states.specs.WorkQueues.{WorkQueues};
 
     ghost Value = { WorkQueues };
 
@@ -37,13 +37,13 @@ impl Model for WorkQueues {
 }
 
 impl WorkQueues {
-    // The agenda of derivations with these memos. Takes memory for all that may come.
+    // The work queues of derivations with these memos. Takes memory for all that may come.
     pub(crate) fn open(alloc: Global, memos: &[NodeState]) -> Result<WorkQueues, AllocError>
-        ensures is { IfOk result (λ agenda. IsAgenda memos.now agenda) }
-        ensures fresh { IfOk result (λ agenda. IsFresh memos.now agenda) }
-        ensures none { IfOk result (λ agenda. agenda.work ≡ []) }
-        ensures room { IfOk result (λ agenda. agenda.room ≡ length memos.now) }
-        ensures space { IfOk result (λ agenda. agenda.space ≡ length memos.now) }
+        ensures is { IfOk result (λ queues. AreQueues memos.now queues) }
+        ensures fresh { IfOk result (λ queues. IsFresh memos.now queues) }
+        ensures none { IfOk result (λ queues. queues.work ≡ []) }
+        ensures room { IfOk result (λ queues. queues.room ≡ length memos.now) }
+        ensures space { IfOk result (λ queues. queues.space ≡ length memos.now) }
     {
         let mut ring = HeapCircularBuffer::with_capacity(alloc, memos.len())?;
         let work = HeapCircularBuffer::with_capacity(alloc, memos.len())?;
@@ -112,8 +112,8 @@ impl WorkQueues {
 
     // Takes derivations that have begun off the start of the ring.
     pub(crate) fn drop_begun(&mut self, memos: &[NodeState])
-        requires { IsAgenda memos.now self.old }
-        ensures is { IsAgenda memos.now self.new }
+        requires { AreQueues memos.now self.old }
+        ensures is { AreQueues memos.now self.new }
         ensures fresh { IsFresh memos.now self.new }
         ensures work { self.new.work ≡ self.old.work }
     {

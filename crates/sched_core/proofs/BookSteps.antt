@@ -17,8 +17,8 @@ use Rattle.run_states.specs.States.{Begun, Broken, Ended, phase_of}
 use Rattle.run_states.specs.declared.state.Event.{Event}
 use Rattle.run_states.specs.declared.state.Event.TheVariants.{Begin, Done as Finish, Fail}
 use Rattle.build_outcome.specs.declared.reason.Reason.{Reason}
-use Rattle.sched_core.proofs.Building.{all_shown, begun_lease, builds_behind_begin, builds_behind_done, builds_behind_fail, builds_over_all, builds_still}
-use Rattle.sched_core.proofs.Ending.{holding, journal_behind}
+use Rattle.sched_core.proofs.Building.{all_shown, begun_lease, builds_after_begin, builds_after_done, builds_after_fail, builds_over_all, builds_still}
+use Rattle.sched_core.proofs.Ending.{holding, journal_after}
 use Rattle.sched_core.proofs.Keeping.{begin_kept, fail_kept, finish_kept}
 
 -- ---- the history after an event
@@ -84,7 +84,7 @@ book_begun states later system opening given room later_room d entries shown pen
       is_journal = book.is_journal;
       holds = published.1;
       builds = builds_still _ _ _ _ entries _
-          (builds_behind_begin (run_over states system) (history_of opening entries events) d
+          (builds_after_begin (run_over states system) (history_of opening entries events) d
           book.kept.legal can)
           (ap (λ s. run_over s system) set_)
           (history_begun _ _ _ _ _ _ _ _ _ _ _ book pushed) published.0;
@@ -106,7 +106,7 @@ book_failed states later system opening given room later_room d lease reason ent
       opened = book.opened;
       is_journal = book.is_journal;
       holds = book.holds;
-      builds = builds_behind_fail _ _ (history_of opening entries events) _ d lease reason shown
+      builds = builds_after_fail _ _ (history_of opening entries events) _ d lease reason shown
           book.builds (ap (λ s. run_over s system) set_) (ap (history_of opening entries) pushed);
     }
 
@@ -129,14 +129,14 @@ book_ended states later system opening given room later_room d lease infos entry
       kept = finish_kept _ _ _ _ _ _ _ _ _ _ _ _ _ _ _ book.kept book.opened building done added
           pushed set_ same;
       opened = rw added (omega (arith, length_push entries entry, book.opened));
-      is_journal = journal_behind _ _ _ _ _ _ done derived book.is_journal added;
+      is_journal = journal_after _ _ _ _ _ _ done derived book.is_journal added;
       holds = holding _ _ _ _ _ _ _ _ book.holds added same_shown waits same_entry;
-      builds = builds_behind_done _ _ (history_of opening entries events) _ _ _ _ _ _ _
+      builds = builds_after_done _ _ (history_of opening entries events) _ _ _ _ _ _ _
           book.builds (ap (λ s. run_over s system) set_) refl
           (history_ended _ _ _ _ _ _ _ _ book.opened added pushed) same_shown;
     }
 
--- what beginning a derivation comes to
+-- what beginning a derivation changes
 pub beginning : (before : Ledger) (states later : StateTable) (system : Platform)
     (opening given room d n : ℕ) (entries shown pending after_shown after_pending : List Entry)
     (events after : List Event) (job made : Job)

@@ -27,9 +27,9 @@ builds_over_all run history legal job number lease =
     search (rules, All-from_contains, seeds_of_lease)
 
 -- and after one Begin more
-pub builds_behind_begin : (run : Run) (history : History) (d : ℕ) → IsLegal run history
+pub builds_after_begin : (run : Run) (history : History) (d : ℕ) → IsLegal run history
     → CanBegin run history d → BuildsOver run (begun history d) history.entries
-builds_behind_begin run history d legal can =
+builds_after_begin run history d legal can =
     builds_over_all _ _ (legal_begin history d legal can.within can.wanted can.ready)
 
 -- which gives a lease
@@ -59,10 +59,10 @@ begun_before events (Fail e n reason) d number ends is =
     search (rules, begun_before_fail, eqb, phase_push)
 
 -- so it is built from what was valid then
-builds_behind : (run : Run) (history after : History) (event : Event) (shown : List Entry)
+builds_after : (run : Run) (history after : History) (event : Event) (shown : List Entry)
     → BuildsOver run history shown → after.events ≡ history.events ++ event ∷ []
     → is_begin event ≡ false → BuildsOver run after shown
-builds_behind run history after event shown builds added ends job number lease =
+builds_after run history after event shown builds added ends job number lease =
     builds job number
     (record {
       building = begun_before history.events _ job.derivation _ ends
@@ -70,20 +70,20 @@ builds_behind run history after event shown builds added ends job number lease =
       is_job = lease.is_job;
     })
 
-pub builds_behind_fail : (run after_run : Run) (history after : History) (d lease : ℕ)
+pub builds_after_fail : (run after_run : Run) (history after : History) (d lease : ℕ)
     (reason : Reason) (shown : List Entry) → BuildsOver run history shown → after_run ≡ run
     → after ≡ failed history d lease reason → BuildsOver after_run after shown
-builds_behind_fail run after_run history after d lease reason shown builds same is =
-    rw (same, is) (builds_behind _ _ _ _ shown builds refl refl)
+builds_after_fail run after_run history after d lease reason shown builds same is =
+    rw (same, is) (builds_after _ _ _ _ shown builds refl refl)
 
-pub builds_behind_done : (run after_run : Run) (history between after : History) (d lease : ℕ)
+pub builds_after_done : (run after_run : Run) (history between after : History) (d lease : ℕ)
     (entry : Entry) (shown after_shown : List Entry) → BuildsOver run history shown
     → after_run ≡ run → between ≡ history → after ≡ ended between d lease entry
     → after_shown ≡ shown → BuildsOver after_run after after_shown
-builds_behind_done run after_run history between after d lease entry shown after_shown builds same
+builds_after_done run after_run history between after d lease entry shown after_shown builds same
     still is stays =
     rw (same, is, still, stays)
-    (builds_behind _ _ (ended history d lease entry) _ shown builds refl
+    (builds_after _ _ (ended history d lease entry) _ shown builds refl
     refl)
 
 -- ---- where no event is added

@@ -77,45 +77,45 @@ pub kind_of_job : (graph : Graph) (d : ℕ) (job : Job) (kind : Kind)
     → job.kind ≡ kind
 kind_of_job graph d job kind told is = search (rules, one_kind)
 
-names_of : (lent : List OutputStruct) (drv : Drv) → map output_of lent ≡ drv.outputs
-    → map (λ (o : OutputStruct). o.name.items) lent ≡ map (λ (o : Output). o.name) drv.outputs
-names_of lent drv view = search (rules, map-map)
+names_of : (outs : List OutputStruct) (drv : Drv) → map output_of outs ≡ drv.outputs
+    → map (λ (o : OutputStruct). o.name.items) outs ≡ map (λ (o : Output). o.name) drv.outputs
+names_of outs drv view = search (rules, map-map)
 
-pub makes_of : (graph : Graph) (d : ℕ) (job : Job) (drv : Drv) (lent : List OutputStruct)
+pub makes_of : (graph : Graph) (d : ℕ) (job : Job) (drv : Drv) (outs : List OutputStruct)
     (paths : List (List ℕ)) → slice_get (drvs_of graph.nodes) d ≡ Some drv
-    → map output_of lent ≡ drv.outputs → IfSome (slice_get graph.nodes d)
+    → map output_of outs ≡ drv.outputs → IfSome (slice_get graph.nodes d)
     (λ (n : Node). paths ≡ output_paths_of n.drv) → IsJob graph d job
-    → MakesAt lent paths job.outputs.items
-makes_of graph d job drv lent paths at view told is = search (rules, drv_is, names_of)
+    → MakesAt outs paths job.outputs.items
+makes_of graph d job drv outs paths at view told is = search (rules, drv_is, names_of)
 
-pub as_many_paths : (graph : Graph) (d : ℕ) (drv : Drv) (lent : List OutputStruct)
+pub as_many_paths : (graph : Graph) (d : ℕ) (drv : Drv) (outs : List OutputStruct)
     (paths : List (List ℕ)) → d < length graph.nodes → slice_get (drvs_of graph.nodes) d ≡ Some drv
-    → map output_of lent ≡ drv.outputs → IfSome (slice_get graph.nodes d)
-    (λ (n : Node). paths ≡ output_paths_of n.drv) → length paths ≡ length lent
-as_many_paths graph d drv lent paths low at view told =
+    → map output_of outs ≡ drv.outputs → IfSome (slice_get graph.nodes d)
+    (λ (n : Node). paths ≡ output_paths_of n.drv) → length paths ≡ length outs
+as_many_paths graph d drv outs paths low at view told =
     let own = element_at _ d low in
     let same : drv ≡ own.0.drv = drv_is _ d _ _ own.1 at in
     let are : paths ≡ output_paths_of own.0.drv =
     subst (λ o. IfSome o (λ (n : Node). paths ≡ output_paths_of n.drv)) own.1 told in
     ap (length {A = List ℕ}) are ∙ length-map own.0.drv.outputs (λ (o : Output). o.path)
     ∙ ap (λ (x : Drv). length x.outputs) (sym same) ∙ ap (length {A = Output}) (sym view)
-    ∙ length-map lent output_of
+    ∙ length-map outs output_of
 
 -- it is the derivation's where its parts are, its seeds, and its whole inputs
 pub job_by_parts : (graph : Graph) (d : ℕ) (job : Job) (drv : Drv) (kind : Kind)
-    (lent : List OutputStruct) (paths : List (List ℕ)) (told : Bool) → d < length graph.nodes
+    (outs : List OutputStruct) (paths : List (List ℕ)) (told : Bool) → d < length graph.nodes
     → slice_get (drvs_of graph.nodes) d ≡ Some drv → job.derivation ≡ d
     → IfSome (slice_get graph.nodes d) (λ (n : Node). HasKind n.drv kind) → job.kind ≡ kind
     → job.profile ≡ graph.profile
     → HasRecipe drv job
-    → map output_of lent ≡ drv.outputs → IfSome (slice_get graph.nodes d)
-    (λ (n : Node). paths ≡ output_paths_of n.drv) → MakesAt lent paths job.outputs.items
+    → map output_of outs ≡ drv.outputs → IfSome (slice_get graph.nodes d)
+    (λ (n : Node). paths ≡ output_paths_of n.drv) → MakesAt outs paths job.outputs.items
     → IfSome (slice_get graph.nodes d)
     (λ (n : Node). job.seeds.items ≡ seeds_of graph.nodes n.drv)
     → IfSome (slice_get graph.nodes d) (λ (n : Node). IsTrue told
     ↔ (map shown_whole job.whole_inputs.items ≡ whole_inputs_of graph.profile graph.nodes n.drv))
     → IsTrue told ↔ IsJob graph d job
-job_by_parts graph d job drv kind lent paths told low at number kinds kind_is profile recipe view
+job_by_parts graph d job drv kind outs paths told low at number kinds kind_is profile recipe view
     path makes seeds whole =
     let own = element_at _ d low in
     let node : Node = own.0 in

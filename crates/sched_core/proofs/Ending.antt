@@ -87,15 +87,15 @@ holding entries more shown after_shown pending after_pending entry copy held mor
     same_entry = search (rules, append_assoc)
 
 -- the entries are a journal after the entry, too
-pub journal_behind : (run : Run) (entries more : List Entry) (d : ℕ) (infos : List PathInfo)
+pub journal_after : (run : Run) (entries more : List Entry) (d : ℕ) (infos : List PathInfo)
     (entry : Entry) → IsDone run entries d infos entry → HasDrvPath entry → IsJournal entries
     → more ≡ entries ++ entry ∷ [] → IsJournal more
-journal_behind run entries more d infos entry done derived journal more_is =
+journal_after run entries more d infos entry done derived journal more_is =
     rw more_is
     (done_is_journal run _ _ infos entry done.allowed done.is_entry journal
     (subst HasDrvPath done.is_entry.is_done derived))
 
--- what ending a lease by a Done comes to
+-- what ending a lease by a Done changes
 pub finishing : (before : Ledger) (run after_run : Run) (history between after : History)
     (shown after_shown pending after_pending : List Entry)
     (job : Job) (number d n : ℕ) (infos : List PathInfo) (entry copy : Entry)

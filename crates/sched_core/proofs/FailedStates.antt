@@ -43,29 +43,30 @@ failed_by_twins true still other reason none is = absurd cc
 failed_by_twins false true other reason none is = absurd cc
 failed_by_twins false false other reason none is = none is
 
-failed_by_standing : (standing : Precondition) (built still : Bool) (found : Option ℕ) (all : Bool)
-    (reason : Reason) → by_validity standing (if built then Reused else if still then Blocked
-    else by_hindrance standing (by_first found all)) ≡ Failed reason → ⊥
-failed_by_standing AllValid built still found all reason is = absurd cc
-failed_by_standing (Hindered cause) built still found all reason is =
+failed_by_precondition : (precondition : Precondition) (built still : Bool) (found : Option ℕ)
+    (all : Bool)
+    (reason : Reason) → by_validity precondition (if built then Reused else if still then Blocked
+    else by_hindrance precondition (by_first found all)) ≡ Failed reason → ⊥
+failed_by_precondition AllValid built still found all reason is = absurd cc
+failed_by_precondition (Hindered cause) built still found all reason is =
     failed_by_twins built still (Refused cause) reason (λ same. absurd cc) is
-failed_by_standing Free built still found all reason is =
+failed_by_precondition Free built still found all reason is =
     failed_by_twins built still (by_first found all) reason (failed_by_first found all reason) is
 
-broken_by_phase : (p : Phase) (standing : Precondition) (built still : Bool) (found : Option ℕ)
-    (all : Bool) (reason : Reason) → stands_by p standing built still found all ≡ Failed reason
+broken_by_phase : (p : Phase) (precondition : Precondition) (built still : Bool) (found : Option ℕ)
+    (all : Bool) (reason : Reason) → stands_by p precondition built still found all ≡ Failed reason
     → p ≡ Broken reason
-broken_by_phase Idle standing built still found all reason is =
-    absurd (failed_by_standing standing built still found all reason is)
-broken_by_phase (Begun n) standing built still found all reason is = absurd cc
-broken_by_phase Ended standing built still found all reason is = absurd cc
-broken_by_phase (Broken why) standing built still found all reason is = cc
+broken_by_phase Idle precondition built still found all reason is =
+    absurd (failed_by_precondition precondition built still found all reason is)
+broken_by_phase (Begun n) precondition built still found all reason is = absurd cc
+broken_by_phase Ended precondition built still found all reason is = absurd cc
+broken_by_phase (Broken why) precondition built still found all reason is = cc
 
 broken_from_failed : (run : Run) (history : History) (d : ℕ) (reason : Reason)
     → state_in run history d ≡ Failed reason → phase_of history.events d ≡ Broken reason
 broken_from_failed run history d reason is =
     let rows = rows_of run history.opening history.events in
-    broken_by_phase _ (rows.standing d) (any_twin rows is_done d)
+    broken_by_phase _ (rows.precondition d) (any_twin rows is_done d)
     (any_twin rows is_open d) (first_bad rows d) (all_good rows d) _
     (sym (state_is _ (run_twins _ _ history.events) d) ∙ is)
 
@@ -136,8 +137,8 @@ seeds_of_failed run history legal d reason node is at =
     All-from_contains (IsValid (registered history.entries)) (seeds_of run.graph.nodes node.drv)
     (λ path has. seeds_are_valid run history legal d given.0 given.1 node at path has)
 
-pub had_seeds : (system : Platform) (history : History) (course : StateTable) (given room : ℕ)
-    → IsRunKept system history course given room → HadSeeds course history.entries
-had_seeds system history course given room kept d reason node is at =
-    seeds_of_failed (run_over course system) history kept.legal d reason node
+pub had_seeds : (system : Platform) (history : History) (table : StateTable) (given room : ℕ)
+    → IsRunKept system history table given room → HadSeeds table history.entries
+had_seeds system history table given room kept d reason node is at =
+    seeds_of_failed (run_over table system) history kept.legal d reason node
     (sym (states_told _ _ _ _ _ kept d) ∙ is) at

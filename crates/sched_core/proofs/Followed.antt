@@ -15,49 +15,49 @@ use Rattle.drv_graph.specs.Nodes.{Node, inputs_of, paths_of}
 use Rattle.drv_graph.specs.Plans.{AreNumbers}
 use Rattle.drv_graph.specs.PlanNodes.{drvs_of, output_paths_of}
 use Rattle.drv_graph.proofs.Numbers.{numbers_length}
-use Rattle.sched_core.specs.private.Following.{IsBehind}
+use Rattle.sched_core.specs.private.Following.{IsRest}
 use Rattle.build_outcome.specs.Jobs.{named_outputs, paths_named, seeds_of}
 use Rattle.sched_core.proofs.SeedParts.{at_input, first_more, first_named, first_seeds, input_added, output_at, outputs_count, path_at, read_at}
 use Rattle.nix_names.proofs.Lists.{element_at}
 
 -- after one front, and another after that
-pub behind_both : (paths front more : List (List ℕ)) (between : Bor (List (List ℕ)))
-    (left : Option (Bor (List (List ℕ)))) → IsBehind paths front (Some between)
-    → IsBehind between.now more left → IsBehind paths (front ++ more) left
-behind_both paths front more between (Some left) first second = search (rules, append_assoc)
-behind_both paths front more between None first second =
+pub rest_after_both : (paths front more : List (List ℕ)) (between : Bor (List (List ℕ)))
+    (left : Option (Bor (List (List ℕ)))) → IsRest paths front (Some between)
+    → IsRest between.now more left → IsRest paths (front ++ more) left
+rest_after_both paths front more between (Some left) first second = search (rules, append_assoc)
+rest_after_both paths front more between None first second =
     search (rules, append_cancel_left, append_assoc)
 
 -- paths that don't begin with a front don't begin with a longer one
-pub behind_none : (paths front more : List (List ℕ)) → IsBehind paths front None
-    → IsBehind paths (front ++ more) None
-behind_none paths front more none = search (rules, append_assoc)
+pub rest_after_none : (paths front more : List (List ℕ)) → IsRest paths front None
+    → IsRest paths (front ++ more) None
+rest_after_none paths front more none = search (rules, append_assoc)
 
 -- What is left after more paths, where something was left before.
 abbrev pub IsStep : Option (Bor (List (List ℕ))) → (more : List (List ℕ))
     → Option (Bor (List (List ℕ))) → Type 0
 IsStep left more next = MatchOption left (next ≡ None)
-    (λ (rest : Bor (List (List ℕ))). IsBehind rest.now more next)
+    (λ (rest : Bor (List (List ℕ))). IsRest rest.now more next)
 
-pub behind_step : (paths front more : List (List ℕ)) (left next : Option (Bor (List (List ℕ))))
-    → IsBehind paths front left → IsStep left more next → IsBehind paths (front ++ more) next
-behind_step paths front more (Some between) next first step = search (rules, behind_both)
-behind_step paths front more None next first step =
-    subst (IsBehind paths (front ++ more)) (sym step) (behind_none _ _ _ first)
+pub rest_after_step : (paths front more : List (List ℕ)) (left next : Option (Bor (List (List ℕ))))
+    → IsRest paths front left → IsStep left more next → IsRest paths (front ++ more) next
+rest_after_step paths front more (Some between) next first step = search (rules, rest_after_both)
+rest_after_step paths front more None next first step =
+    subst (IsRest paths (front ++ more)) (sym step) (rest_after_none _ _ _ first)
 
 -- nothing more is left
 pub all_left : (paths front : List (List ℕ)) (rest : Bor (List (List ℕ)))
-    → IsBehind paths front (Some rest) → rest.now ≡ [] → paths ≡ front
+    → IsRest paths front (Some rest) → rest.now ≡ [] → paths ≡ front
 all_left paths front rest is nothing = search (rules, append-nil)
 
 pub nothing_left : (paths front : List (List ℕ)) (rest : Bor (List (List ℕ)))
-    → IsBehind paths front (Some rest) → paths ≡ front → rest.now ≡ []
+    → IsRest paths front (Some rest) → paths ≡ front → rest.now ≡ []
 nothing_left paths front rest is same = append_cancel_left front rest.now []
     (sym is ∙ same ∙ sym (append-nil front))
 
 pub step_some : (left next : Option (Bor (List (List ℕ)))) (rest : Bor (List (List ℕ)))
-    (more : List (List ℕ)) → left ≡ Some rest → IsBehind rest.now more next → IsStep left more next
-step_some left next rest more is behind = search rules
+    (more : List (List ℕ)) → left ≡ Some rest → IsRest rest.now more next → IsStep left more next
+step_some left next rest more is is_rest = search rules
 
 pub step_none : (left next : Option (Bor (List (List ℕ)))) (more : List (List ℕ)) → left ≡ None
     → next ≡ None → IsStep left more next
@@ -66,9 +66,9 @@ step_none left next more is none = search rules
 -- what is left after an element of a list
 pub element_some : (left next given : Option (Bor (List (List ℕ)))) (rest : Bor (List (List ℕ)))
     (paths : List (List ℕ)) (n : ℕ) (path : List ℕ) → n < length paths → path ≡ get_or paths n path
-    → left ≡ Some rest → IsBehind rest.now (path ∷ []) given → next ≡ given
+    → left ≡ Some rest → IsRest rest.now (path ∷ []) given → next ≡ given
     → IsStep left (get_or paths n [] ∷ []) next
-element_some left next given rest paths n path low is some behind same =
+element_some left next given rest paths n path low is some is_rest same =
     search (rules, get_or_from_slice_get, read_at, step_some)
 
 pub element_none : (left next : Option (Bor (List (List ℕ)))) (paths : List (List ℕ)) (n : ℕ) → left
@@ -77,20 +77,20 @@ element_none left next paths n none same = search (rules, step_none)
 
 -- an output of an input is used or not
 pub used_step : (inputs : List Input) (place : ℕ) (used : Drv) (seeds paths : List (List ℕ))
-    (lent : List OutputStruct) (n : ℕ) (output : OutputStruct) (text : List ℕ) (told : Bool)
+    (outs : List OutputStruct) (n : ℕ) (output : OutputStruct) (text : List ℕ) (told : Bool)
     (left next : Option (Bor (List (List ℕ))))
-    → map output_of lent ≡ used.outputs → paths ≡ output_paths_of used → n < length paths → output
-    ≡ get_or lent n output → text ≡ output.name.items
+    → map output_of outs ≡ used.outputs → paths ≡ output_paths_of used → n < length paths → output
+    ≡ get_or outs n output → text ≡ output.name.items
     → IfSome (slice_get inputs place) (λ used. IsTrue told ↔ Contains used.names text)
     → ((told ≡ true) × IsStep left (get_or paths n [] ∷ []) next) ⊎ ((told ≡ false) × (next ≡ left))
     → ((input : Input) → slice_get inputs place ≡ Some input
-    → IsBehind seeds (first_named input.names used.outputs n) left)
+    → IsRest seeds (first_named input.names used.outputs n) left)
     → (input : Input) → slice_get inputs place ≡ Some input
-    → IsBehind seeds (first_named input.names used.outputs (n + 1)) next
-used_step inputs place used seeds paths lent n output text told left next view are low is_output
+    → IsRest seeds (first_named input.names used.outputs (n + 1)) next
+used_step inputs place used seeds paths outs n output text told left next view are low is_output
     is_text told_is either before input at_place =
-    let below : n < length lent = omega (arith, low, outputs_count used _ _ view are) in
-    let at : slice_get lent n ≡ Some output = read_at _ n _ below is_output in
+    let below : n < length outs = omega (arith, low, outputs_count used _ _ view are) in
+    let at : slice_get outs n ≡ Some output = read_at _ n _ below is_output in
     let named = subst (λ t. IfSome (slice_get inputs place)
     (λ used. IsTrue told ↔ Contains used.names t)) is_text told_is in
     let there = output_at _ used n _ view at in
@@ -100,14 +100,14 @@ used_step inputs place used seeds paths lent n output text told left next view a
     let its : get_or paths n [] ≡ output.path.items =
     path_at _ used n _ _ are
     (slice_get-get_or _ n [] low) there in
-    subst (λ l. IsBehind seeds l next)
+    subst (λ l. IsRest seeds l next)
     (sym (first_more _ _ n _ _ there
     (is_named ∙ is_used.0)))
-    (behind_step _ _ _ _ _
+    (rest_after_step _ _ _ _ _
     (before input at_place) (subst (λ p. IsStep left (p ∷ []) next) its is_used.1)))
     (λ unused.
-    subst (λ o. IsBehind seeds (first_named input.names used.outputs (n + 1)) o) (sym unused.1)
-    (subst (λ l. IsBehind seeds l left)
+    subst (λ o. IsRest seeds (first_named input.names used.outputs (n + 1)) o) (sym unused.1)
+    (subst (λ l. IsRest seeds l left)
     (sym (first_more _ _ n _ _ there
     (is_named ∙ unused.0) ∙ append-nil (first_named input.names used.outputs n)))
     (before input at_place)))
@@ -117,14 +117,14 @@ used_step inputs place used seeds paths lent n output text told left next view a
 pub used_all : (inputs : List Input) (place : ℕ) (used : Drv) (seeds : List (List ℕ)) (n : ℕ)
     (left : Option (Bor (List (List ℕ)))) → length used.outputs ≤ n
     → ((input : Input) → slice_get inputs place ≡ Some input
-    → IsBehind seeds (first_named input.names used.outputs n) left)
+    → IsRest seeds (first_named input.names used.outputs n) left)
     → (input : Input) → slice_get inputs place ≡ Some input
-    → IsBehind seeds (paths_named input.names used) left
-used_all inputs place used seeds n left all behind input at =
-    subst (λ l. IsBehind seeds
+    → IsRest seeds (paths_named input.names used) left
+used_all inputs place used seeds n left all is_rest input at =
+    subst (λ l. IsRest seeds
     (map (λ (o : Output). o.path)
     (filter (λ (o : Output). list_any (same_bytes o.name) input.names) l)) left)
-    (take_all n used.outputs all) (behind input at)
+    (take_all n used.outputs all) (is_rest input at)
 
 -- an input was seen
 pub input_step : (nodes : List Node) (d : ℕ) (drv used : Drv) (numbers : List ℕ) (place number : ℕ)
@@ -137,9 +137,9 @@ pub input_step : (nodes : List Node) (d : ℕ) (drv used : Drv) (numbers : List 
     → ((input : Input) → slice_get drv.inputs place ≡ Some input
     → IsStep left (paths_named input.names used) next)
     → ((node : Node) → slice_get nodes d ≡ Some node
-    → IsBehind seeds (first_seeds nodes node place) left)
+    → IsRest seeds (first_seeds nodes node place) left)
     → (node : Node) → slice_get nodes d ≡ Some node
-    → IsBehind seeds (first_seeds nodes node (place + 1)) next
+    → IsRest seeds (first_seeds nodes node (place + 1)) next
 input_step nodes d drv used numbers place number seeds left next once is_drv are at_number at_used
     within step before node at =
     let there = element_at _ _ within in
@@ -151,8 +151,8 @@ input_step nodes d drv used numbers place number seeds left next once is_drv are
     (one_input drv.inputs place there.0 input there.1 is))
     (λ other is. ap (λ (x : Node). first_seeds nodes x place) (one_node nodes d node other at is))
     node at in
-    subst (λ l. IsBehind seeds l next) more
-    (behind_step _ _ _ _ _
+    subst (λ l. IsRest seeds l next) more
+    (rest_after_step _ _ _ _ _
     (before node at) (step there.0 there.1))
   where
     one_input : (inputs : List Input) (n : ℕ) (a b : Input) → slice_get inputs n ≡ Some a
@@ -166,10 +166,10 @@ input_step nodes d drv used numbers place number seeds left next once is_drv are
 pub input_some : (inputs : List Input) (place : ℕ) (used : Drv)
     (left next given : Option (Bor (List (List ℕ)))) (rest : Bor (List (List ℕ))) → left ≡ Some rest
     → ((input : Input) → slice_get inputs place ≡ Some input
-    → IsBehind rest.now (paths_named input.names used) given) → next ≡ given
+    → IsRest rest.now (paths_named input.names used) given) → next ≡ given
     → (input : Input) → slice_get inputs place ≡ Some input
     → IsStep left (paths_named input.names used) next
-input_some inputs place used left next given rest some behind same input at =
+input_some inputs place used left next given rest some is_rest same input at =
     search (rules, step_some)
 
 pub input_none : (inputs : List Input) (place : ℕ) (used : Drv)
@@ -184,41 +184,41 @@ pub seeds_left : (nodes : List Node) (d : ℕ) (numbers : List ℕ) (seeds : Lis
     (λ node. AreNumbers nodes numbers (inputs_of node.drv))
     → length numbers ≤ count
     → ((node : Node) → slice_get nodes d ≡ Some node
-    → IsBehind seeds (first_seeds nodes node count) left)
-    → IfSome (slice_get nodes d) (λ node. IsBehind seeds (seeds_of nodes node.drv) left)
-seeds_left nodes d numbers seeds count left are all behind = by (slice_get nodes d) refl are
+    → IsRest seeds (first_seeds nodes node count) left)
+    → IfSome (slice_get nodes d) (λ node. IsRest seeds (seeds_of nodes node.drv) left)
+seeds_left nodes d numbers seeds count left are all is_rest = by (slice_get nodes d) refl are
   where
     by : (o : Option Node) → slice_get nodes d ≡ o
         → IfSome o (λ node. AreNumbers nodes numbers (inputs_of node.drv))
-        → IfSome o (λ node. IsBehind seeds (seeds_of nodes node.drv) left)
+        → IfSome o (λ node. IsRest seeds (seeds_of nodes node.drv) left)
     by None is its = tt
     by (Some node) is its =
         let counts : length numbers ≡ length (inputs_of node.drv) =
         numbers_length _ _ _ its in
-        subst (λ l. IsBehind seeds (node.drv.sources ++ flat_map (named_outputs nodes) l) left)
+        subst (λ l. IsRest seeds (node.drv.sources ++ flat_map (named_outputs nodes) l) left)
         (take_all count node.drv.inputs
         (omega (arith, all, counts, length-map node.drv.inputs (λ (i : Input). i.path))))
-        (behind node is)
+        (is_rest node is)
 
 -- whether exactly the seeds were there
 pub seeds_told : (nodes : List Node) (d : ℕ) (seeds : List (List ℕ)) (rest : Bor (List (List ℕ)))
     (told : Bool) → IfSome (slice_get nodes d)
-    (λ node. IsBehind seeds (seeds_of nodes node.drv) (Some rest))
+    (λ node. IsRest seeds (seeds_of nodes node.drv) (Some rest))
     → IsTrue told ↔ (rest.now ≡ []) → IfSome (slice_get nodes d)
     (λ node. IsTrue told ↔ (seeds ≡ seeds_of nodes node.drv))
-seeds_told nodes d seeds rest told behind nothing = by (slice_get nodes d) behind
+seeds_told nodes d seeds rest told is_rest nothing = by (slice_get nodes d) is_rest
   where
-    by : (o : Option Node) → IfSome o (λ node. IsBehind seeds (seeds_of nodes node.drv) (Some rest))
+    by : (o : Option Node) → IfSome o (λ node. IsRest seeds (seeds_of nodes node.drv) (Some rest))
         → IfSome o (λ node. IsTrue told ↔ (seeds ≡ seeds_of nodes node.drv))
     by None its = tt
     by (Some node) its = search (rules, all_left, nothing_left)
 
 pub seeds_untold : (nodes : List Node) (d : ℕ) (seeds : List (List ℕ))
-    → IfSome (slice_get nodes d) (λ node. IsBehind seeds (seeds_of nodes node.drv) None)
+    → IfSome (slice_get nodes d) (λ node. IsRest seeds (seeds_of nodes node.drv) None)
     → IfSome (slice_get nodes d) (λ node. IsTrue false ↔ (seeds ≡ seeds_of nodes node.drv))
-seeds_untold nodes d seeds behind = by (slice_get nodes d) behind
+seeds_untold nodes d seeds is_rest = by (slice_get nodes d) is_rest
   where
-    by : (o : Option Node) → IfSome o (λ node. IsBehind seeds (seeds_of nodes node.drv) None)
+    by : (o : Option Node) → IfSome o (λ node. IsRest seeds (seeds_of nodes node.drv) None)
         → IfSome o (λ node. IsTrue false ↔ (seeds ≡ seeds_of nodes node.drv))
     by None its = tt
     by (Some node) its = (

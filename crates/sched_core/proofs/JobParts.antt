@@ -54,11 +54,11 @@ pub made_all : (outputs : List OutputStruct) (paths : List (List ℕ)) (made : L
 made_all outputs paths made n all same are = search (rules, take_all)
 
 -- there is a path for each output
-pub paths_count : (nodes : List Node) (d : ℕ) (drv : Drv) (lent : List OutputStruct)
+pub paths_count : (nodes : List Node) (d : ℕ) (drv : Drv) (outs : List OutputStruct)
     (paths : List (List ℕ)) → d < length nodes → slice_get (drvs_of nodes) d ≡ Some drv
-    → map output_of lent ≡ drv.outputs → IfSome (slice_get nodes d)
-    (λ node. paths ≡ output_paths_of node.drv) → length paths ≡ length lent
-paths_count nodes d drv lent paths low is_drv view are =
+    → map output_of outs ≡ drv.outputs → IfSome (slice_get nodes d)
+    (λ node. paths ≡ output_paths_of node.drv) → length paths ≡ length outs
+paths_count nodes d drv outs paths low is_drv view are =
     let there = element_at _ d low in
     let its : paths ≡ output_paths_of there.0.drv =
     subst (λ (o : Option Node). IfSome o (λ (n : Node). paths ≡ output_paths_of n.drv)) there.1
@@ -67,23 +67,23 @@ paths_count nodes d drv lent paths low is_drv view are =
     let many : length paths ≡ length (output_paths_of there.0.drv) = ap length its in
     let size : length drv.outputs ≡ length there.0.drv.outputs =
     ap (λ (x : Drv). length x.outputs) same in
-    let lent_size : length (map output_of lent) ≡ length drv.outputs = ap length view in
+    let outs_size : length (map output_of outs) ≡ length drv.outputs = ap length view in
     omega (
       arith,
       many,
       size,
-      lent_size,
-      length-map lent output_of,
+      outs_size,
+      length-map outs output_of,
       length-map there.0.drv.outputs (λ (o : Output). o.path),
     )
 
 -- a job whose parts are those of the derivation is its job
-pub job_is : (graph : Graph) (d : ℕ) (drv : Drv) (lent : List OutputStruct) (paths : List (List ℕ))
+pub job_is : (graph : Graph) (d : ℕ) (drv : Drv) (outs : List OutputStruct) (paths : List (List ℕ))
     (copy : Parts) (job : Job)
     → d < length graph.nodes → slice_get (drvs_of graph.nodes) d ≡ Some drv
-    → map output_of lent ≡ drv.outputs → IfSome (slice_get graph.nodes d)
+    → map output_of outs ≡ drv.outputs → IfSome (slice_get graph.nodes d)
     (λ node. paths ≡ output_paths_of node.drv)
-    → named_texts job.outputs.items ≡ output_texts lent
+    → named_texts job.outputs.items ≡ output_texts outs
     → map (λ (o : JobOutput). o.path) job.outputs.items ≡ paths
     → drv_of copy ≡ drv → job.derivation ≡ d → job.builder ≡ copy.builder → job.args ≡ copy.args
     → job.env ≡ copy.env → job.profile ≡ graph.profile
@@ -92,7 +92,7 @@ pub job_is : (graph : Graph) (d : ℕ) (drv : Drv) (lent : List OutputStruct) (p
     → IfSome (slice_get graph.nodes d) (λ node. map shown_whole job.whole_inputs.items
     ≡ whole_inputs_of graph.profile graph.nodes node.drv)
     → IsJob graph d job
-job_is graph d drv lent paths copy job low is_drv view are names made same number builder args env
+job_is graph d drv outs paths copy job low is_drv view are names made same number builder args env
     profile kind seeds whole =
     let there = element_at _ d low in
     let is_node : drv_of copy ≡ there.0.drv = same ∙ drv_is _ d _ _ there.1 is_drv
@@ -106,7 +106,7 @@ job_is graph d drv lent paths copy job low is_drv view are names made same numbe
       args = ap (λ v. (drv_of (record copy { args = v })).args) args
           ∙ ap (λ (x : Drv). x.args) is_node;
       env = ap (λ v. (drv_of (record copy { env = v })).env) env ∙ ap (λ (x : Drv). x.env) is_node;
-      names = names ∙ sym (map-map (λ (o : Output). o.name) output_of lent)
+      names = names ∙ sym (map-map (λ (o : Output). o.name) output_of outs)
           ∙ ap (map (λ (o : Output). o.name)) (view ∙ ap (λ (x : Drv). x.outputs) own);
       paths = made ∙ subst (λ (o : Option Node).
           IfSome o (λ (n : Node). paths ≡ output_paths_of n.drv)) there.1 are;

@@ -14,7 +14,7 @@ use Rattle.build_outcome.specs.Jobs.{IsJob, seeds_of}
 use Rattle.build_outcome.specs.declared.job.Job.{Job}
 use Rattle.build_outcome.specs.declared.reason.Reason.{Reason}
 use Rattle.run_states.specs.Legal.{ArePermitted}
-use Rattle.run_states.specs.StateTables.{StateTable, course_state}
+use Rattle.run_states.specs.StateTables.{StateTable, table_state}
 use Rattle.run_states.specs.declared.state.State.TheVariants.{Failed}
 use Rattle.run_report.specs.NamedPaths.{IsPermittedAt, named_at}
 use Rattle.sched_core.specs.Books.{ArePermittedPaths, AreSeedsValid}
@@ -22,15 +22,15 @@ use Rattle.sched_core.specs.private.Naming.{HadSeeds}
 
 -- ---- the seeds of a derivation that failed
 
-pub its_seeds : (course : StateTable) (entries : List Entry) (d : ℕ) (reason : Reason)
-    → HadSeeds course entries → course_state course d ≡ Failed reason
-    → IfSome (slice_get course.graph.nodes d)
-    (λ node. All (IsValid (registered entries)) (seeds_of course.graph.nodes node.drv))
-its_seeds course entries d reason had is = by (slice_get course.graph.nodes d) refl
+pub its_seeds : (table : StateTable) (entries : List Entry) (d : ℕ) (reason : Reason)
+    → HadSeeds table entries → table_state table d ≡ Failed reason
+    → IfSome (slice_get table.graph.nodes d)
+    (λ node. All (IsValid (registered entries)) (seeds_of table.graph.nodes node.drv))
+its_seeds table entries d reason had is = by (slice_get table.graph.nodes d) refl
   where
-    by : (at : Option Node) → slice_get course.graph.nodes d ≡ at
+    by : (at : Option Node) → slice_get table.graph.nodes d ≡ at
         → IfSome at
-        (λ node. All (IsValid (registered entries)) (seeds_of course.graph.nodes node.drv))
+        (λ node. All (IsValid (registered entries)) (seeds_of table.graph.nodes node.drv))
     by (Some node) at = had d reason node is at
     by None at = tt
 

@@ -75,10 +75,10 @@ first_more names outputs n output told at is =
     ∙ ap (λ b. filter test (take n outputs) ++ cond b (output ∷ []) []) is)
     ∙ map-append path (filter test (take n outputs)) (cond told (output ∷ []) [])
 
-pub output_at : (lent : List OutputStruct) (used : Drv) (n : ℕ) (output : OutputStruct)
-    → map output_of lent ≡ used.outputs → slice_get lent n ≡ Some output → slice_get used.outputs n
+pub output_at : (outs : List OutputStruct) (used : Drv) (n : ℕ) (output : OutputStruct)
+    → map output_of outs ≡ used.outputs → slice_get outs n ≡ Some output → slice_get used.outputs n
     ≡ Some (output_of output)
-output_at lent used n output view at = search (rules, slice_get-map)
+output_at outs used n output view at = search (rules, slice_get-map)
 
 pub path_at : (paths : List (List ℕ)) (used : Drv) (n : ℕ) (path : List ℕ) (output : Output) → paths
     ≡ output_paths_of used → slice_get paths n ≡ Some path → slice_get used.outputs n ≡ Some output
@@ -106,14 +106,14 @@ adds_none inputs place used old input at = sym (append-nil old)
 
 -- an output is used
 pub adds_used : (inputs : List Input) (place : ℕ) (used : Drv) (old seeds paths : List (List ℕ))
-    (lent : List OutputStruct) (n : ℕ) (output : OutputStruct) (path copy : List ℕ) (told : Bool)
-    → map output_of lent ≡ used.outputs → paths ≡ output_paths_of used → slice_get lent n
+    (outs : List OutputStruct) (n : ℕ) (output : OutputStruct) (path copy : List ℕ) (told : Bool)
+    → map output_of outs ≡ used.outputs → paths ≡ output_paths_of used → slice_get outs n
     ≡ Some output → slice_get paths n ≡ Some path → copy ≡ path
     → IfSome (slice_get inputs place) (λ used. IsTrue told ↔ Contains used.names output.name.items)
     → told ≡ true
     → AddsFirst inputs place used old seeds n
     → AddsFirst inputs place used old (seeds ++ copy ∷ []) (n + 1)
-adds_used inputs place used old seeds paths lent n output path copy told view are at at_path same
+adds_used inputs place used old seeds paths outs n output path copy told view are at at_path same
     told_is is_used before input at_place =
     let there = output_at _ used n _ view at in
     let named = at_input inputs place _ _ _ at_place told_is ∙ is_used in
@@ -127,14 +127,14 @@ adds_used inputs place used old seeds paths lent n output path copy told view ar
 
 -- an output isn't used
 pub adds_unused : (inputs : List Input) (place : ℕ) (used : Drv) (old seeds : List (List ℕ))
-    (lent : List OutputStruct) (n : ℕ) (output : OutputStruct) (told : Bool)
-    → map output_of lent ≡ used.outputs → slice_get lent n ≡ Some output
+    (outs : List OutputStruct) (n : ℕ) (output : OutputStruct) (told : Bool)
+    → map output_of outs ≡ used.outputs → slice_get outs n ≡ Some output
     → IfSome (slice_get inputs place) (λ used. IsTrue told ↔ Contains used.names output.name.items)
     → told ≡ false
     → AddsFirst inputs place used old seeds n → AddsFirst inputs place used old seeds (n + 1)
-adds_unused inputs place used old seeds lent n output told view at told_is is_unused before input
+adds_unused inputs place used old seeds outs n output told view at told_is is_unused before input
     at_place =
-    let there = output_at lent used n output view at in
+    let there = output_at outs used n output view at in
     let named = at_input inputs place input told output.name.items at_place told_is ∙ is_unused in
     before input at_place
     ∙ ap (λ l. old ++ l)
@@ -142,9 +142,9 @@ adds_unused inputs place used old seeds lent n output told view at told_is is_un
     ∙ append-nil (first_named input.names used.outputs n)))
 
 -- there is an output for each path
-pub outputs_count : (used : Drv) (paths : List (List ℕ)) (lent : List OutputStruct)
-    → map output_of lent ≡ used.outputs → paths ≡ output_paths_of used → length paths ≡ length lent
-outputs_count used paths lent view are = search (rules, length-map)
+pub outputs_count : (used : Drv) (paths : List (List ℕ)) (outs : List OutputStruct)
+    → map output_of outs ≡ used.outputs → paths ≡ output_paths_of used → length paths ≡ length outs
+outputs_count used paths outs view are = search (rules, length-map)
 
 pub paths_count_is : (used : Drv) (paths : List (List ℕ)) → paths ≡ output_paths_of used
     → length paths ≡ length used.outputs
@@ -152,17 +152,17 @@ paths_count_is used paths are = search (rules, length-map)
 
 -- an output is used or not
 pub output_seen : (inputs : List Input) (place : ℕ) (used : Drv)
-    (old seeds new paths : List (List ℕ)) (lent : List OutputStruct) (n : ℕ) (output : OutputStruct)
+    (old seeds new paths : List (List ℕ)) (outs : List OutputStruct) (n : ℕ) (output : OutputStruct)
     (text : List ℕ) (told : Bool)
-    → map output_of lent ≡ used.outputs → paths ≡ output_paths_of used → n < length paths → output
-    ≡ get_or lent n output → text ≡ output.name.items
+    → map output_of outs ≡ used.outputs → paths ≡ output_paths_of used → n < length paths → output
+    ≡ get_or outs n output → text ≡ output.name.items
     → IfSome (slice_get inputs place) (λ used. IsTrue told ↔ Contains used.names text)
     → ((told ≡ true) × (new ≡ seeds ++ get_or paths n [] ∷ [])) ⊎ ((told ≡ false) × (new ≡ seeds))
     → AddsFirst inputs place used old seeds n → AddsFirst inputs place used old new (n + 1)
-output_seen inputs place used old seeds new paths lent n output text told view are low is_output
+output_seen inputs place used old seeds new paths outs n output text told view are low is_output
     is_text told_is either before =
-    let below : n < length lent = omega (arith, low, outputs_count used _ _ view are) in
-    let at : slice_get lent n ≡ Some output = read_at _ n _ below is_output in
+    let below : n < length outs = omega (arith, low, outputs_count used _ _ view are) in
+    let at : slice_get outs n ≡ Some output = read_at _ n _ below is_output in
     let named = subst (λ t. IfSome (slice_get inputs place)
     (λ used. IsTrue told ↔ Contains used.names t)) is_text told_is in
     ⊎_elim

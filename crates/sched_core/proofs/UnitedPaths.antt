@@ -45,7 +45,7 @@ rising_append (x ∷ z ∷ zs) ys rises rises' below = (
 -- where a path is not found, what stands before the place is below it, and what stands after above
 pub record IsGap (paths : List (List ℕ)) (path : List ℕ) (place : ℕ) : Type 0 where
   pub before : (x : List ℕ) → Contains (take place paths) x → IsBelow x path
-  pub behind : (x : List ℕ) → Contains (drop place paths) x → IsBelow path x
+  pub above : (x : List ℕ) → Contains (drop place paths) x → IsBelow path x
 
 pub found_told :
     (paths : List (List ℕ)) (path : List ℕ) (place : ℕ) →
@@ -79,7 +79,7 @@ gap_told paths path place rises within told =
           let lt : k < place = omega (arith, has.1, length-take place paths) in
           subst (λ y. IsBelow y path) (sym (get_or-take place paths k x lt) ∙ has.2)
           (sides.0 k x (omega arith) lt);
-      behind = λ x has.
+      above = λ x has.
           let k = has.0 in
           let lt : place + k < length paths = omega (arith, has.1, length-drop place paths) in
           let greater : slice_cmp nat_cmp (get_or paths (place + k) x) path
@@ -174,7 +174,7 @@ module _ (paths others below left above : List (List ℕ)) (path : List ℕ)
             Contains-later _ _ p in (
               λ has. ⊎_elim
                   (λ there. ⊎_elim inl
-                  (λ behind. inr (inr (later (Contains-append_left _ _ p behind))))
+                  (λ past. inr (inr (later (Contains-append_left _ _ p past))))
                   (Contains-append_cases _ _ p
                   (subst (λ l. Contains l p) parts there)))
                   (λ more. ⊎_elim
@@ -194,8 +194,8 @@ module _ (paths others below left above : List (List ℕ)) (path : List ℕ)
                   (λ is. inr (inl (subst (Contains (left ++ path ∷ [])) is
                   (Contains-push _ _))))
                   (λ rest. ⊎_elim
-                  (λ behind. inl (subst (λ l. Contains l p) (sym parts)
-                  (Contains-append_right _ _ p behind)))
+                  (λ past. inl (subst (λ l. Contains l p) (sym parts)
+                  (Contains-append_right _ _ p past)))
                   (λ top. inr (inr top))
                   (Contains-append_cases _ _ p rest))
                   (Contains-cons_cases _ _ p high)) more)

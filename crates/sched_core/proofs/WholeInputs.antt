@@ -33,62 +33,63 @@ abbrev pub is_named : (names : List (List ℕ)) → OutputStruct → Bool
 is_named names output = list_any (same_bytes output.name.items) names
 
 -- The first outputs are named.
-abbrev pub AreFirstNamed : (inputs : List Input) → (place : ℕ) → (lent : List OutputStruct)
+abbrev pub AreFirstNamed : (inputs : List Input) → (place : ℕ) → (outs : List OutputStruct)
     → (count : ℕ) → Type 0
-AreFirstNamed inputs place lent count = (input : Input) → slice_get inputs place ≡ Some input
-    → list_all (is_named input.names) (take count lent) ≡ true
+AreFirstNamed inputs place outs count = (input : Input) → slice_get inputs place ≡ Some input
+    → list_all (is_named input.names) (take count outs) ≡ true
 
-pub named_more : (inputs : List Input) (place : ℕ) (lent : List OutputStruct) (i : ℕ)
-    (output : OutputStruct) (text : List ℕ) (told : Bool) → i < length lent
-    → output ≡ get_or lent i output → text ≡ output.name.items → told ≡ true
+pub named_more : (inputs : List Input) (place : ℕ) (outs : List OutputStruct) (i : ℕ)
+    (output : OutputStruct) (text : List ℕ) (told : Bool) → i < length outs
+    → output ≡ get_or outs i output → text ≡ output.name.items → told ≡ true
     → IfSome (slice_get inputs place) (λ used. IsTrue told ↔ Contains used.names text)
-    → AreFirstNamed inputs place lent i → AreFirstNamed inputs place lent (i + 1)
-named_more inputs place lent i output text told within at is_text true_is told_is before input there =
-    let here : is_named input.names (get_or lent i output) ≡ true =
+    → AreFirstNamed inputs place outs i → AreFirstNamed inputs place outs (i + 1)
+named_more inputs place outs i output text told within at is_text true_is told_is before input there
+    =
+    let here : is_named input.names (get_or outs i output) ≡ true =
     ap (is_named input.names) (sym at)
     ∙ at_input inputs place input told output.name.items there
     (subst (λ t. IfSome (slice_get inputs place) (λ used. IsTrue told ↔ Contains used.names t))
     is_text told_is)
     ∙ true_is in
-    list_all_more (is_named input.names) lent i output within
-    ∙ ap (λ b. b && is_named input.names (get_or lent i output)) (before input there)
+    list_all_more (is_named input.names) outs i output within
+    ∙ ap (λ b. b && is_named input.names (get_or outs i output)) (before input there)
     ∙ here
 
-named_all : (names : List (List ℕ)) (used : Drv) (lent : List OutputStruct)
-    → map output_of lent ≡ used.outputs
-    → are_all_named names used ≡ list_all (is_named names) lent
-named_all names used lent view =
+named_all : (names : List (List ℕ)) (used : Drv) (outs : List OutputStruct)
+    → map output_of outs ≡ used.outputs
+    → are_all_named names used ≡ list_all (is_named names) outs
+named_all names used outs view =
     ap (list_all (λ (o : Output). list_any (same_bytes o.name) names)) (sym view)
-    ∙ list_all-map (λ (o : Output). list_any (same_bytes o.name) names) output_of lent
+    ∙ list_all-map (λ (o : Output). list_any (same_bytes o.name) names) output_of outs
 
 -- all outputs were seen
-pub all_named : (inputs : List Input) (place : ℕ) (used : Drv) (lent : List OutputStruct) (i : ℕ)
-    → map output_of lent ≡ used.outputs → length lent ≤ i → AreFirstNamed inputs place lent i
+pub all_named : (inputs : List Input) (place : ℕ) (used : Drv) (outs : List OutputStruct) (i : ℕ)
+    → map output_of outs ≡ used.outputs → length outs ≤ i → AreFirstNamed inputs place outs i
     → IfSome (slice_get inputs place) (λ input. true ≡ are_all_named input.names used)
-all_named inputs place used lent i view all first = by (slice_get inputs place) refl
+all_named inputs place used outs i view all first = by (slice_get inputs place) refl
   where
     by : (o : Option Input) → slice_get inputs place ≡ o
         → IfSome o (λ input. true ≡ are_all_named input.names used)
     by None is = tt
     by (Some input) is =
-        sym (named_all input.names used lent view
-        ∙ ap (list_all (is_named input.names)) (sym (take_all i lent all)) ∙ first input is)
+        sym (named_all input.names used outs view
+        ∙ ap (list_all (is_named input.names)) (sym (take_all i outs all)) ∙ first input is)
 
 -- an output isn't named
-pub one_unnamed : (inputs : List Input) (place : ℕ) (used : Drv) (lent : List OutputStruct) (i : ℕ)
-    (output : OutputStruct) (text : List ℕ) (told : Bool) → map output_of lent ≡ used.outputs
-    → i < length lent → output ≡ get_or lent i output → text ≡ output.name.items → told ≡ false
+pub one_unnamed : (inputs : List Input) (place : ℕ) (used : Drv) (outs : List OutputStruct) (i : ℕ)
+    (output : OutputStruct) (text : List ℕ) (told : Bool) → map output_of outs ≡ used.outputs
+    → i < length outs → output ≡ get_or outs i output → text ≡ output.name.items → told ≡ false
     → IfSome (slice_get inputs place) (λ used. IsTrue told ↔ Contains used.names text)
     → IfSome (slice_get inputs place) (λ input. false ≡ are_all_named input.names used)
-one_unnamed inputs place used lent i output text told view within at is_text false_is told_is =
+one_unnamed inputs place used outs i output text told view within at is_text false_is told_is =
     by (slice_get inputs place) refl
   where
     by : (o : Option Input) → slice_get inputs place ≡ o
         → IfSome o (λ input. false ≡ are_all_named input.names used)
     by None is = tt
     by (Some input) is =
-        sym (named_all input.names used lent view
-        ∙ list_all_at (is_named input.names) lent i output within
+        sym (named_all input.names used outs view
+        ∙ list_all_at (is_named input.names) outs i output within
         (ap (is_named input.names) (sym at)
         ∙ at_input inputs place input told output.name.items is
         (subst (λ t. IfSome (slice_get inputs place) (λ used. IsTrue told ↔ Contains used.names t))
@@ -124,7 +125,8 @@ whole_at nodes number names used path paths told at_drv at_path at_paths is =
         same_Some node.path path
         (sym (slice_get-map (λ (n : Node). n.path) nodes number
         ∙ ap (option_map (λ (n : Node). n.path)) there) ∙ at_path) in
-        ap (λ (x : Drv). told_whole (are_all_named names x) node.path (output_paths_of x)) (sym same)
+        ap (λ (x : Drv). told_whole (are_all_named names x) node.path (output_paths_of x))
+        (sym same)
         ∙ ap (λ b. told_whole b node.path (output_paths_of used)) (sym is)
         ∙ ap (λ p. told_whole told p (output_paths_of used)) path_is
         ∙ ap (told_whole told path) (sym (its ∙ ap output_paths_of (sym same)))
@@ -274,7 +276,8 @@ pub same_first : (input : WholeInput) (drv : List ℕ) (paths : List (List ℕ))
     → first ≡ true → IsTrue first ↔ (input.drv ≡ drv) → IsTrue told ↔ (input.outputs.items ≡ paths)
     → IsTrue told ↔ (shown_whole input ≡ (drv, paths))
 same_first input drv paths first told is one two = (
-  λ holds. ap (λ (p : List ℕ). (p, input.outputs.items)) (one.0 is) ∙ ap (λ ps. (drv, ps)) (two.0 holds),
+  λ holds. ap (λ (p : List ℕ). (p, input.outputs.items)) (one.0 is)
+      ∙ ap (λ ps. (drv, ps)) (two.0 holds),
   λ same. two.1 (ap (λ (p : Pair). p.1) same),
 )
 
@@ -336,7 +339,8 @@ pub not_alike : (nodes : List Node) (d : ℕ) (whole : List WholeInput) (count p
     → told ≡ true → MoreTold nodes d place told path paths
     → IfSome (slice_get nodes d) (λ node. IsTrue false
     ↔ (map shown_whole whole ≡ flat_map (whole_input nodes) node.drv.inputs))
-not_alike nodes d whole count place told path paths alike other holds more = by (slice_get nodes d) refl
+not_alike nodes d whole count place told path paths alike other holds more = by
+    (slice_get nodes d) refl
   where
     at : (node : Node) → slice_get nodes d ≡ Some node
         → map shown_whole whole ≡ flat_map (whole_input nodes) node.drv.inputs → ⊥

@@ -1,8 +1,8 @@
 //! Books: what is built, and what can be.
-ghost use Rattle.std.specs.Prelude.{◌≡◌, ◌<◌, ◌%◌, ◌^◌, ◌↔◌, ◌⊎◌, ◌++◌, ℕ, [], IfErr, IfOk, IsTrue, MatchOption, OnErr, OnOk, length, take, ⊤};
+ghost use Rattle.std.specs.Prelude.{◌≡◌, ◌<◌, ◌%◌, ◌^◌, ◌↔◌, ◌⊎◌, ◌++◌, ℕ, IfErr, IfOk, IsTrue, MatchOption, OnErr, OnOk, length, take, ⊤};
 ghost use Rattle.valid_table.specs.Valid.{IsJournal};
 ghost use Rattle.sched_core.specs.Books.{ArePermittedPaths, AreSeedsValid, BuildsOver, IsBeginning, IsBooksLease, IsFailing, IsFinishFault, IsFinishing, IsSameRun, MayAllRefer};
-ghost use Rattle.run_states.specs.StateTables.{CanBegin, IsRunSettled, IsUnsettled, course_state};
+ghost use Rattle.run_states.specs.StateTables.{CanBegin, IsRunSettled, IsUnsettled, table_state};
 ghost use Rattle.run_states.specs.Runs.{opened};
 ghost use Rattle.run_states.specs.Counts.{HasCount};
 ghost use Rattle.run_states.specs.Legal.{IsLegal};
@@ -25,7 +25,7 @@ use drv_graph::Plan;
 use nix_names::StorePath;
 use run_report::report_of;
 use run_states::{BookFault, Event, State, StateTable, System};
-use std::alloc::Global;
+use std::alloc::{AllocError, Global};
 use std::marker::Model;
 use valid_table::{Journal, Outlet};
 
@@ -70,23 +70,22 @@ impl<O: Outlet> Model for Book<O> {
 
 impl<O: Outlet> Book<O> {
     /// The book of a run over a plan, for a system, that opens with the journal's entries, which
-    /// the outlet holds. Answers `NoMemory` where memory is refused, and no other fault; the outlet
-    /// is closed then. Asks the journal for each output and source of the plan, and takes memory
-    /// for all events that may come.
+    /// the outlet holds. An error where memory is refused, and no other; the outlet is closed then.
+    /// Asks the journal for each output and source of the plan, and takes memory for all events
+    /// that may come.
     pub fn open(
         alloc: Global,
         plan: Plan,
         journal: Journal,
         system: System,
         outlet: O,
-    ) -> Result<Book<O>, BookFault>
+    ) -> Result<Book<O>, AllocError>
         requires { O.shown outlet ++ O.pending outlet ≡ journal.entries }
         ensures run { IfOk result (λ book. book.run
             ≡ record { graph = plan; system = system }) }
         ensures history { IfOk result (λ book. book.history ≡ opened journal.entries) }
         ensures shown { IfOk result (λ book. book.shown ≡ O.shown outlet) }
         ensures pending { IfOk result (λ book. book.pending ≡ O.pending outlet) }
-        ensures err { IfErr result (λ fault. fault ≡ NoMemory) }
     {
         match RunStart::new(alloc, plan, &journal, &system) {
             Ok(RunStart { states, events }) => Ok(Book {
@@ -228,7 +227,7 @@ impl<O: Outlet> Book<O> {
         if !self.has_given(job, lease.number()) {
             return Err(BookFault::ForeignLease);
         }
-        permitted_to(*self.events.allocator(), &self.journal, job)
+        Ok(permitted_to(*self.events.allocator(), &self.journal, job)?)
     }
 
     /// What the outlet tells of the list that it shows. The list is a beginning of the book's
@@ -291,14 +290,12 @@ impl<O: Outlet> Book<O> {
     /// built or reused, in the order of the roots, it has a line `output O` for each of its
     /// outputs. Where a derivation failed since an output refers to a path to which it may not, WHY
     /// names that path, which `Reason::NotAllowed` gives by its place in the list of `permitted`,
-    /// or the place where the list has no such place. Answers `NoMemory` where memory is refused,
-    /// and no other fault. Costs one sort of the wanted derivations by path, for each derivation
-    /// that failed so what `permitted` costs, and else time in proportion to the plan's derivations
-    /// and the text.
-    pub fn report(&self) -> Result<Vec<u8>, BookFault>
+    /// or the place where the list has no such place. An error where memory is refused, and no
+    /// other. Costs one sort of the wanted derivations by path, for each derivation that failed so
+    /// what `permitted` costs, and else time in proportion to the plan's derivations and the text.
+    pub fn report(&self) -> Result<Vec<u8>, AllocError>
         requires { IsRunSettled self.now.run self.now.history }
         ensures ok { IfOk result (λ text. IsReportIn self.now.run self.now.history text.items) }
-        ensures err { IfErr result (λ fault. fault ≡ NoMemory) }
     {
         let alloc = *self.events.allocator();
         let named = named_paths(alloc, &self.states, &self.journal)?;
@@ -405,7 +402,7 @@ impl<O: Outlet> Book<O> {
 // Whether a derivation has begun under the lease with this number and not ended.
 fn is_building(states: &StateTable, d: usize, number: u64) -> bool
     ensures { IsTrue result ↔ ((d < length states.now.graph.nodes)
-        × (course_state states.now d ≡ Building number)) }
+        × (table_state states.now d ≡ Building number)) }
 {
     if d >= states.plan().len() {
         return false;

@@ -1,7 +1,6 @@
 //! The entry of a derivation that was built.
-ghost use Rattle.std.specs.Prelude.{◌≡◌, ◌<◌, ◌↔◌, All, IfErr, IfOk, IsTrue, length, map, vec_capacity};
+ghost use Rattle.std.specs.Prelude.{◌≡◌, ◌<◌, ◌↔◌, All, IfErr, IfOk, IsTrue, length, vec_capacity};
 ghost use Rattle.valid_table.specs.Entries.{paths_registered, registered};
-ghost use Rattle.valid_table.specs.PathInfos.{PathInfo};
 ghost use Rattle.valid_table.specs.Valid.{HasDrvPath, IsNotValid};
 ghost use Rattle.valid_table.specs.declared.entry.Registration.{Registration};
 ghost use Rattle.sched_core.specs.private.Dones.{AreFitting, HaveDigest, IsDoneEntry, IsDoneFault, infos_of};

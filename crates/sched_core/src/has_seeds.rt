@@ -2,7 +2,7 @@
 ghost use Rattle.std.specs.Prelude.{◌≡◌, ◌<◌, ◌↔◌, [], ◌∷◌, IfSome, IsTrue, Some, length, slice_get};
 ghost use Rattle.nix_drv.specs.Derivation.{Input};
 ghost use Rattle.drv_graph.specs.PlanNodes.{output_paths_of};
-ghost use Rattle.sched_core.specs.private.Following.{IsBehind};
+ghost use Rattle.sched_core.specs.private.Following.{IsRest};
 ghost use Rattle.build_outcome.specs.Jobs.{paths_named, seeds_of};
 
 use drv_graph::Plan;
@@ -18,12 +18,12 @@ pub(crate) fn has_seeds(plan: &Plan, d: usize, seeds: &[StorePath]) -> bool
 {
     let drv = plan.drv(d);
     let inputs = plan.inputs(d);
-    let mut left = behind_paths(seeds, plan.sources(d));
+    let mut left = rest_after_paths(seeds, plan.sources(d));
     for place in 0..inputs.len() {
         let used = plan.drv(inputs[place]);
         let paths = plan.output_paths(inputs[place]);
         left = match left {
-            Some(rest) => behind_used(drv, place, used, paths, rest),
+            Some(rest) => rest_after_used(drv, place, used, paths, rest),
             None => None,
         };
     }
@@ -34,13 +34,13 @@ pub(crate) fn has_seeds(plan: &Plan, d: usize, seeds: &[StorePath]) -> bool
 }
 
 // What is left of some seeds after these paths, or none where they don't begin with them.
-fn behind_paths<'a>(seeds: &'a [StorePath], paths: &[StorePath]) -> Option<&'a [StorePath]>
-    ensures { IsBehind seeds.now paths.now result }
+fn rest_after_paths<'a>(seeds: &'a [StorePath], paths: &[StorePath]) -> Option<&'a [StorePath]>
+    ensures { IsRest seeds.now paths.now result }
 {
     let mut left = Some(seeds);
     for path in paths {
         left = match left {
-            Some(rest) => behind_path(rest, path),
+            Some(rest) => rest_after_path(rest, path),
             None => None,
         };
     }
@@ -49,7 +49,7 @@ fn behind_paths<'a>(seeds: &'a [StorePath], paths: &[StorePath]) -> Option<&'a [
 
 // What is left of some seeds after the paths of the outputs that a derivation uses of its input
 // with this place.
-fn behind_used<'a>(
+fn rest_after_used<'a>(
     drv: &Derivation,
     place: usize,
     used: &Derivation,
@@ -59,14 +59,14 @@ fn behind_used<'a>(
     requires place { place < length drv.now.inputs }
     requires paths { paths.now ≡ output_paths_of used.now }
     ensures { (input : Input) → slice_get drv.now.inputs place ≡ Some input
-        → IsBehind seeds.now (paths_named input.names used.now) result }
+        → IsRest seeds.now (paths_named input.names used.now) result }
 {
     let outputs = used.outputs();
     let mut left = Some(seeds);
     for n in 0..paths.len() {
         if drv.uses(place, &outputs[n].name) {
             left = match left {
-                Some(rest) => behind_path(rest, &paths[n]),
+                Some(rest) => rest_after_path(rest, &paths[n]),
                 None => None,
             };
         }
@@ -75,8 +75,8 @@ fn behind_used<'a>(
 }
 
 // What is left of some seeds after this path.
-fn behind_path<'a>(seeds: &'a [StorePath], path: &StorePath) -> Option<&'a [StorePath]>
-    ensures { IsBehind seeds.now (path.now ∷ []) result }
+fn rest_after_path<'a>(seeds: &'a [StorePath], path: &StorePath) -> Option<&'a [StorePath]>
+    ensures { IsRest seeds.now (path.now ∷ []) result }
 {
     match seeds.split_first() {
         Some((first, rest)) if first == path => Some(rest),

@@ -1,7 +1,7 @@
 //! Whether a job is that of a derivation of a plan.
-ghost use Rattle.std.specs.Prelude.{◌≡◌, ◌<◌, ◌↔◌, IfSome, IsTrue, length, map, slice_get};
+ghost use Rattle.std.specs.Prelude.{◌≡◌, ◌<◌, ◌↔◌, IsTrue, length, map};
 ghost use Rattle.nix_drv.specs.Parts.{bytes_of, entry_of};
-ghost use Rattle.build_outcome.specs.Jobs.{IsJob, seeds_of};
+ghost use Rattle.build_outcome.specs.Jobs.{IsJob};
 ghost use Rattle.sched_core.specs.private.SameJobs.{HasRecipe, MakesAt};
 
 use crate::has_seeds::has_seeds;

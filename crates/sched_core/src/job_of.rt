@@ -1,5 +1,5 @@
 //! The job of a derivation of a plan.
-ghost use Rattle.std.specs.Prelude.{◌≡◌, ◌<◌, IfErr, IfOk, length, map, vec_capacity};
+ghost use Rattle.std.specs.Prelude.{◌≡◌, ◌<◌, IfOk, length, map, vec_capacity};
 ghost use Rattle.build_outcome.specs.Jobs.{IsJob};
 ghost use Rattle.sched_core.specs.private.Seeding.{named_texts, output_texts};
 ghost use Rattle.build_outcome.specs.declared.job.JobOutput.{JobOutput};
@@ -10,15 +10,14 @@ use build_outcome::{Job, JobOutput};
 use drv_graph::Plan;
 use nix_drv::{Output, Parts};
 use nix_names::StorePath;
-use run_states::BookFault;
 use std::alloc::{AllocError, Global};
 
-// The job of the derivation with this number. Costs a copy of the derivation's parts, and a look-up
-// by name for each output of its inputs; paths share their texts.
-pub(crate) fn job_of(alloc: Global, plan: &Plan, d: usize) -> Result<Job, BookFault>
+// The job of the derivation with this number. An error where memory is refused, and no other.
+// Costs a copy of the derivation's parts, and a look-up by name for each output of its inputs;
+// paths share their texts.
+pub(crate) fn job_of(alloc: Global, plan: &Plan, d: usize) -> Result<Job, AllocError>
     requires { d < length plan.now.nodes }
     ensures ok { IfOk result (λ job. IsJob plan.now d job) }
-    ensures err { IfErr result (λ fault. fault ≡ BookFault.NoMemory) }
 {
     let drv = plan.drv(d);
     let outputs = outputs_of(alloc, drv.outputs(), plan.output_paths(d))?;

@@ -40,6 +40,6 @@ pub use run_report::{
     write_refused, write_with_number, write_with_string, write_with_value,
 };
 pub use run_states::{
-    BookFault, Event, Precondition, Refusal, State, mark, standings_of, wanted_of,
+    BookFault, Event, Precondition, Refusal, State, mark, preconditions_of, wanted_of,
 };
 pub use union::union_of;

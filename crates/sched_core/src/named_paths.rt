@@ -1,11 +1,10 @@
 //! The paths that the lines of a report name.
-ghost use Rattle.std.specs.Prelude.{◌≡◌, ◌<◌, All, IfErr, IfOk, IfSome, length, slice_get};
+ghost use Rattle.std.specs.Prelude.{◌≡◌, ◌<◌, All, IfOk, IfSome, length, slice_get};
 ghost use Rattle.valid_table.specs.Entries.{registered};
 ghost use Rattle.valid_table.specs.Valid.{IsValid};
 ghost use Rattle.build_outcome.specs.Jobs.{seeds_of};
 ghost use Rattle.run_report.specs.NamedPaths.{IsNamedIn, IsPermittedAt};
-ghost use Rattle.run_states.specs.StateTables.{course_state};
-ghost use Rattle.run_states.specs.declared.fault.BookFault.TheVariants.{NoMemory};
+ghost use Rattle.run_states.specs.StateTables.{table_state};
 ghost use Rattle.sched_core.specs.private.Naming.{AreNamed, HadSeeds};
 
 use crate::job_of::job_of;
@@ -13,8 +12,8 @@ use crate::permitted::permitted_to;
 use build_outcome::Reason;
 use drv_graph::Plan;
 use nix_names::StorePath;
-use run_states::{BookFault, State, StateTable};
-use std::alloc::Global;
+use run_states::{State, StateTable};
+use std::alloc::{AllocError, Global};
 use valid_table::Journal;
 
 // The path that the line of each derivation names, at its number: where it failed since an output
@@ -24,10 +23,9 @@ pub(crate) fn named_paths(
     alloc: Global,
     states: &StateTable,
     journal: &Journal,
-) -> Result<Vec<Option<StorePath>>, BookFault>
+) -> Result<Vec<Option<StorePath>>, AllocError>
     requires { HadSeeds states.now journal.now.entries }
     ensures ok { IfOk result (λ named. AreNamed states.now journal.now.entries named.items) }
-    ensures err { IfErr result (λ fault. fault ≡ NoMemory) }
 {
     let mut named = Vec::with_capacity(alloc, states.plan().len())?;
     for d in 0..states.plan().len() {
@@ -42,12 +40,11 @@ fn named_path(
     states: &StateTable,
     journal: &Journal,
     d: usize,
-) -> Result<Option<StorePath>, BookFault>
+) -> Result<Option<StorePath>, AllocError>
     requires within { d < length states.now.graph.nodes }
     requires seeds { HadSeeds states.now journal.now.entries }
     ensures ok { IfOk result
-        (IsNamedIn states.now.graph journal.now.entries d (course_state states.now d)) }
-    ensures err { IfErr result (λ fault. fault ≡ NoMemory) }
+        (IsNamedIn states.now.graph journal.now.entries d (table_state states.now d)) }
 {
     match states.state(d) {
         State::Failed(Reason::NotAllowed(_, place)) => {
@@ -68,13 +65,12 @@ fn permitted_at(
     journal: &Journal,
     d: usize,
     place: usize,
-) -> Result<Option<StorePath>, BookFault>
+) -> Result<Option<StorePath>, AllocError>
     requires within { d < length plan.now.nodes }
     requires seeds { IfSome (slice_get plan.now.nodes d)
         (λ node. All (IsValid (registered journal.now.entries))
         (seeds_of plan.now.nodes node.drv)) }
     ensures ok { IfOk result (IsPermittedAt plan.now journal.now.entries d place) }
-    ensures err { IfErr result (λ fault. fault ≡ NoMemory) }
 {
     let job = job_of(alloc, plan, d)?;
     let permitted = permitted_to(alloc, journal, &job)?;

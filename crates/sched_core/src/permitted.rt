@@ -1,5 +1,5 @@
 //! The paths to which outputs may refer.
-ghost use Rattle.std.specs.Prelude.{◌≡◌, All, IfErr, IfOk, length, vec_capacity};
+ghost use Rattle.std.specs.Prelude.{◌≡◌, All, IfOk, length, vec_capacity};
 ghost use Rattle.nix_names.specs.Rising.{IsRising};
 ghost use Rattle.valid_table.specs.private.Closing.{HaveSame};
 ghost use Rattle.valid_table.specs.Closure.{IsClosure};
@@ -7,33 +7,30 @@ ghost use Rattle.valid_table.specs.Entries.{registered};
 ghost use Rattle.valid_table.specs.Unions.{IsUnion};
 ghost use Rattle.valid_table.specs.Valid.{IsValid};
 ghost use Rattle.build_outcome.specs.Verdicts.{outputs_of};
-ghost use Rattle.run_states.specs.declared.fault.BookFault.TheVariants.{NoMemory};
 ghost use Rattle.sched_core.specs.Books.{ArePermittedPaths, AreSeedsValid};
 
 use crate::union::union_of;
 use build_outcome::Job;
 use nix_names::StorePath;
-use run_states::BookFault;
 use std::alloc::{AllocError, Global};
 use valid_table::{Journal, TableFault};
 
 /// The paths to which the outputs of a job may refer, strictly rising: those of `reached`, to which
-/// its seeds lead, and its own outputs. `reached` is strictly rising too, and is given away.
-/// Answers `NoMemory` where memory is refused, and no other fault. Costs one sort of the job's
-/// outputs, a copy and a binary search for each of them, and a move of the paths of `reached` that
-/// stand above the least of them. A search compares an output with some of the paths of `reached`.
-/// None of those is copied, and those below the least output keep their places.
+/// its seeds lead, and its own outputs. `reached` is strictly rising too, and is given away. An
+/// error where memory is refused, and no other. Costs one sort of the job's outputs, a copy and a
+/// binary search for each of them, and a move of the paths of `reached` that stand above the least
+/// of them. A search compares an output with some of the paths of `reached`. None of those is
+/// copied, and those below the least output keep their places.
 pub fn permitted_beside(
     alloc: Global,
     reached: Vec<StorePath>,
     job: &Job,
-) -> Result<Vec<StorePath>, BookFault>
+) -> Result<Vec<StorePath>, AllocError>
     requires { IsRising reached.items }
     ensures ok { IfOk result (λ paths. IsUnion reached.items (outputs_of job.now) paths.items) }
-    ensures err { IfErr result (λ fault. fault ≡ NoMemory) }
 {
     let own = sorted_outputs(alloc, job)?;
-    Ok(union_of(reached, own)?)
+    union_of(reached, own)
 }
 
 // The paths that are permitted to a job whose seeds are valid by a journal.
@@ -41,11 +38,10 @@ pub(crate) fn permitted_to(
     alloc: Global,
     journal: &Journal,
     job: &Job,
-) -> Result<Vec<StorePath>, BookFault>
+) -> Result<Vec<StorePath>, AllocError>
     requires { AreSeedsValid journal.now.entries job.now }
     ensures ok { IfOk result
         (λ paths. ArePermittedPaths journal.now.entries job.now paths.items) }
-    ensures err { IfErr result (λ fault. fault ≡ NoMemory) }
 {
     let reached = closure_of(alloc, journal, &job.seeds)?;
     permitted_beside(alloc, reached, job)

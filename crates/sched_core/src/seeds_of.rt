@@ -1,5 +1,5 @@
 //! The paths that a derivation is built from.
-ghost use Rattle.std.specs.Prelude.{◌≡◌, ◌<◌, ◌++◌, IfErr, IfOk, IfSome, OnOk, Some, length, slice_get};
+ghost use Rattle.std.specs.Prelude.{◌≡◌, ◌<◌, ◌++◌, IfOk, IfSome, OnOk, Some, length, slice_get};
 ghost use Rattle.nix_drv.specs.Derivation.{Input};
 ghost use Rattle.drv_graph.specs.PlanNodes.{output_paths_of};
 ghost use Rattle.build_outcome.specs.Jobs.{paths_named, seeds_of};

@@ -1,6 +1,5 @@
 //! The input derivations of which each output is named.
 ghost use Rattle.std.specs.Prelude.{◌≡◌, ◌<◌, ◌↔◌, IfOk, IfSome, IsTrue, Some, flat_map, length, map, option_map, slice_get};
-ghost use Rattle.nix_names.specs.Bytes.{Path};
 ghost use Rattle.build_outcome.specs.Jobs.{are_all_named, shown_whole, whole_input, whole_inputs_of};
 
 use crate::seeds_of::add_paths;

@@ -12,7 +12,6 @@ use left_right::writer::Writer;
 use std::alloc::{AllocError, AllocFailed, Global};
 use std::marker::Model;
 use std::sync::Wait;
-use valid_table::Entry;
 
 // An operation that came back, since memory was refused.
 #[derive(Drop)]

@@ -4,7 +4,7 @@ use Rattle.std.specs.List.{slice_index_or}
 use Rattle.valid_table.specs.Valid.{IsJournal}
 use Rattle.valid_table.specs.declared.entry.Entry.{Entry}
 use Rattle.sched_core.specs.Books.{BuildsOver}
-use Rattle.run_states.specs.StateTables.{AreNearest, AreStandings, AreWanted, StateTable}
+use Rattle.run_states.specs.StateTables.{AreNearest, ArePreconditions, AreWanted, StateTable}
 use Rattle.run_states.specs.Systems.{Platform}
 use Rattle.run_states.specs.Legal.{IsLegal, begins}
 use Rattle.run_states.specs.Runs.{History, Run, terms_of}
@@ -18,7 +18,7 @@ events_left (Begun lease) = 1
 events_left Ended = 0
 events_left (Broken reason) = 0
 
--- the run over a course's plan, for a system
+-- the run over a state table's plan, for a system
 abbrev pub run_over : StateTable → (system : Platform) → Run
 run_over states system = record { graph = states.graph; system = system }
 
@@ -30,19 +30,19 @@ history_of opening entries events = record {
   events = events;
 }
 
--- What is kept of a run: a legal history, the course of its derivations, how many have begun, and
--- room for exactly the events that may come.
-pub record IsRunKept (system : Platform) (history : History) (course : StateTable) (given room : ℕ)
+-- What is kept of a run: a legal history, the state table of its derivations, how many have begun,
+-- and room for exactly the events that may come.
+pub record IsRunKept (system : Platform) (history : History) (table : StateTable) (given room : ℕ)
     : Type 0 where
-  pub legal : IsLegal (run_over course system) history
-  pub standings : AreStandings (terms_of (run_over course system)) history.opening
-      course.graph.nodes course.standings
-  pub wanted : AreWanted (run_over course system) history.opening course.wanted
-  pub twins : AreNearest (run_over course system) history.opening course.twins
-  pub count : length course.phases ≡ length course.graph.nodes
-  pub phases : (d : ℕ) → slice_index_or course.phases d Idle ≡ phase_of history.events d
+  pub legal : IsLegal (run_over table system) history
+  pub preconditions : ArePreconditions (terms_of (run_over table system)) history.opening
+      table.graph.nodes table.preconditions
+  pub wanted : AreWanted (run_over table system) history.opening table.wanted
+  pub twins : AreNearest (run_over table system) history.opening table.twins
+  pub count : length table.phases ≡ length table.graph.nodes
+  pub phases : (d : ℕ) → slice_index_or table.phases d Idle ≡ phase_of history.events d
   pub given_is : given ≡ begins history.events
-  pub has_room : length history.events + sum_by events_left course.phases ≡ room
+  pub has_room : length history.events + sum_by events_left table.phases ≡ room
 
 -- What holds in a book: its run is kept, its entries are a journal that begins with the opening
 -- ones, the outlet holds just the entries, and what is building is built from what is valid by the

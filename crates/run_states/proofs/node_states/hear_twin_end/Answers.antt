@@ -22,12 +22,12 @@ pub returns-else-good-clause-turns : goal.returns-else-good-clause-turns
 returns-else-good-clause-turns c =
     subst (λ s. Turns s c.own_state.result) (sym c.in-Blocked.is)
     (subst (Turns Blocked) (sym c.own_state.ensures)
-    (own_turns c.args.memo.standing c.args.memo.failed (c.args.memo.waits == 0)))
+    (own_turns c.args.memo.precondition c.args.memo.failed (c.args.memo.waits == 0)))
 
 pub returns-in_default : goal.returns-in_default
 returns-in_default c = record {
   is = λ awaited heard twin can.
       released_else c.args.memo awaited heard twin can c.args.good c.in_default.not-Blocked;
-  same = record { standing = refl; wanted = refl; twin = refl; phase = refl };
+  same = record { precondition = refl; wanted = refl; twin = refl; phase = refl };
   turns = turns_stays c.args.memo.state;
 }

@@ -20,7 +20,7 @@ returns-then-good-clause-is c = λ awaited heard can.
     let low = is_input _ _ _ _ _ can c.if-place-memo.false in
     told_good _ _ _ _ _ can low c.args.good c.if-good.true
     c.state_after_good-state.result
-    (c.state_after_good-state.ensures.is c.args.memo.standing (of_twins awaited heard)
+    (c.state_after_good-state.ensures.is c.args.memo.precondition (of_twins awaited heard)
     (slice_get awaited.inputs c.args.memo.first)
     (told_held _ _ _ _ _ can low)
     (told_before _ _ _ _ _ can low))

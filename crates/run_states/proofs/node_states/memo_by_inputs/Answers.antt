@@ -2,7 +2,7 @@ use Rattle.std.proofs.Common.{◌≡◌, false, arith, ap, refl, subst, sym, ◌
 use Rattle.std.specs.Prelude.{slice_get}
 use Rattle.std.proofs.lemmas.List.{length-map}
 use Rattle.run_states.specs.StateTables.{listed}
-use Rattle.run_states.specs.Coursing.{kept}
+use Rattle.run_states.specs.StateLists.{kept}
 use Rattle.run_states.specs.States.{by_first, by_hindrance, by_validity}
 use Rattle.run_states.specs.Nearest.{Open, news_of}
 use Rattle.run_states.specs.NodeStates.{IsMemo, is_held, news_in, states_in}
@@ -61,7 +61,7 @@ returns-clause-is c =
     subst (λ f. IsMemo (record { inputs = inputs; twins = listed c.args.twin })
     (news_in (kept (states_in c.args.memos.now)) inputs ++ map (λ t. Open) (listed c.args.twin))
     (record {
-      standing = c.args.standing;
+      precondition = c.args.precondition;
       wanted = c.args.wanted;
       twin = c.args.twin;
       state = c.opening_state-state.result;
@@ -77,8 +77,8 @@ returns-clause-is c =
     (omega (arith, c.loop-place-test.false)) (omega (arith, c.loop-place.auto.place-end))
     c.loop-place.invariant (c.is_some-held.ensures ∙ held_by c.args.twin)
     (c.opening_state-state.ensures
-    ∙ ap (λ o. by_validity c.args.standing (if c.is_some-held.result then Blocked
-    else by_hindrance c.args.standing (by_first o (c.loop-place.waits == 0)))) failed))
+    ∙ ap (λ o. by_validity c.args.precondition (if c.is_some-held.result then Blocked
+    else by_hindrance c.args.precondition (by_first o (c.loop-place.waits == 0)))) failed))
   where
     held_by : (twin : Option ℕ) → is_some twin ≡ is_held (map (λ t. Open) (listed twin))
     held_by None = refl

@@ -1,4 +1,4 @@
-use Rattle.run_states.specs.Coursing.{kept}
+use Rattle.run_states.specs.StateLists.{kept}
 use Rattle.run_states.specs.NodeStates.{news_in, states_in}
 use Rattle.run_states.proofs.CountedNews.{AreCounted}
 use Rattle.run_states.proofs.node_states.memo_by_inputs.Given as goal

@@ -1,6 +1,6 @@
 use Rattle.std.proofs.Common.{◌≡◌, ◌∙◌, ◌++◌, List, Option, map, sym, ap, ℕ, rules}
 use Rattle.run_states.specs.StateTables.{listed}
-use Rattle.run_states.specs.Coursing.{kept}
+use Rattle.run_states.specs.StateLists.{kept}
 use Rattle.run_states.specs.Nearest.{Open}
 use Rattle.run_states.specs.States.{is_good, is_open}
 use Rattle.run_states.specs.NodeStates.{Hears, IsMemo, news_in, states_in}

@@ -14,7 +14,7 @@ returns-else-all-clause-turns c =
 
 pub returns-in_default : goal.returns-in_default
 returns-in_default c = record {
-  is = λ standing twins first says is.
+  is = λ precondition twins first says is.
       not_freed _ _ _ _ _ c.in_default.not-Blocked is;
   phase = refl;
   turns = turns_stays c.args.state;

@@ -1,5 +1,5 @@
 use Rattle.std.proofs.Common.{rules}
-use Rattle.run_states.proofs.OwnStandings.{told_valid}
+use Rattle.run_states.proofs.LookUps.{told_valid}
 use Rattle.run_states.proofs.preconditions.is_valid.Goals as goal
 
 pub returns : goal.returns

@@ -1,6 +1,6 @@
 use Rattle.std.proofs.Common.{◌≡◌, ◌∙◌, ◌<◌, ℕ, List, None, ap, sym, subst, false, get_or}
 use Rattle.std.proofs.lemmas.List.{length-set}
-use Rattle.run_states.specs.Agendas.{noted}
+use Rattle.run_states.specs.WorkQueues.{noted}
 use Rattle.run_states.specs.States.{is_good}
 use Rattle.run_states.specs.declared.state.State.TheVariants.{Done}
 use Rattle.run_states.specs.declared.precondition.Precondition.TheVariants.{AllValid}
@@ -15,7 +15,7 @@ no_edge = record { user = 0; place = 0 }
 
 abbrev no_memo : NodeState
 no_memo = record {
-  standing = AllValid;
+  precondition = AllValid;
   wanted = false;
   twin = None;
   state = Done;
@@ -73,7 +73,7 @@ loop-edge-preserved c =
     let before : NodeState = get_or c.loop-edge.memos edge.user no_memo in
     let after : NodeState = c.input_ended-after.result in
     let low = subst (λ n. c.args.ended < n) (sym c.loop-edge.invariant.count) c.requires.within in
-    let now : c.note.new.self ≡ noted c.loop-edge.agenda edge.user before after =
+    let now : c.note.new.self ≡ noted c.loop-edge.queues edge.user before after =
     c.note.ensures in
     let is = c.loop-edge.invariant.told c.requires.told.0 c.requires.told.1 in
     record {

@@ -2,9 +2,9 @@ use Rattle.std.proofs.Common.{◌∙◌, ◌<◌, None, ap, length, arith, subst
 use Rattle.std.specs.Prelude.{All}
 use Rattle.std.specs.List.{slice_index_or}
 use Rattle.run_states.specs.StateTables.{listed}
-use Rattle.run_states.specs.Coursing.{kept}
+use Rattle.run_states.specs.StateLists.{kept}
 use Rattle.run_states.specs.NodeStates.{Hears, states_in}
-use Rattle.run_states.proofs.MemoCourses.{opened_all, opened_more}
+use Rattle.run_states.proofs.MemoTables.{opened_all, opened_more}
 use Rattle.run_states.proofs.state_table.memos_of.Goals as goal
 
 pub memo_of-memo-requires-clause-twin : goal.memo_of-memo-requires-clause-twin
@@ -18,13 +18,14 @@ loop-d-preserved c =
     let low : c.loop-d.d < length c.args.plan.now.nodes =
     omega (arith, c.loop-d-test.true, c.len-d-end.ensures.value) in
     record {
-      opened = opened_more c.args.plan.now c.args.standings.now c.args.wanted.now c.args.twins.now
+      opened = opened_more c.args.plan.now c.args.preconditions.now c.args.wanted.now
+          c.args.twins.now
           c.len-d-end.ensures.sound c.requires.smaller c.loop-d.d
           c.loop-d.memos.items c.push_reserved.new.self.items c.memo_of-memo.result
           c.inputs_of-inputs.result.now
-          _ _ None (omega (arith, low, c.requires.standings))
+          _ _ None (omega (arith, low, c.requires.preconditions))
           (omega (arith, low, c.requires.wanted)) (omega (arith, low, c.requires.twins))
-          c.memo_of-memo.ensures.standing
+          c.memo_of-memo.ensures.precondition
           c.memo_of-memo.ensures.wanted c.memo_of-memo.ensures.twin
           c.inputs_of-inputs.ensures.numbers
           (subst (λ l. Hears (record {
@@ -40,8 +41,8 @@ loop-d-preserved c =
 
 pub returns-clause-ok : goal.returns-clause-ok
 returns-clause-ok c =
-    opened_all c.args.plan.now c.args.standings.now c.args.wanted.now c.args.twins.now
+    opened_all c.args.plan.now c.args.preconditions.now c.args.wanted.now c.args.twins.now
     c.len-d-end.ensures.sound c.requires.smaller c.loop-d.d
     c.loop-d.memos.items
     (omega (arith, c.loop-d-test.false, c.loop-d.auto.d-end, c.len-d-end.ensures.value))
-    c.requires.standings c.requires.wanted c.requires.twins c.loop-d.invariant.opened
+    c.requires.preconditions c.requires.wanted c.requires.twins c.loop-d.invariant.opened

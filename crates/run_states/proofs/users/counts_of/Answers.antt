@@ -37,7 +37,7 @@ count_inputs-requires-in-loop-user-clause-within c =
     let user = c.loop-user.user in
     let twin = is_listed _ _ c.as_slice.ensures in
     let size = c.count_inputs.ensures.size ∙ ap length c.deref_mut.ensures.value in
-    let lent = c.deref_mut-in-loop-user.ensures.value
+    let deref_is = c.deref_mut-in-loop-user.ensures.value
     ∙ take_at c.count_inputs.new.counts _ c.loop-user.counts.len
     (size ∙ sym c.loop-user.counts.ok.0) in
     let small = subst (All (λ t. t < user)) (sym twin) (c.requires.smaller user) in
@@ -46,7 +46,7 @@ count_inputs-requires-in-loop-user-clause-within c =
       small k d low,
       c.loop-user-test.true,
       c.len-user-end.ensures.value,
-      ap length lent,
+      ap length deref_is,
       size,
       c.loop-user.invariant.size,
     )
@@ -60,7 +60,7 @@ count_inputs-requires-in-loop-user-clause-few c =
     let low : user < length plan.nodes =
     omega (arith, c.loop-user-test.true, c.len-user-end.ensures.value) in
     let size = c.count_inputs.ensures.size ∙ ap length c.deref_mut.ensures.value in
-    let lent = c.deref_mut-in-loop-user.ensures.value
+    let deref_is = c.deref_mut-in-loop-user.ensures.value
     ∙ take_at c.count_inputs.new.counts _ c.loop-user.counts.len
     (size ∙ sym c.loop-user.counts.ok.0) in
     let twin = is_listed _ _ c.as_slice.ensures in
@@ -75,7 +75,7 @@ count_inputs-requires-in-loop-user-clause-few c =
       ap length twin,
       ap sum c.deref_mut.ensures.value,
       c.count_inputs.ensures.total,
-      ap sum lent,
+      ap sum deref_is,
       c.requires.few,
     )
 
@@ -88,9 +88,9 @@ loop-user-preserved c =
     let awaited = λ (d : ℕ). all_of (awaited_at plan c.args.twins.now d) in
     let numbers = c.inputs_of.ensures.numbers in
     let twin = is_listed _ _ c.as_slice.ensures in
-    let lent = c.deref_mut.ensures.value in
+    let deref_is = c.deref_mut.ensures.value in
     let first = c.count_inputs.ensures in
-    let first_size = first.size ∙ ap length lent ∙ sym c.loop-user.counts.ok.0 in
+    let first_size = first.size ∙ ap length deref_is ∙ sym c.loop-user.counts.ok.0 in
     let again = c.deref_mut-in-loop-user.ensures.value
     ∙ take_at c.count_inputs.new.counts _ c.loop-user.counts.len first_size in
     let second = c.count_inputs-in-loop-user.ensures in
@@ -107,7 +107,7 @@ loop-user-preserved c =
             ap sum again,
             ap length twin,
             first.total,
-            ap sum lent,
+            ap sum deref_is,
             ap length numbers,
             c.loop-user.invariant.total,
             pairs_next awaited user,
@@ -121,7 +121,7 @@ loop-user-preserved c =
             ap (λ l. get_or l n 0) again,
             ap (often n) twin,
             first.each n (omega (arith, low, all, size, first_size, first.size)),
-            ap (λ l. get_or l n 0) lent,
+            ap (λ l. get_or l n 0) deref_is,
             ap (often n) numbers,
             c.loop-user.invariant.each n low,
             uses_next awaited user n,

@@ -2,7 +2,7 @@ use Rattle.std.proofs.Common.{subst}
 use Rattle.std.specs.Prelude.{IfSome, slice_get}
 use Rattle.std.proofs.lemmas.Option.{slice_get-get_or}
 use Rattle.drv_graph.specs.Nodes.{Node}
-use Rattle.sched_core.specs.private.Following.{IsBehind}
+use Rattle.sched_core.specs.private.Following.{IsRest}
 use Rattle.build_outcome.specs.Jobs.{seeds_of}
 use Rattle.sched_core.proofs.Followed.{input_none, input_some, input_step, nothing_told, seeds_left, seeds_told, seeds_untold}
 use Rattle.sched_core.proofs.SeedParts.{input_within}
@@ -22,8 +22,8 @@ loop-place-preserved c =
     (elim c.match-left.branch [
       | in-Some w ↦
           input_some c.drv-drv.result.now.inputs c.loop-place.place c.drv-used.result.now
-          c.loop-place.left c.match-left.left w.behind_used-left.result w.in-Some.rest
-          w.in-Some.is w.behind_used-left.ensures w.left-is
+          c.loop-place.left c.match-left.left w.rest_after_used-left.result w.in-Some.rest
+          w.in-Some.is w.rest_after_used-left.ensures w.left-is
       | in-None w ↦ input_none c.drv-drv.result.now.inputs c.loop-place.place c.drv-used.result.now
           c.loop-place.left c.match-left.left w.in-None.is w.left-is
     ])
@@ -37,7 +37,7 @@ returns-in-Some-left c =
     c.loop-place.invariant in
     seeds_told nodes c.args.d c.args.seeds.now c.in-Some-left.rest _
     (subst (λ o. IfSome (slice_get nodes c.args.d)
-    (λ (node : Node). IsBehind c.args.seeds.now (seeds_of nodes node.drv) o)) c.in-Some-left.is
+    (λ (node : Node). IsRest c.args.seeds.now (seeds_of nodes node.drv) o)) c.in-Some-left.is
     behind)
     (nothing_told _ _ c.is_empty.ensures)
 
@@ -49,5 +49,5 @@ returns-in-None-left c =
     c.loop-place.invariant in
     seeds_untold nodes c.args.d c.args.seeds.now
     (subst (λ o. IfSome (slice_get nodes c.args.d)
-    (λ (node : Node). IsBehind c.args.seeds.now (seeds_of nodes node.drv) o)) c.in-None-left.is
+    (λ (node : Node). IsRest c.args.seeds.now (seeds_of nodes node.drv) o)) c.in-None-left.is
     behind)

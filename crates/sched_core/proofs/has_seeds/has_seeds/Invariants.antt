@@ -1,10 +1,10 @@
 use Rattle.std.proofs.Common.{◌≡◌, Some}
 use Rattle.std.specs.Prelude.{slice_get}
 use Rattle.drv_graph.specs.Nodes.{Node}
-use Rattle.sched_core.specs.private.Following.{IsBehind}
+use Rattle.sched_core.specs.private.Following.{IsRest}
 use Rattle.sched_core.proofs.SeedParts.{first_seeds}
 use Rattle.sched_core.proofs.has_seeds.has_seeds.Given as goal
 
 abbrev pub invariant-loop-place : goal.invariant-loop-place
 invariant-loop-place l = (node : Node) → slice_get l.plan.nodes l.d ≡ Some node
-    → IsBehind l.seeds (first_seeds l.plan.nodes node l.place) l.left
+    → IsRest l.seeds (first_seeds l.plan.nodes node l.place) l.left

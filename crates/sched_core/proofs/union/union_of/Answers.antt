@@ -38,7 +38,7 @@ loop-path-preserved-in-Continue-branch-2 c =
     rw (up, c.in_ok-take_off.ensures.below)
     (uniting_placed _ _ _ _
     _ _ before _ _ (sym (take-append-drop place below))
-    gap.before gap.behind)
+    gap.before gap.above)
 
 pub returns : goal.returns
 returns c =

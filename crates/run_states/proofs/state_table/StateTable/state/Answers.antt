@@ -1,5 +1,5 @@
 use Rattle.std.proofs.Common.{rules}
-use Rattle.run_states.proofs.MemoCourses.{state_told}
+use Rattle.run_states.proofs.MemoTables.{state_told}
 use Rattle.run_states.proofs.state_table.StateTable.state.Goals as goal
 
 pub returns : goal.returns

@@ -110,24 +110,24 @@ loop-d-preserved c =
     let low : d < length nodes = omega (arith, c.loop-d-test.true, c.len-d-end.ensures.value) in
     let spans = c.deref_mut.result.now in
     let edges = c.deref_mut-in-loop-d.result.now in
-    let spans_lent : spans ≡ c.loop-d.spans.items = c.deref_mut.ensures.value in
-    let edges_lent : edges ≡ c.loop-d.edges.items = c.deref_mut-in-loop-d.ensures.value in
+    let spans_are : spans ≡ c.loop-d.spans.items = c.deref_mut.ensures.value in
+    let edges_are : edges ≡ c.loop-d.edges.items = c.deref_mut-in-loop-d.ensures.value in
     let new_spans = c.add_user.new.spans in
     let new_edges = c.add_user.new.edges in
     let spans_size : length new_spans ≡ c.loop-d.spans.len = c.add_user.ensures.spans
-    ∙ ap length spans_lent ∙ sym c.loop-d.spans.ok.0 in
+    ∙ ap length spans_are ∙ sym c.loop-d.spans.ok.0 in
     let edges_size : length new_edges ≡ c.loop-d.edges.len = c.add_user.ensures.edges
-    ∙ ap length edges_lent ∙ sym c.loop-d.edges.ok.0 in
+    ∙ ap length edges_are ∙ sym c.loop-d.edges.ok.0 in
     let spans_back = sym (take_at new_spans _ c.loop-d.spans.len spans_size) in
     let edges_back = sym (take_at new_edges _ c.loop-d.edges.len edges_size) in
-    let size : length spans ≡ length nodes = ap length spans_lent ∙ c.loop-d.invariant.count in
+    let size : length spans ≡ length nodes = ap length spans_are ∙ c.loop-d.invariant.count in
     let room : HaveRoom spans (length edges) (λ n. often n numbers
     + (uses awaited (length nodes) n - uses awaited (d + 1) n)) =
-    rw (spans_lent, edges_lent)
+    rw (spans_are, edges_are)
     (room_others awaited (length nodes) d c.loop-d.spans.items (length c.loop-d.edges.items) low
     c.loop-d.invariant.room numbers own) in
     let first : AreOfFirst awaited (length nodes) d (users_of (parts spans edges)) =
-    rw (spans_lent, edges_lent) c.loop-d.invariant.first in
+    rw (spans_are, edges_are) c.loop-d.invariant.first in
     let adds : AddsUser d (awaited d) (length nodes) (users_of (parts spans edges))
     (users_of (parts new_spans new_edges)) =
     subst (λ l. AddsUser d l (length nodes) (users_of (parts spans edges))

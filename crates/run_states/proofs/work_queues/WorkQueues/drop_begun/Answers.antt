@@ -1,5 +1,5 @@
 use Rattle.std.proofs.Common.{◌∙◌, sym}
-use Rattle.run_states.proofs.Agendas.{ring_falls_at}
+use Rattle.run_states.proofs.WorkQueues.{ring_falls_at}
 use Rattle.run_states.proofs.work_queues.WorkQueues.drop_begun.Goals as goal
 
 pub loop-d-preserved : goal.loop-d-preserved

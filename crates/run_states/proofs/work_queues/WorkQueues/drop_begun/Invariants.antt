@@ -1,10 +1,10 @@
 use Rattle.std.proofs.Common.{◌≡◌, length}
-use Rattle.run_states.specs.Agendas.{IsAgenda}
+use Rattle.run_states.specs.WorkQueues.{AreQueues}
 use Rattle.run_states.proofs.work_queues.WorkQueues.drop_begun.Given as goal
 
 abbrev pub invariant-loop-d : goal.invariant-loop-d
 invariant-loop-d l = record {
-  is : IsAgenda l.memos (record {
+  is : AreQueues l.memos (record {
     ring = l.self-inside.ring.items;
     room = l.self-inside.ring.capacity;
     work = l.self-inside.work.items;

@@ -1,5 +1,5 @@
 use Rattle.std.proofs.Common.{◌≡◌, ◌∙◌, ◌++◌, ◌∷◌, [], arith, inl, inr, sym, ap}
-use Rattle.run_states.proofs.Agendas.{all_kept, few_unsettled, opening_done, opening_fresh, opening_open, opening_passed, opening_ready, room_for}
+use Rattle.run_states.proofs.WorkQueues.{all_kept, few_unsettled, opening_done, opening_fresh, opening_open, opening_passed, opening_ready, room_for}
 use Rattle.run_states.proofs.work_queues.WorkQueues.open.Goals as goal
 use Rattle.run_states.proofs.work_queues.WorkQueues.open.Goals.{then-memo+then-is_open+then-is_ready, then-memo+then-is_open+else-is_ready, else-memo, else-memo-via-then-memo+else-is_open, else-memo-via-else-memo}
 

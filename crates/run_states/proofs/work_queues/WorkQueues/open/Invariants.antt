@@ -1,5 +1,5 @@
 use Rattle.std.proofs.Common.{◌≡◌, [], length}
-use Rattle.run_states.proofs.Agendas.{IsOpening}
+use Rattle.run_states.proofs.WorkQueues.{IsOpening}
 use Rattle.run_states.proofs.work_queues.WorkQueues.open.Given as goal
 
 abbrev pub invariant-loop-d : goal.invariant-loop-d

@@ -4,7 +4,7 @@ use Rattle.sched_core.specs.Books.{AreSeedsValid, Ledger}
 use Rattle.run_states.specs.Legal.{begins}
 use Rattle.run_states.specs.StateTables.{CanBegin}
 use Rattle.sched_core.proofs.BookSteps.{beginning, book_begun, book_published, lease_begun}
-use Rattle.sched_core.proofs.Building.{begun_lease, builds_behind_begin}
+use Rattle.sched_core.proofs.Building.{begun_lease, builds_after_begin}
 use Rattle.sched_core.proofs.Keeping.{room_to_begin}
 use Rattle.sched_core.proofs.KeptStates.{can_begin, is_next}
 use Rattle.sched_core.proofs.book.Book.next.Goals as goal
@@ -69,7 +69,7 @@ returns-clause-seeds g c =
     let lease = begun_lease _ _ c.in-Some.d c.in_ok-job.job
     (rw c.plan.ensures at c.in_ok-job.ensures.ok) in
     let seeds : AreSeedsValid c.self.inside.journal.entries c.in_ok-job.job =
-    builds_behind_begin _ _ c.in-Some.d kept.legal
+    builds_after_begin _ _ c.in-Some.d kept.legal
     (can_begin _ _ _ _ _ kept _ c.in-Some.ensures) c.in_ok-job.job
     (begins c.self.inside.events.items) lease in
     subst (λ (l : Ledger). AreSeedsValid l.history.entries c.new.result.job) c.self.view_is
