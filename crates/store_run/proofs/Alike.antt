@@ -22,7 +22,7 @@ use Rattle.valid_table.proofs.JournalLists.{registered-append}
 use Rattle.run_states.specs.StateTables.{IsRunSettled}
 use Rattle.build_outcome.specs.Jobs.{named_outputs, seeds_of}
 use Rattle.run_states.specs.Legal.{IsEntryOf}
-use Rattle.run_states.specs.Runs.{History, IsWanted, Run, earlier_twins, input_numbers, inputs_at, is_valid, standing_at, state_in, terms_of}
+use Rattle.run_states.specs.Runs.{History, IsWanted, Run, earlier_twins, input_numbers, inputs_at, is_valid, precondition_at, state_in, terms_of}
 use Rattle.run_states.specs.States.{Phase, Idle, Begun, Ended, Broken, is_bad, is_good, phase_of}
 use Rattle.build_outcome.specs.declared.job.Answer.{Answer}
 use Rattle.build_outcome.specs.declared.job.Job.{Job}
@@ -36,12 +36,12 @@ use Rattle.run_states.proofs.TwinLaws.{is_earlier_twin, is_there, path_of_twin}
 use Rattle.store_run.specs.Scheduling.{AreAlike, HasOneOutcome}
 use Rattle.store_run.proofs.Carried.{IsCarried, first_carried, outputs_carried}
 use Rattle.store_run.proofs.OneOutcome.{came_count, came_refers, one_verdict}
-use Rattle.store_run.proofs.Standings.{output_of_reused, source_of_free}
+use Rattle.store_run.proofs.Preconditions.{output_of_reused, source_of_free}
 use Rattle.store_run.proofs.Telling.{CameTo, IsFrom, WasBegun, WasMade, from_built, from_opening}
 use Rattle.store_run.proofs.Unhindered.{IsGoodBy, IsUnhindered, aside_same, good_ended, good_is, good_reused, good_twin, inputs_in, is_good_by, state_by, twins_in, unhindered_ready}
 use Rattle.valid_table.proofs.Reaching.{valid_from_registers}
 
--- A history in which each derivation that has an event was begun and, once it ended, came to a
+-- A history in which each derivation that has an event was begun and, once it ended, has a
 -- verdict, and in which each record comes from the opening or from what was built.
 pub record IsAccounted (may : Job → Result Answer Reason → Type 0) (run : Run) (history : History)
     : Type 0 where
@@ -124,7 +124,7 @@ module _ (may : Job → Result Answer Reason → Type 0) (run : Run) (sound : Is
         by (good_reused rests stands) =
             opening_carried _
             (output_of_reused _ history.opening node.drv
-            (sym (ap (standing_at (terms_of run) history.opening) at) ∙ stands) _ has)
+            (sym (ap (precondition_at (terms_of run) history.opening) at) ∙ stands) _ has)
         by (good_twin t rests twin ends) =
             let nodes = run.graph.nodes in
             let is = is_earlier_twin _ _ d t twin in
@@ -136,7 +136,7 @@ module _ (may : Job → Result Answer Reason → Type 0) (run : Run) (sound : Is
 
     pub unhindered_there : IsUnhindered run history d → IsUnhindered run other d
     unhindered_there un = record {
-      free = ap (λ (opens : List Entry). standing_at (terms_of run) opens
+      free = ap (λ (opens : List Entry). precondition_at (terms_of run) opens
           (slice_get run.graph.nodes d)) opening ∙ un.free;
       spent = λ t has.
           let here = subst (λ (opens : List Entry). Contains (earlier_twins run opens d) t) opening
@@ -156,7 +156,7 @@ module _ (may : Job → Result Answer Reason → Type 0) (run : Run) (sound : Is
         ⊎_elim
         (λ source. opening_carried seed
         (source_of_free (terms_of run) history.opening node.drv
-        (sym (ap (standing_at (terms_of run) history.opening) at) ∙ un.free) seed source))
+        (sym (ap (precondition_at (terms_of run) history.opening) at) ∙ un.free) seed source))
         (λ named.
         let part = part_with (named_outputs nodes) node.drv.inputs seed named in
         let input = part.0 in
@@ -254,7 +254,7 @@ module _ (may : Job → Result Answer Reason → Type 0) (run : Run) (sound : Is
       seed_carried _ run sound _ history end' end (sym opening) d above node at
       (end'.begun d moved).unhindered
 
-  -- so it came to one verdict
+  -- so it has one verdict
   verdicts_same : (phase_of history.events d ≡ Idle → ⊥) → (phase_of other.events d ≡ Idle → ⊥)
       → (v w : Result (List PathInfo) Reason) → CameTo may run history d v
       → CameTo may run other d w → v ≡ w

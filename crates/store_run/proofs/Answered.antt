@@ -14,7 +14,7 @@ use Rattle.build_outcome.specs.declared.reason.Reason.{Reason}
 use Rattle.build_outcome.specs.declared.reason.Reason.TheVariants.{OutOfMemory}
 use Rattle.build_outcome.proofs.TestedVerdicts.{tested_verdict_stays}
 use Rattle.sched_core.proofs.ExaminedRecords.{verdicts_may_refer}
-use Rattle.store_run.specs.Builders.{IsAnswered, IsOutcomeVerdict, IsVerdictBehind, MayComeTo, answered_begin, answered_done, answered_fail}
+use Rattle.store_run.specs.Builders.{IsAnswered, IsOutcomeVerdict, IsVerdictAfter, MayEndAs, answered_begin, answered_done, answered_fail}
 use Rattle.store_run.specs.private.JobVerdicts.{IsFoundBy, IsToldOfSeeds, MayBeFound, StaysPermitted}
 use Rattle.store_run.specs.declared.job_verdict.JobVerdict.TheVariants.{Examined, Unanswered}
 
@@ -36,44 +36,44 @@ told_at {Told} names entries lease told seeds = by lease.told told
     by None none = absurd none
     by (Some t) named = (entries, named, seeds)
 
-verdict_behind : (may : Job → Result Answer Reason → Type 0) (run : Run) (entries : List Entry)
+verdict_after : (may : Job → Result Answer Reason → Type 0) (run : Run) (entries : List Entry)
     (job : Job) (verdict : Result (List PathInfo) Reason)
-    → IsJob run.graph job.derivation job → MayComeTo may entries job verdict
-    → IsVerdictBehind may run entries job.derivation verdict
-verdict_behind may run entries job verdict is_job came = search rules
+    → IsJob run.graph job.derivation job → MayEndAs may entries job verdict
+    → IsVerdictAfter may run entries job.derivation verdict
+verdict_after may run entries job verdict is_job came = search rules
 
 pub after_finishing : (may : Job → Result Answer Reason → Type 0) (before after : Ledger)
     (job : Job) (number : ℕ) (infos : List PathInfo)
     → IsAnswered may before.run before.history
     → (IsBooksLease before.run before.history job number
-    → MayComeTo may before.history.entries job (Ok infos))
+    → MayEndAs may before.history.entries job (Ok infos))
     → IsFinishing before after job number infos → IsAnswered may after.run after.history
 after_finishing may before after job number infos answered came finishes =
     rw (finishes.run, finishes.history)
     (answered_done before.history job.derivation number finishes.done.node infos finishes.entry
     answered finishes.done.is_node
-    (verdict_behind may _ _ _ _ finishes.lease.is_job
+    (verdict_after may _ _ _ _ finishes.lease.is_job
     (came finishes.lease))
     finishes.done.is_entry)
 
-why_behind : (may : Job → Result Answer Reason → Type 0) (run : Run) (history : History)
+why_after : (may : Job → Result Answer Reason → Type 0) (run : Run) (history : History)
     (job : Job) (number : ℕ) (reason : Reason) → IsBooksLease run history job number
     → (reason ≡ OutOfMemory) ⊎ (IsBooksLease run history job number
-    → MayComeTo may history.entries job (Err reason))
-    → (reason ≡ OutOfMemory) ⊎ IsVerdictBehind may run history.entries job.derivation (Err reason)
-why_behind may run history job number reason lease (inl refused) = inl refused
-why_behind may run history job number reason lease (inr came) =
-    inr (verdict_behind may _ _ _ _ lease.is_job (came lease))
+    → MayEndAs may history.entries job (Err reason))
+    → (reason ≡ OutOfMemory) ⊎ IsVerdictAfter may run history.entries job.derivation (Err reason)
+why_after may run history job number reason lease (inl refused) = inl refused
+why_after may run history job number reason lease (inr came) =
+    inr (verdict_after may _ _ _ _ lease.is_job (came lease))
 
 pub after_failing : (may : Job → Result Answer Reason → Type 0) (before after : Ledger)
     (job : Job) (number : ℕ) (reason : Reason) → IsAnswered may before.run before.history
     → (reason ≡ OutOfMemory) ⊎ (IsBooksLease before.run before.history job number
-    → MayComeTo may before.history.entries job (Err reason))
+    → MayEndAs may before.history.entries job (Err reason))
     → IsFailing before after job number reason → IsAnswered may after.run after.history
 after_failing may before after job number reason answered why fails =
     rw (fails.run, fails.history)
     (answered_fail before.history job.derivation number reason answered
-    (why_behind may _ _ _ _ _ fails.lease why))
+    (why_after may _ _ _ _ _ fails.lease why))
 
 -- records come of an answer alone
 outcome_may_refer : (entries : List Entry) (job : Job) (outcome : Result Answer Reason)
@@ -84,7 +84,7 @@ outcome_may_refer entries job (Ok answer) infos (permitted, are, (is, passed)) =
 outcome_may_refer entries job (Err reason) infos is = let no = is.2 in absurd cc
 
 pub came_may_refer : (may : Job → Result Answer Reason → Type 0) (entries : List Entry)
-    (job : Job) (infos : List PathInfo) → MayComeTo may entries job (Ok infos)
+    (job : Job) (infos : List PathInfo) → MayEndAs may entries job (Ok infos)
     → MayAllRefer entries job infos
 came_may_refer may entries job infos came = outcome_may_refer entries _ _ _ came.2
 
@@ -99,12 +99,12 @@ pub examined_comes : {P : Type 0} (may : Job → Result Answer Reason → Type 0
     (seen entries : List Entry) (job : Job) (verdict : Result (List PathInfo) Reason)
     → MayBeFound may seen job (Examined verdict)
     → (P → IsShowable seen → AreSeedsValid seen job → StaysPermitted seen entries job)
-    → (verdict ≡ Err OutOfMemory) ⊎ (P → MayComeTo may entries job verdict)
+    → (verdict ≡ Err OutOfMemory) ⊎ (P → MayEndAs may entries job verdict)
 examined_comes {P} may seen entries job verdict found stays = by found.outcome found.given found.by
   where
     by : (outcome : Result Answer Reason) → (outcome ≡ Err OutOfMemory) ⊎ may job outcome
         → IsFoundBy seen job outcome (Examined verdict)
-        → (verdict ≡ Err OutOfMemory) ⊎ (P → MayComeTo may entries job verdict)
+        → (verdict ≡ Err OutOfMemory) ⊎ (P → MayEndAs may entries job verdict)
     by (Ok answer) (inl refused) is = absurd cc
     by (Ok answer) (inr given) (inl refused) = inl refused
     by (Ok answer) (inr given) (inr is) =
@@ -126,12 +126,12 @@ examined_comes {P} may seen entries job verdict found stays = by found.outcome f
 pub unanswered_comes : {P : Type 0} (may : Job → Result Answer Reason → Type 0)
     (seen entries : List Entry) (job : Job) (reason : Reason)
     → MayBeFound may seen job (Unanswered reason)
-    → (reason ≡ OutOfMemory) ⊎ (P → MayComeTo may entries job (Err reason))
+    → (reason ≡ OutOfMemory) ⊎ (P → MayEndAs may entries job (Err reason))
 unanswered_comes {P} may seen entries job reason found = by found.outcome found.given found.by
   where
     by : (outcome : Result Answer Reason) → (outcome ≡ Err OutOfMemory) ⊎ may job outcome
         → IsFoundBy seen job outcome (Unanswered reason)
-        → (reason ≡ OutOfMemory) ⊎ (P → MayComeTo may entries job (Err reason))
+        → (reason ≡ OutOfMemory) ⊎ (P → MayEndAs may entries job (Err reason))
     by (Ok answer) given is = absurd is
     by (Err why) (inl refused) is = inl (is ∙ same_reason _ refused)
     by (Err why) (inr given) is = search rules
@@ -140,8 +140,8 @@ unanswered_comes {P} may seen entries job reason found = by found.outcome found.
 pub records_come : {P : Type 0} (may : Job → Result Answer Reason → Type 0) (entries : List Entry)
     (job : Job) (infos : List PathInfo)
     → ◌≡◌ {A = Result (List PathInfo) Reason} (Ok infos) (Err OutOfMemory)
-    ⊎ (P → MayComeTo may entries job (Ok infos))
-    → P → MayComeTo may entries job (Ok infos)
+    ⊎ (P → MayEndAs may entries job (Ok infos))
+    → P → MayEndAs may entries job (Ok infos)
 records_come may entries job infos (inl refused) = absurd cc
 records_come may entries job infos (inr come) = come
 
@@ -149,7 +149,7 @@ records_come may entries job infos (inr come) = come
 pub reason_comes : {P : Type 0} (may : Job → Result Answer Reason → Type 0) (entries : List Entry)
     (job : Job) (reason : Reason)
     → ◌≡◌ {A = Result (List PathInfo) Reason} (Err reason) (Err OutOfMemory)
-    ⊎ (P → MayComeTo may entries job (Err reason))
-    → (reason ≡ OutOfMemory) ⊎ (P → MayComeTo may entries job (Err reason))
+    ⊎ (P → MayEndAs may entries job (Err reason))
+    → (reason ≡ OutOfMemory) ⊎ (P → MayEndAs may entries job (Err reason))
 reason_comes may entries job reason (inl refused) = inl cc
 reason_comes may entries job reason (inr come) = inr come

@@ -24,7 +24,7 @@ use Rattle.build_outcome.specs.declared.job.Answer.{Answer}
 use Rattle.build_outcome.specs.declared.job.Job.{Job}
 use Rattle.build_outcome.specs.declared.reason.Reason.{Reason}
 use Rattle.build_outcome.specs.declared.reason.Reason.TheVariants.{OutOfMemory}
-use Rattle.run_states.specs.Runs.{History, IsWanted, Run, Terms, by_cause, earlier_twins, is_valid, own_cause, standing_at, standing_of, terms_of, wanted_input, wanted_root}
+use Rattle.run_states.specs.Runs.{History, IsWanted, Run, Terms, by_cause, earlier_twins, is_valid, own_cause, precondition_at, precondition_of, terms_of, wanted_input, wanted_root}
 use Rattle.run_states.specs.States.{Phase, Idle, Begun, Ended, Broken, phase_of}
 use Rattle.run_states.specs.declared.precondition.Precondition.TheVariants.{AllValid, Free}
 use Rattle.run_states.proofs.Seeds.{ended_is_valid, opening_stays_valid}
@@ -58,11 +58,11 @@ module _ {X : Type 0} (p q : X → Bool) where
   place_agree xs same = rw (first_agree xs same) refl
 
 -- where the same outputs and sources are valid, a derivation stands the same
-standing_agree : (terms : Terms) (a b : List Entry) (drv : Drv)
+precondition_agree : (terms : Terms) (a b : List Entry) (drv : Drv)
     → ((path : List ℕ) → Contains (output_paths_of drv) path → is_valid a path ≡ is_valid b path)
     → ((path : List ℕ) → Contains drv.sources path → is_valid a path ≡ is_valid b path)
-    → standing_of terms a drv ≡ standing_of terms b drv
-standing_agree terms a b drv outputs sources =
+    → precondition_of terms a drv ≡ precondition_of terms b drv
+precondition_agree terms a b drv outputs sources =
     rw (
       all_agree (is_valid a) (is_valid b) (output_paths_of drv) outputs,
       place_agree (is_valid a) (is_valid b) (output_paths_of drv) outputs,
@@ -171,23 +171,23 @@ module _ (may : Job → Result Answer Reason → Type 0) (run : Run) (cut : Hist
 
   -- a derivation that was not built stands as before
   pub stands_same : (d : ℕ) → (phase_of cut.events d ≡ Ended → ⊥)
-      → standing_at (terms_of run) cut.entries (slice_get run.graph.nodes d)
-      ≡ standing_at (terms_of run) cut.opening (slice_get run.graph.nodes d)
+      → precondition_at (terms_of run) cut.entries (slice_get run.graph.nodes d)
+      ≡ precondition_at (terms_of run) cut.opening (slice_get run.graph.nodes d)
   stands_same d unbuilt = by (slice_get run.graph.nodes d) refl
     where
       by : (node : Option Node) → slice_get run.graph.nodes d ≡ node
-          → standing_at (terms_of run) cut.entries node
-          ≡ standing_at (terms_of run) cut.opening node
+          → precondition_at (terms_of run) cut.entries node
+          ≡ precondition_at (terms_of run) cut.opening node
       by None at = refl
       by (Some node) at =
-          standing_agree (terms_of run) cut.entries cut.opening node.drv
+          precondition_agree (terms_of run) cut.entries cut.opening node.drv
           (λ path own. valid_same path (output_unmade d node at unbuilt path own))
           (λ path source. valid_same path
           (source_unmade node (Contains-from_get _ d node at) path source))
 
   -- one that was built stands by its valid outputs
   pub built_stands : (d : ℕ) → phase_of cut.events d ≡ Ended
-      → standing_at (terms_of run) cut.entries (slice_get run.graph.nodes d) ≡ AllValid
+      → precondition_at (terms_of run) cut.entries (slice_get run.graph.nodes d) ≡ AllValid
   built_stands d ends =
       let made = made_is (λ reason. reason ≡ OutOfMemory) may run is_cut.plan cut told d ends in
       let drv = made.node.drv in
@@ -195,19 +195,19 @@ module _ (may : Job → Result Answer Reason → Type 0) (run : Run) (cut : Hist
       all_pass (is_valid cut.entries) (output_paths_of drv)
       (λ path own. list_any-from_Contains nat_list_eq_equiv _ _
       (ended_is_valid run cut is_cut.legal d made.node made.is_node ends path own)) in
-      ap (standing_at (terms_of run) cut.entries) made.is_node
+      ap (precondition_at (terms_of run) cut.entries) made.is_node
       ∙ ap (λ all. cond all AllValid (by_cause (own_cause (terms_of run) cut.entries drv))) valid
 
   -- so one that is free was not built, and was free
   pub free_unbuilt : (d : ℕ)
-      → standing_at (terms_of run) cut.entries (slice_get run.graph.nodes d) ≡ Free
+      → precondition_at (terms_of run) cut.entries (slice_get run.graph.nodes d) ≡ Free
       → phase_of cut.events d ≡ Ended → ⊥
   free_unbuilt d free ends =
       let clash : AllValid ≡ Free = sym (built_stands d ends) ∙ free in cc
 
   pub was_free : (d : ℕ)
-      → standing_at (terms_of run) cut.entries (slice_get run.graph.nodes d) ≡ Free
-      → standing_at (terms_of run) cut.opening (slice_get run.graph.nodes d) ≡ Free
+      → precondition_at (terms_of run) cut.entries (slice_get run.graph.nodes d) ≡ Free
+      → precondition_at (terms_of run) cut.opening (slice_get run.graph.nodes d) ≡ Free
   was_free d free = sym (stands_same d (free_unbuilt d free)) ∙ free
 
   -- what is wanted after the cut was wanted before it

@@ -128,7 +128,7 @@ bad_lines_same nodes named others f g is_wanted was_wanted xs ys of_xs of_ys sam
     ∙ lines_alike (line_at nodes named f) (line_at nodes others g) bad_ys
     (λ d has. ap (λ (s : State). line_at nodes named (λ e. s) d) (both d has).1
     ∙ ap (λ (n : Option (List ℕ)). line_at nodes (λ e. n) g d)
-    (names d (both d has).0 (wanted_behind d has) (both d has).1))
+    (names d (both d has).0 (wanted_after d has) (both d has).1))
   where
     bad_xs : List ℕ
     bad_xs = filter (λ d. is_bad (f d)) xs
@@ -143,12 +143,12 @@ bad_lines_same nodes named others f g is_wanted was_wanted xs ys of_xs of_ys sam
         ((of_xs.just d).0 (filter_of (λ e. is_bad (f e)) xs d has), refl) in
         filter_has (λ e. is_bad (g e)) ys d ((of_ys.just d).1 is.0) (ap is_bad is.1 ∙ bad)
 
-    wanted_behind : (d : ℕ) → Contains bad_ys d → was_wanted d
-    wanted_behind d has = (of_ys.just d).0 (filter_of (λ e. is_bad (g e)) ys d has)
+    wanted_after : (d : ℕ) → Contains bad_ys d → was_wanted d
+    wanted_after d has = (of_ys.just d).0 (filter_of (λ e. is_bad (g e)) ys d has)
 
     both : (d : ℕ) → Contains bad_ys d → is_wanted d × (f d ≡ g d)
     both d has =
-        (same d (g d) (filter_is (λ e. is_bad (g e)) ys d has)).1 (wanted_behind d has, refl)
+        (same d (g d) (filter_is (λ e. is_bad (g e)) ys d has)).1 (wanted_after d has, refl)
 
     back : (d : ℕ) → Contains bad_ys d → Contains bad_xs d
     back d has =

@@ -12,7 +12,7 @@ use Rattle.build_outcome.specs.declared.reason.Reason.TheVariants.{OutOfMemory}
 use Rattle.drv_graph.specs.SoundGraphs.{IsSound}
 use Rattle.run_states.specs.StateTables.{IsOpen, IsRunSettled}
 use Rattle.run_states.specs.Legal.{IsLegal}
-use Rattle.run_states.specs.Runs.{History, IsWanted, Run, standing_at, state_in, terms_of, wanted_input, wanted_root}
+use Rattle.run_states.specs.Runs.{History, IsWanted, Run, precondition_at, state_in, terms_of, wanted_input, wanted_root}
 use Rattle.run_states.specs.States.{Phase, Rows, Idle, Begun, Ended, Broken, by_hindrance, by_inputs, by_twins, by_validity, is_bad, is_good, is_open, phase_of}
 use Rattle.run_states.specs.declared.state.State.{State}
 use Rattle.run_states.specs.declared.state.State.TheVariants.{Blocked, Building, Done, Failed, Ready, Refused, Reused}
@@ -27,7 +27,7 @@ use Rattle.store_run.proofs.CutOpenings.{built_stands, ended_or_not, no_earlier,
 use Rattle.store_run.proofs.CutsJoined.{IsJoined, IsSamePhase, over, stands_as}
 use Rattle.store_run.proofs.Telling.{begun_is}
 use Rattle.store_run.proofs.Turns.{closed_is}
-use Rattle.store_run.proofs.Unhindered.{IsGoodBy, good_ended, good_is, good_reused, good_twin, inputs_in, is_good_by, rows_in, standing_in, state_by}
+use Rattle.store_run.proofs.Unhindered.{IsGoodBy, good_ended, good_is, good_reused, good_twin, inputs_in, is_good_by, precondition_in, rows_in, state_by}
 
 -- ---- states that are one to those that wait for them
 
@@ -139,20 +139,21 @@ module _ (f g : ℕ → State) where
       → by_inputs f inputs ≡ by_inputs g inputs
   inputs_seen inputs same = rw (find_seen inputs same, all_seen inputs same) refl
 
--- a derivation without an earlier twin, by its standing and its inputs
+-- a derivation without an earlier twin, by its precondition and its inputs
 aside_alone : (rows : Rows) (f : ℕ → State) (d : ℕ) → rows.twins d ≡ []
     → aside rows f d
-    ≡ by_validity (rows.standing d) (by_hindrance (rows.standing d) (by_inputs f (rows.inputs d)))
+    ≡ by_validity (rows.precondition d)
+    (by_hindrance (rows.precondition d) (by_inputs f (rows.inputs d)))
 aside_alone rows f d none =
-    ap (λ (twins : List ℕ). by_validity (rows.standing d) (by_twins f twins
-    (by_hindrance (rows.standing d) (by_inputs f (rows.inputs d))))) none
+    ap (λ (twins : List ℕ). by_validity (rows.precondition d) (by_twins f twins
+    (by_hindrance (rows.precondition d) (by_inputs f (rows.inputs d))))) none
 
 -- one that stands by valid outputs is reused
-pub aside_valid : (rows : Rows) (f : ℕ → State) (d : ℕ) → rows.standing d ≡ AllValid
+pub aside_valid : (rows : Rows) (f : ℕ → State) (d : ℕ) → rows.precondition d ≡ AllValid
     → aside rows f d ≡ Reused
 aside_valid rows f d stands =
     ap (λ (s : Precondition). by_validity s (by_twins f (rows.twins d)
-    (by_hindrance (rows.standing d) (by_inputs f (rows.inputs d))))) stands
+    (by_hindrance (rows.precondition d) (by_inputs f (rows.inputs d))))) stands
 
 -- two that stand the same, and see the same of their inputs where they are free
 stands_seen : (s : Precondition) (a b : State) → (s ≡ Free → a ≡ b)
@@ -165,12 +166,12 @@ stands_seen Free a b same = same refl
 
 -- where all outputs were valid, a derivation has no event
 valid_idle : (run : Run) → IsSound run.graph → (history : History) → IsLegal run history → (d : ℕ)
-    → standing_in run history d ≡ AllValid → phase_of history.events d ≡ Idle
+    → precondition_in run history d ≡ AllValid → phase_of history.events d ≡ Idle
 valid_idle run sound history legal d stands = by (phase_of history.events d) refl
   where
     moved : (phase_of history.events d ≡ Idle → ⊥) → phase_of history.events d ≡ Idle
     moved has =
-        let free : standing_in run history d ≡ Free =
+        let free : precondition_in run history d ≡ Free =
         (begun_unhindered run sound history legal d has).free in
         let clash : AllValid ≡ Free = sym stands ∙ free in
         absurd cc
@@ -193,8 +194,9 @@ module _ (may gives : Job → Result Answer Reason → Type 0) (run : Run) (cut 
   -- what was built before the cut is reused after it
   pub built_reused : (d : ℕ) → phase_of cut.events d ≡ Ended → state_in run next d ≡ Reused
   built_reused d ends =
-      let stands : standing_in run next d ≡ AllValid =
-      ap (λ (opens : List Entry). standing_at (terms_of run) opens (slice_get run.graph.nodes d))
+      let stands : precondition_in run next d ≡ AllValid =
+      ap (λ (opens : List Entry). precondition_at (terms_of run) opens
+      (slice_get run.graph.nodes d))
       opening
       ∙ built_stands may run cut is_cut d ends in
       state_by run next is_cut.plan d Idle
@@ -211,7 +213,7 @@ module _ (may gives : Job → Result Answer Reason → Type 0) (run : Run) (cut 
 
   -- where nothing became of a derivation
   seen_idle : (d : ℕ) → (phase_of cut.events d ≡ Ended → ⊥) → phase_of next.events d ≡ Idle
-      → (standing_in run next d ≡ Free → (i : ℕ) → Contains (inputs_in run d) i
+      → (precondition_in run next d ≡ Free → (i : ℕ) → Contains (inputs_in run d) i
       → seen_as (state_in run next i) ≡ seen_as (state_in run whole i))
       → seen_as (state_in run next d) ≡ seen_as (state_in run whole d)
   seen_idle d fresh idle same =
@@ -223,7 +225,7 @@ module _ (may gives : Job → Result Answer Reason → Type 0) (run : Run) (cut 
       let stands = stands_as may gives run cut is_cut next opening d fresh in
       let here = state_by run next is_cut.plan d Idle idle
       ∙ aside_alone (rows_in run next) f d (no_earlier run is_cut.twins next.opening d)
-      ∙ stands_seen (standing_in run next d) (by_inputs f inputs) (by_inputs g inputs)
+      ∙ stands_seen (precondition_in run next d) (by_inputs f inputs) (by_inputs g inputs)
       (λ free. inputs_seen f g inputs (same free)) in
       let there = state_by run whole is_cut.plan d Idle idle_there
       ∙ aside_alone (rows_in run whole) g d (no_earlier run is_cut.twins cut.opening d) in
@@ -233,7 +235,7 @@ module _ (may gives : Job → Result Answer Reason → Type 0) (run : Run) (cut 
       ∙ sym there)
 
   seen_fresh : (d : ℕ) → (phase_of cut.events d ≡ Ended → ⊥)
-      → (standing_in run next d ≡ Free → (i : ℕ) → Contains (inputs_in run d) i
+      → (precondition_in run next d ≡ Free → (i : ℕ) → Contains (inputs_in run d) i
       → seen_as (state_in run next i) ≡ seen_as (state_in run whole i))
       → seen_as (state_in run next d) ≡ seen_as (state_in run whole d)
   seen_fresh d fresh same = by (phase_of next.events d) refl
@@ -268,7 +270,7 @@ module _ (may gives : Job → Result Answer Reason → Type 0) (run : Run) (cut 
       let first = inputs_first run.graph is_cut.plan d i has in
       seen_below bound i (omega (arith, low, first))
       (wanted_input d i wanted
-      (subst (λ (opens : List Entry). standing_at (terms_of run) opens
+      (subst (λ (opens : List Entry). precondition_at (terms_of run) opens
       (slice_get run.graph.nodes d) ≡ Free) opening free) has)))
       (ended_or_not (phase_of cut.events d))
 
@@ -282,7 +284,7 @@ module _ (may gives : Job → Result Answer Reason → Type 0) (run : Run) (cut 
   -- a derivation was built before the cut, or all its outputs were valid at first
   abbrev IsSpared : ℕ → Type 0
   IsSpared d = (phase_of cut.events d ≡ Ended)
-      ⊎ (standing_at (terms_of run) cut.opening (slice_get run.graph.nodes d) ≡ AllValid)
+      ⊎ (precondition_at (terms_of run) cut.opening (slice_get run.graph.nodes d) ≡ AllValid)
 
   -- the inputs of what was built are spared
   input_spared : (d : ℕ) → phase_of cut.events d ≡ Ended → (i : ℕ) → Contains (inputs_in run d) i
@@ -328,12 +330,12 @@ module _ (may gives : Job → Result Answer Reason → Type 0) (run : Run) (cut 
   whole_settled settled d within wanted still = by (still_wanted d wanted)
     where
       by : IsWanted run cut.entries d ⊎ IsSpared d → ⊥
-      by (inl behind) =
+      by (inl ending) =
           let closed = closed_is (state_in run next d)
           (settled d within
-          (subst (λ (opens : List Entry). IsWanted run opens d) (sym opening) behind)) in
+          (subst (λ (opens : List Entry). IsWanted run opens d) (sym opening) ending)) in
           let clash : false ≡ true = sym closed
-          ∙ same_open (state_in run next d) (state_in run whole d) (seen_wanted d behind)
+          ∙ same_open (state_in run next d) (state_in run whole d) (seen_wanted d ending)
           ∙ open_is (state_in run whole d) still in
           cc
       by (inr spared) =
@@ -347,9 +349,9 @@ module _ (may gives : Job → Result Answer Reason → Type 0) (run : Run) (cut 
       bad = ap is_bad failed
 
       by : IsWanted run cut.entries d ⊎ IsSpared d → ⊥
-      by (inl behind) =
+      by (inl ending) =
           memory d within
-          (subst (λ (opens : List Entry). IsWanted run opens d) (sym opening) behind)
-          (bad_same (state_in run next d) (state_in run whole d) (seen_wanted d behind) bad
+          (subst (λ (opens : List Entry). IsWanted run opens d) (sym opening) ending)
+          (bad_same (state_in run next d) (state_in run whole d) (seen_wanted d ending) bad
           ∙ failed)
       by (inr spared) = good_or_bad (state_in run whole d) (spared_good d spared) bad

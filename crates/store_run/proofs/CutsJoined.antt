@@ -12,7 +12,7 @@ use Rattle.build_outcome.specs.declared.job.Job.{Job}
 use Rattle.build_outcome.specs.declared.reason.Reason.{Reason}
 use Rattle.build_outcome.specs.declared.reason.Reason.TheVariants.{OutOfMemory}
 use Rattle.run_states.specs.Legal.{IsAllowed, IsEntryOf, IsLegal, begins, begun, ended, failed, legal_begin, legal_done, legal_fail, legal_opening}
-use Rattle.run_states.specs.Runs.{History, IsWanted, Run, standing_at, state_in, terms_of}
+use Rattle.run_states.specs.Runs.{History, IsWanted, Run, precondition_at, state_in, terms_of}
 use Rattle.run_states.specs.States.{Phase, Idle, Begun, Ended, Broken, is_good, phase_of}
 use Rattle.run_states.specs.declared.state.Event.{Event}
 use Rattle.run_states.specs.declared.state.Event.TheVariants.{Begin, Done as Finish, Fail}
@@ -21,12 +21,12 @@ use Rattle.run_states.specs.declared.precondition.Precondition.TheVariants.{Free
 use Rattle.run_states.proofs.Histories.{ready_is_idle}
 use Rattle.run_states.proofs.OtherEvents.{number_of, phase_other, same_or_other}
 use Rattle.run_states.proofs.Unhindered.{begun_unhindered, ready_unhindered}
-use Rattle.store_run.specs.Builders.{IsAnswered, IsVerdictBehind, answered_begin, answered_done, answered_fail, answered_opening}
+use Rattle.store_run.specs.Builders.{IsAnswered, IsVerdictAfter, answered_begin, answered_done, answered_fail, answered_opening}
 use Rattle.store_run.specs.Interruptions.{HasNoTwins, IsCutRun}
 use Rattle.store_run.proofs.CutOpenings.{ended_or_not, free_unbuilt, none_earlier, stands_same, was_wanted}
 use Rattle.store_run.proofs.Telling.{WasBegun, begun_is, phase_begun, phase_broken, phase_ended}
 use Rattle.store_run.proofs.ToldRuns.{answered_before_begin, answered_by_done, answered_by_fail, told_from}
-use Rattle.store_run.proofs.Unhindered.{IsGoodBy, IsUnhindered, good_ended, good_is, good_reused, good_twin, is_good_by, standing_in, unhindered_ready}
+use Rattle.store_run.proofs.Unhindered.{IsGoodBy, IsUnhindered, good_ended, good_is, good_reused, good_twin, is_good_by, precondition_in, unhindered_ready}
 
 -- ---- phases after one event more
 
@@ -81,8 +81,8 @@ module _ (may gives : Job → Result Answer Reason → Type 0) (run : Run) (soun
   -- what was given where a derivation was built may be given now
   abbrev pub PassesOn : History → Type 0
   PassesOn history = (d : ℕ) (entries : List Entry) (infos : List PathInfo)
-      → phase_of history.events d ≡ Ended → IsVerdictBehind may run entries d (Ok infos)
-      → IsVerdictBehind gives run entries d (Ok infos)
+      → phase_of history.events d ≡ Ended → IsVerdictAfter may run entries d (Ok infos)
+      → IsVerdictAfter gives run entries d (Ok infos)
 
   -- an event by which nothing is built or was changes nothing
   kept_on : (history : History) (x : Event)
@@ -149,7 +149,7 @@ module _ (may gives : Job → Result Answer Reason → Type 0) (run : Run) (soun
         → slice_get run.graph.nodes e ≡ Some node
         → IsAllowed run.graph history.entries node infos → IsEntryOf node infos entry
         → slice_get run.graph.nodes e ≡ Some own
-        → IsVerdictBehind gives run history.entries e (Ok given) → IsEntryOf own given entry
+        → IsVerdictAfter gives run history.entries e (Ok given) → IsEntryOf own given entry
         → IsKept (ended history e lease entry)
     kept_done node own infos given entry at allowed is_entry own_at came own_entry = record {
       events = done_events;
@@ -258,18 +258,19 @@ module _ (may gives : Job → Result Answer Reason → Type 0) (run : Run) (cut 
 
   module _ (next : History) (opening : next.opening ≡ cut.entries) where
     -- a derivation that is free after the cut was not built before it
-    pub unbuilt_by : (d : ℕ) → standing_in run next d ≡ Free → phase_of cut.events d ≡ Ended → ⊥
+    pub unbuilt_by : (d : ℕ) → precondition_in run next d ≡ Free → phase_of cut.events d ≡ Ended → ⊥
     unbuilt_by d free =
         free_unbuilt may run cut is_cut d
-        (subst (λ (opens : List Entry). standing_at (terms_of run) opens
+        (subst (λ (opens : List Entry). precondition_at (terms_of run) opens
         (slice_get run.graph.nodes d) ≡ Free) opening free)
 
     -- one that was not built stands as it did
     pub stands_as : (d : ℕ) → (phase_of cut.events d ≡ Ended → ⊥)
-        → standing_in run next d
-        ≡ standing_at (terms_of run) cut.opening (slice_get run.graph.nodes d)
+        → precondition_in run next d
+        ≡ precondition_at (terms_of run) cut.opening (slice_get run.graph.nodes d)
     stands_as d unbuilt =
-        ap (λ (opens : List Entry). standing_at (terms_of run) opens (slice_get run.graph.nodes d))
+        ap (λ (opens : List Entry). precondition_at (terms_of run) opens
+        (slice_get run.graph.nodes d))
         opening
         ∙ stands_same may run cut is_cut d unbuilt
 
@@ -342,7 +343,7 @@ module _ (may gives : Job → Result Answer Reason → Type 0) (run : Run) (cut 
         }
 
     module _ (lease : ℕ) (phase : phase_of history.events e ≡ Begun lease) where
-      begun_free : standing_in run history e ≡ Free
+      begun_free : precondition_in run history e ≡ Free
       begun_free = (begun_unhindered run is_cut.plan history legal e
           (begun_moved (phase_of history.events e) lease phase)).free
 
@@ -354,7 +355,7 @@ module _ (may gives : Job → Result Answer Reason → Type 0) (run : Run) (cut 
           → slice_get run.graph.nodes e ≡ Some node
           → IsAllowed run.graph history.entries node infos → IsEntryOf node infos entry
           → slice_get run.graph.nodes e ≡ Some own
-          → IsVerdictBehind gives run history.entries e (Ok given) → IsEntryOf own given entry
+          → IsVerdictAfter gives run history.entries e (Ok given) → IsEntryOf own given entry
           → IsJoined (ended history e lease entry)
       joined_done node own infos given entry at allowed is_entry own_at came own_entry = record {
         events = before.events ++ Finish e there.0 ∷ [];
@@ -372,7 +373,7 @@ module _ (may gives : Job → Result Answer Reason → Type 0) (run : Run) (cut 
       }
 
       joined_fail : (reason : Reason)
-          → (reason ≡ OutOfMemory) ⊎ IsVerdictBehind gives run history.entries e (Err reason)
+          → (reason ≡ OutOfMemory) ⊎ IsVerdictAfter gives run history.entries e (Err reason)
           → IsJoined (failed history e lease reason)
       joined_fail reason why = record {
         events = before.events ++ Fail e there.0 reason ∷ [];

@@ -1,4 +1,4 @@
--- What the jobs of the diamond come to.
+-- How the jobs of the diamond end.
 use Rattle.std.proofs.Common.{◌≡◌, inl, inr, ◌<◌, ◌^◌, ℕ, true, false, List, [], ◌∷◌, length, map, Some, Ok, Err, refl, sym, ap, subst, ⊎_elim, arith, rules}
 use Rattle.std.specs.Prelude.{All, Contains, codes, pos, slice_get}
 use Rattle.std.proofs.lemmas.List.{length-map}
@@ -26,7 +26,7 @@ use Rattle.build_outcome.specs.declared.job.Answer.{Answer}
 use Rattle.build_outcome.specs.declared.job.Job.{Job}
 use Rattle.build_outcome.specs.declared.reason.Reason.TheVariants.{ExitStatus}
 use Rattle.run_states.specs.Legal.{ArePermitted, MayRefer}
-use Rattle.store_run.specs.Builders.{IsVerdictBehind}
+use Rattle.store_run.specs.Builders.{IsVerdictAfter}
 use Rattle.store_run.specs.DiamondExample.{base, base_out, diamond, drv_of, file_of, left, left_out, may_make, right, right_out, top, top_out}
 use Rattle.store_run.specs.TwinExample.{IsEmptyFile, LeavesWith}
 use Rattle.store_run.proofs.AlonePlans.{all_one, all_two, one_of}
@@ -149,9 +149,9 @@ module _ (d : ℕ) (name out : List ℕ) (inputs : List Input) (path : List ℕ)
 
   makes : (permitted : List (List ℕ)) → All HasLongPart permitted → (answer : Answer)
       → LeavesWith true false answer → IsVerdict job permitted answer (Ok (file_in ∷ []))
-  makes permitted long answer behind =
+  makes permitted long answer ending =
       file_verdict job is_job.profile kind_is one_output permitted (found_in permitted long) answer
-      behind
+      ending
 
 -- ---- jobs
 
@@ -169,7 +169,8 @@ module _ (name out : List ℕ) (short : length name < 256) (out_few : length out
   unfolding job_for
   is_job_for inputs path at are =
       is_job_of (recipe_of name) short (omega arith) script_args (omega arith) out out_few
-      empty_kind d seeds few diamond.graph (record { path = path; drv = drv_of name out inputs }) refl at
+      empty_kind d seeds few diamond.graph (record { path = path; drv = drv_of name out inputs })
+      refl at
       refl refl refl refl refl (kind_of name out inputs) are
 
   comes : (entries : List Entry) (inputs : List Input) (path : List ℕ)
@@ -179,13 +180,13 @@ module _ (name out : List ℕ) (short : length name < 256) (out_few : length out
       → (permitted : List (List ℕ)) → All HasLongPart permitted
       → ArePermitted (registered entries) (seeds_of diamond.graph.nodes (drv_of name out inputs))
       (out ∷ []) permitted
-      → IsVerdictBehind may_make diamond entries d (Ok (file_in ∷ []))
+      → IsVerdictAfter may_make diamond entries d (Ok (file_in ∷ []))
   comes entries inputs path at are permitted long permits =
       let is_job = is_job_for inputs path at are in
       record {
         job = job_for;
         is_job = is_job;
-        comes_to = (
+        ends_as = (
           Ok second_answer,
           inr second_leaves,
           (
@@ -199,7 +200,7 @@ module _ (name out : List ℕ) (short : length name < 256) (out_few : length out
         );
       }
 
-pub base_comes : IsVerdictBehind may_make diamond [] 0 (Ok (file_in ∷ []))
+pub base_comes : IsVerdictAfter may_make diamond [] 0 (Ok (file_in ∷ []))
 base_comes =
     comes (codes "base") base_out (omega arith) (omega arith) [] (omega arith) 0 [] [] base.path
     refl refl (base_out ∷ []) (all_one HasLongPart base_out refl)
@@ -209,7 +210,7 @@ base_comes =
 abbrev two_left : List (List ℕ)
 two_left = left_out ∷ base_out ∷ []
 
-pub left_comes : IsVerdictBehind may_make diamond (file_of base base_out ∷ []) 1 (Ok (file_in ∷ []))
+pub left_comes : IsVerdictAfter may_make diamond (file_of base base_out ∷ []) 1 (Ok (file_in ∷ []))
 left_comes =
     comes (codes "left") left_out (omega arith) (omega arith) (base_out ∷ []) (omega arith) 1
     (file_of base base_out ∷ []) left.drv.inputs left.path refl refl two_left
@@ -221,7 +222,7 @@ left_comes =
 abbrev pub left_behind : List Entry
 left_behind = file_of base base_out ∷ file_of left left_out ∷ []
 
-pub right_comes : IsVerdictBehind may_make diamond left_behind 2 (Ok (file_in ∷ []))
+pub right_comes : IsVerdictAfter may_make diamond left_behind 2 (Ok (file_in ∷ []))
 right_comes =
     comes (codes "right") right_out (omega arith) (omega arith) (base_out ∷ []) (omega arith) 2
     left_behind right.drv.inputs right.path refl refl (base_out ∷ right_out ∷ [])
@@ -233,13 +234,13 @@ right_comes =
     (λ path has. swapped base_out right_out path [] has)
     (λ path has. swapped right_out base_out path [] has))
 
-abbrev pub three_behind : List Entry
-three_behind = file_of base base_out ∷ file_of left left_out ∷ file_of right right_out ∷ []
+abbrev pub three_after : List Entry
+three_after = file_of base base_out ∷ file_of left left_out ∷ file_of right right_out ∷ []
 
-pub top_comes : IsVerdictBehind may_make diamond three_behind 3 (Ok (file_in ∷ []))
+pub top_comes : IsVerdictAfter may_make diamond three_after 3 (Ok (file_in ∷ []))
 top_comes =
     comes (codes "top") top_out (omega arith) (omega arith) (left_out ∷ right_out ∷ [])
-    (omega arith) 3 three_behind top.drv.inputs top.path refl refl
+    (omega arith) 3 three_after top.drv.inputs top.path refl refl
     (left_out ∷ top_out ∷ right_out ∷ [])
     (all_three HasLongPart left_out top_out right_out refl refl refl)
     (permitted_of (base_out ∷ left_out ∷ right_out ∷ []) (left_out ∷ right_out ∷ [])
@@ -251,7 +252,7 @@ top_comes =
 -- right fails the first time
 right_fails : (entries : List Entry) (permitted : List (List ℕ))
     → ArePermitted (registered entries) (base_out ∷ []) (right_out ∷ []) permitted
-    → IsVerdictBehind may_make diamond entries 2 (Err (ExitStatus (pos 1)))
+    → IsVerdictAfter may_make diamond entries 2 (Err (ExitStatus (pos 1)))
 right_fails entries permitted permits =
     let job = job_for (codes "right") right_out (omega arith) (omega arith) (base_out ∷ [])
     (omega arith) 2 in
@@ -260,7 +261,7 @@ right_fails entries permitted permits =
     record {
       job = job;
       is_job = is_job;
-      comes_to = (
+      ends_as = (
         Ok left_answer,
         inl left_leaves,
         (
@@ -271,7 +272,7 @@ right_fails entries permitted permits =
       );
     }
 
-pub right_fails_there : IsVerdictBehind may_make diamond (file_of base base_out ∷ []) 2
+pub right_fails_there : IsVerdictAfter may_make diamond (file_of base base_out ∷ []) 2
     (Err (ExitStatus (pos 1)))
 right_fails_there = right_fails (file_of base base_out ∷ []) (base_out ∷ right_out ∷ [])
     (permitted_of (base_out ∷ []) (base_out ∷ []) (base_out ∷ right_out ∷ []) right_out (refl, tt)

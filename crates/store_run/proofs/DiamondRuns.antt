@@ -19,7 +19,7 @@ use Rattle.run_states.specs.declared.state.State.{State}
 use Rattle.run_states.specs.declared.state.State.TheVariants.{Done, Failed, Ready, Reused}
 use Rattle.run_states.proofs.Registering.{entries_are_journal}
 use Rattle.store_run.specs.Builders.{IsAnswered, answered_begin, answered_done, answered_fail, answered_opening}
-use Rattle.store_run.specs.DiamondExample.{base, base_out, cut_behind_left, diamond, drv_of, file_of, left, left_out, may_make, right, right_out, taken_up, top, top_out}
+use Rattle.store_run.specs.DiamondExample.{base, base_out, left_after_cut, diamond, drv_of, file_of, left, left_out, may_make, right, right_out, taken_up, top, top_out}
 use Rattle.store_run.specs.Interruptions.{IsTakenUp}
 use Rattle.store_run.specs.Scheduling.{HasMemory}
 use Rattle.store_run.proofs.AlonePlans.{one_of}
@@ -31,8 +31,8 @@ use Rattle.store_run.proofs.Telling.{drv_paths}
 use Rattle.store_run.proofs.TwinExample.{same_digest}
 use Rattle.store_run.proofs.TwinJobs.{file_in}
 use Rattle.store_run.proofs.TwinPlans.{empty_kind}
-use Rattle.store_run.proofs.Unhindered.{inputs_in, rows_in, standing_in, state_by, unhindered_ready}
-use Rattle.store_run.proofs.DiamondJobs.{base_comes, left_behind, left_comes, right_comes, right_fails_there, three_behind, top_comes}
+use Rattle.store_run.proofs.Unhindered.{inputs_in, precondition_in, rows_in, state_by, unhindered_ready}
+use Rattle.store_run.proofs.DiamondJobs.{base_comes, left_behind, left_comes, right_comes, right_fails_there, three_after, top_comes}
 
 -- ---- what may be registered
 
@@ -72,9 +72,9 @@ right_allowed =
     (λ has. ⊎_elim (λ is. base_right is) (λ last. left_right (one_of left_out right_out last))
     (Contains-cons_cases base_out (left_out ∷ []) right_out has)) own valid)
 
-top_allowed : IsAllowed diamond.graph three_behind top (file_in ∷ [])
+top_allowed : IsAllowed diamond.graph three_after top (file_in ∷ [])
 top_allowed =
-    one_allowed file_in refl diamond.graph three_behind top
+    one_allowed file_in refl diamond.graph three_after top
     (records_of (codes "top") top_out top.drv.inputs)
     (λ path own valid. new_by (base_out ∷ left_out ∷ right_out ∷ []) top_out path
     (λ has. ⊎_elim (λ is. base_top is)
@@ -101,7 +101,7 @@ right_wanted_again : IsWanted diamond left_behind 2
 right_wanted_again = wanted_input 3 2 (top_wanted left_behind) refl
     (Contains-later 1 (2 ∷ []) 2 (Contains-first 2 []))
 
-ready : (history : History) (d : ℕ) → standing_in diamond history d ≡ Free
+ready : (history : History) (d : ℕ) → precondition_in diamond history d ≡ Free
     → ((i : ℕ) → Contains (inputs_in diamond d) i → is_good (state_in diamond history i) ≡ true)
     → phase_of history.events d ≡ Idle → state_in diamond history d ≡ Ready
 ready history d free good idle =
@@ -118,15 +118,15 @@ done : (history : History) (d : ℕ) → phase_of history.events d ≡ Ended
 done history d ends = state_by diamond history diamond_sound d Ended ends
 
 reused : (history : History) (d : ℕ) → phase_of history.events d ≡ Idle
-    → standing_in diamond history d ≡ AllValid → state_in diamond history d ≡ Reused
+    → precondition_in diamond history d ≡ AllValid → state_in diamond history d ≡ Reused
 reused history d idle stands =
     state_by diamond history diamond_sound d Idle idle
     ∙ aside_valid (rows_in diamond history) (state_in diamond history) d stands
 
 -- base alone is waited for
-behind_base : (history : History) → is_good (state_in diamond history 0) ≡ true → (i : ℕ)
+after_base : (history : History) → is_good (state_in diamond history 0) ≡ true → (i : ℕ)
     → Contains (0 ∷ []) i → is_good (state_in diamond history i) ≡ true
-behind_base history good i has =
+after_base history good i has =
     subst (λ n. is_good (state_in diamond history n) ≡ true) (one_of 0 i has) good
 
 -- ---- the first run
@@ -152,17 +152,17 @@ legal_failed =
     legal_fail (begun left_begun 2) 2 2 (ExitStatus (pos 1))
     (legal_begin left_begun 2
     (legal_begin base_done 1 legal_base (omega arith) left_wanted
-    (ready base_done 1 refl (behind_base base_done (ap is_good (done base_done 0 refl))) refl))
+    (ready base_done 1 refl (after_base base_done (ap is_good (done base_done 0 refl))) refl))
     (omega arith) right_wanted
-    (ready left_begun 2 refl (behind_base left_begun (ap is_good (done left_begun 0 refl))) refl))
+    (ready left_begun 2 refl (after_base left_begun (ap is_good (done left_begun 0 refl))) refl))
     refl
 
-legal_cut : IsLegal diamond cut_behind_left
+legal_cut : IsLegal diamond left_after_cut
 legal_cut =
     legal_done right_failed 1 1 left (file_in ∷ []) (file_of left left_out) legal_failed refl refl
     left_allowed (one_entry left left_out file_in refl)
 
-answered_cut : IsAnswered may_make diamond cut_behind_left
+answered_cut : IsAnswered may_make diamond left_after_cut
 answered_cut =
     answered_done right_failed 1 1 left (file_in ∷ []) (file_of left left_out)
     (answered_fail (begun left_begun 2) 2 2 (ExitStatus (pos 1))
@@ -174,8 +174,8 @@ answered_cut =
     (inr right_fails_there))
     refl left_comes (one_entry left left_out file_in refl)
 
-pub right_broken : state_in diamond cut_behind_left 2 ≡ Failed (ExitStatus (pos 1))
-right_broken = state_by diamond cut_behind_left diamond_sound 2 _ refl
+pub right_broken : state_in diamond left_after_cut 2 ≡ Failed (ExitStatus (pos 1))
+right_broken = state_by diamond left_after_cut diamond_sound 2 _ refl
 
 -- ---- the second run
 
@@ -183,7 +183,7 @@ abbrev right_done : History
 right_done = ended (begun (opened left_behind) 2) 2 0 (file_of right right_out)
 
 two_journal : IsJournal left_behind
-two_journal = entries_are_journal diamond cut_behind_left
+two_journal = entries_are_journal diamond left_after_cut
     (drv_paths (λ reason. reason ≡ OutOfMemory) may_make diamond diamond_sound) legal_cut
 
 legal_right : IsLegal diamond right_done
@@ -192,12 +192,12 @@ legal_right =
     (legal_begin (opened left_behind) 2 (legal_opening left_behind two_journal) (omega arith)
     right_wanted_again
     (ready (opened left_behind) 2 refl
-    (behind_base (opened left_behind) (ap is_good (reused (opened left_behind) 0 refl refl)))
+    (after_base (opened left_behind) (ap is_good (reused (opened left_behind) 0 refl refl)))
     refl))
     refl refl right_allowed (one_entry right right_out file_in refl)
 
-behind_both : (i : ℕ) → Contains (1 ∷ 2 ∷ []) i → is_good (state_in diamond right_done i) ≡ true
-behind_both i has =
+rest_after_both : (i : ℕ) → Contains (1 ∷ 2 ∷ []) i → is_good (state_in diamond right_done i) ≡ true
+rest_after_both i has =
     ⊎_elim
     (λ is. subst (λ n. is_good (state_in diamond right_done n) ≡ true) is
     (ap is_good (reused right_done 1 refl refl)))
@@ -209,7 +209,7 @@ legal_again : IsLegal diamond taken_up
 legal_again =
     legal_done (begun right_done 3) 3 1 top (file_in ∷ []) (file_of top top_out)
     (legal_begin right_done 3 legal_right (omega arith) (top_wanted left_behind)
-    (ready right_done 3 refl behind_both refl))
+    (ready right_done 3 refl rest_after_both refl))
     refl refl top_allowed (one_entry top top_out file_in refl)
 
 answered_again : IsAnswered may_make diamond taken_up
@@ -256,7 +256,7 @@ memory_again (suc (suc zero)) low is failed = not_broken _ OutOfMemory (inr righ
 memory_again (suc (suc (suc zero))) low is failed = not_broken _ OutOfMemory (inr top_built) failed
 memory_again (suc (suc (suc (suc d)))) low is failed = absurd (omega (arith, low))
 
-pub is_taken_up : IsTakenUp may_make diamond cut_behind_left taken_up
+pub is_taken_up : IsTakenUp may_make diamond left_after_cut taken_up
 is_taken_up = record {
   is_cut = record {
     plan = diamond_sound;

@@ -1,4 +1,4 @@
--- What the jobs of the two derivations come to.
+-- How the jobs of the two derivations end.
 use Rattle.std.proofs.Common.{◌≡◌, ◌∙◌, ◌<◌, ◌^◌, inl, ℕ, zero, suc, true, false, List, [], ◌∷◌, length, map, Some, None, Result, Ok, Err, ap, refl, sym, subst, arith, rules}
 use Rattle.std.specs.Prelude.{IsTrue, codes, pos, slice_get}
 use Rattle.std.specs.declared.alloc.Global.{Global}
@@ -227,23 +227,23 @@ left_verdict job permitted answer left_behind = (left_behind.0, λ same. cc)
 left_builder : (job : Job) → IsJob both.graph 0 job → job.builder.items ≡ codes "/bin/false"
 left_builder job is = search (rules, same_element)
 
--- what each derivation comes to
-abbrev pub comes_to : ℕ → Result (List PathInfo) Reason
-comes_to zero = Err (ExitStatus (pos 1))
-comes_to (suc d) = Ok (nothing_in ∷ [])
+-- how each derivation ends
+abbrev pub ends_as : ℕ → Result (List PathInfo) Reason
+ends_as zero = Err (ExitStatus (pos 1))
+ends_as (suc d) = Ok (nothing_in ∷ [])
 
 comes : (d : ℕ) (job : Job) (registrations : List Registration) (permitted : List (List ℕ))
     (x : Result Answer Reason) (a : Result (List PathInfo) Reason) → IsJob both.graph d job
-    → may_leave job x → IsVerdictOn registrations job permitted x a → a ≡ comes_to d
+    → may_leave job x → IsVerdictOn registrations job permitted x a → a ≡ ends_as d
 comes d job registrations permitted (Err reason) a is may on = absurd may
 comes zero job registrations permitted (Ok answer) a is may on =
-    has_one_tested_verdict registrations job permitted answer a (comes_to 0) on
+    has_one_tested_verdict registrations job permitted answer a (ends_as 0) on
     (inl (left_verdict job permitted answer
     (subst (λ (b : List ℕ). Leaves (same_bytes b (codes "/bin/false")) answer)
     (left_builder job is) may)))
 comes (suc zero) job registrations permitted (Ok answer) a is may on =
-    has_one_tested_verdict registrations job permitted answer a (comes_to 1) on
-    (plain_tested registrations job permitted answer (comes_to 1) is.profile
+    has_one_tested_verdict registrations job permitted answer a (ends_as 1) on
+    (plain_tested registrations job permitted answer (ends_as 1) is.profile
     (right_verdict _ 1 refl job is refl answer
     (subst (λ (b : List ℕ). Leaves (same_bytes b (codes "/bin/false")) answer)
     (right_builder both.graph 1 refl job is) may) permitted))

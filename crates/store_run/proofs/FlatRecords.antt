@@ -30,7 +30,7 @@ use Rattle.build_outcome.specs.declared.job.Job.{Job}
 use Rattle.build_outcome.specs.declared.reason.Reason.{Reason}
 use Rattle.build_outcome.proofs.PlainRecords.{plain_records_are_flat}
 use Rattle.run_states.specs.Legal.{begins}
-use Rattle.run_states.specs.Runs.{History, Run, has_left_out, has_tree, is_unsupported_under, standing_at, state_in, terms_of}
+use Rattle.run_states.specs.Runs.{History, Run, has_left_out, has_tree, is_unsupported_under, precondition_at, state_in, terms_of}
 use Rattle.run_states.specs.Systems.{Platform, is_builtin}
 use Rattle.run_states.specs.States.{Idle, phase_of, state, table}
 use Rattle.run_states.specs.declared.precondition.Precondition.TheVariants.{Free}
@@ -38,25 +38,25 @@ use Rattle.run_states.specs.declared.state.Event.TheVariants.{Begin, Done as Fin
 use Rattle.run_states.specs.declared.state.State.TheVariants.{Ready}
 use Rattle.run_states.proofs.OtherEvents.{begun_not_idle, phase_other, same_or_other}
 use Rattle.run_states.proofs.Seeds.{ready_by}
-use Rattle.store_run.proofs.Standings.{supported_of_free}
+use Rattle.store_run.proofs.Preconditions.{supported_of_free}
 use Rattle.store_run.proofs.StorePlans.{kind_taken}
 use Rattle.store_run.proofs.ToldRuns.{IsTold, told_begin, told_done, told_fail, told_opening}
-use Rattle.store_run.proofs.Unhindered.{standing_in}
+use Rattle.store_run.proofs.Unhindered.{precondition_in}
 
 -- ---- what was begun stood free
 
 ready_free : (run : Run) (history : History) (d : ℕ) → state_in run history d ≡ Ready
-    → standing_in run history d ≡ Free
+    → precondition_in run history d ≡ Free
 unfolding state table
 ready_free run history d ready = let facts = ready_by _ _ _ _ _ ready in facts.free
 
 pub begun_free : (excused : Reason → Type 0) (may : Job → Result Answer Reason → Type 0) (run : Run)
     (history : History) → IsTold excused may run history → (d : ℕ)
-    → (phase_of history.events d ≡ Idle → ⊥) → standing_in run history d ≡ Free
+    → (phase_of history.events d ≡ Idle → ⊥) → precondition_in run history d ≡ Free
 begun_free excused may run _ (told_opening entries journal) d moved = absurd (moved refl)
 begun_free excused may run _ (told_begin history e told legal can) d moved =
     ⊎_elim
-    (λ same. subst (λ n. standing_in run history n ≡ Free) same
+    (λ same. subst (λ n. precondition_in run history n ≡ Free) same
     (ready_free run history e can.ready))
     (λ other. begun_free excused may run history told d (λ idle. moved
     (phase_other history.events (Begin e (begins history.events)) d other ∙ idle)))
@@ -105,7 +105,7 @@ module _ (dir : List ℕ) (gives : List ℕ → SourceAnswer → Type 0) (roots 
     (plan : IsPlan dir gives roots run.graph) (are_paths : All IsStorePath roots)
     (plain : run.graph.profile ≡ Plain) where
   free_declares_none : (opening : List Entry) (node : Node) → Contains run.graph.nodes node
-      → standing_at (terms_of run) opening (Some node) ≡ Free → (digest : Digest)
+      → precondition_at (terms_of run) opening (Some node) ≡ Free → (digest : Digest)
       → HasKind node.drv (Fixed Recursive digest) → ⊥
   free_declares_none opening node has free digest has_kind =
       supported_declares_none run.system node.drv digest
@@ -119,7 +119,7 @@ module _ (dir : List ℕ) (gives : List ℕ → SourceAnswer → Type 0) (roots 
   -- so the records of a verdict on it are flat
   pub records_are_flat : (opening : List Entry) (d : ℕ) (job : Job) (permitted : List (List ℕ))
       (answer : Answer) (infos : List PathInfo)
-      → standing_at (terms_of run) opening (slice_get run.graph.nodes d) ≡ Free
+      → precondition_at (terms_of run) opening (slice_get run.graph.nodes d) ≡ Free
       → IsJob run.graph d job → IsVerdict job permitted answer (Ok infos)
       → All (λ (info : PathInfo). (info.nar ≡ None)
       × IfSome info.digest (λ (kept : MethodDigest). kept.method ≡ Flat)) infos
@@ -127,5 +127,5 @@ module _ (dir : List ℕ) (gives : List ℕ → SourceAnswer → Type 0) (roots 
       plain_records_are_flat job permitted answer infos verdict (is_job.profile ∙ plain)
       (λ declared is. free_declares_none opening is_job.node
       (Contains-from_get run.graph.nodes d is_job.node is_job.is_node)
-      (sym (ap (standing_at (terms_of run) opening) is_job.is_node) ∙ free) declared
+      (sym (ap (precondition_at (terms_of run) opening) is_job.is_node) ∙ free) declared
       (subst (HasKind is_job.node.drv) is is_job.kind))

@@ -16,7 +16,7 @@ use Rattle.build_outcome.specs.declared.reason.Reason.{Reason}
 use Rattle.build_outcome.specs.declared.reason.Reason.TheVariants.{OutOfMemory}
 use Rattle.run_states.proofs.Histories.{ready_is_idle}
 use Rattle.run_states.proofs.Seeds.{same_number}
-use Rattle.store_run.specs.Builders.{IsAnswered, IsVerdictBehind, IsVerdictOn, answered_begin, answered_done, answered_fail, answered_opening}
+use Rattle.store_run.specs.Builders.{IsAnswered, IsVerdictAfter, IsVerdictOn, answered_begin, answered_done, answered_fail, answered_opening}
 use Rattle.store_run.specs.GivenOutcomes.{EqualOutcomesAreAlike, GivesEach, OutcomesDecide}
 use Rattle.store_run.specs.Scheduling.{HasOneOutcome, IsEndedRun, IsWholeRun}
 use Rattle.store_run.proofs.OneThreads.{has_one_thread}
@@ -43,14 +43,14 @@ over_begun p lease is over = subst IsOver is over
 
 module _ (excused : Reason → Type 0) (may : Job → Result Answer Reason → Type 0) (run : Run) where
   -- the outcome after a verdict, or after a Fail that may be excused
-  abbrev outcome_behind : (entries : List Entry) (d : ℕ) (verdict : Result (List PathInfo) Reason)
-      → IsVerdictBehind may run entries d verdict → Result Answer Reason
-  outcome_behind entries d verdict behind = behind.comes_to.0
+  abbrev outcome_after : (entries : List Entry) (d : ℕ) (verdict : Result (List PathInfo) Reason)
+      → IsVerdictAfter may run entries d verdict → Result Answer Reason
+  outcome_after entries d verdict ending = ending.ends_as.0
 
   abbrev outcome_failed : (entries : List Entry) (d : ℕ) (reason : Reason)
-      → excused reason ⊎ IsVerdictBehind may run entries d (Err reason) → Result Answer Reason
+      → excused reason ⊎ IsVerdictAfter may run entries d (Err reason) → Result Answer Reason
   outcome_failed entries d reason (inl excuse) = Err OutOfMemory
-  outcome_failed entries d reason (inr behind) = outcome_behind entries d (Err reason) behind
+  outcome_failed entries d reason (inr ending) = outcome_after entries d (Err reason) ending
 
   -- what each derivation was given, where anything became of it
   abbrev pub outcomes_in : (history : History) → IsTold excused may run history → ℕ
@@ -58,33 +58,33 @@ module _ (excused : Reason → Type 0) (may : Job → Result Answer Reason → T
   outcomes_in _ (told_opening entries journal) d = Err OutOfMemory
   outcomes_in _ (told_begin history e told legal can) d = outcomes_in history told d
   outcomes_in _ (told_done history e lease node infos entry told legal phase at came is_entry) d =
-      if eqb e d then outcome_behind history.entries e (Ok infos) came
+      if eqb e d then outcome_after history.entries e (Ok infos) came
       else outcomes_in history told d
   outcomes_in _ (told_fail history e lease reason told legal phase why) d =
       if eqb e d then outcome_failed history.entries e reason why
       else outcomes_in history told d
 
   module _ (outcomes : ℕ → Result Answer Reason) where
-    given_behind : (entries : List Entry) (d : ℕ) (verdict : Result (List PathInfo) Reason)
-        (behind : IsVerdictBehind may run entries d verdict)
-        → behind.comes_to.0 ≡ outcomes d
-        → IsVerdictBehind (GivesEach may outcomes) run entries d verdict
-    given_behind entries d verdict behind is = record {
-      job = behind.job;
-      is_job = behind.is_job;
-      comes_to = (
-        behind.comes_to.0,
-        (behind.comes_to.1, is ∙ ap outcomes (sym behind.is_job.derivation)),
-        behind.comes_to.2,
+    given_after : (entries : List Entry) (d : ℕ) (verdict : Result (List PathInfo) Reason)
+        (ending : IsVerdictAfter may run entries d verdict)
+        → ending.ends_as.0 ≡ outcomes d
+        → IsVerdictAfter (GivesEach may outcomes) run entries d verdict
+    given_after entries d verdict ending is = record {
+      job = ending.job;
+      is_job = ending.is_job;
+      ends_as = (
+        ending.ends_as.0,
+        (ending.ends_as.1, is ∙ ap outcomes (sym ending.is_job.derivation)),
+        ending.ends_as.2,
       );
     }
 
     given_failed : (entries : List Entry) (d : ℕ) (reason : Reason)
-        (why : excused reason ⊎ IsVerdictBehind may run entries d (Err reason))
+        (why : excused reason ⊎ IsVerdictAfter may run entries d (Err reason))
         → outcome_failed entries d reason why ≡ outcomes d
-        → excused reason ⊎ IsVerdictBehind (GivesEach may outcomes) run entries d (Err reason)
+        → excused reason ⊎ IsVerdictAfter (GivesEach may outcomes) run entries d (Err reason)
     given_failed entries d reason (inl excuse) is = inl excuse
-    given_failed entries d reason (inr behind) is = inr (given_behind _ d _ behind is)
+    given_failed entries d reason (inr ending) is = inr (given_after _ d _ ending is)
 
     -- of an event the outcome is that of its derivation, and the others keep theirs
     here : (d : ℕ) (given rest : Result Answer Reason)
@@ -125,8 +125,8 @@ module _ (excused : Reason → Type 0) (may : Job → Result Answer Reason → T
         (sym (phase_other history.events (Finish e lease) d other)) over)))
         (same_or_other e d)))
         legal phase at
-        (given_behind _ e _ came
-        (here e (outcome_behind history.entries e (Ok infos) came) _
+        (given_after _ e _ came
+        (here e (outcome_after history.entries e (Ok infos) came) _
         (are e (subst IsOver (sym (phase_ended history.events e lease)) tt))))
         is_entry
     given_in _ (told_fail history e lease reason told legal phase why) are =

@@ -1,4 +1,4 @@
--- *Any interruption*: a run that was cut and taken up comes to what one thread comes to that is
+-- *Any interruption*: a run that was cut and taken up ends as one thread ends that is
 -- given the same outcomes.
 use Rattle.std.proofs.Common.{◌≡◌, ◌∙◌, ◌⊎◌, inl, inr, ℕ, Bool, true, false, cond, List, length, Result, Ok, Err, refl, sym, ap, subst, ⊎_elim}
 use Rattle.std.specs.Prelude.{◌↔◌, Contains}
@@ -16,9 +16,9 @@ use Rattle.run_states.specs.declared.state.State.{State}
 use Rattle.run_states.specs.declared.state.State.TheVariants.{Done, Reused}
 use Rattle.run_states.proofs.Seeds.{done_is_ended}
 use Rattle.run_states.proofs.Unhindered.{begun_unhindered}
-use Rattle.store_run.specs.Builders.{IsAnswered, IsVerdictBehind, answered_begin, answered_done, answered_fail, answered_opening}
+use Rattle.store_run.specs.Builders.{IsAnswered, IsVerdictAfter, answered_begin, answered_done, answered_fail, answered_opening}
 use Rattle.store_run.specs.GivenOutcomes.{GivesEach}
-use Rattle.store_run.specs.Interruptions.{AnyInterruption, CameToSame, CutsAreOne, GivesBuilt, IsCutRun, IsTakenUp, IsWantedAs}
+use Rattle.store_run.specs.Interruptions.{AnyInterruption, EndedAlike, CutsAreOne, GivesBuilt, IsCutRun, IsTakenUp, IsWantedAs}
 use Rattle.store_run.specs.OneThread.{IsOneThread}
 use Rattle.store_run.specs.Scheduling.{AreAlike, IsEndedRun, IsWholeRun}
 use Rattle.store_run.proofs.CutOpenings.{ended_or_not, told, was_wanted}
@@ -38,15 +38,15 @@ use Rattle.store_run.proofs.Unhindered.{rows_in, state_by}
 module _ (one other : Job → Result Answer Reason → Type 0) (run : Run)
     (also : (job : Job) (outcome : Result Answer Reason) → one job outcome → other job outcome)
   where
-    behind_also : (entries : List Entry) (d : ℕ) (verdict : Result (List PathInfo) Reason)
-        → IsVerdictBehind one run entries d verdict → IsVerdictBehind other run entries d verdict
-    behind_also entries d verdict behind = record {
-      job = behind.job;
-      is_job = behind.is_job;
-      comes_to = (
-        behind.comes_to.0,
-        also behind.job behind.comes_to.0 behind.comes_to.1,
-        behind.comes_to.2,
+    after_also : (entries : List Entry) (d : ℕ) (verdict : Result (List PathInfo) Reason)
+        → IsVerdictAfter one run entries d verdict → IsVerdictAfter other run entries d verdict
+    after_also entries d verdict ending = record {
+      job = ending.job;
+      is_job = ending.is_job;
+      ends_as = (
+        ending.ends_as.0,
+        also ending.job ending.ends_as.0 ending.ends_as.1,
+        ending.ends_as.2,
       );
     }
 
@@ -57,11 +57,11 @@ module _ (one other : Job → Result Answer Reason → Type 0) (run : Run)
         answered_begin history d (answered_also history answered)
     answered_also _ (answered_done history d lease node infos entry answered at came is_entry) =
         answered_done history d lease node infos entry (answered_also history answered) at
-        (behind_also history.entries d (Ok infos) came) is_entry
+        (after_also history.entries d (Ok infos) came) is_entry
     answered_also _ (answered_fail history d lease reason answered why) =
         answered_fail history d lease reason (answered_also history answered)
         (⊎_elim (λ excuse. inl excuse)
-        (λ came. inr (behind_also history.entries d (Err reason) came)) why)
+        (λ came. inr (after_also history.entries d (Err reason) came)) why)
 
 -- ---- the outcomes
 
@@ -143,19 +143,19 @@ module _ (may : Job → Result Answer Reason → Type 0) (run : Run) (cut again 
   }
 
   passes : (d : ℕ) (entries : List Entry) (infos : List PathInfo) → phase_of cut.events d ≡ Ended
-      → IsVerdictBehind (GivesBuilt may cut outcomes) run entries d (Ok infos)
-      → IsVerdictBehind (GivesEach may outcomes) run entries d (Ok infos)
-  passes d entries infos ends behind = record {
-    job = behind.job;
-    is_job = behind.is_job;
-    comes_to = (
-      behind.comes_to.0,
+      → IsVerdictAfter (GivesBuilt may cut outcomes) run entries d (Ok infos)
+      → IsVerdictAfter (GivesEach may outcomes) run entries d (Ok infos)
+  passes d entries infos ends ending = record {
+    job = ending.job;
+    is_job = ending.is_job;
+    ends_as = (
+      ending.ends_as.0,
       (
-        behind.comes_to.1.0,
-        behind.comes_to.1.1
-            (subst (λ n. phase_of cut.events n ≡ Ended) (sym behind.is_job.derivation) ends),
+        ending.ends_as.1.0,
+        ending.ends_as.1.1
+            (subst (λ n. phase_of cut.events n ≡ Ended) (sym ending.is_job.derivation) ends),
       ),
-      behind.comes_to.2,
+      ending.ends_as.2,
     );
   }
 
@@ -194,18 +194,18 @@ module _ (may : Job → Result Answer Reason → Type 0) (run : Run) (cut again 
     first_wanted : (d : ℕ) → IsWanted run other.opening d → IsWanted run cut.opening d
     first_wanted d wanted = subst (λ (opens : List Entry). IsWanted run opens d) opening_is wanted
 
-    behind_wanted : (d : ℕ) → IsWanted run again.opening d → IsWanted run cut.entries d
-    behind_wanted d wanted =
+    after_wanted : (d : ℕ) → IsWanted run again.opening d → IsWanted run cut.entries d
+    after_wanted d wanted =
         subst (λ (opens : List Entry). IsWanted run opens d) taken.opening wanted
 
     bad_there : (d : ℕ) (state : State) → is_bad state ≡ true → IsWantedAs run again d state
         → IsWantedAs run other d state
     bad_there d state bad (wanted, is) =
-        let behind = behind_wanted d wanted in
+        let ending = after_wanted d wanted in
         let same = seen_wanted (GivesBuilt may cut outcomes) (GivesEach may outcomes) run cut
-        cut_built again taken.end.legal taken.opening both d behind in (
+        cut_built again taken.end.legal taken.opening both d ending in (
           subst (λ (opens : List Entry). IsWanted run opens d) (sym opening_is)
-              (was_wanted may run cut taken.is_cut d behind),
+              (was_wanted may run cut taken.is_cut d ending),
           sym (alike.states d)
               ∙ bad_same (state_in run whole d) (state_in run again d) (sym same)
               (ap is_bad is ∙ bad)
@@ -217,11 +217,11 @@ module _ (may : Job → Result Answer Reason → Type 0) (run : Run) (cut again 
     bad_back d state bad (wanted, is) =
         let there : state_in run whole d ≡ state = alike.states d ∙ is in
         ⊎_elim
-        (λ behind. (
-          subst (λ (opens : List Entry). IsWanted run opens d) (sym taken.opening) behind,
+        (λ ending. (
+          subst (λ (opens : List Entry). IsWanted run opens d) (sym taken.opening) ending,
           bad_same (state_in run again d) (state_in run whole d)
               (seen_wanted (GivesBuilt may cut outcomes) (GivesEach may outcomes) run cut cut_built
-              again taken.end.legal taken.opening both d behind)
+              again taken.end.legal taken.opening both d ending)
               (ap is_bad there ∙ bad)
               ∙ there,
         ))
@@ -277,7 +277,7 @@ module _ (may : Job → Result Answer Reason → Type 0) (run : Run) (cut again 
             let clash : Ended ≡ Broken reason = sym there ∙ breaks in
             absurd cc
 
-    came_to_same : CameToSame run again other
+    came_to_same : EndedAlike run again other
     came_to_same = record {
       records = alike.records;
       bad = bad_same_both;
@@ -314,7 +314,7 @@ any_interruption may run cut again taken = (
 
 pub cuts_are_one : (may : Job → Result Answer Reason → Type 0) → CutsAreOne may
 cuts_are_one may run first next is_first is_next opening =
-    let both = joined may may run first is_first (λ d entries infos ends behind. behind) next
+    let both = joined may may run first is_first (λ d entries infos ends ending. ending) next
     is_next.legal is_next.answered opening in (
       over first.opening next.entries both.events,
       record {

@@ -16,7 +16,7 @@ use Rattle.run_states.specs.Systems.{Platform}
 use Rattle.drv_graph.specs.Plans.{Graph}
 use Rattle.sched_core.specs.Books.{BuildsOver, Ledger}
 use Rattle.store_run.specs.Keeping.{IsInterimJournal, TakesEachInterimJournal, interim_version}
-use Rattle.store_run.specs.Realising.{IsOverLent}
+use Rattle.store_run.specs.Realising.{IsBookOver}
 use Rattle.store_run.specs.private.Looking.{AreKeptIn, IsLook, IsNews, Looked}
 
 -- the fresh lines after the text of what was shown are the text of what is shown
@@ -101,25 +101,25 @@ builds_over_look run history shown told looked builds is same =
 abbrev run_of : Graph → Platform → Run
 run_of graph system = record { graph = graph; system = system }
 
--- what is kept of the run of a book over what was lent, is kept of the run over that
-pub kept_of_lent : (may : Job → Result Answer Reason → Type 0) (was_shown : List Entry → Type 0)
+-- what is kept of a book's run is kept of the run over the plan and system that the book is over
+pub kept_of_run : (may : Job → Result Answer Reason → Type 0) (was_shown : List Entry → Type 0)
     (plan : Graph) (system : Platform) (entries : List Entry) (book : Ledger) (run : Run)
     (opening shown : List Entry) (bytes : Bytes)
-    → IsOverLent plan system entries book
+    → IsBookOver plan system entries book
     → (run ≡ book.run) × (opening ≡ book.history.opening)
     → IsInterimJournal may was_shown run opening shown bytes
     → IsInterimJournal may was_shown (record { graph = plan; system = system }) entries shown bytes
-kept_of_lent may was_shown plan system entries book run opening shown bytes over is kept =
-    let lent : Run = record { graph = plan; system = system } in
-    let same : book.run ≡ lent =
+kept_of_run may was_shown plan system entries book run opening shown bytes over is kept =
+    let given_run : Run = record { graph = plan; system = system } in
+    let same : book.run ≡ given_run =
     ap₂ (λ (g : Graph) (s : Platform). run_of g s) over.plan_is over.system_is in
     subst (λ (r : Run). IsInterimJournal may was_shown r entries shown bytes) (is.0 ∙ same)
     (subst (λ (o : List Entry). IsInterimJournal may was_shown run o shown bytes)
     (is.1 ∙ over.opening_is) kept)
 
 -- the texts that are kept of the run of a book are in the version of that run
-pub version_of_book : (run its_run : Run) (opening its_opening lent : List Entry)
-    → (run ≡ its_run) × (opening ≡ its_opening) → its_opening ≡ lent
-    → interim_version run.graph.profile opening ≡ interim_version its_run.graph.profile lent
-version_of_book run its_run opening its_opening lent is same =
+pub version_of_book : (run its_run : Run) (opening its_opening given : List Entry)
+    → (run ≡ its_run) × (opening ≡ its_opening) → its_opening ≡ given
+    → interim_version run.graph.profile opening ≡ interim_version its_run.graph.profile given
+version_of_book run its_run opening its_opening given is same =
     ap₂ (λ (r : Run) (o : List Entry). interim_version r.graph.profile o) is.0 (is.1 ∙ same)

@@ -66,20 +66,20 @@ record_more first more path r is =
     ∙ ap (λ o. option_or o (record_at more path)) is
 
 -- a valid path keeps its record in each list that goes on
-pub record_behind : (before after : List Entry) (path : List ℕ) → IsPrefix before after
+pub record_after : (before after : List Entry) (path : List ℕ) → IsPrefix before after
     → IsValid (registered before) path
     → record_at (registered before) path ≡ record_at (registered after) path
-record_behind before after path goes valid =
+record_after before after path goes valid =
     let there = record_there (registered before) path valid in
     there.1
     ∙ sym (record_more (registered before) (registered goes.0) path there.0 there.1)
     ∙ ap (λ (rs : List Registration). record_at rs path) (sym (registered-append before goes.0))
     ∙ ap (λ (entries : List Entry). record_at (registered entries) path) goes.1
 
-pub found_behind : (before after : List Entry) (path : List ℕ) (r : Registration)
+pub found_after : (before after : List Entry) (path : List ℕ) (r : Registration)
     → IsPrefix before after → record_at (registered before) path ≡ Some r
     → record_at (registered after) path ≡ Some r
-found_behind before after path r goes is =
+found_after before after path r goes is =
     ap (λ (entries : List Entry). record_at (registered entries) path) (sym goes.1)
     ∙ ap (λ (rs : List Registration). record_at rs path) (registered-append before goes.0)
     ∙ record_more (registered before) (registered goes.0) path r is

@@ -15,6 +15,7 @@ pub mod DiamondRuns
 pub mod ExampleJobs
 pub mod FlatRecords
 pub mod GivenOutcomes
+pub mod GraphExample
 pub mod KeptTexts
 pub mod KnownRecords
 pub mod Interruptions
@@ -33,7 +34,7 @@ pub mod SameChecks
 pub mod SameOutcomes
 pub mod SameTests
 pub mod SameVerdicts
-pub mod Standings
+pub mod Preconditions
 pub mod Starts
 pub mod Starting
 pub mod StorePlans

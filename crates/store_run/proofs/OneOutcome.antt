@@ -1,4 +1,4 @@
--- A derivation that came to a verdict in two histories came to the same, where its seeds are
+-- A derivation that ended with a verdict in two histories has the same in both, where its seeds are
 -- carried both ways.
 use Rattle.std.proofs.Common.{◌≡◌, ◌∙◌, ◌↔◌, ℕ, List, ◌++◌, length, Result, Ok, Err, Some, sym, ap, subst, rules}
 use Rattle.std.specs.Prelude.{Contains, slice_get}
@@ -28,11 +28,11 @@ use Rattle.build_outcome.specs.declared.reason.Reason.{Reason}
 use Rattle.build_outcome.proofs.TestedVerdicts.{tested_verdict_stays}
 use Rattle.run_states.proofs.Dones.{reached_is_valid}
 use Rattle.run_states.proofs.Seeds.{permitted_stays}
-use Rattle.store_run.specs.Builders.{IsOutcomeVerdict, IsVerdictBehind}
+use Rattle.store_run.specs.Builders.{IsOutcomeVerdict, IsVerdictAfter}
 use Rattle.store_run.specs.Scheduling.{HasOneOutcome}
 use Rattle.store_run.proofs.Answered.{came_may_refer}
 use Rattle.store_run.proofs.Carried.{IsCarried, may_refer_there, reach_both, reach_more, record_both, referred_valid}
-use Rattle.store_run.proofs.KnownRecords.{record_behind}
+use Rattle.store_run.proofs.KnownRecords.{record_after}
 use Rattle.store_run.proofs.Telling.{CameTo}
 
 -- ---- a job's parts are its derivation's
@@ -53,18 +53,18 @@ pub permitted_job : (graph : Graph) (d : ℕ) (job : Job) (node : Node) (entries
     permitted
 permitted_job graph d job node entries permitted is at are = search (rules, job_seeds, job_outputs)
 
--- each reference of what a derivation came to is permitted there
-pub refers_behind : (may : Job → Result Answer Reason → Type 0) (run : Run) (entries : List Entry)
+-- each reference in the records of a derivation is permitted there
+pub refers_after : (may : Job → Result Answer Reason → Type 0) (run : Run) (entries : List Entry)
     (d : ℕ) (node : Node) (infos : List PathInfo) → slice_get run.graph.nodes d ≡ Some node
-    → IsVerdictBehind may run entries d (Ok infos) → ArePermittedTo run.graph entries node infos
-refers_behind may run entries d node infos at behind info path has refers =
-    let job = behind.job in
+    → IsVerdictAfter may run entries d (Ok infos) → ArePermittedTo run.graph entries node infos
+refers_after may run entries d node infos at ending info path has refers =
+    let job = ending.job in
     let there : MayRefer (registered entries) job.seeds.items (outputs_of job) path =
-    came_may_refer may entries _ _ behind.comes_to info path has refers in
+    came_may_refer may entries _ _ ending.ends_as info path has refers in
     subst (λ (seeds : List (List ℕ)). MayRefer (registered entries) seeds (output_paths_of node.drv)
-    path) (job_seeds _ d _ _ behind.is_job at)
+    path) (job_seeds _ d _ _ ending.is_job at)
     (subst (λ (outputs : List (List ℕ)). MayRefer (registered entries) job.seeds.items outputs
-    path) (job_outputs _ d _ _ behind.is_job at) there)
+    path) (job_outputs _ d _ _ ending.is_job at) there)
 
 -- ---- what is permitted after the first entries is permitted after all
 
@@ -107,20 +107,20 @@ module _ (may : Job → Result Answer Reason → Type 0) (run : Run) (history : 
       (output_paths_of node.drv) path
   came_refers infos came info path has refers =
       (permitted_whole (Ok infos) came _).0
-      (refers_behind may _ _ d _ _ at came.behind info path has refers)
+      (refers_after may _ _ d _ _ at came.ending info path has refers)
 
   -- there is a record for each output
   pub came_count : (infos : List PathInfo) → CameTo may run history d (Ok infos)
       → length infos ≡ length (output_paths_of node.drv)
   came_count infos came =
-      let job = came.behind.job in
-      by came.behind.comes_to.0 came.behind.comes_to.2
+      let job = came.ending.job in
+      by came.ending.ends_as.0 came.ending.ends_as.2
       ∙ sym (length-map job.outputs.items (λ (o : JobOutput). o.path))
-      ∙ ap length (job_outputs _ d _ _ came.behind.is_job at)
+      ∙ ap length (job_outputs _ d _ _ came.ending.is_job at)
     where
       by : (outcome : Result Answer Reason)
-          → IsOutcomeVerdict came.before came.behind.job outcome (Ok infos)
-          → length infos ≡ length came.behind.job.outputs.items
+          → IsOutcomeVerdict came.before came.ending.job outcome (Ok infos)
+          → length infos ≡ length came.ending.job.outputs.items
       by (Ok answer) is = is.2.0.1.count
       by (Err reason) is = let no = is.2 in absurd cc
 
@@ -136,15 +136,15 @@ module _ (may : Job → Result Answer Reason → Type 0) (run : Run)
     → IsCarried (registered other.entries) (registered history.entries) seed) where
   same_permitted : (v w : Result (List PathInfo) Reason) (came : CameTo may run history d v)
       (came' : CameTo may run other d w) (p q : List (List ℕ))
-      → ArePermittedPaths came.before came.behind.job p
-      → ArePermittedPaths came'.before came'.behind.job q → p ≡ q
+      → ArePermittedPaths came.before came.ending.job p
+      → ArePermittedPaths came'.before came'.ending.job q → p ≡ q
   same_permitted v w came came' p q of_p of_q =
       let seeds = seeds_of run.graph.nodes node.drv in
       let outputs = output_paths_of node.drv in
-      let are = permitted_job run.graph d came.behind.job node came.before p came.behind.is_job at
+      let are = permitted_job run.graph d came.ending.job node came.before p came.ending.is_job at
       of_p in
-      let are' = permitted_job run.graph d came'.behind.job _ came'.before q
-      came'.behind.is_job at of_q in
+      let are' = permitted_job run.graph d came'.ending.job _ came'.before q
+      came'.ending.is_job at of_q in
       rising_same p q are.rising are'.rising (λ path. (
         λ has. (are'.each path).1
             ((permitted_whole _ _ _ once' d node at w came' path).1
@@ -198,16 +198,16 @@ module _ (may : Job → Result Answer Reason → Type 0) (run : Run)
       let here = reach_whole may run history once d node at v came from to
       (referred_valid (registered came.before) seeds outputs from first foreign) in
       let far = (reach_first v w came came' from to first foreign).0 reaches in
-      record_behind came.before history.entries to (came.more, sym came.parts)
+      record_after came.before history.entries to (came.more, sym came.parts)
       (reached_is_valid (registered came.before) from to reaches.0 reaches.1)
       ∙ record_both all all' seeds outputs once there back from to whole foreign (here.0 reaches)
-      ∙ sym (record_behind came'.before other.entries to (came'.more, sym came'.parts)
+      ∙ sym (record_after came'.before other.entries to (came'.more, sym came'.parts)
       (reached_is_valid (registered came'.before) from to far.0 far.1))
 
   alike_first : (v w : Result (List PathInfo) Reason) (came : CameTo may run history d v)
       (came' : CameTo may run other d w) (p : List (List ℕ))
-      → ArePermittedPaths came.before came.behind.job p
-      → ReachAlike (registered came.before) (registered came'.before) came.behind.job p
+      → ArePermittedPaths came.before came.ending.job p
+      → ReachAlike (registered came.before) (registered came'.before) came.ending.job p
   alike_first v w came came' p of_p = record {
     reach = λ from to has foreign.
         reach_first v w came came' from to (first from has) (apart from foreign);
@@ -219,27 +219,27 @@ module _ (may : Job → Result Answer Reason → Type 0) (run : Run)
           → MayRefer (registered came.before) (seeds_of run.graph.nodes node.drv)
           (output_paths_of node.drv) from
       first from has =
-          ((permitted_job run.graph d came.behind.job node came.before p came.behind.is_job at
+          ((permitted_job run.graph d came.ending.job node came.before p came.ending.is_job at
           of_p).each from).0 has
 
-      apart : (from : List ℕ) → (Contains (outputs_of came.behind.job) from → ⊥)
+      apart : (from : List ℕ) → (Contains (outputs_of came.ending.job) from → ⊥)
           → Contains (output_paths_of node.drv) from → ⊥
       apart from foreign own =
           foreign (subst (λ (outputs : List (List ℕ)). Contains outputs from)
-          (sym (job_outputs run.graph d came.behind.job node came.behind.is_job at)) own)
+          (sym (job_outputs run.graph d came.ending.job node came.ending.is_job at)) own)
 
   -- there is one verdict
   pub one_verdict : (v w : Result (List PathInfo) Reason) → CameTo may run history d v
       → CameTo may run other d w → v ≡ w
   one_verdict v w came came' =
-      by came.behind.comes_to.0 came'.behind.comes_to.0 came.behind.comes_to.1
-      came'.behind.comes_to.1 came.behind.comes_to.2 came'.behind.comes_to.2
+      by came.ending.ends_as.0 came'.ending.ends_as.0 came.ending.ends_as.1
+      came'.ending.ends_as.1 came.ending.ends_as.2 came'.ending.ends_as.2
     where
       job : Job
-      job = came.behind.job
+      job = came.ending.job
 
       again : Job
-      again = came'.behind.job
+      again = came'.ending.job
 
       first : List Registration
       first = registered came.before
@@ -250,18 +250,18 @@ module _ (may : Job → Result Answer Reason → Type 0) (run : Run)
       by : (x y : Result Answer Reason) → may job x → may again y
           → IsOutcomeVerdict came.before job x v → IsOutcomeVerdict came'.before again y w → v ≡ w
       by (Ok a) (Ok b) may_a may_b is is' =
-          outcome d job again first' is.0 (Ok a) (Ok b) v w came.behind.is_job
-          came'.behind.is_job may_a may_b
+          outcome d job again first' is.0 (Ok a) (Ok b) v w came.ending.is_job
+          came'.ending.is_job may_a may_b
           (tested_verdict_stays first first' job is.0 a v (alike_first v w came came' is.0 is.1)
           is.2)
           (subst (λ (ps : List (List ℕ)). IsTestedVerdict first' again ps b w)
           (sym (same_permitted v w came came' is.0 is'.0 is.1 is'.1)) is'.2)
       by (Ok a) (Err r) may_a may_b is is' =
-          outcome d job again first is.0 (Ok a) (Err r) v w came.behind.is_job
-          came'.behind.is_job may_a may_b is.2 is'.2
+          outcome d job again first is.0 (Ok a) (Err r) v w came.ending.is_job
+          came'.ending.is_job may_a may_b is.2 is'.2
       by (Err r) (Ok b) may_a may_b is is' =
-          outcome d job again first' is'.0 (Err r) (Ok b) v w came.behind.is_job
-          came'.behind.is_job may_a may_b is.2 is'.2
+          outcome d job again first' is'.0 (Err r) (Ok b) v w came.ending.is_job
+          came'.ending.is_job may_a may_b is.2 is'.2
       by (Err r) (Err s) may_a may_b is is' =
-          outcome d job again first is.0 (Err r) (Err s) v w came.behind.is_job
-          came'.behind.is_job may_a may_b is.2 is'.2
+          outcome d job again first is.0 (Err r) (Err s) v w came.ending.is_job
+          came'.ending.is_job may_a may_b is.2 is'.2

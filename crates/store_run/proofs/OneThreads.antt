@@ -24,12 +24,12 @@ use Rattle.run_states.specs.declared.state.Event.TheVariants.{Begin, Done as Fin
 use Rattle.build_outcome.specs.declared.reason.Reason.{Reason}
 use Rattle.build_outcome.specs.declared.reason.Reason.TheVariants.{OutOfMemory}
 use Rattle.build_outcome.proofs.TestedVerdicts.{tested_verdict_stays}
-use Rattle.store_run.specs.Builders.{IsOutcomeVerdict, IsVerdictBehind}
+use Rattle.store_run.specs.Builders.{IsOutcomeVerdict, IsVerdictAfter}
 use Rattle.store_run.specs.OneThread.{HadTurns, turn_done, turn_failed, turn_opening, turn_skipped}
 use Rattle.store_run.specs.Scheduling.{HasOneThread, IsWholeRun}
 use Rattle.store_run.proofs.Alike.{HasSameTurn, IsAccounted, IsAlikeAt, alike_below, none_building, not_idle, seed_carried, swapped, unhindered_there}
 use Rattle.store_run.proofs.Carried.{IsCarried, may_refer_there, reach_both, record_both, referred_valid}
-use Rattle.store_run.proofs.KnownRecords.{record_behind}
+use Rattle.store_run.proofs.KnownRecords.{record_after}
 use Rattle.store_run.proofs.OneOutcome.{job_outputs, job_seeds, permitted_job, permitted_whole, reach_whole}
 use Rattle.store_run.proofs.Schedules.{opening_journal, run_accounted, run_told, turns_accounted}
 use Rattle.store_run.proofs.Telling.{CameTo, phase_broken, phase_ended}
@@ -39,7 +39,7 @@ use Rattle.run_states.proofs.Unhindered.{ready_unhindered}
 use Rattle.store_run.proofs.Unhindered.{IsUnhindered, unhindered_ready}
 use Rattle.run_states.proofs.OtherEvents.{phase_other, same_or_other}
 
--- ---- what a derivation came to here it may come to there
+-- ---- as a derivation ended here, it may end there
 
 module _ (may : Job → Result Answer Reason → Type 0) (run : Run) (history other : History)
     (once : IsOnce (registered history.entries)) (d : ℕ)
@@ -50,23 +50,23 @@ module _ (may : Job → Result Answer Reason → Type 0) (run : Run) (history ot
     (back : (seed : List ℕ) → Contains (seeds_of run.graph.nodes node.drv) seed
     → IsCarried (registered other.entries) (registered history.entries) seed) where
   permitted_there : (permitted : List (List ℕ))
-      → ArePermittedPaths came.before came.behind.job permitted
-      → ArePermittedPaths other.entries came.behind.job permitted
+      → ArePermittedPaths came.before came.ending.job permitted
+      → ArePermittedPaths other.entries came.ending.job permitted
   permitted_there permitted of =
-      let job = came.behind.job in
+      let job = came.ending.job in
       let seeds = seeds_of run.graph.nodes node.drv in
       let outputs = output_paths_of node.drv in
-      let are = permitted_job _ d _ _ came.before _ came.behind.is_job at of in
+      let are = permitted_job _ d _ _ came.before _ came.ending.is_job at of in
       let whole = permitted_whole may run history once d node at verdict came in
       record {
         rising = of.rising;
         each = λ path.
             subst (λ (ss : List (List ℕ)). Contains permitted path
             ↔ MayRefer (registered other.entries) ss (outputs_of job) path)
-            (sym (job_seeds _ d _ _ came.behind.is_job at))
+            (sym (job_seeds _ d _ _ came.ending.is_job at))
             (subst (λ (os : List (List ℕ)). Contains permitted path
             ↔ MayRefer (registered other.entries) seeds os path)
-            (sym (job_outputs _ d _ _ came.behind.is_job at)) (
+            (sym (job_outputs _ d _ _ came.ending.is_job at)) (
               λ has. may_refer_there _ _ _
                   _ there _ ((whole path).0 ((are.each path).0 has)),
               λ can. (are.each path).1 ((whole path).1
@@ -76,8 +76,8 @@ module _ (may : Job → Result Answer Reason → Type 0) (run : Run) (history ot
       }
 
   reach_there : (permitted : List (List ℕ))
-      → ArePermittedPaths came.before came.behind.job permitted
-      → ReachAlike (registered came.before) (registered other.entries) came.behind.job permitted
+      → ArePermittedPaths came.before came.ending.job permitted
+      → ReachAlike (registered came.before) (registered other.entries) came.ending.job permitted
   reach_there permitted of = record {
     reach = λ from to has foreign.
         let here = reach_whole may run history once d node at verdict came from to
@@ -88,7 +88,7 @@ module _ (may : Job → Result Answer Reason → Type 0) (run : Run) (history ot
     records = λ from to has foreign reaches.
         let here = reach_whole may run history once d node at verdict came from to
         (was_valid from has foreign) in
-        record_behind came.before history.entries to (came.more, sym came.parts)
+        record_after came.before history.entries to (came.more, sym came.parts)
         (reached_is_valid (registered came.before) from to reaches.0 reaches.1)
         ∙ record_both all (registered other.entries) seeds outputs once there back from to
         (whole from has) (apart from foreign) (here.0 reaches);
@@ -103,16 +103,16 @@ module _ (may : Job → Result Answer Reason → Type 0) (run : Run) (history ot
       all : List Registration
       all = registered history.entries
 
-      apart : (from : List ℕ) → (Contains (outputs_of came.behind.job) from → ⊥)
+      apart : (from : List ℕ) → (Contains (outputs_of came.ending.job) from → ⊥)
           → Contains outputs from → ⊥
       apart from foreign own =
           foreign (subst (λ (paths : List (List ℕ)). Contains paths from)
-          (sym (job_outputs run.graph d came.behind.job node came.behind.is_job at)) own)
+          (sym (job_outputs run.graph d came.ending.job node came.ending.is_job at)) own)
 
       first : (from : List ℕ) → Contains permitted from
           → MayRefer (registered came.before) seeds outputs from
       first from has =
-          ((permitted_job run.graph d came.behind.job node came.before permitted came.behind.is_job
+          ((permitted_job run.graph d came.ending.job node came.before permitted came.ending.is_job
           at of).each from).0 has
 
       whole : (from : List ℕ) → Contains permitted from → MayRefer all seeds outputs from
@@ -120,29 +120,29 @@ module _ (may : Job → Result Answer Reason → Type 0) (run : Run) (history ot
           (permitted_whole may run history once d node at verdict came from).0 (first from has)
 
       was_valid : (from : List ℕ) → Contains permitted from
-          → (Contains (outputs_of came.behind.job) from → ⊥) → IsValid (registered came.before) from
+          → (Contains (outputs_of came.ending.job) from → ⊥) → IsValid (registered came.before) from
       was_valid from has foreign =
           referred_valid (registered came.before) seeds outputs from (first from has)
           (apart from foreign)
 
-  behind_there : IsVerdictBehind may run other.entries d verdict
-  behind_there = record {
-    job = came.behind.job;
-    is_job = came.behind.is_job;
-    comes_to = (
-      came.behind.comes_to.0,
-      came.behind.comes_to.1,
-      by came.behind.comes_to.0 came.behind.comes_to.2,
+  after_there : IsVerdictAfter may run other.entries d verdict
+  after_there = record {
+    job = came.ending.job;
+    is_job = came.ending.is_job;
+    ends_as = (
+      came.ending.ends_as.0,
+      came.ending.ends_as.1,
+      by came.ending.ends_as.0 came.ending.ends_as.2,
     );
   }
     where
       by : (outcome : Result Answer Reason)
-          → IsOutcomeVerdict came.before came.behind.job outcome verdict
-          → IsOutcomeVerdict other.entries came.behind.job outcome verdict
+          → IsOutcomeVerdict came.before came.ending.job outcome verdict
+          → IsOutcomeVerdict other.entries came.ending.job outcome verdict
       by (Ok answer) is = (
         is.0,
         permitted_there _ is.1,
-        tested_verdict_stays (registered came.before) (registered other.entries) came.behind.job
+        tested_verdict_stays (registered came.before) (registered other.entries) came.ending.job
             is.0 answer verdict (reach_there is.0 is.1) is.2,
       )
       by (Err reason) is = is
@@ -204,12 +204,12 @@ module _ (may : Job → Result Answer Reason → Type 0) (run : Run) (history : 
         (turned.rest d (omega arith));
   }
 
-  behind : (phase_of history.events d ≡ Idle → ⊥) → (verdict : Result (List PathInfo) Reason)
-      → CameTo may run history d verdict → IsVerdictBehind may run thread.other.entries d verdict
-  behind moved verdict came =
-      let node = came.behind.is_job.node in
-      let at = came.behind.is_job.is_node in
-      behind_there may run history thread.other told.once d verdict came node at
+  ending : (phase_of history.events d ≡ Idle → ⊥) → (verdict : Result (List PathInfo) Reason)
+      → CameTo may run history d verdict → IsVerdictAfter may run thread.other.entries d verdict
+  ending moved verdict came =
+      let node = came.ending.is_job.node in
+      let at = came.ending.is_job.is_node in
+      after_there may run history thread.other told.once d verdict came node at
       (seed_carried may run whole.end.plan history _ told told_there turned.opening_is d
       below _ at (told.begun d moved).unhindered)
       (seed_carried may run whole.end.plan thread.other history told_there told
@@ -246,7 +246,7 @@ module _ (may : Job → Result Answer Reason → Type 0) (run : Run) (history : 
           record {
             other = after;
             had = turn_done d thread.other made.node made.infos made.entry thread.had
-                (can_begin moved) made.is_node (behind moved (Ok made.infos) made.came)
+                (can_begin moved) made.is_node (ending moved (Ok made.infos) made.came)
                 made.is_entry;
             turns = turns_more history thread.other after d
                 (λ i apart. phase_other middle.events (Finish d lease) i apart
@@ -269,7 +269,7 @@ module _ (may : Job → Result Answer Reason → Type 0) (run : Run) (history : 
           record {
             other = after;
             had = turn_failed d thread.other why thread.had (can_begin moved)
-                (behind moved (Err why) came);
+                (ending moved (Err why) came);
             turns = turns_more history thread.other after d
                 (λ i apart. phase_other middle.events (Fail d lease why) i apart
                 ∙ phase_other thread.other.events (Begin d lease) i apart) thread.turns

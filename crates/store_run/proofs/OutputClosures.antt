@@ -36,8 +36,8 @@ use Rattle.sched_core.proofs.ExaminedRecords.{verdicts_may_refer}
 use Rattle.store_run.specs.private.JobVerdicts.{AreClosures, IsClosureAt, IsFoundBy, IsLeftOut, IsTaken}
 use Rattle.store_run.specs.declared.job_verdict.JobVerdict.TheVariants.{Examined}
 use Rattle.store_run.proofs.Carried.{leads_on, referred_valid}
-use Rattle.store_run.proofs.KnownRecords.{found_behind, record_known}
-use Rattle.store_run.proofs.Permits.{permitted_behind, reach_behind, seeds_stay}
+use Rattle.store_run.proofs.KnownRecords.{found_after, record_known}
+use Rattle.store_run.proofs.Permits.{permitted_after, reach_after, seeds_stay}
 
 -- ---- what outputs refer to
 
@@ -48,9 +48,9 @@ refer_more first more seeds outputs path (inl (seed, has, (steps, leads))) =
 refer_more first more seeds outputs path (inr own) = inr own
 
 -- what may be referred to may be so in each list that goes on
-pub refers_behind_all : (before after : List Entry) (job : Job) (infos : List PathInfo)
+pub refers_after_all : (before after : List Entry) (job : Job) (infos : List PathInfo)
     → IsPrefix before after → MayAllRefer before job infos → MayAllRefer after job infos
-refers_behind_all before after job infos goes may info path has refers =
+refers_after_all before after job infos goes may info path has refers =
     subst (λ (entries : List Entry). MayRefer (registered entries) job.seeds.items (outputs_of job)
     path) goes.1
     (subst (λ (rs : List Registration). MayRefer rs job.seeds.items (outputs_of job) path)
@@ -98,7 +98,8 @@ roots_close entries job infos own inside outside reached all roots closure union
   each = λ path. (there path, back path);
 }
   where
-    there : (path : List ℕ) → Contains all path → IsRequisite (registered entries) job infos own path
+    there : (path : List ℕ) → Contains all path → IsRequisite
+        (registered entries) job infos own path
     there path has =
         ⊎_elim
         (λ far.
@@ -174,7 +175,7 @@ module _ (before after : List Entry) (job : Job) (infos : List PathInfo)
   reach_outside : (own from to : List ℕ) → RefersOutside job infos own from
       → Reaches (registered before) from to ↔ Reaches (registered after) from to
   reach_outside own from to outside =
-      reach_behind before after from to goes showable
+      reach_after before after from to goes showable
       (outside_valid before job infos may own from outside)
 
   requisite_there : (own path : List ℕ) → IsRequisite (registered before) job infos own path
@@ -196,7 +197,7 @@ module _ (before after : List Entry) (job : Job) (infos : List PathInfo)
     rising = are.rising;
     known = All-from_contains
         (λ (r : Registration). record_at (registered after) r.path ≡ Some r) records
-        (λ r has. found_behind before after r.path r goes
+        (λ r has. found_after before after r.path r goes
         (All-contains (λ (x : Registration). record_at (registered before) x.path ≡ Some x)
         records r are.known has));
     each = are.each;
@@ -295,8 +296,10 @@ module _ (entries : List Entry) (job : Job) (permitted : List (List ℕ)) (infos
   closure_permitted n closure (inl out) = record {
     rising = subst IsRising (sym out.paths) tt;
     within = subst (All (Contains permitted)) (sym out.paths)
-        (All-from_contains (Contains permitted) [] (λ path has. absurd (Contains-nothing path has)));
-    records = subst (λ (rs : List Registration). IsRising (paths_registered rs)) (sym out.records) tt;
+        (All-from_contains (Contains permitted) [] (λ path has. absurd
+        (Contains-nothing path has)));
+    records = subst (λ (rs : List Registration). IsRising (paths_registered rs))
+        (sym out.records) tt;
   }
   closure_permitted n closure (inr (own, at, taken)) = record {
     rising = taken.closure_of.paths.rising;
@@ -406,7 +409,7 @@ module _ (before after : List Entry) (job : Job) (permitted : List (List ℕ))
     (are : ArePermittedPaths before job permitted) (closures : AreClosures after job infos given)
     (count : length given ≡ length job.outputs.items) where
   are_after : ArePermittedPaths after job permitted
-  are_after = permitted_behind before after job goes showable seeds permitted are
+  are_after = permitted_after before after job goes showable seeds permitted are
 
   pub tested_lists : (answer : Answer) → IsVerdict job permitted answer (Ok infos)
       → All (IsPermittedClosure permitted) given

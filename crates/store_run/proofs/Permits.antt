@@ -1,6 +1,6 @@
 -- What is permitted to a job by lists of entries that go on from one list.
 use Rattle.std.proofs.Common.{◌≡◌, ◌↔◌, ◌∙◌, inl, inr, ℕ, List, [], ◌∷◌, ◌++◌, All, None, Result, Ok, Err, refl, subst, sym, rules}
-use Rattle.std.specs.Prelude.{Contains, IfOk, OnOk, slice_get}
+use Rattle.std.specs.Prelude.{Contains, OnOk, slice_get}
 use Rattle.std.proofs.lemmas.List.Elements.{All-contains}
 use mathlib.Core.List.{IsPrefix}
 use Rattle.nix_names.proofs.Lists.{Contains-nothing}
@@ -24,7 +24,7 @@ use Rattle.run_states.proofs.Dones.{reached_is_valid}
 use Rattle.run_states.proofs.Seeds.{permitted_stays}
 use Rattle.store_run.specs.private.JobVerdicts.{AreKnownValid, StaysPermitted}
 use Rattle.store_run.proofs.Carried.{reach_more, referred_valid}
-use Rattle.store_run.proofs.KnownRecords.{record_behind}
+use Rattle.store_run.proofs.KnownRecords.{record_after}
 
 -- what is valid stays so in each list that goes on
 paths_stay : (before after : List Entry) (paths : List (List ℕ)) → IsPrefix before after
@@ -53,11 +53,11 @@ pub closure_and_outputs : (entries : List Entry) (job : Job) (reached all : List
 closure_and_outputs entries job reached all closure union = search (rules, are_permitted)
 
 -- a job's outputs may refer to the same in a list and after it, where the seeds are valid
-same_behind : (before after : List Entry) (job : Job) (path : List ℕ) → IsPrefix before after
+same_after : (before after : List Entry) (job : Job) (path : List ℕ) → IsPrefix before after
     → IsShowable after → AreSeedsValid before job
     → MayRefer (registered before) job.seeds.items (outputs_of job) path
     ↔ MayRefer (registered after) job.seeds.items (outputs_of job) path
-same_behind before after job path goes showable valid =
+same_after before after job path goes showable valid =
     let whole : IsShowable (before ++ goes.0) = subst IsShowable (sym goes.1) showable in
     let both = permitted_stays (registered before) (registered goes.0) job.seeds.items
     (outputs_of job) path
@@ -73,10 +73,10 @@ same_behind before after job path goes showable valid =
     (sym (registered-append before goes.0)) both)
 
 -- what a valid path reaches is the same in a list and after it
-pub reach_behind : (before after : List Entry) (from to : List ℕ) → IsPrefix before after
+pub reach_after : (before after : List Entry) (from to : List ℕ) → IsPrefix before after
     → IsShowable after → IsValid (registered before) from
     → Reaches (registered before) from to ↔ Reaches (registered after) from to
-reach_behind before after from to goes showable valid =
+reach_after before after from to goes showable valid =
     let whole : IsShowable (before ++ goes.0) = subst IsShowable (sym goes.1) showable in
     let both = reach_more (registered before) (registered goes.0)
     (closed_references_valid before (showable_prefix before goes.0 whole).closed)
@@ -101,12 +101,12 @@ permitted_by_both before after job same permitted are = record {
 }
 
 -- so is what is permitted by a list where the seeds are valid, in each list that goes on
-pub permitted_behind : (before after : List Entry) (job : Job) → IsPrefix before after
+pub permitted_after : (before after : List Entry) (job : Job) → IsPrefix before after
     → IsShowable after → AreSeedsValid before job → (permitted : List (List ℕ))
     → ArePermittedPaths before job permitted → ArePermittedPaths after job permitted
-permitted_behind before after job goes showable valid =
+permitted_after before after job goes showable valid =
     permitted_by_both before after job
-    (λ path. same_behind before after job path goes showable valid)
+    (λ path. same_after before after job path goes showable valid)
 
 -- and where what is permitted reaches the same too, with the same records, it stays permitted
 stays_by_both : (before after : List Entry) (job : Job) → ((path : List ℕ)
@@ -138,9 +138,9 @@ module _ (seen now shown entries : List Entry) (job : Job) (from_seen : IsPrefix
       → MayRefer (registered seen) job.seeds.items (outputs_of job) path
       ↔ MayRefer (registered entries) job.seeds.items (outputs_of job) path
   same_by_view path =
-      let first = same_behind seen now job path from_seen showable valid in
-      let second = same_behind shown now job path from_shown showable there in
-      let third = same_behind shown entries job path goes_on journal there in
+      let first = same_after seen now job path from_seen showable valid in
+      let second = same_after shown now job path from_shown showable there in
+      let third = same_after shown entries job path goes_on journal there in
       (λ may. third.0 (second.1 (first.0 may)), λ may. first.1 (second.0 (third.1 may)))
 
   reach_by_view : (from to : List ℕ)
@@ -149,14 +149,14 @@ module _ (seen now shown entries : List Entry) (job : Job) (from_seen : IsPrefix
       → Reaches (registered seen) from to ↔ Reaches (registered entries) from to
   reach_by_view from to may foreign =
       let seeds = job.seeds.items in
-      let may_now = (same_behind seen now job from from_seen showable valid).0 may in
-      let may_shown = (same_behind shown now job from from_shown showable there).1 may_now in
+      let may_now = (same_after seen now job from from_seen showable valid).0 may in
+      let may_shown = (same_after shown now job from from_shown showable there).1 may_now in
       let was_valid = referred_valid (registered seen) seeds (outputs_of job) from may foreign in
       let is_valid = referred_valid (registered shown) seeds (outputs_of job) from may_shown foreign
       in
-      let first = reach_behind seen now from to from_seen showable was_valid in
-      let second = reach_behind shown now from to from_shown showable is_valid in
-      let third = reach_behind shown entries from to goes_on journal is_valid in (
+      let first = reach_after seen now from to from_seen showable was_valid in
+      let second = reach_after shown now from to from_shown showable is_valid in
+      let third = reach_after shown entries from to goes_on journal is_valid in (
         λ reaches. third.0 (second.1 (first.0 reaches)),
         λ reaches. first.1 (second.0 (third.1 reaches)),
       )
@@ -167,18 +167,18 @@ module _ (seen now shown entries : List Entry) (job : Job) (from_seen : IsPrefix
       → record_at (registered seen) to ≡ record_at (registered entries) to
   record_by_view from to may foreign reaches =
       let seeds = job.seeds.items in
-      let may_now = (same_behind seen now job from from_seen showable valid).0 may in
-      let may_shown = (same_behind shown now job from from_shown showable there).1 may_now in
+      let may_now = (same_after seen now job from from_seen showable valid).0 may in
+      let may_shown = (same_after shown now job from from_shown showable there).1 may_now in
       let was_valid = referred_valid (registered seen) seeds (outputs_of job) from may foreign in
       let is_valid = referred_valid (registered shown) seeds (outputs_of job) from may_shown foreign
       in
-      let in_now = (reach_behind seen now from to from_seen showable was_valid).0 reaches in
-      let in_shown = (reach_behind shown now from to from_shown showable is_valid).1 in_now in
+      let in_now = (reach_after seen now from to from_seen showable was_valid).0 reaches in
+      let in_shown = (reach_after shown now from to from_shown showable is_valid).1 in_now in
       let shown_valid = reached_is_valid (registered shown) from to in_shown.0 in_shown.1 in
-      record_behind seen now to from_seen
+      record_after seen now to from_seen
       (reached_is_valid (registered seen) from to reaches.0 reaches.1)
-      ∙ sym (record_behind shown now to from_shown shown_valid)
-      ∙ record_behind shown entries to goes_on shown_valid
+      ∙ sym (record_after shown now to from_shown shown_valid)
+      ∙ record_after shown entries to goes_on shown_valid
 
   pub stays_by_view : StaysPermitted seen entries job
   stays_by_view = stays_by_both seen entries job same_by_view reach_by_view record_by_view
@@ -215,17 +215,6 @@ pub where_ok : {A E Fact Other : Type 0} (answer : Result A E) → OnOk answer F
     → (Fact → Other) → OnOk answer Other
 where_ok (Ok seen) fact follows = follows fact
 where_ok (Err fault) fact follows = tt
-
--- what holds anyway
-pub anyway_ok : {A E Fact : Type 0} (answer : Result A E) → Fact → OnOk answer Fact
-anyway_ok (Ok seen) fact = fact
-anyway_ok (Err fault) fact = tt
-
--- what follows of a good answer
-pub of_ok : {A E : Type 0} {Fact Other : A → Type 0} (answer : Result A E) → IfOk answer Fact
-    → ((x : A) → Fact x → Other x) → IfOk answer Other
-of_ok (Ok x) fact follows = follows x fact
-of_ok (Err fault) fact follows = tt
 
 -- the entries of a journal may be shown
 pub journal_showable : (entries : List Entry) → IsJournal entries → IsShowable entries

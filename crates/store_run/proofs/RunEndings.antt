@@ -15,7 +15,7 @@ use Rattle.build_outcome.specs.declared.job.Job.{Job}
 use Rattle.build_outcome.specs.declared.reason.Reason.{Reason}
 use Rattle.store_run.specs.Builders.{IsAnswered}
 use Rattle.store_run.specs.private.Ending.{IsHandedOut, IsRunEnd, IsRunEndFault, IsUnfinished, fault_of_stop, handed_out}
-use Rattle.store_run.specs.Realising.{IsCutOff, IsLeft, IsOverLent, IsRealised, IsRunFault}
+use Rattle.store_run.specs.Realising.{IsCutOff, IsLeft, IsBookOver, IsRealised, IsRunFault}
 use Rattle.store_run.specs.private.Sharing.{Share}
 use Rattle.store_run.specs.Workers.{AreWorkers}
 use Rattle.store_run.specs.declared.fault.RunFault.{RunFault}
@@ -53,7 +53,7 @@ module _ (may : Job → Result Answer Reason → Type 0) (plan : Graph) (system 
     (opening : List Entry) (count : ℕ) (workers : AreWorkers count) (share : Share)
     (legal : IsLegal share.book.run share.book.history)
     (answered : IsAnswered may share.book.run share.book.history) where
-  left_over : (book : Ledger) → book ≡ share.book → IsOverLent plan system opening book
+  left_over : (book : Ledger) → book ≡ share.book → IsBookOver plan system opening book
       → IsLeft may plan system opening book
   left_over book same over = record {
     over = over;

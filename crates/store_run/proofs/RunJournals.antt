@@ -37,13 +37,13 @@ use Rattle.build_outcome.specs.declared.job.JobOutput.{JobOutput}
 use Rattle.build_outcome.specs.declared.reason.Reason.{Reason}
 use Rattle.build_outcome.specs.declared.reason.Reason.TheVariants.{OutOfMemory}
 use Rattle.run_states.specs.Legal.{IsEntryOf, IsLegal, MayRefer}
-use Rattle.run_states.specs.Runs.{History, Run, standing_at, terms_of}
+use Rattle.run_states.specs.Runs.{History, Run, precondition_at, terms_of}
 use Rattle.run_states.specs.States.{phase_of}
 use Rattle.run_states.specs.declared.precondition.Precondition.TheVariants.{Free}
 use Rattle.run_states.proofs.Dones.{output_registered, part_with, registered_output}
 use Rattle.run_states.proofs.OtherEvents.{begun_not_idle}
 use Rattle.run_states.proofs.Registering.{entries_are_journal}
-use Rattle.store_run.specs.Builders.{IsAnswered, IsOutcomeVerdict, IsVerdictBehind}
+use Rattle.store_run.specs.Builders.{IsAnswered, IsOutcomeVerdict, IsVerdictAfter}
 use Rattle.store_run.specs.Keeping.{interim_version}
 use Rattle.store_run.specs.RunJournals.{AreReadAs, IsOverStore, JournalsOfRunsAreRead, KeptTextsAreRead, LeftJournalsAreRead}
 use Rattle.store_run.proofs.DigestSizes.{record_in_three, record_in_two}
@@ -79,7 +79,7 @@ reached_in_store version dir entries all from to (next ∷ steps) is leads =
 
 -- a derivation stands free after the entries that a run opened with
 abbrev IsFree : Run → (opening : List Entry) → ℕ → Type 0
-IsFree run opening d = standing_at (terms_of run) opening (slice_get run.graph.nodes d) ≡ Free
+IsFree run opening d = precondition_at (terms_of run) opening (slice_get run.graph.nodes d) ≡ Free
 
 -- what the records of a verdict on such a derivation tell can be written in a version
 abbrev AreTold : Run → Version → Type 0
@@ -139,22 +139,22 @@ module _ (may : Job → Result Answer Reason → Type 0) (dir : List ℕ)
 
   records_in : (opening entries : List Entry) → All (IsEntryIn version dir) entries → (d : ℕ)
       (node : Node) (infos : List PathInfo) → slice_get run.graph.nodes d ≡ Some node
-      → IsFree run opening d → IsVerdictBehind may run entries d (Ok infos)
+      → IsFree run opening d → IsVerdictAfter may run entries d (Ok infos)
       → AreRecordsIn node infos
-  records_in opening entries all d node infos at free behind =
-      by behind.comes_to.0 behind.comes_to.2
+  records_in opening entries all d node infos at free ending =
+      by ending.ends_as.0 ending.ends_as.2
     where
       job : Job
-      job = behind.job
+      job = ending.job
 
-      same : behind.is_job.node ≡ node
-      same = same_element run.graph.nodes d behind.is_job.node node behind.is_job.is_node at
+      same : ending.is_job.node ≡ node
+      same = same_element run.graph.nodes d ending.is_job.node node ending.is_job.is_node at
 
       seeds : job.seeds.items ≡ seeds_of run.graph.nodes node.drv
-      seeds = behind.is_job.seeds ∙ ap (λ (n : Node). seeds_of run.graph.nodes n.drv) same
+      seeds = ending.is_job.seeds ∙ ap (λ (n : Node). seeds_of run.graph.nodes n.drv) same
 
       outputs : outputs_of job ≡ output_paths_of node.drv
-      outputs = behind.is_job.paths ∙ ap (λ (n : Node). output_paths_of n.drv) same
+      outputs = ending.is_job.paths ∙ ap (λ (n : Node). output_paths_of n.drv) same
 
       in_store : (path : List ℕ)
           → MayRefer (registered entries) job.seeds.items (outputs_of job) path
@@ -176,7 +176,7 @@ module _ (may : Job → Result Answer Reason → Type 0) (dir : List ℕ)
         each = λ info has.
             let (n, place) = get_from_contains infos info has in
             let (tree, at_tree, is) = verdict.1.each n info place in record {
-              known = tells opening d job permitted answer infos free behind.is_job verdict info
+              known = tells opening d job permitted answer infos free ending.is_job verdict info
                   has;
               references = All-from_contains (IsPathOf dir) info.references
                   (λ path refers. in_store path
@@ -188,9 +188,9 @@ module _ (may : Job → Result Answer Reason → Type 0) (dir : List ℕ)
   entry_in : (opening entries : List Entry) → All (IsEntryIn version dir) entries → (d : ℕ)
       (node : Node) (infos : List PathInfo) (entry : Entry)
       → slice_get run.graph.nodes d ≡ Some node → IsFree run opening d
-      → IsVerdictBehind may run entries d (Ok infos) → IsEntryOf node infos entry
+      → IsVerdictAfter may run entries d (Ok infos) → IsEntryOf node infos entry
       → IsEntryIn version dir entry
-  entry_in opening entries all d node infos entry at free behind is =
+  entry_in opening entries all d node infos entry at free ending is =
       subst (IsEntryIn version dir) (sym is.is_done) (
         stands_in_store dir gives roots run.graph plan are_paths node has,
         stands_named dir gives roots run.graph plan are_paths node has,
@@ -203,7 +203,7 @@ module _ (may : Job → Result Answer Reason → Type 0) (dir : List ℕ)
       has = Contains-from_get run.graph.nodes d node at
 
       records : AreRecordsIn node infos
-      records = records_in opening entries all d node infos at free behind
+      records = records_in opening entries all d node infos at free ending
 
       each : (r : Registration) → Contains is.outputs r → IsOf version dir r
       each r there =

@@ -33,7 +33,7 @@ use Rattle.run_states.specs.declared.state.State.{State}
 use Rattle.run_states.specs.declared.state.State.TheVariants.{Done, Failed, Ready}
 use Rattle.run_states.specs.declared.precondition.Precondition.TheVariants.{Free}
 use Rattle.run_states.proofs.TwinLaws.{is_earlier_twin, is_there, turned, twins_path}
-use Rattle.store_run.specs.Builders.{IsAnswered, IsVerdictBehind, answered_begin, answered_done, answered_fail, answered_opening}
+use Rattle.store_run.specs.Builders.{IsAnswered, IsVerdictAfter, answered_begin, answered_done, answered_fail, answered_opening}
 use Rattle.store_run.specs.OneThread.{IsOneThread, turn_done, turn_failed, turn_opening}
 use Rattle.store_run.specs.Scheduling.{HasMemory, IsWholeRun}
 use Rattle.store_run.specs.ScheduleExample.{Overlap, both, failing, in_turn, left, made, making, may_leave, out_alone, right, side_by_side}
@@ -41,7 +41,7 @@ use Rattle.store_run.proofs.AlonePlans.{both_sound, kind_alone, one_of, outputs_
 use Rattle.store_run.proofs.OneOutcome.{job_outputs, job_seeds}
 use Rattle.store_run.proofs.ExampleJobs.{both_outcome, is_job_of_right, job_of_right, left_answer, left_is_job, left_job, left_leaves, left_may, left_verdict, no_cycle, nothing_in, right_answer, right_leaves, right_may, right_verdict}
 use Rattle.store_run.proofs.SameTests.{plain_tested}
-use Rattle.store_run.proofs.Unhindered.{IsUnhindered, inputs_in, standing_in, state_by, unhindered_ready}
+use Rattle.store_run.proofs.Unhindered.{IsUnhindered, inputs_in, precondition_in, state_by, unhindered_ready}
 
 -- ---- verdicts after some entries
 
@@ -55,11 +55,11 @@ permitted_own graph entries d job node is at none path one =
     search (rules, job_seeds, job_outputs, Contains-nothing)
 
 left_behind : (entries : List Entry)
-    → IsVerdictBehind may_leave both entries 0 (Err (ExitStatus (pos 1)))
+    → IsVerdictAfter may_leave both entries 0 (Err (ExitStatus (pos 1)))
 left_behind entries = record {
   job = left_job;
   is_job = left_is_job;
-  comes_to = (
+  ends_as = (
     Ok left_answer,
     left_may,
     (
@@ -71,11 +71,11 @@ left_behind entries = record {
 }
 
 right_behind : (entries : List Entry)
-    → IsVerdictBehind may_leave both entries 1 (Ok (nothing_in ∷ []))
+    → IsVerdictAfter may_leave both entries 1 (Ok (nothing_in ∷ []))
 right_behind entries = record {
   job = job_of_right 1;
   is_job = is_job_of_right _ 1 refl refl;
-  comes_to = (
+  ends_as = (
     Ok right_answer,
     right_may,
     (
@@ -184,7 +184,7 @@ no_twin opening d t has =
     by (suc (suc d)) t low twins = search (rules, is_there, turned)
 
 -- so each of them is ready until it begins
-unhindered : (history : History) (d : ℕ) → standing_in both history d ≡ Free
+unhindered : (history : History) (d : ℕ) → precondition_in both history d ≡ Free
     → inputs_in both d ≡ [] → IsUnhindered both history d
 unhindered history d free none = record {
   free = free;

@@ -29,9 +29,9 @@ use Rattle.run_states.proofs.Histories.{ready_is_idle}
 use Rattle.sched_core.proofs.Permitting.{begun_event}
 use Rattle.run_states.proofs.Registering.{entries_are_journal}
 use Rattle.run_states.proofs.Seeds.{phase_push, seeds_are_valid}
-use Rattle.store_run.specs.Builders.{IsVerdictBehind}
+use Rattle.store_run.specs.Builders.{IsVerdictAfter}
 use Rattle.store_run.proofs.ToldRuns.{IsTold, told_begin, told_done, told_fail, told_opening}
-use Rattle.run_states.proofs.Unhindered.{IsUnhindered as IsUnhinderedIn, ready_unhindered, behind_event, building_is_open}
+use Rattle.run_states.proofs.Unhindered.{IsUnhindered as IsUnhinderedIn, ready_unhindered, after_event, building_is_open}
 use Rattle.store_run.proofs.Unhindered.{IsUnhindered}
 use Rattle.run_states.proofs.OtherEvents.{number_of, same_or_other, phase_other, begun_not_idle}
 
@@ -69,7 +69,7 @@ begun_stays run history after x opening events still d was = record {
       subst (λ (opens : List Entry). IsUnhinderedIn (rows_of run opens after.events) d)
       (sym opening)
       (subst (λ (es : List Event). IsUnhinderedIn (rows_of run history.opening es) d) (sym events)
-      (behind_event _ _ history.events x still d was.unhindered));
+      (after_event _ _ history.events x still d was.unhindered));
 }
 
 begun_not_ended : (p : Phase) (lease : ℕ) → p ≡ Begun lease → p ≡ Ended → ⊥
@@ -117,9 +117,9 @@ module _ (excused : Reason → Type 0) (may : Job → Result Answer Reason → T
       (λ other. moved (phase_other history.events (Fail e lease reason) d other ∙ idle))
       (same_or_other e d)))
 
--- ---- what a derivation came to
+-- ---- how a derivation ended
 
--- A derivation came to a verdict after the first entries, in which all seeds are valid.
+-- A derivation ended with a verdict after the first entries, in which all seeds are valid.
 pub record CameTo (may : Job → Result Answer Reason → Type 0) (run : Run) (history : History)
     (d : ℕ) (verdict : Result (List PathInfo) Reason)
     : Type 0 where
@@ -129,9 +129,9 @@ pub record CameTo (may : Job → Result Answer Reason → Type 0) (run : Run) (h
   pub closed : AreReferencesValid (registered before)
   pub seeds : (node : Node) → slice_get run.graph.nodes d ≡ Some node → (path : List ℕ)
       → Contains (seeds_of run.graph.nodes node.drv) path → IsValid (registered before) path
-  pub behind : IsVerdictBehind may run before d verdict
+  pub ending : IsVerdictAfter may run before d verdict
 
--- A derivation was built: it came to records, and an entry has them.
+-- A derivation was built: it ended with records, and an entry has them.
 pub record WasMade (may : Job → Result Answer Reason → Type 0) (run : Run) (history : History)
     (d : ℕ) : Type 0 where
   pub infos : List PathInfo
@@ -156,7 +156,7 @@ module _ (excused : Reason → Type 0) (may : Job → Result Answer Reason → T
         ∙ append_assoc came.before came.more more;
     closed = came.closed;
     seeds = came.seeds;
-    behind = came.behind;
+    ending = came.ending;
   }
 
   made_more : (history after : History) (more : List Entry) (d : ℕ)
@@ -180,15 +180,15 @@ module _ (excused : Reason → Type 0) (may : Job → Result Answer Reason → T
   came_here : (history : History) → IsLegal run history → (d lease : ℕ)
       (verdict : Result (List PathInfo) Reason)
       → phase_of history.events d ≡ Begun lease
-      → IsVerdictBehind may run history.entries d verdict → CameTo may run history d verdict
-  came_here history legal d lease verdict phase behind = record {
+      → IsVerdictAfter may run history.entries d verdict → CameTo may run history d verdict
+  came_here history legal d lease verdict phase ending = record {
     before = history.entries;
     more = [];
     parts = sym (append-nil history.entries);
     closed = closed_references_valid _
         (entries_are_journal run history drv_paths legal).closed;
     seeds = seeds_are_valid run history legal d lease (begun_event _ d _ phase);
-    behind = behind;
+    ending = ending;
   }
 
   pub made_is : (history : History) → IsTold excused may run history → (d : ℕ)
@@ -243,11 +243,11 @@ module _ (excused : Reason → Type 0) (may : Job → Result Answer Reason → T
 
   why_here : (history : History) → IsLegal run history → (d lease : ℕ) (reason : Reason)
       → phase_of history.events d ≡ Begun lease
-      → excused reason ⊎ IsVerdictBehind may run history.entries d (Err reason)
+      → excused reason ⊎ IsVerdictAfter may run history.entries d (Err reason)
       → excused reason ⊎ CameTo may run history d (Err reason)
   why_here history legal d lease reason phase (inl excuse) = inl excuse
-  why_here history legal d lease reason phase (inr behind) =
-      search (rules, came_here, phase, behind)
+  why_here history legal d lease reason phase (inr ending) =
+      search (rules, came_here, phase, ending)
 
   pub broke_is : (history : History) → IsTold excused may run history → (d : ℕ) (why : Reason)
       → phase_of history.events d ≡ Broken why → excused why ⊎ CameTo may run history d (Err why)

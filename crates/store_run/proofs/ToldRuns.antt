@@ -15,7 +15,7 @@ use Rattle.build_outcome.specs.declared.job.Answer.{Answer}
 use Rattle.build_outcome.specs.declared.job.Job.{Job}
 use Rattle.build_outcome.specs.declared.reason.Reason.{Reason}
 use Rattle.build_outcome.specs.declared.reason.Reason.TheVariants.{OutOfMemory}
-use Rattle.store_run.specs.Builders.{IsAnswered, IsVerdictBehind, answered_begin, answered_done, answered_fail, answered_opening}
+use Rattle.store_run.specs.Builders.{IsAnswered, IsVerdictAfter, answered_begin, answered_done, answered_fail, answered_opening}
 
 -- A legal history, each event of which tells what it follows from. A Fail may be excused.
 pub data IsTold (excused : Reason → Type 0) (may : Job → Result Answer Reason → Type 0) (run : Run)
@@ -27,11 +27,11 @@ pub data IsTold (excused : Reason → Type 0) (may : Job → Result Answer Reaso
   told_done : (history : History) (d lease : ℕ) (node : Node) (infos : List PathInfo)
       (entry : Entry) → IsTold excused may run history → IsLegal run history
       → phase_of history.events d ≡ Begun lease → slice_get run.graph.nodes d ≡ Some node
-      → IsVerdictBehind may run history.entries d (Ok infos) → IsEntryOf node infos entry
+      → IsVerdictAfter may run history.entries d (Ok infos) → IsEntryOf node infos entry
       → IsTold excused may run (ended history d lease entry)
   told_fail : (history : History) (d lease : ℕ) (reason : Reason) → IsTold excused may run history
       → IsLegal run history → phase_of history.events d ≡ Begun lease
-      → excused reason ⊎ IsVerdictBehind may run history.entries d (Err reason)
+      → excused reason ⊎ IsVerdictAfter may run history.entries d (Err reason)
       → IsTold excused may run (failed history d lease reason)
 
 -- ---- answered histories
@@ -62,7 +62,7 @@ module _ (may : Job → Result Answer Reason → Type 0) (run : Run) where
     pub node : Node
     pub infos : List PathInfo
     pub is_node : slice_get run.graph.nodes d ≡ Some node
-    pub came : IsVerdictBehind may run history.entries d (Ok infos)
+    pub came : IsVerdictAfter may run history.entries d (Ok infos)
     pub is_entry : IsEntryOf node infos entry
 
   pub answered_by_done : (g : History) → IsAnswered may run g
@@ -86,8 +86,8 @@ module _ (may : Job → Result Answer Reason → Type 0) (run : Run) where
         node = node;
         infos = infos;
         is_node = subst (λ n. slice_get run.graph.nodes n ≡ Some node) number_is at;
-        came = subst (λ n. IsVerdictBehind may run history.entries n (Ok infos)) number_is
-            (subst (λ (h : History). IsVerdictBehind may run h.entries e (Ok infos)) same came);
+        came = subst (λ n. IsVerdictAfter may run history.entries n (Ok infos)) number_is
+            (subst (λ (h : History). IsVerdictAfter may run h.entries e (Ok infos)) same came);
         is_entry = subst (IsEntryOf node infos) entries.1 is_entry;
       }
   answered_by_done _ (answered_fail before e number reason answered why) history d lease entry is =
@@ -96,7 +96,7 @@ module _ (may : Job → Result Answer Reason → Type 0) (run : Run) where
   -- what an answered Fail tells
   pub record WasFailed (history : History) (d : ℕ) (reason : Reason) : Type 0 where
     pub before : IsAnswered may run history
-    pub why : (reason ≡ OutOfMemory) ⊎ IsVerdictBehind may run history.entries d (Err reason)
+    pub why : (reason ≡ OutOfMemory) ⊎ IsVerdictAfter may run history.entries d (Err reason)
 
   pub answered_by_fail : (g : History) → IsAnswered may run g
       → (history : History) (d lease : ℕ) (reason : Reason)

@@ -18,7 +18,7 @@ use Rattle.valid_table.proofs.ClosureLaws.{registers_from_valid}
 use Rattle.run_states.specs.StateTables.{CanBegin, IsRunSettled}
 use Rattle.run_states.specs.StateTables.{IsOpen}
 use Rattle.run_states.specs.Legal.{IsAllowed, IsLegal, legal_begin, legal_done, legal_fail, legal_opening, begins, begun, ended, failed}
-use Rattle.run_states.specs.Runs.{History, IsWanted, Run, is_valid, is_wanted, standing_at, state_in, terms_of, wanted_input}
+use Rattle.run_states.specs.Runs.{History, IsWanted, Run, is_valid, is_wanted, precondition_at, state_in, terms_of, wanted_input}
 use Rattle.run_states.specs.States.{Idle, Ended, Broken, by_first, by_hindrance, by_phase, by_validity, is_bad, is_done, is_good, is_open, phase_of}
 use Rattle.drv_graph.specs.Twins.{are_twins_at}
 use Rattle.build_outcome.specs.declared.job.Answer.{Answer}
@@ -38,14 +38,14 @@ use Rattle.sched_core.proofs.Registrable.{verdicts_are_registrable}
 use Rattle.run_states.proofs.TwinLaws.{is_earlier_twin, turned}
 use Rattle.run_states.proofs.Wanting.{wanted_told}
 use Rattle.sched_core.specs.VerdictLaws.{AreRegistrable}
-use Rattle.store_run.specs.Builders.{IsOutcomeVerdict, IsVerdictBehind}
+use Rattle.store_run.specs.Builders.{IsOutcomeVerdict, IsVerdictAfter}
 use Rattle.store_run.specs.OneThread.{HadTurns, IsOneThread, turn_done, turn_failed, turn_opening, turn_skipped}
-use Rattle.store_run.proofs.OneOutcome.{refers_behind}
-use Rattle.store_run.proofs.Standings.{output_of_free}
+use Rattle.store_run.proofs.OneOutcome.{refers_after}
+use Rattle.store_run.proofs.Preconditions.{output_of_free}
 use Rattle.store_run.proofs.Telling.{IsFrom, begun_is, from_built, from_is, from_opening, phase_begun, phase_broken, phase_ended}
 use Rattle.store_run.proofs.ToldRuns.{IsTold, told_begin, told_done, told_fail, told_opening}
 use Rattle.run_states.proofs.Unhindered.{ready_unhindered}
-use Rattle.store_run.proofs.Unhindered.{aside_same, inputs_in, standing_in, state_by, twins_in}
+use Rattle.store_run.proofs.Unhindered.{aside_same, inputs_in, precondition_in, state_by, twins_in}
 use Rattle.run_states.proofs.OtherEvents.{phase_other, same_or_other}
 use Rattle.valid_table.proofs.Reaching.{valid_from_registers}
 
@@ -114,13 +114,14 @@ never_blocked None false closed is = search (rules, closed)
 
 -- a derivation without an event is open only where it is ready, or an earlier twin or an input of
 -- it is open
-idle_open : (standing : Precondition) (built still : Bool) (first : Option ℕ) (all : Bool)
-    → still ≡ false → (standing ≡ Free → first ≡ None → all ≡ true)
-    → IsOpen (by_phase Idle (by_validity standing (if built then Reused else if still then Blocked
-    else by_hindrance standing (by_first first all))))
-    → by_phase Idle (by_validity standing (if built then Reused else if still then Blocked
-    else by_hindrance standing (by_first first all))) ≡ Ready
-idle_open standing built true first all none closed is = absurd (false≢true (sym none))
+idle_open : (precondition : Precondition) (built still : Bool) (first : Option ℕ) (all : Bool)
+    → still ≡ false → (precondition ≡ Free → first ≡ None → all ≡ true)
+    → IsOpen (by_phase Idle (by_validity precondition (if built then Reused
+    else if still then Blocked
+    else by_hindrance precondition (by_first first all))))
+    → by_phase Idle (by_validity precondition (if built then Reused else if still then Blocked
+    else by_hindrance precondition (by_first first all))) ≡ Ready
+idle_open precondition built true first all none closed is = absurd (false≢true (sym none))
 idle_open AllValid built false first all none closed (inl is) = absurd cc
 idle_open AllValid built false first all none closed (inr (inl is)) = is
 idle_open AllValid built false first all none closed (inr (inr is)) =
@@ -167,7 +168,7 @@ module _ (may : Job → Result Answer Reason → Type 0) (run : Run) (sound : Is
   module _ (history : History) (told : IsTold (λ reason. ⊥) may run history)
       (legal : IsLegal run history) (d : ℕ) (node : Node)
       (infos : List PathInfo) (at : slice_get run.graph.nodes d ≡ Some node)
-      (can : CanBegin run history d) (behind : IsVerdictBehind may run history.entries d (Ok infos))
+      (can : CanBegin run history d) (ending : IsVerdictAfter may run history.entries d (Ok infos))
     where
       outputs_new : (path : List ℕ) → Contains (output_paths_of node.drv) path
           → IsValid (registered history.entries) path → ⊥
@@ -212,7 +213,7 @@ module _ (may : Job → Result Answer Reason → Type 0) (run : Run) (sound : Is
               let un = ready_unhindered _ history sound d can.ready in
               let none : is_valid history.opening path ≡ false =
               output_of_free _ history.opening node.drv
-              (sym (ap (standing_at (terms_of run) history.opening) at) ∙ un.free) _ own in
+              (sym (ap (precondition_at (terms_of run) history.opening) at) ∙ un.free) _ own in
               let some : is_valid history.opening path ≡ true =
               list_any-from_Contains nat_list_eq_equiv _
               _
@@ -223,14 +224,14 @@ module _ (may : Job → Result Answer Reason → Type 0) (run : Run) (sound : Is
               search (rules, made_once, sharers, either_side)
 
       registrable : (permitted : List (List ℕ)) × AreRegistrable node permitted infos
-      registrable = by behind.comes_to.0 behind.comes_to.2
+      registrable = by ending.ends_as.0 ending.ends_as.2
         where
           by : (outcome : Result Answer Reason)
-              → IsOutcomeVerdict history.entries behind.job outcome (Ok infos)
+              → IsOutcomeVerdict history.entries ending.job outcome (Ok infos)
               → (permitted : List (List ℕ)) × AreRegistrable node permitted infos
           by (Ok answer) is = (
             is.0,
-            verdicts_are_registrable run.graph d behind.job node is.0 answer infos behind.is_job at
+            verdicts_are_registrable run.graph d ending.job node is.0 answer infos ending.is_job at
                 is.2.0,
           )
           by (Err reason) is = let no = is.2 in absurd cc
@@ -239,7 +240,7 @@ module _ (may : Job → Result Answer Reason → Type 0) (run : Run) (sound : Is
       allowed = record {
         records = registrable.1.records;
         new = outputs_new;
-        permitted = refers_behind may _ _ d _ _ at behind;
+        permitted = refers_after may _ _ d _ _ at ending;
       }
 
   -- a turn that was passed over
@@ -259,14 +260,14 @@ module _ (may : Job → Result Answer Reason → Type 0) (run : Run) (sound : Is
   }
     where
       closed_input : d < length run.graph.nodes → IsWanted run opening d
-          → standing_in run history d ≡ Free → (i : ℕ) → Contains (inputs_in run d) i
+          → precondition_in run history d ≡ Free → (i : ℕ) → Contains (inputs_in run d) i
           → (is_good (state_in run history i) ≡ true) ⊎ (is_bad (state_in run history i) ≡ true)
       closed_input within wanted free i has =
           let less = inputs_first run.graph sound d i has in
           not_open (state_in run history i)
           (turned.closed i less (omega arith)
           (wanted_input d i wanted
-          (subst (λ (opens : List Entry). standing_at (terms_of run) opens
+          (subst (λ (opens : List Entry). precondition_at (terms_of run) opens
           (slice_get run.graph.nodes d) ≡ Free) turned.opening_is free) has))
 
       closed_twin : d < length run.graph.nodes → (t : ℕ) → Contains (twins_in run history d) t
@@ -286,7 +287,8 @@ module _ (may : Job → Result Answer Reason → Type 0) (run : Run) (sound : Is
           let idle = turned.rest d (omega arith) in
           let is = state_by run history sound d Idle idle in
           let twins = twins_in run history d in
-          let ready = idle_open (standing_in run history d) (list_any (λ t. is_done (f t)) twins)
+          let ready = idle_open (precondition_in run history d)
+          (list_any (λ t. is_done (f t)) twins)
           (list_any (λ t. is_open (f t)) twins) (find (λ i. is_bad (f i)) inputs)
           (list_all (λ i. is_good (f i)) inputs)
           (none_from (λ t. is_open (f t)) twins (closed_twin within))
@@ -342,7 +344,7 @@ module _ (may : Job → Result Answer Reason → Type 0) (run : Run) (sound : Is
     closed = λ d low within wanted still. absurd (omega arith);
   }
   turned_is _ _ (turn_skipped d history had cannot) = skipped d _ (turned_is d _ had) cannot
-  turned_is _ _ (turn_done d history node infos entry had can at behind is_entry) =
+  turned_is _ _ (turn_done d history node infos entry had can at ending is_entry) =
       let turned = turned_is d _ had in
       let lease = begins history.events in
       let middle = begun history d in
@@ -353,12 +355,12 @@ module _ (may : Job → Result Answer Reason → Type 0) (run : Run) (sound : Is
       (λ i other. phase_other middle.events (Finish d lease) i other
       ∙ phase_other history.events (Begin d lease) i other)
       (legal_done middle d lease node infos entry legal phase at
-      (allowed history turned.told turned.legal d node infos at can behind) is_entry)
+      (allowed history turned.told turned.legal d node infos at can ending) is_entry)
       (told_done middle d lease node infos entry (told_begin history d turned.told turned.legal can)
-      legal phase at behind is_entry)
+      legal phase at ending is_entry)
       (λ still. done_is_closed
       (subst IsOpen (state_by _ after sound d _ (phase_ended middle.events d lease)) still))
-  turned_is _ _ (turn_failed d history reason had can behind) =
+  turned_is _ _ (turn_failed d history reason had can ending) =
       let turned = turned_is d _ had in
       let lease = begins history.events in
       let middle = begun history d in
@@ -370,7 +372,7 @@ module _ (may : Job → Result Answer Reason → Type 0) (run : Run) (sound : Is
       ∙ phase_other history.events (Begin d lease) i other)
       (legal_fail middle d lease reason legal phase)
       (told_fail middle d lease reason (told_begin history d turned.told turned.legal can) legal
-      phase (inr behind))
+      phase (inr ending))
       (λ still. failed_is_closed reason
       (subst IsOpen
       (state_by run after sound d (Broken reason) (phase_broken middle.events d lease reason))

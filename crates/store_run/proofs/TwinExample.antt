@@ -28,7 +28,7 @@ use Rattle.run_states.specs.declared.state.State.TheVariants.{Blocked, Building,
 use Rattle.run_states.proofs.EarlierTwins.{twins_from}
 use Rattle.run_states.proofs.TwinLaws.{is_earlier_twin, twins_path}
 use Rattle.run_states.proofs.Wanting.{wanted_told}
-use Rattle.store_run.specs.Builders.{IsAnswered, IsVerdictBehind, answered_begin, answered_done, answered_fail, answered_opening}
+use Rattle.store_run.specs.Builders.{IsAnswered, IsVerdictAfter, answered_begin, answered_done, answered_fail, answered_opening}
 use Rattle.store_run.specs.OneThread.{IsOneThread, turn_done, turn_failed, turn_opening}
 use Rattle.store_run.specs.Scheduling.{HasMemory, IsWholeRun}
 use Rattle.store_run.specs.ScheduleExample.{Overlap, made, making, out_alone, right}
@@ -46,11 +46,11 @@ ends = ExitStatus (pos 1)
 
 -- ---- verdicts after some entries
 
-first_behind : (entries : List Entry) → IsVerdictBehind may_leave_file three entries 0 (Err ends)
-first_behind entries = record {
+first_after : (entries : List Entry) → IsVerdictAfter may_leave_file three entries 0 (Err ends)
+first_after entries = record {
   job = first_job;
   is_job = first_is_job;
-  comes_to = (
+  ends_as = (
     Ok left_answer,
     first_may,
     (
@@ -61,12 +61,12 @@ first_behind entries = record {
   );
 }
 
-second_behind : (entries : List Entry)
-    → IsVerdictBehind may_leave_file three entries 1 (Ok (file_in ∷ []))
-second_behind entries = record {
+second_after : (entries : List Entry)
+    → IsVerdictAfter may_leave_file three entries 1 (Ok (file_in ∷ []))
+second_after entries = record {
   job = second_job;
   is_job = second_is_job;
-  comes_to = (
+  ends_as = (
     Ok second_answer,
     second_may,
     (
@@ -79,12 +79,12 @@ second_behind entries = record {
   );
 }
 
-third_behind : (entries : List Entry)
-    → IsVerdictBehind may_leave_file three entries 2 (Ok (nothing_in ∷ []))
-third_behind entries = record {
+third_after : (entries : List Entry)
+    → IsVerdictAfter may_leave_file three entries 2 (Ok (nothing_in ∷ []))
+third_after entries = record {
   job = job_of_right 2;
   is_job = is_job_of_right _ 2 refl refl;
-  comes_to = (
+  ends_as = (
     Ok right_answer,
     third_may,
     (
@@ -177,23 +177,23 @@ third_no_twin t has = let is = is_earlier_twin _ [] 2 t has in by t is.earlier i
 -- ---- states
 
 -- a history that opens with no entries
-abbrev behind : List Entry → List Event → History
-behind entries events = record { opening = []; entries = entries; events = events }
+abbrev run_through : List Entry → List Event → History
+run_through entries events = record { opening = []; entries = entries; events = events }
 
 -- the second has nothing in its way once the first has failed
 second_unhindered : (entries : List Entry) (events : List Event)
-    → is_bad (state_in three (behind entries events) 0) ≡ true
-    → IsUnhindered three (behind entries events) 1
+    → is_bad (state_in three (run_through entries events) 0) ≡ true
+    → IsUnhindered three (run_through entries events) 1
 second_unhindered entries events bad = record {
   free = refl;
-  spent = λ t has. subst (λ n. is_bad (state_in three (behind entries events) n) ≡ true)
+  spent = λ t has. subst (λ n. is_bad (state_in three (run_through entries events) n) ≡ true)
       (sym (twin_is_first t has)) bad;
   good = λ i none. absurd (Contains-nothing i none);
 }
 
 -- the first and the third never have
 first_unhindered : (entries : List Entry) (events : List Event)
-    → IsUnhindered three (behind entries events) 0
+    → IsUnhindered three (run_through entries events) 0
 first_unhindered entries events = record {
   free = refl;
   spent = λ t has. absurd (first_no_twin t has);
@@ -201,7 +201,7 @@ first_unhindered entries events = record {
 }
 
 third_unhindered : (entries : List Entry) (events : List Event)
-    → IsUnhindered three (behind entries events) 2
+    → IsUnhindered three (run_through entries events) 2
 third_unhindered entries events = record {
   free = refl;
   spent = λ t has. absurd (third_no_twin t has);
@@ -209,8 +209,9 @@ third_unhindered entries events = record {
 }
 
 failed_by : (entries : List Entry) (events : List Event)
-    → phase_of events 0 ≡ Broken ends → is_bad (state_in three (behind entries events) 0) ≡ true
-failed_by entries events is = ap is_bad (state_by _ (behind entries events) three_sound 0 _ is)
+    → phase_of events 0 ≡ Broken ends → is_bad (state_in three (run_through entries events) 0)
+    ≡ true
+failed_by entries events is = ap is_bad (state_by _ (run_through entries events) three_sound 0 _ is)
 
 first_ready : state_in three (opened []) 0 ≡ Ready
 first_ready = unhindered_ready three (opened []) three_sound 0 (first_unhindered [] []) refl
@@ -263,14 +264,14 @@ answered_freed : IsAnswered may_leave_file three freed
 answered_freed =
     answered_fail waiting 0 0 ends
     (answered_begin (begun (opened []) 0) 2
-    (answered_begin (opened []) 0 (answered_opening []))) (inr (first_behind []))
+    (answered_begin (opened []) 0 (answered_opening []))) (inr (first_after []))
 
 answered : IsAnswered may_leave_file three tried_again
 answered =
     answered_done (ended (begun freed 1) 1 2 made_file) 2 1 right (nothing_in ∷ []) made
     (answered_done (begun freed 1) 1 2 second_twin (file_in ∷ []) made_file
-    (answered_begin freed 1 answered_freed) refl (second_behind []) second_entry) refl
-    (third_behind _) right_entry
+    (answered_begin freed 1 answered_freed) refl (second_after []) second_entry) refl
+    (third_after _) right_entry
 
 settled : IsRunSettled three tried_again
 settled zero low is = closed_failed _ _ first_failed
@@ -331,5 +332,5 @@ thread =
     (turn_done 1 one_tried second_twin (file_in ∷ []) made_file
     (turn_failed 0 (opened []) ends (turn_opening journal)
     (record { within = omega arith; wanted = wanted 0 (omega arith); ready = first_ready })
-    (first_behind [])) second_can refl (second_behind []) second_entry) last_can refl
-    (third_behind _) right_entry
+    (first_after [])) second_can refl (second_after []) second_entry) last_can refl
+    (third_after _) right_entry

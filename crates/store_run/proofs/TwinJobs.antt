@@ -1,4 +1,4 @@
--- What the jobs of the three derivations come to.
+-- How the jobs of the three derivations end.
 use Rattle.std.proofs.Common.{◌≡◌, ◌∙◌, ℕ, zero, suc, true, false, List, [], ◌∷◌, ◌++◌, length, map, Some, None, Ok, Err, refl, sym, ap, subst, arith, rules}
 use Rattle.std.specs.Prelude.{codes, pos, slice_get}
 use Rattle.std.specs.List.{list_any}

@@ -3,7 +3,7 @@ use Rattle.std.proofs.Common.{◌≡◌, ◌∙◌, ℕ, Bool, true, false, List
 use Rattle.std.specs.Prelude.{Contains, slice_get}
 use Rattle.std.specs.List.{list_any}
 use Rattle.drv_graph.specs.SoundGraphs.{IsSound}
-use Rattle.run_states.specs.Runs.{History, Run, earlier_twins, inputs_at, rows_of, standing_at, state_in, terms_of}
+use Rattle.run_states.specs.Runs.{History, Run, earlier_twins, inputs_at, precondition_at, rows_of, state_in, terms_of}
 use Rattle.run_states.specs.States.{Phase, Rows, Idle, Begun, Ended, Broken, by_first, by_hindrance, by_inputs, by_phase, by_validity, is_done, is_good, is_open, phase_of}
 use Rattle.run_states.specs.declared.state.State.{State}
 use Rattle.run_states.specs.declared.state.State.TheVariants.{Blocked, Ready, Reused}
@@ -26,9 +26,9 @@ abbrev pub inputs_in : Run → ℕ → List ℕ
 inputs_in run d = inputs_at run.graph.nodes (slice_get run.graph.nodes d)
 
 -- where it stands by itself
-abbrev pub standing_in : Run → History → ℕ → Precondition
-standing_in run history d =
-    standing_at (terms_of run) history.opening (slice_get run.graph.nodes d)
+abbrev pub precondition_in : Run → History → ℕ → Precondition
+precondition_in run history d =
+    precondition_at (terms_of run) history.opening (slice_get run.graph.nodes d)
 
 -- the numbers of its earlier twins
 abbrev pub twins_in : Run → History → ℕ → List ℕ
@@ -54,7 +54,7 @@ unhindered_ready run history sound d un idle =
 -- one that has no event is blocked where an earlier twin still has something before it, and none
 -- was built
 pub blocked_by_twin : (run : Run) (history : History) → IsSound run.graph → (d t : ℕ)
-    → phase_of history.events d ≡ Idle → standing_in run history d ≡ Free
+    → phase_of history.events d ≡ Idle → precondition_in run history d ≡ Free
     → Contains (twins_in run history d) t → is_open (state_in run history t) ≡ true
     → ((u : ℕ) → Contains (twins_in run history d) u → is_done (state_in run history u) ≡ false)
     → state_in run history d ≡ Blocked
@@ -72,14 +72,14 @@ blocked_by_twin run history sound d t idle free has still none =
 -- built
 pub data IsGoodBy (run : Run) (history : History) (d : ℕ) : Type 0 where
   good_ended : phase_of history.events d ≡ Ended → IsGoodBy run history d
-  good_reused : phase_of history.events d ≡ Idle → standing_in run history d ≡ AllValid
+  good_reused : phase_of history.events d ≡ Idle → precondition_in run history d ≡ AllValid
       → IsGoodBy run history d
   good_twin : (t : ℕ) → phase_of history.events d ≡ Idle → Contains (twins_in run history d) t
       → phase_of history.events t ≡ Ended → IsGoodBy run history d
 
 good_parts : (run : Run) (history : History) (d : ℕ) (p : Phase) (s : Precondition)
     (built still : Bool) (first : Option ℕ) (all : Bool)
-    → phase_of history.events d ≡ p → standing_in run history d ≡ s
+    → phase_of history.events d ≡ p → precondition_in run history d ≡ s
     → (built ≡ true → (t : ℕ) × Contains (twins_in run history d) t
     × (phase_of history.events t ≡ Ended))
     → is_good (by_phase p (by_validity s (if built then Reused else if still then Blocked
@@ -106,7 +106,7 @@ good_is run history sound d good =
     let f = state_in run history in
     let inputs = inputs_in run d in
     let twins = twins_in run history d in
-    good_parts run history d (phase_of history.events d) (standing_in run history d)
+    good_parts run history d (phase_of history.events d) (precondition_in run history d)
     (list_any (λ t. is_done (f t)) twins) (list_any (λ t. is_open (f t)) twins)
     _ _ refl refl
     (λ built. let found = one_passes (λ t. is_done (f t)) _ built in
@@ -133,11 +133,11 @@ is_good_by run history sound d (good_twin t at has ends) =
     (state_by run history sound t _ ends))
     in
     ap is_good (state_by run history sound d _ at)
-    ∙ ap (λ b. is_good (by_validity (standing_in run history d)
+    ∙ ap (λ b. is_good (by_validity (precondition_in run history d)
     (if b then Reused else if list_any (λ u. is_open (f u)) twins then Blocked
-    else by_hindrance (standing_in run history d) (by_inputs f (inputs_in run d))))) built
+    else by_hindrance (precondition_in run history d) (by_inputs f (inputs_in run d))))) built
     ∙ good_by_twin _ (list_any (λ u. is_open (f u)) twins)
-    (by_hindrance (standing_in run history d) (by_inputs f (inputs_in run d)))
+    (by_hindrance (precondition_in run history d) (by_inputs f (inputs_in run d)))
 
 -- ---- two histories of one opening
 

@@ -1,4 +1,4 @@
--- *Builder*: what a job may come to, and what a run makes of it (Nix manual, "Building"; Dolstra's
+-- *Builder*: how a job may end, and what a run makes of it (Nix manual, "Building"; Dolstra's
 -- thesis, section 5.5.1; the relation is this product's own).
 use Rattle.std.specs.Prelude.{◌≡◌, ◌⊎◌, ℕ, Some, List, Result, Ok, Err, IfOk, slice_get}
 use Rattle.nix_names.specs.Bytes.{Path}
@@ -34,19 +34,19 @@ IsOutcomeVerdict entries job outcome verdict = (permitted : List Path)
     × IfOk outcome (λ answer. ArePermittedPaths entries job permitted)
     × IsVerdictOn (registered entries) job permitted outcome verdict
 
--- what a job may come to after some entries: the verdict on an outcome that may be given for it
-abbrev pub MayComeTo : (may : Job → Result Answer Reason → Type 0) → List Entry → Job
+-- how a job may end after some entries: with the verdict on an outcome that may be given for it
+abbrev pub MayEndAs : (may : Job → Result Answer Reason → Type 0) → List Entry → Job
     → Result (List PathInfo) Reason → Type 0
-MayComeTo may entries job verdict = (outcome : Result Answer Reason) × may job outcome
+MayEndAs may entries job verdict = (outcome : Result Answer Reason) × may job outcome
     × IsOutcomeVerdict entries job outcome verdict
 
--- What building a derivation may come to after some entries: what its job may come to there.
-pub record IsVerdictBehind (may : Job → Result Answer Reason → Type 0) (run : Run)
+-- The verdict with which building a derivation may end after some entries: that of its job there.
+pub record IsVerdictAfter (may : Job → Result Answer Reason → Type 0) (run : Run)
     (entries : List Entry) (d : ℕ) (verdict : Result (List PathInfo) Reason)
     : Type 0 where
   pub job : Job
   pub is_job : IsJob run.graph d job
-  pub comes_to : MayComeTo may entries job verdict
+  pub ends_as : MayEndAs may entries job verdict
 
 -- *Answered*: each `Done` has the records, and each `Fail` the reason, of a verdict on what a
 -- builder may give after the entries before it. A `Fail` because memory was refused is the
@@ -58,8 +58,8 @@ pub data IsAnswered (may : Job → Result Answer Reason → Type 0) (run : Run) 
   answered_done : (history : History) (d lease : ℕ) (node : Node) (infos : List PathInfo)
       (entry : Entry) → IsAnswered may run history
       → slice_get run.graph.nodes d ≡ Some node
-      → IsVerdictBehind may run history.entries d (Ok infos) → IsEntryOf node infos entry
+      → IsVerdictAfter may run history.entries d (Ok infos) → IsEntryOf node infos entry
       → IsAnswered may run (ended history d lease entry)
   answered_fail : (history : History) (d lease : ℕ) (reason : Reason) → IsAnswered may run history
-      → (reason ≡ OutOfMemory) ⊎ IsVerdictBehind may run history.entries d (Err reason)
+      → (reason ≡ OutOfMemory) ⊎ IsVerdictAfter may run history.entries d (Err reason)
       → IsAnswered may run (failed history d lease reason)

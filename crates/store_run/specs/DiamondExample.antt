@@ -96,8 +96,8 @@ file_of node out = Done node.path (record {
 } ∷ [])
 
 -- what the first run left: base and left are built, right failed, top waits
-abbrev pub cut_behind_left : History
-cut_behind_left = record {
+abbrev pub left_after_cut : History
+left_after_cut = record {
   opening = [];
   entries = file_of base base_out ∷ file_of left left_out ∷ [];
   events = Begin 0 0 ∷ Finish 0 0 ∷ Begin 1 1 ∷ Begin 2 2 ∷ Fail 2 2 (ExitStatus (pos 1))

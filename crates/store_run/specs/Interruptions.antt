@@ -1,6 +1,6 @@
--- *Any interruption*: a run that was cut, and started again over what it had registered, comes to
--- what one run comes to that was not cut, given what the builders gave. Nothing is asked of the
--- builders (this product's own).
+-- *Any interruption*: a run that was cut, and started again over what it had registered, ends as
+-- one run ends that was not cut, given what the builders gave. Nothing is asked of the builders
+-- (this product's own).
 use Rattle.std.specs.Prelude.{◌≡◌, ◌⊎◌, ◌↔◌, ℕ, Some, Result, filter, flat_map, slice_get, true, Contains}
 use Rattle.nix_names.specs.Bytes.{Bytes, Path}
 use Rattle.drv_graph.specs.Nodes.{Node}
@@ -83,11 +83,11 @@ output_lines_in run history = flat_map (outputs_at run.graph.nodes (state_in run
 abbrev pub IsWantedAs : Run → History → ℕ → State → Type 0
 IsWantedAs run history d state = IsWanted run history.opening d × (state_in run history d ≡ state)
 
--- A run that went on after a cut came to what another history came to. The same paths are valid,
+-- A run that went on after a cut ended as another history ended. The same paths are valid,
 -- each with the same record. The same derivations failed or are refused, for the same cause, so the
 -- lines `failed` and `refused` of the reports are the same. The same roots are good, so the lines
 -- `output` are the same. What the other history built was built or reused, where it is wanted.
-pub record CameToSame (run : Run) (again other : History) : Type 0 where
+pub record EndedAlike (run : Run) (again other : History) : Type 0 where
   pub records : (path : Path) (info : PathInfo)
       → Registers (registered again.entries) path info
       ↔ Registers (registered other.entries) path info
@@ -105,21 +105,21 @@ pub record CameToSame (run : Run) (again other : History) : Type 0 where
 
 -- These outcomes decide a run that was cut and taken up. What the run built before the cut, and all
 -- that became of it after the cut, was given by them. There is a history of one thread over the
--- first opening that is given them, and the run came to the same as each such history.
-pub record IsDecidedBehind (may : Job → Result Answer Reason → Type 0) (run : Run)
+-- first opening that is given them, and the run ended as each such history.
+pub record IsDecidedAfter (may : Job → Result Answer Reason → Type 0) (run : Run)
     (cut again : History) (outcomes : ℕ → Result Answer Reason)
     : Type 0 where
   pub built : IsAnswered (GivesBuilt may cut outcomes) run cut
   pub given : IsAnswered (GivesEach may outcomes) run again
   pub thread : (other : History) × IsOneThread (GivesEach may outcomes) run cut.opening other
   pub same : (other : History) → IsOneThread (GivesEach may outcomes) run cut.opening other
-      → CameToSame run again other
+      → EndedAlike run again other
 
--- *Any interruption*: outcomes, one for each derivation, decide what a run that was cut and taken
--- up comes to: that of its Done before the cut, where it has one, else what was given after it
+-- *Any interruption*: outcomes, one for each derivation, decide how a run that was cut and taken up
+-- ends: that of its Done before the cut, where it has one, else what was given after it
 abbrev pub AnyInterruption : (may : Job → Result Answer Reason → Type 0) → Type 0
 AnyInterruption may = (run : Run) (cut again : History) → IsTakenUp may run cut again
-    → (outcomes : ℕ → Result Answer Reason) × IsDecidedBehind may run cut again outcomes
+    → (outcomes : ℕ → Result Answer Reason) × IsDecidedAfter may run cut again outcomes
 
 -- Two runs, of which the second opened with what the first left, left what one run may leave.
 pub record IsOneCutRun (may : Job → Result Answer Reason → Type 0) (run : Run)
@@ -128,7 +128,7 @@ pub record IsOneCutRun (may : Job → Result Answer Reason → Type 0) (run : Ru
   pub opening : one.opening ≡ first.opening
   pub entries : one.entries ≡ next.entries
 
--- two cuts, one behind the other, are as one: so a run may be cut any number of times
+-- two cuts, one after the other, are as one: so a run may be cut any number of times
 abbrev pub CutsAreOne : (may : Job → Result Answer Reason → Type 0) → Type 0
 CutsAreOne may = (run : Run) (first next : History) → IsCutRun may run first
     → IsCutRun may run next → next.opening ≡ first.entries

@@ -2,6 +2,7 @@
 pub mod Builders
 pub mod DiamondExample
 pub mod GivenOutcomes
+pub mod GraphExample
 pub mod Interruptions
 pub mod Keeping
 pub mod Numbers

@@ -12,7 +12,7 @@ use Rattle.run_states.specs.Runs.{History, Run}
 use Rattle.build_outcome.specs.declared.job.Answer.{Answer}
 use Rattle.build_outcome.specs.declared.job.Job.{Job}
 use Rattle.build_outcome.specs.declared.reason.Reason.{Reason}
-use Rattle.store_run.specs.Builders.{IsVerdictBehind}
+use Rattle.store_run.specs.Builders.{IsVerdictAfter}
 
 -- The derivations below a number had their turns, in plan order. Each derivation that could begin
 -- at its turn began, and ended at once by the verdict on what a builder may give for it.
@@ -24,11 +24,11 @@ pub data HadTurns (may : Job → Result Answer Reason → Type 0) (run : Run) (o
   turn_done : (d : ℕ) (history : History) (node : Node) (infos : List PathInfo) (entry : Entry)
       → HadTurns may run opening d history → CanBegin run history d
       → slice_get run.graph.nodes d ≡ Some node
-      → IsVerdictBehind may run history.entries d (Ok infos) → IsEntryOf node infos entry
+      → IsVerdictAfter may run history.entries d (Ok infos) → IsEntryOf node infos entry
       → HadTurns may run opening (suc d) (ended (begun history d) d (begins history.events) entry)
   turn_failed : (d : ℕ) (history : History) (reason : Reason)
       → HadTurns may run opening d history → CanBegin run history d
-      → IsVerdictBehind may run history.entries d (Err reason)
+      → IsVerdictAfter may run history.entries d (Err reason)
       → HadTurns may run opening (suc d) (failed (begun history d) d (begins history.events) reason)
 
 -- *One thread*: a history in which all derivations of the plan had their turns

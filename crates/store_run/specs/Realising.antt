@@ -17,18 +17,18 @@ use Rattle.store_run.specs.declared.fault.RunFault.{RunFault}
 use Rattle.store_run.specs.declared.fault.RunFault.TheVariants.{NoWorkers, NoView, ThreadFault, NoMemory, ForeignPlan}
 
 -- A book is over a plan, for a system, and opened with these entries.
-pub record IsOverLent (plan : Graph) (system : Platform) (opening : List Entry) (book : Ledger)
+pub record IsBookOver (plan : Graph) (system : Platform) (opening : List Entry) (book : Ledger)
     : Type 0 where
   pub plan_is : book.run.graph ≡ plan
   pub system_is : book.run.system ≡ system
   pub opening_is : book.history.opening ≡ opening
 
--- What a run leaves behind: a book over the lent plan, system and entries. Its history is legal,
+-- What a run leaves behind: a book over this plan, system and entries. Its history is legal,
 -- and what became of each derivation is a verdict on what a builder may give.
 pub record IsLeft (may : Job → Result Answer Reason → Type 0) (plan : Graph) (system : Platform)
     (opening : List Entry) (book : Ledger)
     : Type 0 where
-  pub over : IsOverLent plan system opening book
+  pub over : IsBookOver plan system opening book
   pub legal : IsLegal book.run book.history
   pub answered : IsAnswered may book.run book.history
 
@@ -53,7 +53,7 @@ abbrev pub fault_of_opening : OpenFault → RunFault
 fault_of_opening refused.NoMemory = NoMemory
 fault_of_opening (refused.NoView why) = NoView
 
--- What a run by `count` workers leaves behind whose book is not over the lent plan, system and
+-- What a run by `count` workers leaves behind whose book is not over this plan, system and
 -- entries.
 pub record IsForeign (may : Job → Result Answer Reason → Type 0) (plan : Graph) (system : Platform)
     (opening : List Entry) (count : ℕ) (book : Ledger)
@@ -61,10 +61,10 @@ pub record IsForeign (may : Job → Result Answer Reason → Type 0) (plan : Gra
   pub workers : AreWorkers count
   pub legal : IsLegal book.run book.history
   pub answered : IsAnswered may book.run book.history
-  pub foreign : IsOverLent plan system opening book → ⊥
+  pub foreign : IsBookOver plan system opening book → ⊥
 
 -- Why a run by `count` workers gives no settled book, and which book it leaves behind. By
--- `ForeignPlan` it gives none: the one that the workers left was compared with what was lent.
+-- `ForeignPlan` it gives none: the one that the workers left isn't over plan, system and entries.
 abbrev pub IsRunFault : (may : Job → Result Answer Reason → Type 0) → Graph → (system : Platform)
     → (opening : List Entry) → (count : ℕ) → RunFault → Option Ledger → Type 0
 IsRunFault may plan system opening count NoWorkers None = AreWorkers count → ⊥

@@ -56,7 +56,8 @@ pub record IsOverStore (dir : Dir) (gives : Path → SourceAnswer → Type 0) (r
   pub is_plan : IsPlan dir gives roots graph
   pub written : (bytes : Bytes) × IsJournalText dir opening bytes
 
--- bytes, within the limit of a journal, are read as just these entries, want of memory apart
+-- bytes, within the limit of a journal, are read as just these entries, or
+-- memory is refused
 abbrev pub AreReadAs : Dir → (bytes : Bytes) → List Entry → Type 0
 AreReadAs dir bytes entries = (answer : Result (List Entry) TableFault) → (IsTooLong bytes → ⊥)
     → IsJournalReading dir bytes answer → (answer ≡ Ok entries) ⊎ (answer ≡ Err NoMemory)

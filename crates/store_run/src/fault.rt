@@ -21,7 +21,7 @@ pub enum RunFault {
     /// Memory was refused.
     #[error("memory was refused")]
     NoMemory,
-    /// The book behind the lock isn't over the lent plan, system and entries.
+    /// The book behind the lock isn't over the plan, system and entries of the call.
     #[error("the book is not over the plan that was given")]
     ForeignPlan,
 }

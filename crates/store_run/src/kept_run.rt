@@ -1,7 +1,6 @@
 //! A run beside whose workers a keeper keeps what they register.
 ghost use Rattle.std.specs.Prelude.{◌≡◌, IfErr, IfOk, IfSome, List, MatchResult, vec_len};
 ghost use Rattle.nix_names.specs.Bytes.{Bytes};
-ghost use Rattle.run_states.specs.Runs.{Run};
 ghost use Rattle.valid_table.specs.Texts.{text};
 ghost use Rattle.valid_table.specs.declared.entry.Entry.{Entry};
 ghost use Rattle.store_run.specs.Builders.{IsAnswered};

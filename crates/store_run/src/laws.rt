@@ -1,13 +1,19 @@
 //! Laws over the definitions that contracts cite, each on the contract of a function that does
 //! nothing.
-ghost use Rattle.std.specs.Prelude.{◌≡◌, [], ◌∷◌, codes, pos};
+ghost use Rattle.std.specs.Prelude.{◌≡◌, [], ◌∷◌, Result, codes, pos};
 ghost use Rattle.nix_drv.specs.Sources.{listing_gives};
 ghost use Rattle.drv_graph.specs.Nodes.{output_paths_of};
 ghost use Rattle.drv_graph.specs.Plans.{AreTwins, IsPlan};
 ghost use Rattle.run_states.specs.Runs.{state_in};
+ghost use Rattle.build_outcome.specs.declared.job.Job.{Job};
+ghost use Rattle.build_outcome.specs.declared.prepared.Prepared.{Prepared};
+ghost use Rattle.build_outcome.specs.declared.reason.Reason.{Reason};
 ghost use Rattle.build_outcome.specs.declared.reason.Reason.TheVariants.{ExitStatus};
+ghost use Rattle.builder_start.specs.Asked.{AsksForRecords};
+ghost use Rattle.sched_core.specs.Books.{AreSeedsValid};
 ghost use Rattle.run_states.specs.declared.state.State.TheVariants.{Blocked, Done, Failed, Ready, Reused};
-ghost use Rattle.store_run.specs.DiamondExample.{cut_behind_left, diamond, may_make, taken_up};
+ghost use Rattle.store_run.specs.DiamondExample.{diamond, left_after_cut, may_make, taken_up};
+ghost use Rattle.store_run.specs.GraphExample.{AsksForBase, HasBaseGraph, base_alone, base_and_left};
 ghost use Rattle.store_run.specs.GivenOutcomes.{EqualOutcomesAreAlike, OutcomesDecide};
 ghost use Rattle.store_run.specs.Interruptions.{AnyInterruption, CutsAreOne, IsTakenUp};
 ghost use Rattle.store_run.specs.OneThread.{IsOneThread};
@@ -15,7 +21,7 @@ ghost use Rattle.store_run.specs.RunJournals.{EntriesGoOn, JournalsOfRunsAreRead
 ghost use Rattle.store_run.specs.SameOutcomes.{AllowedIsOne};
 ghost use Rattle.store_run.specs.ScheduleExample.{Overlap, both, in_turn, left, may_leave, right, side_by_side, two_files};
 ghost use Rattle.store_run.specs.Scheduling.{AlikeReportTheSame, AnySchedule, HasOneThread, IsWholeRun, OneReport, RealisedIsEnded, RealisedIsWhole, SameReports, WholeRunsAreAlike};
-ghost use Rattle.store_run.specs.Starts.{SetupIsShared};
+ghost use Rattle.store_run.specs.Starts.{IsStart, SetupIsShared};
 ghost use Rattle.store_run.specs.TwinExample.{first_twin, freed, may_leave_file, one_by_one, second_twin, three, three_files, tried_again, waiting};
 
 use nix_drv::DrvSource;
@@ -71,16 +77,16 @@ pub fn equal_outcomes_are_alike<B: Build>()
     ensures { EqualOutcomesAreAlike B.may }
 {}
 
-/// Outcomes, one for each derivation, decide what a run comes to that was cut, and started again
-/// over what it had registered: what it was given before the cut where it built something, else
-/// what it was given after it. One thread that was not cut, and is given the same outcomes,
+/// Outcomes, one for each derivation, decide how a run ends that was cut, and started again over
+/// what it had registered: what it was given before the cut where it built something, else what it
+/// was given after it. One thread that was not cut, and is given the same outcomes,
 /// registers the same records, tells of the same failures and refusals, and has the same outputs of
 /// the roots. The plan has no twins, and no source is an output of it.
 pub fn any_interruption<B: Build>()
     ensures { AnyInterruption B.may }
 {}
 
-/// Two such cuts, one behind the other, are as one. So the law holds of a run that was cut any
+/// Two such cuts, one after the other, are as one. So the law holds of a run that was cut any
 /// number of times.
 pub fn cuts_are_one<B: Build>()
     ensures { CutsAreOne B.may }
@@ -93,6 +99,18 @@ pub fn setup_is_shared()
     ensures { SetupIsShared }
 {}
 
+/// There are starts that ask for a graph of references. The job is built from base, which has no
+/// references, and the one file that lies in its builder's folder says so. It is the same once left
+/// was registered, too.
+pub fn start_may_ask_for_a_graph()
+    ensures seeds { (job : Job) → AsksForBase job → AreSeedsValid base_alone job }
+    ensures asks { (job : Job) → AsksForBase job → AsksForRecords job }
+    ensures start { (job : Job) (start : Result Prepared Reason) → AsksForBase job
+        → HasBaseGraph start → IsStart base_alone job start }
+    ensures longer { (job : Job) (start : Result Prepared Reason) → AsksForBase job
+        → HasBaseGraph start → IsStart base_and_left job start }
+{}
+
 /// In a legal history the entries are those that it opened with, and then the whole entries of its
 /// Done events, one for each and in their order.
 pub fn entries_go_on()
@@ -100,7 +118,7 @@ pub fn entries_go_on()
 {}
 
 /// The text of the entries of a run over a plan of a store folder is read as just these entries,
-/// want of memory apart, if it is within the limit of a journal's text. That holds of each text
+/// or memory is refused, if it is within the limit of a journal's text. That holds of each text
 /// that is kept while the run goes on, and of the text of what it leaves behind. The run opened
 /// with entries that some text of a journal of the folder has.
 pub fn journals_of_runs_are_read<B: Build, J: ListId, S: DrvSource>()
@@ -151,8 +169,8 @@ pub fn twin_is_built_after_the_first_failed()
 /// are built, and right fails. Over what that run registered right is built, since its builder
 /// answers otherwise the second time, and then top; base and left are reused.
 pub fn diamond_is_cut_and_taken_up()
-    ensures taken_up { IsTakenUp may_make diamond cut_behind_left taken_up }
-    ensures failed { state_in diamond cut_behind_left 2 ≡ Failed (ExitStatus (pos 1)) }
+    ensures taken_up { IsTakenUp may_make diamond left_after_cut taken_up }
+    ensures failed { state_in diamond left_after_cut 2 ≡ Failed (ExitStatus (pos 1)) }
     ensures base { state_in diamond taken_up 0 ≡ Reused }
     ensures left { state_in diamond taken_up 1 ≡ Reused }
     ensures right { state_in diamond taken_up 2 ≡ Done }

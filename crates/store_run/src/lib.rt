@@ -12,11 +12,11 @@
 //! | `locked` | the shared book behind a lock, on which workers wait |
 //! | `worker` | what one worker does |
 //! | `run` | a run, from a plan and a journal to a settled book |
+//! | `same_run` | whether a book is that of a run over a plan, a system and entries |
 //! | `basis` | what a run is over, as a type |
 //! | `kept_run` | a run beside whose workers a keeper keeps what they register |
 //! | `checkpoint_sink`, `end_signal`, `pause` | the keeper, and its pauses |
 //! | `kept_text` | the text of what a run has registered, as it goes on |
-//! | `lent` | whether a book is over the lent plan, system and entries |
 //! | `fault` | why a run ends without a settled book |
 //! | `laws` | laws of every run, over the definitions |
 #![tactic(auto)]
@@ -29,13 +29,13 @@ mod job_verdict;
 mod kept_run;
 mod kept_text;
 pub mod laws;
-mod lent;
 mod locked;
 mod monitor;
 mod pause;
 mod refusal;
 mod requisites;
 mod run;
+mod same_run;
 mod shared;
 mod start;
 mod turn;

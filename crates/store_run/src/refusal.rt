@@ -9,15 +9,12 @@ ghost use Rattle.valid_view.specs.Shown.{IsShowable};
 ghost use Rattle.valid_view.specs.declared.fault.ViewFault.TheVariants.{NotValid};
 ghost use Rattle.sched_core.specs.Books.{AreSeedsValid, IsBeginning, IsBooksLease, IsFailing, IsFinishFault, IsFinishing, IsSameRun, MayAllRefer};
 ghost use Rattle.run_states.specs.StateTables.{CanBegin};
-ghost use Rattle.build_outcome.specs.Verdicts.{outputs_of};
 ghost use Rattle.run_states.specs.declared.fault.BookFault.TheVariants.{ForeignLease, NoMemory, NoView};
-ghost use Rattle.valid_table.specs.Unions.{IsUnion};
 ghost use Rattle.nix_names.specs.Bytes.{Path};
-ghost use Rattle.nix_names.specs.Rising.{IsRising};
 ghost use Rattle.store_run.specs.private.JobVerdicts.{AreKnownValid, IsToldAs, IsUnseen};
 
 use nix_names::StorePath;
-use sched_core::{Book, BookFault, Checked, Job, Lease, Reason};
+use sched_core::{Book, BookFault, Checked, Lease, Reason};
 use std::alloc::{AllocError, Global};
 use std::marker::Model;
 use valid_table::{Outlet, Registration};
@@ -114,22 +111,6 @@ pub(crate) fn look<J: ListId>(
     match reader.look(path) {
         Ok(_) => Ok(()),
         Err(fault) => Err(of_reader(fault)),
-    }
-}
-
-// What `permitted_beside` gives. Refused where memory is.
-pub(crate) fn permitted_beside(
-    alloc: Global,
-    reached: Vec<StorePath>,
-    job: &Job,
-) -> Result<Vec<StorePath>, RefusedCall>
-    requires { IsRising reached.items }
-    ensures ok { IfOk result (λ paths. IsUnion reached.items (outputs_of job.now) paths.items) }
-    ensures err { IfErr result (λ fault. fault ≡ NoMemory) }
-{
-    match sched_core::permitted_beside(alloc, reached, job) {
-        Ok(paths) => Ok(paths),
-        Err(fault) => Err(RefusedCall { fault }),
     }
 }
 

@@ -1,13 +1,11 @@
 //! The closures of a job's outputs, for the checks that ask for them.
 ghost use Rattle.std.specs.Prelude.{◌≡◌, ◌<◌, IfErr, IfOk, OnOk, length, vec_capacity};
 ghost use mathlib.Core.List.{IsPrefix};
-ghost use Rattle.valid_table.specs.Closure.{IsClosure};
-ghost use Rattle.valid_table.specs.Entries.{paths_registered, registered};
-ghost use Rattle.valid_view.specs.Answers.{AreRecords};
+ghost use Rattle.valid_table.specs.Entries.{paths_registered};
 ghost use Rattle.valid_view.specs.Shown.{IsShowable};
 ghost use Rattle.build_outcome.specs.Checks.{AreJobChecks};
 ghost use Rattle.sched_core.specs.Books.{MayAllRefer};
-ghost use Rattle.store_run.specs.private.JobVerdicts.{AreClosures, AreKnownValid, IsClosureAt, IsUnseen};
+ghost use Rattle.store_run.specs.private.JobVerdicts.{AreClosures, IsClosureAt, IsUnseen};
 
 use crate::refusal::{RefusedCall, closure, records};
 use build_outcome::{JobChecks, OutputClosure, OutputRoots, output_roots};

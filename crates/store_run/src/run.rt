@@ -4,20 +4,20 @@ ghost use Rattle.run_states.specs.Runs.{opened};
 ghost use Rattle.run_states.specs.Legal.{IsLegal};
 ghost use Rattle.store_run.specs.Builders.{IsAnswered};
 ghost use Rattle.store_run.specs.private.Ending.{IsHandedOut, IsRunEnd, fault_of_stop};
-ghost use Rattle.store_run.specs.Realising.{IsOverLent, IsRealised, IsRunFault, fault_of_opening};
+ghost use Rattle.store_run.specs.Realising.{IsBookOver, IsRealised, IsRunFault, fault_of_opening};
 ghost use Rattle.store_run.specs.Workers.{AreWorkers};
 ghost use Rattle.store_run.specs.declared.fault.RunFault.TheVariants.{NoMemory, NoView};
 
 use crate::basis::Basis;
 use crate::fault::RunFault;
-use crate::lent::is_this_run;
 use crate::locked::Locked;
+use crate::same_run::is_this_run;
 use crate::shared::Shared;
 use crate::worker::work;
 use drv_graph::{GraphFault, Plan};
 use run_states::System;
 use sched_core::{Book, BookFault, Build, LeaseObserver};
-use std::alloc::Global;
+use std::alloc::{AllocError, Global};
 use std::sync::Wait;
 use std::thread;
 use std::thread::Threads;
@@ -34,13 +34,13 @@ pub type RunResult<'a, J, R> = Result<
 >;
 
 /// Builds the wanted derivations of a plan, for a system, over a journal. Each builder has one
-/// worker, which reads the valid paths in the view of this name. The book is over the lent plan,
+/// worker, which reads the valid paths in the view of this name. The book is over this plan,
 /// system and entries, settled and legal, and what became of each derivation is a verdict on what a
 /// builder may give. Whoever gets a book closes it.
 ///
 /// `NoWorkers`, without a book, exactly where there is no builder, or more than 64. `NoView`,
 /// without a book, where the view can't be opened. `ForeignPlan`, without a book, where the book
-/// isn't over the lent plan, system and entries. `NoMemory` where memory was refused: without a
+/// isn't over this plan, system and entries. `NoMemory` where memory was refused: without a
 /// book before a worker was started, and else with the book, which is unsettled. `ThreadFault`,
 /// with the book, where all workers that could be started have ended and it isn't settled. All
 /// workers have ended whenever the call returns. Copies the plan, the journal and the system, and
@@ -77,7 +77,7 @@ pub fn realise<
     hand_out(ending(shared, plan, system, journal))
 }
 
-// A book over the lent plan, system and entries, in which nothing began, and `count` readers of its
+// A book over this plan, system and entries, in which nothing began, and `count` readers of its
 // outlet, which is a view.
 pub(crate) fn open_over<'a, J: ListId + Send, R: Wait>(
     rt: &'a R,
@@ -91,7 +91,7 @@ pub(crate) fn open_over<'a, J: ListId + Send, R: Wait>(
     requires name { name ≡ J.book }
     requires count { AreWorkers count }
     ensures over { IfOk result
-        (λ pair. IsOverLent plan.now system.now journal.now.entries pair.0) }
+        (λ pair. IsBookOver plan.now system.now journal.now.entries pair.0) }
     ensures opened { IfOk result (λ pair. pair.0.history ≡ opened journal.now.entries) }
     ensures shown { IfOk result (λ pair. pair.0.shown ≡ journal.now.entries) }
     ensures err { IfErr result (λ fault. (fault ≡ NoMemory) ⊎ (fault ≡ NoView)) }
@@ -113,7 +113,7 @@ fn book_over<O: Outlet, J: ListId>(
 ) -> Result<(Book<O>, Vec<ViewReader<J>>), RunFault>
     requires { IfOk view (λ pair. O.shown pair.0 ++ O.pending pair.0 ≡ copies.1.entries) }
     ensures over { IfOk result
-        (λ pair. IsOverLent copies.0 copies.2 copies.1.entries pair.0) }
+        (λ pair. IsBookOver copies.0 copies.2 copies.1.entries pair.0) }
     ensures opened { IfOk result (λ pair. pair.0.history ≡ opened copies.1.entries) }
     ensures shown { IfOk view (λ seen. IfOk result (λ pair. pair.0.shown ≡ O.shown seen.0)) }
     ensures err { MatchResult view (λ pair. IfErr result (λ fault. fault ≡ NoMemory))
@@ -121,34 +121,29 @@ fn book_over<O: Outlet, J: ListId>(
 {
     let (plan, journal, system) = copies;
     let (outlet, readers) = view?;
-    match Book::open(alloc, plan, journal, system, outlet) {
-        Ok(book) => Ok((book, readers)),
-        Err(BookFault::NoMemory) => Err(RunFault::NoMemory),
-        Err(_) => unreachable!(),
-    }
+    let book = Book::open(alloc, plan, journal, system, outlet)?;
+    Ok((book, readers))
 }
 
-// Copies of the plan, the journal and the system. `NoMemory`, the only fault, where memory is
-// refused.
+// Copies of the plan, the journal and the system. An error where memory is refused, and no other.
 fn copies_of(
     alloc: Global,
     plan: &Plan,
     journal: &Journal,
     system: &System,
-) -> Result<(Plan, Journal, System), RunFault>
+) -> Result<(Plan, Journal, System), AllocError>
     ensures plan { IfOk result (λ copy. copy.0 ≡ plan.now) }
     ensures journal { IfOk result (λ copy. copy.1.entries ≡ journal.now.entries) }
     ensures system { IfOk result (λ copy. copy.2 ≡ system.now) }
-    ensures err { IfErr result (λ fault. fault ≡ NoMemory) }
 {
     let plan = match plan.copy(alloc) {
         Ok(plan) => plan,
-        Err(GraphFault::NoMemory) => return Err(RunFault::NoMemory),
+        Err(GraphFault::NoMemory) => return Err(AllocError),
         Err(_) => unreachable!(),
     };
     let journal = match journal.copy(alloc) {
         Ok(journal) => journal,
-        Err(TableFault::NoMemory) => return Err(RunFault::NoMemory),
+        Err(TableFault::NoMemory) => return Err(AllocError),
         Err(_) => unreachable!(),
     };
     Ok((plan, journal, system.copy(alloc)?))
@@ -199,7 +194,7 @@ where
 }
 
 // How a run ends whose workers have ended, by what they shared. The book is given in any case. A
-// fault comes with a book that isn't over the lent plan, system and entries, and with one that
+// fault comes with a book that isn't over this plan, system and entries, and with one that
 // isn't settled. A settled book is given without a fault, whatever stopped the run.
 pub(crate) fn ending<O: Outlet, B: Build>(
     shared: Shared<O, B>,
@@ -232,7 +227,7 @@ fn fault_by(stop: Option<BookFault>) -> RunFault
 }
 
 // What a run hands out, by how it ended: its book, with the fault if there is one. A book that
-// isn't over the lent plan, system and entries is closed.
+// isn't over this plan, system and entries is closed.
 pub(crate) fn hand_out<O: Outlet>(
     ended: Result<Book<O>, (RunFault, Book<O>)>,
 ) -> Result<Book<O>, (RunFault, Option<Book<O>>)>

@@ -6,7 +6,7 @@ ghost use Rattle.run_states.specs.StateTables.{IsUnsettled};
 ghost use Rattle.run_states.specs.Counts.{HasCount};
 ghost use Rattle.run_states.specs.declared.fault.BookFault.TheVariants.{NoView};
 ghost use Rattle.build_outcome.specs.declared.reason.Reason.TheVariants.{OutOfMemory};
-ghost use Rattle.store_run.specs.Builders.{IsAnswered, MayComeTo};
+ghost use Rattle.store_run.specs.Builders.{IsAnswered, MayEndAs};
 ghost use Rattle.store_run.specs.private.JobVerdicts.{HasCaughtUp, IsToldOfSeeds, MayBeFound};
 ghost use Rattle.store_run.specs.private.Looking.{IsLook};
 ghost use Rattle.store_run.specs.private.Sharing.{IfGiven, IsEnding, IsNoting, IsNotingVerdict, IsLeaseRegistering, IsStep, IsStopping, IsWake};
@@ -206,7 +206,7 @@ impl<O: Outlet, B: Build, S: Basis> Shared<O, B, S> {
     fn note(&mut self, lease: Lease<O::Told>, verdict: Result<Checked, Reason>) -> LeaseEnd
         requires { (verdict ≡ Err OutOfMemory)
             ⊎ (IsBooksLease self.old.book.run self.old.book.history lease.job lease.number
-            → MayComeTo B.may self.old.book.history.entries lease.job verdict) }
+            → MayEndAs B.may self.old.book.history.entries lease.job verdict) }
         ensures { IsNotingVerdict self.old self.new lease.job lease.number verdict result }
     {
         match verdict {
@@ -218,7 +218,7 @@ impl<O: Outlet, B: Build, S: Basis> Shared<O, B, S> {
     // Ends a lease by registering what was built.
     fn register(&mut self, lease: Lease<O::Told>, checked: Checked) -> LeaseEnd
         requires { IsBooksLease self.old.book.run self.old.book.history lease.job lease.number
-            → MayComeTo B.may self.old.book.history.entries lease.job (Ok checked) }
+            → MayEndAs B.may self.old.book.history.entries lease.job (Ok checked) }
         ensures { IsLeaseRegistering self.old self.new lease.job lease.number checked result }
     {
         match finish(&mut self.book, lease, checked) {
@@ -234,7 +234,7 @@ impl<O: Outlet, B: Build, S: Basis> Shared<O, B, S> {
     fn fail(&mut self, lease: Lease<O::Told>, reason: Reason) -> LeaseEnd
         requires { (reason ≡ OutOfMemory)
             ⊎ (IsBooksLease self.old.book.run self.old.book.history lease.job lease.number
-            → MayComeTo B.may self.old.book.history.entries lease.job (Err reason)) }
+            → MayEndAs B.may self.old.book.history.entries lease.job (Err reason)) }
         ensures { IsNoting self.old self.new lease.job lease.number reason result }
     {
         match fail(&mut self.book, lease, reason) {

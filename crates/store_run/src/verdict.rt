@@ -1,17 +1,19 @@
 //! What a worker finds of the outcome of a job, without a lock, by the list that its reader sees.
-ghost use Rattle.std.specs.Prelude.{◌≡◌, IfErr, IfOk, Ok, OnOk};
+ghost use Rattle.std.specs.Prelude.{◌≡◌, Err, IfErr, IfOk, Ok, OnOk};
 ghost use Rattle.valid_view.specs.Shown.{IsShowable};
 ghost use Rattle.sched_core.specs.Books.{ArePermittedPaths, AreSeedsValid};
+ghost use Rattle.build_outcome.specs.Heard.{IsRunExamined};
 ghost use Rattle.build_outcome.specs.Verdicts.{IsVerdict};
 ghost use Rattle.build_outcome.specs.declared.job.Answer.{Answer as AnAnswer};
-ghost use Rattle.store_run.specs.private.JobVerdicts.{IsFoundBy, IsToldOfSeeds, IsUnseen};
+ghost use Rattle.store_run.specs.declared.job_verdict.JobVerdict.TheVariants.{Examined, Unanswered};
+ghost use Rattle.store_run.specs.private.JobVerdicts.{IsFoundBy, IsToldOfSeeds, IsUnseen, MayBeFound};
 
 use crate::job_verdict::JobVerdict;
-use crate::refusal::{RefusedCall, closure, permitted_beside};
+use crate::refusal::{RefusedCall, closure};
 use crate::requisites::BuiltJob;
 use build_outcome::{AskedChecks, JobChecks, test_outputs};
 use nix_names::StorePath;
-use sched_core::{Answer, Checked, Job, Lease, Reason, examine};
+use sched_core::{Build, Checked, Job, Lease, Reason, permitted_beside};
 use std::alloc::Global;
 use valid_view::{ListId, Tells, ViewReader};
 
@@ -29,31 +31,28 @@ pub(crate) fn learn<J: ListId, O: Tells<J>>(reader: &mut ViewReader<J>, lease: &
     }
 }
 
-// What is found of a job's outcome: the builder's reason why there is no answer, or the verdict on
-// the answer, with the tests of its outputs, by the paths that are valid and those that are
-// permitted to the job in the list that the reader sees. In place of a verdict the refusal of the
-// reader, or of memory. Costs the closure of the job's seeds, one pass over what the builder left,
-// and where checks ask for them the closures of the outputs, with their records; takes no lock.
-pub(crate) fn verdict<J: ListId>(
+// What is found of what came of a job that a builder ran and examined by these permitted paths: the
+// reason why there is no answer; the reason of the verdict; or, where the outputs have records, what
+// their tests find.
+pub(crate) fn verdict<J: ListId, B: Build>(
     alloc: Global,
     reader: &mut ViewReader<J>,
     job: &Job,
-    outcome: Result<Answer, Reason>,
+    permitted: &[StorePath],
+    examined: Result<Result<Checked, Reason>, Reason>,
 ) -> JobVerdict
-    requires { AreSeedsValid reader.old.told job.now }
-    ensures { IsFoundBy reader.new.seen job.now outcome result }
+    requires showable { IsShowable reader.old.seen }
+    requires seeds { AreSeedsValid reader.old.seen job.now }
+    requires permitted { ArePermittedPaths reader.old.seen job.now permitted.now }
+    requires examined { IsRunExamined B.may job.now permitted.now examined }
+    ensures found { MayBeFound B.may reader.new.seen job.now result }
+    ensures unanswered { IfErr examined (λ why. result ≡ Unanswered why) }
+    ensures bad { IfOk examined (λ found. IfErr found (λ why. result ≡ Examined (Err why))) }
 {
-    let answer = match outcome {
-        Ok(answer) => answer,
-        Err(reason) => return JobVerdict::Unanswered(reason),
-    };
-    let permitted = match permitted(alloc, reader, job) {
-        Ok(permitted) => permitted,
-        Err(refusal) => return JobVerdict::Refused(refusal),
-    };
-    match examine(alloc, job, &permitted, answer) {
-        Ok(checked) => tested(alloc, reader, job, &permitted, checked),
-        Err(reason) => JobVerdict::Examined(Err(reason)),
+    match examined {
+        Ok(Ok(checked)) => tested(alloc, reader, job, permitted, checked),
+        Ok(Err(reason)) => JobVerdict::Examined(Err(reason)),
+        Err(reason) => JobVerdict::Unanswered(reason),
     }
 }
 
@@ -94,7 +93,7 @@ fn tested<J: ListId>(
 
 // The paths to which the outputs of a job may refer, by the list that the reader sees; or what was
 // refused, memory or the view.
-fn permitted<J: ListId>(
+pub(crate) fn permitted<J: ListId>(
     alloc: Global,
     reader: &mut ViewReader<J>,
     job: &Job,
@@ -107,5 +106,5 @@ fn permitted<J: ListId>(
     ensures err { IfErr result IsUnseen }
 {
     let reached = closure(alloc, reader, &job.seeds)?;
-    permitted_beside(alloc, reached, job)
+    Ok(permitted_beside(alloc, reached, job)?)
 }

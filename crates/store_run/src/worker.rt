@@ -10,7 +10,7 @@ use crate::locked::Locked;
 use crate::monitor::{Listen, NoListener};
 use crate::start::start;
 use crate::turn::{Step, Turn};
-use crate::verdict::{learn, verdict};
+use crate::verdict::{learn, permitted, verdict};
 use build_outcome::Prepared;
 use sched_core::{Build, Lease, LeaseObserver, Reason};
 use std::alloc::Global;
@@ -113,6 +113,10 @@ fn run_builder<J: ListId, T, B: Build>(
     ensures { MayBeFound B.may reader.new.seen lease.now.job result }
 {
     let job = lease.job();
-    let outcome = builder.run(lease.number(), job, prepared);
-    verdict(alloc, reader, job, outcome)
+    let permitted = match permitted(alloc, reader, job) {
+        Ok(permitted) => permitted,
+        Err(refusal) => return JobVerdict::Refused(refusal),
+    };
+    let examined = builder.run_examined(lease.number(), job, prepared, &permitted);
+    verdict::<J, B>(alloc, reader, job, &permitted, examined)
 }

@@ -1,7 +1,7 @@
 use Rattle.std.proofs.Common.{◌∙◌, ◌≤◌, subst, sym, vec_len}
 use Rattle.store_run.specs.Builders.{answered_opening}
 use Rattle.store_run.specs.Workers.{AreWorkers}
-use Rattle.store_run.proofs.KeptTexts.{kept_of_lent, version_of_book}
+use Rattle.store_run.proofs.KeptTexts.{kept_of_run, version_of_book}
 use Rattle.store_run.proofs.RunEndings.{are_workers, at_err, at_ok, shown_at_end}
 use Rattle.store_run.proofs.kept_run.realise_kept.Given.{Over}
 use Rattle.store_run.proofs.kept_run.realise_kept.Goals as goal
@@ -18,7 +18,7 @@ run_kept-shared-requires-clause-version g c κs within = λ run opening is.
 pub run_kept-shared-requires-clause-each : goal.run_kept-shared-requires-clause-each
 run_kept-shared-requires-clause-each g c κs within = λ run opening shown bytes is kept.
     c.requires.each shown bytes
-    (kept_of_lent g.B.Build.may (g.J.Showing.shown g.J.ListId.book) _ _ _ c.in-Ok.opened.0 run
+    (kept_of_run g.B.Build.may (g.J.Showing.shown g.J.ListId.book) _ _ _ c.in-Ok.opened.0 run
     opening shown bytes c.in-Ok.ensures.over is kept)
 
 -- there is a right number of workers

@@ -2,7 +2,7 @@ use Rattle.std.proofs.Common.{All, inl, subst, sym}
 use Rattle.valid_table.specs.Closure.{IsClosure}
 use Rattle.valid_table.specs.Entries.{registered}
 use Rattle.valid_table.specs.Valid.{IsValid}
-use Rattle.store_run.proofs.Permits.{anyway_ok, closure_and_outputs, of_ok}
+use Rattle.store_run.proofs.Permits.{closure_and_outputs}
 use Rattle.store_run.proofs.verdict.permitted.Goals as goal
 
 pub closure-requires : goal.closure-requires
@@ -12,9 +12,8 @@ closure-requires g c =
 
 pub returns-clause-seeds : goal.returns-clause-seeds
 returns-clause-seeds g c =
-    anyway_ok c.permitted_beside.result
-    (subst (All (IsValid (registered c.closure.new.reader.seen))) c.deref.ensures.value
-    c.in_ok-reached.ensures.valid)
+    subst (All (IsValid (registered c.closure.new.reader.seen))) c.deref.ensures.value
+    c.in_ok-reached.ensures.valid
 
 pub returns-clause-permitted : goal.returns-clause-permitted
 returns-clause-permitted g c =
@@ -22,5 +21,5 @@ returns-clause-permitted g c =
     let reached = c.in_ok-reached.reached.items in
     let closure = subst (λ roots. IsClosure (registered seen) roots reached) c.deref.ensures.value
     c.in_ok-reached.ensures.closure in
-    of_ok c.permitted_beside.result c.permitted_beside.ensures.ok
-    (λ paths union. closure_and_outputs seen c.args.job.now reached paths.items closure union)
+    closure_and_outputs seen c.args.job.now reached c.in_ok-permitted_beside.field-0.items closure
+    c.in_ok-permitted_beside.ensures.ok

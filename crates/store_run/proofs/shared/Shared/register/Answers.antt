@@ -1,7 +1,7 @@
 use Rattle.std.proofs.Common.{◌∙◌, Ok, subst, sym}
 use Rattle.sched_core.specs.Books.{IsBooksLease, Leased, Ledger}
 use Rattle.build_outcome.specs.declared.reason.Reason.TheVariants.{OutOfMemory}
-use Rattle.store_run.specs.Builders.{MayComeTo}
+use Rattle.store_run.specs.Builders.{MayEndAs}
 use Rattle.store_run.specs.private.Sharing.{IsNoting, IsLeaseRegistering, IsWanting, Share}
 use Rattle.store_run.proofs.Answered.{after_finishing, came_may_refer}
 use Rattle.store_run.proofs.Bases.{over_finishing}
@@ -12,7 +12,7 @@ pub finish-requires-after_bounds : goal.finish-requires-after_bounds
 finish-requires-after_bounds g c κs within = λ lease.
     let came = subst (λ (s : Share). IsBooksLease s.book.run s.book.history c.args.lease.job
     c.args.lease.number
-    → MayComeTo g.B.Build.may s.book.history.entries c.args.lease.job (Ok c.args.checked))
+    → MayEndAs g.B.Build.may s.book.history.entries c.args.lease.job (Ok c.args.checked))
     (sym c.self.view_is) c.requires in
     came_may_refer g.B.Build.may c.self.inside.book.history.entries _ _
     (came lease)
@@ -21,7 +21,7 @@ pub invariant_of-self : goal.invariant_of-self
 invariant_of-self g c =
     let came = subst (λ (s : Share). IsBooksLease s.book.run s.book.history c.args.lease.job
     c.args.lease.number
-    → MayComeTo g.B.Build.may s.book.history.entries c.args.lease.job (Ok c.args.checked))
+    → MayEndAs g.B.Build.may s.book.history.entries c.args.lease.job (Ok c.args.checked))
     (sym c.self.view_is) c.requires in (
       after_finishing g.B.Build.may c.self.inside.book c.finish.new.book _ _ _ c.self.invariant.0
           came c.in-Ok.ensures.ok,

@@ -2,14 +2,14 @@ use Rattle.std.proofs.Common.{◌≡◌, ◌↔◌, ◌∙◌, IsTrue, sym, take
 use Rattle.std.specs.Cmp.Lexicographic.{pointwise_decides}
 use Rattle.run_states.proofs.Platforms.{platforms_decide}
 use Rattle.store_run.proofs.Openings.{opening_is_taken}
-use Rattle.store_run.proofs.lent.is_this_run.Goals as goal
-use Rattle.store_run.proofs.lent.is_this_run.Goals.{then-eq, else-eq}
+use Rattle.store_run.proofs.same_run.is_this_run.Goals as goal
+use Rattle.store_run.proofs.same_run.is_this_run.Goals.{then-eq, else-eq}
 
--- src/lent.rt:20:19
+-- src/same_run.rt:20:19
 pub slice_bounds-opening-end : goal.slice_bounds-opening-end
 slice_bounds-opening-end g c = search (rules, opening_is_taken)
 
--- src/lent.rt:14:1
+-- src/same_run.rt:14:1
 pub returns-then-eq-2-clause-over : goal.returns-then-eq-2-clause-over
 returns-then-eq-2-clause-over g c =
     let book = c.args.book.now in

@@ -1,7 +1,7 @@
-//! Whether a book is over the plan, system and entries that were lent.
+//! Whether a book is over a plan, for a system, and opened with a journal's entries.
 ghost use Rattle.std.specs.Prelude.{◌↔◌, IsTrue};
 ghost use Rattle.run_states.specs.Legal.{IsLegal};
-ghost use Rattle.store_run.specs.Realising.{IsOverLent};
+ghost use Rattle.store_run.specs.Realising.{IsBookOver};
 
 use drv_graph::Plan;
 use drv_graph::laws::equal_plans_are_same;
@@ -18,7 +18,7 @@ pub(crate) fn is_this_run<O: Outlet>(
     system: &System,
     journal: &Journal,
 ) -> bool
-    ensures over { IsTrue result ↔ IsOverLent plan.now system.now journal.now.entries book.now }
+    ensures over { IsTrue result ↔ IsBookOver plan.now system.now journal.now.entries book.now }
     ensures legal { IsLegal book.now.run book.now.history }
 {
     equal_plans_are_same();
