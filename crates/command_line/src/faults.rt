@@ -14,7 +14,7 @@ struct FaultHelp {
 }
 
 // The faults, by their names.
-const FAULTS: [FaultHelp; 32] = [
+const FAULTS: [FaultHelp; 33] = [
     FaultHelp {
         name: "BadHashPart",
         meaning: "DRV goes on after the store folder and a slash without 32 base-32 characters and a dash.",
@@ -99,6 +99,11 @@ const FAULTS: [FaultHelp; 32] = [
         name: "NotInStore",
         meaning: "DRV does not begin with the store folder and a slash.",
         remedy: "Give the --store-dir that the derivation is for. Without it that is /nix/store.",
+    },
+    FaultHelp {
+        name: "NotValid",
+        meaning: "The journal does not register this path.",
+        remedy: "Give paths that the journal registers, or none, for all of them.",
     },
     FaultHelp {
         name: "NoView",

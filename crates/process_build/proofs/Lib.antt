@@ -4,10 +4,13 @@ pub mod Counting
 pub mod EntryNames
 pub mod FileReads
 pub mod Filling
+pub mod HeardOutputs
 pub mod MadeTrees
 pub mod Mapped
+pub mod PastLimits
 pub mod PlainPaths
 pub mod PlainSetups
 pub mod ToldSteps
+pub mod Under
 pub mod Walking
 pub mod Zips

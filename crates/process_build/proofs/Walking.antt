@@ -10,7 +10,7 @@ use Rattle.nix_archive.specs.Trees.{AreBytes, AreEntries, Bytes, Entries, Entry,
 use Rattle.nix_archive.specs.Tokens.{Token, EntryBegun, EntryEnded, FileBegun, FileByte, FileEnded, FolderBegun, FolderEnded, LinkTo, tokens_among, tokens_of}
 use Rattle.nix_archive.proofs.Bytes.{both_bytes, no_bytes}
 use Rattle.process_build.specs.Walks.{IsTreeTold}
-use Rattle.process_build.specs.declared.walk.telling.OpenFolder.{OpenFolder}
+use Rattle.process_build.specs.declared.walk.tree_walk.OpenFolder.{OpenFolder}
 use Rattle.process_build.specs.private.Walking.{AreAhead, AreAllTold, AreTold, IsAt, IsFileTold, IsFolderBegun, IsFoundTold, IsPart, IsPlace, IsWithin, ahead_of, first_first, last_name}
 
 -- ---- the entries of a folder

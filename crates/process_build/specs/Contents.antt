@@ -1,5 +1,5 @@
 -- What is read of an output: the bytes of a file, and the members of a folder.
-use Rattle.std.specs.Prelude.{◌≡◌, ◌<◌, ◌≤◌, ℕ, List, [], ◌∷◌, ◌++◌, All, IfSome, Option, length}
+use Rattle.std.specs.Prelude.{◌≡◌, ◌≢◌, ◌<◌, ◌≤◌, ℕ, List, [], ◌∷◌, ◌++◌, All, IfSome, Option, codes, length}
 use Rattle.std.specs.Io.KnownBytes.{Consumes, IsAtEnd}
 use Rattle.std.specs.declared.alloc.Global.{Global}
 use Rattle.std.specs.declared.vec.Vec.{Vec}
@@ -24,6 +24,11 @@ IsAllowed profile tree = profile ≡ Plain → targets tree ≡ []
 -- a file has more bytes left than this number, where they are known
 abbrev pub IsMoreThan : ℕ → (left : Option Bytes) → Type 0
 IsMoreThan limit left = IfSome left (λ bytes. limit < length bytes)
+
+-- a name in the listing of a folder is that of a member: it is not empty, and neither `.`, which is
+-- the folder itself, nor `..`, the one above
+abbrev pub IsMemberName : Name → Type 0
+IsMemberName name = name ≢ [] × name ≢ codes "." × name ≢ codes ".."
 
 -- the path of a member of the folder at a path
 abbrev pub child_of : (path : Bytes) → Name → Bytes

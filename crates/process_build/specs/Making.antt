@@ -7,10 +7,10 @@ use Rattle.nix_archive.specs.Trees.{Bytes, Tree}
 use Rattle.nix_archive.specs.Tokens.{Token, EntryBegun, EntryEnded, FileBegun, FileByte, FileEnded, FolderBegun, FolderEnded, LinkTo, tokens_of}
 use Rattle.process_build.specs.MadeTrees.{Step, ByteWritten, FileClosed, FileMade, FolderMade, LinkMade, steps_of}
 use Rattle.process_build.specs.Contents.{child_of}
-use Rattle.process_build.specs.declared.making.part.Part.{Part}
-use Rattle.process_build.specs.declared.making.part.Part.TheVariants as part
-use Rattle.process_build.specs.declared.making.maker_fault.MakerFault.{MakerFault}
-use Rattle.process_build.specs.declared.making.maker.TreeMaker.{TreeMaker}
+use Rattle.process_build.specs.declared.tree_maker.part.Part.{Part}
+use Rattle.process_build.specs.declared.tree_maker.part.Part.TheVariants as part
+use Rattle.process_build.specs.declared.tree_maker.maker_fault.MakerFault.{MakerFault}
+use Rattle.process_build.specs.declared.tree_maker.maker.TreeMaker.{TreeMaker}
 
 -- the steps that a part stands for
 abbrev pub steps : Part → List Step

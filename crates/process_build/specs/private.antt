@@ -3,6 +3,7 @@ pub mod Answers
 pub mod BuilderCalls
 pub mod Canonical
 pub mod Folders
+pub mod HeardOutputs
 pub mod MakingLaws
 pub mod Placeholders
 pub mod Preparations

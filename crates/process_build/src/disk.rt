@@ -9,6 +9,7 @@
 //! | `left_paths` | what earlier runs moved aside and could not remove |
 //! | `removal` | folders taken away with all that is in them |
 //! | `outputs` | what lies at the outputs' paths, read within the limits of an output |
+//! | `heard_outputs` | the same, heard in one pass, with no file's bytes kept |
 //! | `canonical` | the modes and the time of the outputs' files and folders under `nix` |
 //! | `logs` | the log of a builder |
 //! | `kept_folders` | the build folders of builders that failed, which are kept |
@@ -18,6 +19,7 @@ pub mod canonical;
 pub mod cleanup;
 pub mod folders;
 pub mod fresh_folders;
+pub mod heard_outputs;
 pub mod kept_folders;
 pub mod left_paths;
 pub mod logs;

@@ -7,17 +7,17 @@
 //! | `process` | builders as processes |
 //! | `failures`, `reasons` | what an error of the system means at a path, and for a build |
 //! | `walk` | a tree on disk, told event by event |
-//! | `making` | a tree on disk, made of what is told of it |
+//! | `tree_maker` | a tree on disk, made of what is told of it |
 //! | `laws` | what holds of these numbers, over the definitions |
 #![tactic(auto)]
 
 mod disk;
 mod failures;
 pub mod laws;
-mod making;
 mod observe;
 mod process;
 mod reasons;
+mod tree_maker;
 mod walk;
 
 pub use disk::folders::BuildFolder;
@@ -25,10 +25,6 @@ pub use disk::kept_folders::KeptFolders;
 pub use disk::left_paths::remove_left;
 pub use disk::logs::Logs;
 pub use failures::Failure;
-pub use making::disk_parts::DiskParts;
-pub use making::maker::TreeMaker;
-pub use making::maker_fault::MakerFault;
-pub use making::part::{MakeParts, Part};
 pub use observe::progress::ProgressLine;
 pub use observe::trace::{NotedTimes, Trace};
 pub use observe::traces::trace_text;
@@ -40,5 +36,9 @@ pub use process::drv_paths::DrvPaths;
 pub use process::lease::{EndedLease, LeaseTimes, drv_name};
 pub use process::options::BuildOptions;
 pub use process::processes::{ProcessBuild, ProcessBuilders};
+pub use tree_maker::disk_parts::DiskParts;
+pub use tree_maker::maker::TreeMaker;
+pub use tree_maker::maker_fault::MakerFault;
+pub use tree_maker::part::{MakeParts, Part};
 pub use walk::fault::WalkFault;
-pub use walk::telling::tell_path;
+pub use walk::tree_walk::tell_path;

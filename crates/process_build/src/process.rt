@@ -15,7 +15,7 @@
 //! | `surroundings` | what a builder's setup depends on beside its job |
 //! | `texts` | the texts that a builder is given |
 //! | `values` | the values of an environment's entries |
-//! | `ended` | how a builder ended, which nothing but waiting for it tells |
+//! | `process_end` | how a builder ended, which nothing but waiting for it tells |
 //! | `start` | a builder that is started and waited for |
 //! | `options` | how the builders of a run build |
 #![tactic(auto)]
@@ -24,12 +24,12 @@ pub mod builders;
 pub mod builtins;
 pub mod caller;
 pub mod drv_paths;
-pub mod ended;
 pub mod entries;
 pub mod environment;
 pub mod lease;
 pub mod options;
 pub mod placeholders;
+pub mod process_end;
 pub mod processes;
 pub mod setup;
 pub mod start;

@@ -1,4 +1,4 @@
-//! What a failure of the system means for a build.
+//! What a failure means for a build.
 ghost use Rattle.std.specs.Prelude.{◌≡◌, ◌≢◌, ◌⊎◌};
 ghost use Rattle.process_build.specs.private.Answers.{IsRoomFault};
 ghost use Rattle.process_build.specs.Errors.{IsNoMemory};
@@ -6,6 +6,7 @@ ghost use Rattle.build_outcome.specs.declared.reason.Reason.TheVariants.{NoStart
 ghost use Rattle.build_outcome.specs.declared.reason.Reason.TheVariants.{ReadFault};
 
 use crate::failures::Failure;
+use crate::walk::fault::{Halt, WalkFault};
 use build_outcome::Reason;
 use std::io;
 
@@ -40,5 +41,33 @@ pub fn read_fault(error: io::Error) -> Reason
     match Failure::from(error) {
         Failure::NoMemory => Reason::OutOfMemory,
         _ => Reason::ReadFault,
+    }
+}
+
+// The reason of a fault in the walk over an output.
+impl From<WalkFault> for Reason {
+    ghost use Rattle.process_build.specs.private.Answers.{IsReadingFault, fault_reason};
+
+    ghost from_gives = { λ fault reason. (reason ≡ fault_reason fault) × IsReadingFault reason };
+
+    fn from(fault: WalkFault) -> Self {
+        match fault {
+            WalkFault::NoMemory => Reason::OutOfMemory,
+            WalkFault::Unreadable => Reason::ReadFault,
+        }
+    }
+}
+
+// The reason of the end of a walk over an output that isn't told to its end.
+impl From<Halt> for Reason {
+    ghost use Rattle.process_build.specs.private.Answers.{IsReadingFault, halt_reason};
+
+    ghost from_gives = { λ halt reason. (reason ≡ halt_reason halt) × IsReadingFault reason };
+
+    fn from(halt: Halt) -> Self {
+        match halt {
+            Halt::Fault(fault) => Reason::from(fault),
+            Halt::TooLarge => Reason::TooLarge,
+        }
     }
 }

@@ -2,15 +2,17 @@
 //!
 //! | Module | What is in it |
 //! |---|---|
-//! | `telling` | the walk, from a path down |
+//! | `tree_walk` | the walk, from a path down |
 //! | `found` | what lies at a path |
 //! | `entry_names` | the names of a folder's entries, in the order in which they are told |
 //! | `file_bytes` | a file, told in pieces |
-//! | `fault` | why a walk gave up |
+//! | `limit` | how long a hearer is told a tree |
+//! | `fault` | why a walk gave up, or was ended |
 #![tactic(auto)]
 
 pub(crate) mod entry_names;
 pub mod fault;
 mod file_bytes;
-mod found;
-pub mod telling;
+pub mod found;
+pub mod limit;
+pub mod tree_walk;

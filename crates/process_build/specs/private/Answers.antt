@@ -7,9 +7,13 @@ use Rattle.std.specs.declared.io.Error.{Error}
 use Rattle.drv_graph.specs.declared.profile.Profile.{Profile}
 use Rattle.drv_graph.specs.declared.profile.Profile.TheVariants.{Nix}
 use Rattle.process_build.specs.Errors.{IsNoMemory, IsNotFound}
-use Rattle.process_build.specs.declared.process.ended.EndedBuild.{EndedBuild}
+use Rattle.process_build.specs.declared.process.process_end.EndedBuild.{EndedBuild}
 use Rattle.process_build.specs.declared.disk.outputs.FileKind.{FileKind}
 use Rattle.process_build.specs.declared.disk.outputs.FileKind.TheVariants as kind
+use Rattle.process_build.specs.declared.walk.fault.Halt.{Halt}
+use Rattle.process_build.specs.declared.walk.fault.Halt.TheVariants as halt
+use Rattle.process_build.specs.declared.walk.fault.WalkFault.{WalkFault}
+use Rattle.process_build.specs.declared.walk.fault.WalkFault.TheVariants.{NoMemory, Unreadable}
 use Rattle.ref_scan.specs.declared.tree.Tree.{Tree, Pieces, Executable, Link, Dir'}
 use Rattle.build_outcome.specs.declared.job.Answer.{Answer}
 use Rattle.build_outcome.specs.declared.reason.Reason.{Reason}
@@ -21,7 +25,7 @@ abbrev pub answer_of : EndedBuild → Answer
 answer_of left = record { status = exit_code left.ended.status; outputs = left.outputs }
 
 -- whether a builder may have run, by what it left, or by the reason why it left nothing
-abbrev pub may_have_run : Result EndedBuild Reason → Bool
+abbrev pub may_have_run : {L : Type 0} → Result L Reason → Bool
 may_have_run (Ok left) = true
 may_have_run (Err NoStart) = false
 may_have_run (Err OutOfMemory) = false
@@ -88,3 +92,13 @@ IsNoKind error (Ok None) = IsNotFound error
 IsNoKind error (Err reason) =
     ¬ (IsNotFound error) × (IsNoMemory error → reason ≡ OutOfMemory)
     × (¬ (IsNoMemory error) → reason ≡ ReadFault)
+
+-- the reason of a fault in the walk over an output
+abbrev pub fault_reason : WalkFault → Reason
+fault_reason NoMemory = OutOfMemory
+fault_reason Unreadable = ReadFault
+
+-- the reason of the end of a walk over an output that isn't told to its end
+abbrev pub halt_reason : Halt → Reason
+halt_reason (halt.Fault fault) = fault_reason fault
+halt_reason halt.TooLarge = TooLarge

@@ -6,8 +6,8 @@ use Rattle.nix_archive.specs.Tokens.{Token, EntryBegun, EntryEnded, FileBegun, F
 use Rattle.process_build.specs.MadeTrees.{Step}
 use Rattle.process_build.specs.Contents.{child_of}
 use Rattle.process_build.specs.Making.{AreTaken, HaveOneTree, IsHeard, IsHeardBy, Place, outermost, place_after, place_along, place_of, steps_along, steps_at}
-use Rattle.process_build.specs.declared.making.maker_fault.MakerFault.{MakerFault}
-use Rattle.process_build.specs.declared.making.maker.TreeMaker.{TreeMaker}
+use Rattle.process_build.specs.declared.tree_maker.maker_fault.MakerFault.{MakerFault}
+use Rattle.process_build.specs.declared.tree_maker.maker.TreeMaker.{TreeMaker}
 
 pub place_append : (place : Place) (before after : List Token)
     → place_along place (before ++ after) ≡ place_along (place_along place before) after

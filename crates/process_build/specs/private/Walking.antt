@@ -1,11 +1,13 @@
 -- What a walk over a tree on disk has told, and what it has still to tell.
-use Rattle.std.specs.Prelude.{◌≡◌, ◌↔◌, ℕ, Bool, IsTrue, Option, Some, None, Result, Ok, Err, List, [], ◌∷◌, ◌++◌, All, Contains, length, map, reverse}
+use Rattle.std.specs.Prelude.{◌≡◌, ◌≢◌, ◌↔◌, ⊤, ℕ, Bool, false, IsTrue, Option, Some, None, Result, Ok, Err, List, [], ◌∷◌, ◌++◌, All, Contains, length, map, reverse}
 use Rattle.std.specs.Fs.{IsDir, IsFile, IsSymlink, file_type, metadata_len, metadata_mode}
 use Rattle.std.specs.Io.KnownBytes.{Consumes, IsAtEnd}
 use Rattle.std.specs.declared.alloc.Global.{Global}
 use Rattle.std.specs.declared.fs.attrs.Metadata.{Metadata}
 use Rattle.std.specs.declared.io.Error.{Error}
 use Rattle.std.specs.declared.vec.Vec.{Vec}
+use Rattle.drv_graph.specs.declared.profile.Profile.{Profile}
+use Rattle.drv_graph.specs.declared.profile.Profile.TheVariants.{Plain}
 use Rattle.nix_archive.specs.Trees.{AreBytes, AreEntries, Bytes, Entries, Entry, IsAfter, IsName, IsString, NoEntries}
 use Rattle.nix_archive.specs.Tokens.{Token, EntryBegun, FileByte, FolderBegun, file_tokens, tokens_among}
 use Rattle.process_build.specs.Errors.{IsNoMemory, IsNotFound}
@@ -14,16 +16,18 @@ use Rattle.process_build.specs.Walks.{IsTreeTold}
 use Rattle.process_build.specs.declared.walk.fault.WalkFault.{WalkFault}
 use Rattle.process_build.specs.declared.walk.fault.WalkFault.TheVariants.{NoMemory, Unreadable}
 use Rattle.process_build.specs.declared.walk.found.Found.{Found}
+use Rattle.process_build.specs.declared.walk.found.FoundFile.{FoundFile}
 use Rattle.process_build.specs.declared.walk.found.Found.TheVariants.{File, Folder, Link}
-use Rattle.process_build.specs.declared.walk.telling.OpenFolder.{OpenFolder}
+use Rattle.process_build.specs.declared.walk.tree_walk.OpenFolder.{OpenFolder}
 
 -- ---- what lies at a path
 
 -- what the system found is a file, with its bit and length, a folder or a link; anything else is
 -- not read
 abbrev pub IsFoundBy : Metadata → Result Found WalkFault → Type 0
-IsFoundBy metadata (Ok (File executable size)) = IsFile (file_type metadata)
-    × (IsTrue executable ↔ IsExecutable (metadata_mode metadata)) × (size ≡ metadata_len metadata)
+IsFoundBy metadata (Ok (File file)) = IsFile (file_type metadata)
+    × (IsTrue file.executable ↔ IsExecutable (metadata_mode metadata))
+    × (file.size ≡ metadata_len metadata)
 IsFoundBy metadata (Ok Folder) = IsDir (file_type metadata)
 IsFoundBy metadata (Ok Link) = IsSymlink (file_type metadata)
 IsFoundBy metadata (Err fault) = (fault ≡ Unreadable) × ¬ (IsFile (file_type metadata))
@@ -41,6 +45,27 @@ abbrev pub IsUnfound : Error → Result (Option Found) WalkFault → Type 0
 IsUnfound error (Ok (Some found)) = ⊥
 IsUnfound error (Ok None) = IsNotFound error
 IsUnfound error (Err fault) = ¬ (IsNotFound error) × ((fault ≡ NoMemory) ↔ IsNoMemory error)
+
+-- what was found as it is told of an output under a profile, or as it lies: under `plain` no file
+-- is one that its owner may execute, and links are not read
+abbrev pub as_told : Option Profile → Found → Result Found WalkFault
+as_told (Some Plain) (File file) = Ok (File (record file { executable = false }))
+as_told (Some Plain) Link = Err Unreadable
+as_told profile found = Ok found
+
+-- a file may be told so
+abbrev pub IsFileAllowed : Option Profile → FoundFile → Type 0
+IsFileAllowed profile file = profile ≡ Some Plain → file.executable ≡ false
+
+-- links may be told
+abbrev pub IsLinkAllowed : Option Profile → Type 0
+IsLinkAllowed profile = profile ≢ Some Plain
+
+-- what was found may be told so
+abbrev pub IsFoundAllowed : Option Profile → Found → Type 0
+IsFoundAllowed profile (File file) = IsFileAllowed profile file
+IsFoundAllowed profile Folder = ⊤
+IsFoundAllowed profile Link = IsLinkAllowed profile
 
 -- ---- the names of entries
 

@@ -1,12 +1,9 @@
 //! The canonical form of outputs under `nix`: the modes and the time that their files and folders
 //! get.
-ghost use Rattle.std.specs.Prelude.{◌≡◌, ◌⊎◌, ◌↔◌, IfErr, IsTrue, bit_and};
+ghost use Rattle.std.specs.Prelude.{◌↔◌, IsTrue, bit_and};
 ghost use Rattle.process_build.specs.private.Canonical.{IsCanonicalOf};
-ghost use Rattle.build_outcome.specs.declared.reason.Reason.TheVariants.{OutOfMemory, ReadFault};
 
 use crate::disk::outputs::OWNER_EXECUTES;
-use crate::reasons::read_fault;
-use build_outcome::Reason;
 use drv_graph::Profile;
 use std::fs::{FileTimes, Metadata, OpenFile, Permissions};
 use std::io::ErrorKind;
@@ -27,8 +24,8 @@ const OTHER_MODE: u32 = 0o444;
 const TIME: i64 = 1;
 
 /// Under the profile `nix` gives a file or a folder, by what was found at its path, its canonical
-/// mode and time. Makes no call of the system where it has them. `ReadFault` where they can't be
-/// set, for example because another user owns it.
+/// mode and time. Makes no call of the system where it has them. An error where they can't be set,
+/// for example because another user owns it.
 ///
 /// As in Nix a folder comes before its entries. So where a folder of mode 0600 becomes one of mode
 /// 0444, nobody but the superuser reads its entries.
@@ -37,13 +34,9 @@ pub(crate) fn make_canonical<R: Files>(
     path: &str,
     asked: &io::Result<Metadata>,
     profile: Profile,
-) -> Result<(), Reason>
-    ensures { IfErr result (λ reason. (reason ≡ OutOfMemory) ⊎ (reason ≡ ReadFault)) }
-{
+) -> io::Result<()> {
     match (asked, profile) {
-        (Ok(found), Profile::Nix) if found.is_file() || found.is_dir() => {
-            settle(rt, path, found).map_err(read_fault)
-        }
+        (Ok(found), Profile::Nix) if found.is_file() || found.is_dir() => settle(rt, path, found),
         _ => Ok(()),
     }
 }

@@ -9,7 +9,7 @@ ghost use Rattle.process_build.specs.private.Answers.{IsReadAs, IsReadingFault, 
 ghost use Rattle.process_build.specs.Contents.{IsAllowed};
 ghost use Rattle.build_outcome.specs.declared.job.LeftOutput.{LeftOutput};
 ghost use Rattle.ref_scan.specs.declared.tree.Member.{Member};
-ghost use Rattle.process_build.specs.Contents.{child_of, IsMoreThan, IsWhole};
+ghost use Rattle.process_build.specs.Contents.{child_of, IsMemberName, IsMoreThan, IsWhole};
 ghost use Rattle.ref_scan.specs.Trees.{joined};
 ghost use Rattle.build_outcome.specs.declared.reason.Reason.TheVariants.{OutOfMemory, ReadFault};
 ghost use Rattle.build_outcome.specs.declared.reason.Reason.TheVariants.{TooLarge};
@@ -74,7 +74,7 @@ fn read_output<R: Files + AllocGlobal>(
 {
     let found = fs::symlink_metadata(rt, path);
     let others_may_write = others_may_write_at(&found);
-    make_canonical(rt, path, &found, profile)?;
+    make_canonical(rt, path, &found, profile).map_err(read_fault)?;
     match kind_of(found, profile)? {
         Some(kind) => {
             let mut reader = Reader::new(rt, profile);
@@ -90,7 +90,7 @@ fn read_output<R: Files + AllocGlobal>(
 
 // Whether something was found at a path, by the system's answer, and others than its owner may
 // write it.
-fn others_may_write_at(asked: &io::Result<Metadata>) -> bool
+pub(crate) fn others_may_write_at(asked: &io::Result<Metadata>) -> bool
     ensures { IfOk asked.now (λ found. IsTrue result ↔ OthersMayWrite (metadata_mode found)) }
 {
     match asked {
@@ -243,7 +243,7 @@ impl<'a, R: Files + AllocGlobal> Reader<'a, R> {
         };
         let path = child_path(self.rt.alloc(), path, &name)?;
         let found = fs::symlink_metadata(self.rt, path.as_str());
-        make_canonical(self.rt, path.as_str(), &found, profile)?;
+        make_canonical(self.rt, path.as_str(), &found, profile).map_err(read_fault)?;
         let Some(kind) = kind_of(found, profile)? else {
             return Err(Reason::ReadFault);
         };
@@ -368,8 +368,13 @@ pub(crate) fn read_once<F: Read>(file: &mut F, buffer: &mut [u8]) -> io::Result<
 
 // Whether a name that was read in a folder is that of a member: it is not empty, and neither the
 // folder itself nor the one above.
-pub(crate) fn is_member(name: &[u8]) -> bool {
-    !name.is_empty() && name != b".".as_slice() && name != b"..".as_slice()
+pub(crate) fn is_member(name: &[u8]) -> bool
+    ensures { IsTrue result ↔ IsMemberName name.now }
+{
+    if name.is_empty() {
+        return false;
+    }
+    name != b".".as_slice() && name != b"..".as_slice()
 }
 
 // The path of a member of a folder; a fault where its name isn't UTF-8.

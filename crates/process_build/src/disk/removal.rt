@@ -46,7 +46,7 @@ fn push_folders<R: Files + AllocGlobal>(
     folder: &str,
     folders: &mut Vec<String>,
 ) -> Result<(), WalkFault> {
-    for name in &names_at(rt, folder)? {
+    for name in &names_at(rt, folder, usize::MAX)? {
         if let Ok(name) = str::from_utf8(name.as_slice()) {
             let path = join_path(rt.alloc(), folder, name)?;
             if fs::symlink_metadata(rt, path.as_str())?.is_dir() {

@@ -6,7 +6,8 @@ use crate::process::builders::Builders;
 use crate::process::drv_paths::DrvPaths;
 use crate::process::lease::RunningLease;
 use crate::process::options::BuildOptions;
-use build_outcome::{Answer, Build, Job, LeaseObserver, Prepared, Reason};
+use build_outcome::{Answer, Build, Checked, Job, LeaseObserver, Prepared, Reason};
+use nix_names::StorePath;
 use std::alloc::{AllocError, Global};
 use std::cell::Cell;
 use std::io::Write;
@@ -34,11 +35,30 @@ impl<R: Wait + Clock + AllocGlobal, B: Build, W: Write> Build for Watched<'_, R,
         job: &Job,
         prepared: &Result<Prepared, Reason>,
     ) -> Result<Answer, Reason> {
+        self.begin(number, job);
+        self.builder.run(number, job, prepared)
+    }
+
+    /// Tells the line that a job begins, and builds and examines it as the builder does.
+    fn run_examined(
+        &self,
+        number: u64,
+        job: &Job,
+        prepared: &Result<Prepared, Reason>,
+        permitted: &[StorePath],
+    ) -> Result<Result<Checked, Reason>, Reason> {
+        self.begin(number, job);
+        self.builder.run_examined(number, job, prepared, permitted)
+    }
+}
+
+impl<R: Wait + Clock + AllocGlobal, B, W: Write> Watched<'_, R, B, W> {
+    // Tells the line that a job begins.
+    fn begin(&self, number: u64, job: &Job) {
         let drv = self.drvs.get(job.derivation);
         let running = RunningLease::of(self.rt.alloc(), drv, number, now(self.rt));
         self.number.set(number);
         self.progress.begin(self.rt, running, self.unsettled.get());
-        self.builder.run(number, job, prepared)
     }
 }
 

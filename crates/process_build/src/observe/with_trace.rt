@@ -4,7 +4,8 @@ use crate::observe::trace::Trace;
 use crate::process::builders::Builders;
 use crate::process::lease::LeaseTimes;
 use crate::process::options::BuildOptions;
-use build_outcome::{Answer, Build, Job, LeaseObserver, Prepared, Reason};
+use build_outcome::{Answer, Build, Checked, Job, LeaseObserver, Prepared, Reason};
+use nix_names::StorePath;
 use std::alloc::{AllocError, Global};
 use std::cell::Cell;
 use std::sync::Wait;
@@ -29,14 +30,40 @@ impl<R: Wait + Clock + AllocGlobal, B: Build> Build for Traced<'_, R, B> {
         job: &Job,
         prepared: &Result<Prepared, Reason>,
     ) -> Result<Answer, Reason> {
-        let Some(trace) = self.trace else {
-            return self.builder.run(number, job, prepared);
-        };
-        let start = trace.time(self.rt);
+        let start = self.time();
         let outcome = self.builder.run(number, job, prepared);
+        self.note(number, start);
+        outcome
+    }
+
+    /// Builds and examines a job as the builder does, and notes when that was.
+    fn run_examined(
+        &self,
+        number: u64,
+        job: &Job,
+        prepared: &Result<Prepared, Reason>,
+        permitted: &[StorePath],
+    ) -> Result<Result<Checked, Reason>, Reason> {
+        let start = self.time();
+        let outcome = self.builder.run_examined(number, job, prepared, permitted);
+        self.note(number, start);
+        outcome
+    }
+}
+
+impl<R: Wait + Clock + AllocGlobal, B> Traced<'_, R, B> {
+    // The time, for the trace.
+    fn time(&self) -> Option<u64> {
+        Some(self.trace?.time(self.rt))
+    }
+
+    // Notes that the builder was asked to run at a time, and has answered now.
+    fn note(&self, number: u64, start: Option<u64>) {
+        let (Some(trace), Some(start)) = (self.trace, start) else {
+            return;
+        };
         let end = trace.time(self.rt);
         trace.note(self.rt, LeaseTimes::of(number, self.worker, start, end));
-        outcome
     }
 }
 

@@ -2,7 +2,10 @@
 ghost use Rattle.std.specs.Prelude.{◌≡◌, ◌⊎◌, Err, IfErr, IfOk, Some, map, option_map, slice_get};
 ghost use Rattle.std.specs.Prelude.{string_bytes};
 ghost use Rattle.nix_drv.specs.Parts.{entry_of};
+ghost use Rattle.nix_names.specs.Rising.{IsRising};
+ghost use Rattle.build_outcome.specs.Heard.{IsRunExamined};
 ghost use Rattle.process_build.specs.Ends.{IsAnswerOf};
+ghost use Rattle.process_build.specs.private.HeardOutputs.{IsHeardBuild};
 ghost use Rattle.process_build.specs.private.Answers.{answer_of, may_have_run, IsReadingFault};
 ghost use Rattle.process_build.specs.private.Answers.{IsRoomFault, IsRunFault};
 ghost use Rattle.process_build.specs.Options.{AreOptionsOf};
@@ -15,17 +18,16 @@ use crate::disk::cleanup::Cleanup;
 use crate::disk::folders::BuildFolder;
 use crate::disk::fresh_folders::fresh_folder;
 use crate::disk::logs::{LogPath, Logs, OutputStreams};
-use crate::disk::outputs::read_outputs;
 use crate::disk::setup_files::write_files;
 use crate::process::builders::Builders;
 use crate::process::caller::caller_entries;
-use crate::process::ended::EndedBuild;
 use crate::process::options::{BuildOptions, OwnOptions};
+use crate::process::process_end::{EndedBuild, HeardBuild, ProcessEnd};
 use crate::process::setup::{Setup, SetupFile};
 use crate::process::start::{command, run_command};
 use crate::process::surroundings::Surroundings;
 use crate::reasons::{no_start, reason_before_start};
-use build_outcome::{Answer, Build, Job, LeaseObserver, Prepared, Reason};
+use build_outcome::{Answer, Build, Checked, Job, LeaseObserver, Prepared, Reason};
 use drv_graph::Profile;
 use nix_drv::EnvEntry;
 use nix_names::StorePath;
@@ -61,6 +63,13 @@ pub struct ProcessBuild<'a, R, P> {
 struct Preparation<'a> {
     setup: Setup<'a>,
     log: Option<LogPath>,
+}
+
+/// A builder that was run in a folder: how it ended, or why it didn't.
+#[derive(Drop)]
+pub struct EndedRun {
+    folder: BuildFolder,
+    ended: Result<ProcessEnd, Reason>,
 }
 
 impl<'a, R, P> ProcessBuild<'a, R, P> {
@@ -142,14 +151,42 @@ impl<R: Files + Logs + Env + AllocGlobal, P: Processes> Build for ProcessBuild<'
             Ok(prepared) => prepared,
             Err(why) => return Err(*why),
         };
-        let caller = caller_entries(self.rt, job, prepared)?;
-        let folder = self.folder_of(number, job)?;
-        let preparation = self.prepare_or_remove(&folder, &caller, job, prepared)?;
         let mut clearing = Cleanup::new(self.rt, self.options.store_dir());
-        let left = self.build(preparation, &folder, job, &mut clearing);
+        let EndedRun { folder, ended } = self.start(number, job, prepared, &mut clearing)?;
+        let left = self.read(job, ended);
         self.leave(folder, may_have_run(&left));
         clearing.finish();
         Ok(left?.answer())
+    }
+
+    /// Builds a job as `run` does, but reads what lies at each output's path once and keeps no
+    /// file's bytes, and examines it. The reasons of `run`, and `ReadFault` too where a file has
+    /// another length when its reading ends than it had when it began, or an archive that is asked
+    /// for has 2^63 bytes or more.
+    fn run_examined(
+        &self,
+        number: u64,
+        job: &Job,
+        prepared: &Result<Prepared, Reason>,
+        permitted: &[StorePath],
+    ) -> Result<Result<Checked, Reason>, Reason>
+        requires { IsRising permitted.now }
+        ensures outcome { IsRunExamined MayAnswer job.now permitted.now result }
+        ensures unprepared { IfErr prepared.now
+            (λ why. (result ≡ Err OutOfMemory) ⊎ (result ≡ Err why)) }
+        ensures prepared { IfOk prepared.now
+            (λ _. IsRunExamined MayEnd job.now permitted.now result) }
+    {
+        let prepared = match prepared {
+            Ok(prepared) => prepared,
+            Err(why) => return Err(*why),
+        };
+        let mut clearing = Cleanup::new(self.rt, self.options.store_dir());
+        let EndedRun { folder, ended } = self.start(number, job, prepared, &mut clearing)?;
+        let heard = self.hear(job, permitted, ended);
+        self.leave(folder, may_have_run(&heard));
+        clearing.finish();
+        Ok(heard?.examined(self.rt.alloc(), job, permitted))
     }
 }
 
@@ -168,10 +205,30 @@ impl<R: Files + AllocGlobal + Wait, P> LeaseObserver for ProcessBuild<'_, R, P> 
 }
 
 // Whether a builder may have run that left this. A want of memory is no fault of the builder.
-fn may_have_run(left: &Result<EndedBuild, Reason>) -> bool
+fn may_have_run<T>(left: &Result<T, Reason>) -> bool
     ensures { result ≡ may_have_run left.now }
 {
     !matches!(left, Err(Reason::NoStart | Reason::OutOfMemory))
+}
+
+impl<R: Files + Logs + Env + AllocGlobal, P: Processes> ProcessBuild<'_, R, P> {
+    // Runs the builder of a job in a folder that is made for it. An error where that isn't begun.
+    fn start(
+        &self,
+        number: u64,
+        job: &Job,
+        prepared: &Prepared,
+        clearing: &mut Cleanup<'_, R>,
+    ) -> Result<EndedRun, Reason>
+        ensures ended { IfOk result (λ run. IfErr run.ended IsRunFault) }
+        ensures err { IfErr result IsRoomFault }
+    {
+        let caller = caller_entries(self.rt, job, prepared)?;
+        let folder = self.folder_of(number, job)?;
+        let preparation = self.prepare_or_remove(&folder, &caller, job, prepared)?;
+        let ended = self.build(preparation, &folder, job, clearing);
+        Ok(EndedRun { folder, ended })
+    }
 }
 
 impl<R: Files + AllocGlobal, P> ProcessBuild<'_, R, P> {
@@ -313,27 +370,44 @@ impl<R: Files + Logs + AllocGlobal, P: Processes> ProcessBuild<'_, R, P> {
         }
     }
 
-    // Makes room, runs the builder, and reads what it left, if its exit status is 0.
+    // Makes room, and runs the builder.
     fn build(
         &self,
         preparation: Preparation<'_>,
         folder: &BuildFolder,
         job: &Job,
         clearing: &mut Cleanup<'_, R>,
-    ) -> Result<EndedBuild, Reason>
+    ) -> Result<ProcessEnd, Reason>
+        ensures { IfErr result IsRunFault }
+    {
+        self.make_room(folder, &preparation.setup.files, job, clearing)?;
+        let streams = OutputStreams::to(self.rt, self.rt, preparation.log.as_ref())?;
+        let mut command = self.command(&preparation.setup, folder, streams)?;
+        run_command(self.processes, &mut command)
+    }
+
+    // What the builder of a job left, by how it ended, or why it didn't.
+    fn read(&self, job: &Job, ended: Result<ProcessEnd, Reason>) -> Result<EndedBuild, Reason>
+        requires { IfErr ended IsRunFault }
         ensures good { IfOk result (λ left. IsAnswerOf job.now (answer_of left)) }
         ensures bad { IfErr result (λ reason. IsRunFault reason ⊎ IsReadingFault reason) }
     {
-        self.make_room(folder, &preparation.setup.files, job, clearing)?;
-        let alloc = self.rt.alloc();
-        let streams = OutputStreams::to(self.rt, self.rt, preparation.log.as_ref())?;
-        let mut command = self.command(&preparation.setup, folder, streams)?;
-        let ended = run_command(self.processes, &mut command)?;
-        let outputs = match ended.code() {
-            Some(0) => read_outputs(self.rt, job)?,
-            _ => Vec::new(alloc),
-        };
-        Ok(EndedBuild::by(ended, outputs))
+        EndedBuild::read(self.rt, job, ended?)
+    }
+
+    // What is heard of what the builder of a job left, by how it ended, or why it didn't.
+    fn hear(
+        &self,
+        job: &Job,
+        permitted: &[StorePath],
+        ended: Result<ProcessEnd, Reason>,
+    ) -> Result<HeardBuild, Reason>
+        requires rising { IsRising permitted.now }
+        requires ended { IfErr ended IsRunFault }
+        ensures good { IfOk result (IsHeardBuild job.now permitted.now) }
+        ensures bad { IfErr result (λ reason. IsRunFault reason ⊎ IsReadingFault reason) }
+    {
+        HeardBuild::hear(self.rt, job, permitted, ended?)
     }
 
     // The command that runs a builder with its setup in a folder, with these outputs, by the runner of

@@ -10,8 +10,8 @@ ghost use Rattle.process_build.specs.private.BuilderCalls.{args_by, name_by, pro
 use crate::disk::folders::BuildFolder;
 use crate::disk::logs::OutputStreams;
 use crate::failures::is_made_again;
-use crate::process::ended::ProcessEnd;
 use crate::process::environment::set_environment;
+use crate::process::process_end::ProcessEnd;
 use crate::process::setup::Setup;
 use crate::process::texts::Text;
 use crate::reasons::{no_start, read_fault};

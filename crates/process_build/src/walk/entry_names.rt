@@ -1,12 +1,14 @@
 //! The names of a folder's entries, in the order in which they are told.
-ghost use Rattle.std.specs.Prelude.{◌≡◌, ◌↔◌, [], IfOk, IsTrue, OnOk, string_bytes};
-ghost use Rattle.std.specs.List.{list_all};
-ghost use Rattle.nix_archive.specs.Trees.{IsName, is_name_byte, may_be_name};
+ghost use Rattle.std.specs.Prelude.{◌≡◌, ◌<◌, ◌≤◌, ◌+◌, ◌^◌, [], Err, IfOk, OnOk, length};
+ghost use Rattle.std.specs.Prelude.{string_bytes};
+ghost use Rattle.nix_archive.specs.Trees.{IsName};
 ghost use Rattle.process_build.specs.Contents.{child_of};
+ghost use Rattle.process_build.specs.declared.walk.fault.Halt.TheVariants.{TooLarge};
 ghost use Rattle.process_build.specs.private.Walking.{AreAhead, AreNames, HaveSameNames, first_first};
 
 use crate::disk::outputs::{is_member, join_path, read_once};
-use crate::walk::fault::WalkFault;
+use crate::walk::fault::{Halt, WalkFault};
+use nix_archive::is_entry_name;
 use std::alloc::Global;
 use std::io::Read;
 use std::rt::Files;
@@ -16,21 +18,26 @@ use std::str;
 const NAMES_AT_ONCE: usize = 4_096;
 
 // The names of a folder's entries, the last by bytes first, each once. A link in the folder's place
-// is not followed.
+// is not followed. `TooLarge` where there are more than `most`.
 pub(crate) fn names_at<R: Files + AllocGlobal>(
     rt: &R,
     path: &str,
-) -> Result<Vec<Vec<u8>>, WalkFault>
-    ensures { IfOk result (λ names. AreAhead [] (first_first names.items)) }
+    most: usize,
+) -> Result<Vec<Vec<u8>>, Halt>
+    ensures names { IfOk result (λ names. AreAhead [] (first_first names.items)) }
+    ensures limited { result ≡ Err TooLarge → most + 1 < 2 ^ 64 }
 {
     let mut folder = rt.open_dir(path)?;
-    let names = read_names(rt.alloc(), &mut folder)?;
+    let names = read_names(rt.alloc(), &mut folder, most)?;
     Ok(last_first(names))
 }
 
-// The names that are read in a folder, in the folder's order. A fault where one may not be a name.
-fn read_names<F: Read>(alloc: Global, folder: &mut F) -> Result<Vec<Vec<u8>>, WalkFault>
-    ensures { IfOk result (λ names. AreNames names.items) }
+// The names that are read in a folder, in the folder's order. A fault where one may not be a name,
+// and `TooLarge` where there are more than `most`, which are not all read then.
+fn read_names<F: Read>(alloc: Global, folder: &mut F, most: usize) -> Result<Vec<Vec<u8>>, Halt>
+    ensures names { IfOk result (λ names. AreNames names.items) }
+    ensures most { IfOk result (λ names. length names.items ≤ most) }
+    ensures limited { result ≡ Err TooLarge → most + 1 < 2 ^ 64 }
 {
     let mut read = [0; NAMES_AT_ONCE];
     let mut names = Vec::new(alloc);
@@ -40,9 +47,12 @@ fn read_names<F: Read>(alloc: Global, folder: &mut F) -> Result<Vec<Vec<u8>>, Wa
             return Ok(names);
         }
         push_names(alloc, &read[..count], &mut names)?;
+        if names.len() > most {
+            return Err(Halt::TooLarge);
+        }
     }
     // Each reading gave a byte.
-    Err(WalkFault::Unreadable)
+    Err(Halt::Fault(WalkFault::Unreadable))
 }
 
 // Adds names, each of which is ended by a zero byte, to a list.
@@ -90,34 +100,4 @@ pub(crate) fn entry_path(alloc: Global, folder: &str, name: &[u8]) -> Result<Str
         Ok(name) => Ok(join_path(alloc, folder, name)?),
         Err(_) => Err(WalkFault::Unreadable),
     }
-}
-
-// Whether some bytes may be the name of an entry.
-fn is_entry_name(name: &[u8]) -> bool
-    ensures { IsTrue result ↔ IsName name.now }
-{
-    !name.is_empty() && may_be_name(name)
-}
-
-// Whether some bytes may be a name, if they are any.
-#[tactic(auto, unfolding(nix_archive::specs::Trees::may_be_name))]
-fn may_be_name(name: &[u8]) -> bool
-    ensures { result ≡ may_be_name name.now }
-{
-    are_name_bytes(name) && name != b".".as_slice() && name != b"..".as_slice()
-}
-
-// Whether each byte may stand in a name.
-fn are_name_bytes(bytes: &[u8]) -> bool
-    ensures { result ≡ list_all is_name_byte bytes.now }
-{
-    bytes.iter().all(|byte| is_name_byte(*byte))
-}
-
-// Whether a byte may stand in a name.
-#[tactic(auto, unfolding(nix_archive::specs::Trees::is_name_byte))]
-fn is_name_byte(byte: u8) -> bool
-    ensures { result ≡ is_name_byte byte }
-{
-    byte != 0 && byte != b'/'
 }
