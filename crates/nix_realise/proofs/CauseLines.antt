@@ -12,20 +12,20 @@ use Rattle.nix_names.specs.Names.{same_bytes}
 use Rattle.drv_graph.specs.Nodes.{Node}
 use Rattle.valid_table.specs.declared.entry.Entry.{Entry}
 use Rattle.run_report.specs.Listing.{IsMarked}
-use Rattle.run_states.specs.Runs.{Run, Terms, left_out, standing_at, terms_of}
-use Rattle.run_states.specs.StateTables.{AreStandings, AreWanted}
+use Rattle.run_states.specs.Runs.{Run, Terms, left_out, precondition_at, terms_of}
+use Rattle.run_states.specs.StateTables.{ArePreconditions, AreWanted}
 use Rattle.run_states.specs.declared.precondition.Precondition.{Precondition}
 use Rattle.run_states.specs.declared.precondition.Precondition.TheVariants.{Free}
 use Rattle.nix_realise.specs.CauseLines.{IsUnsupportedIn, first_left_out, is_refused_so}
 
--- the mark of a derivation, by whether it is wanted and by its standing
-abbrev pub mark_of : (wanted : List Bool) → (standings : List Precondition) → ℕ → Bool
-mark_of wanted standings d =
-    slice_index_or wanted d false && is_refused_so (slice_index_or standings d Free)
+-- the mark of a derivation, by whether it is wanted and by its precondition
+abbrev pub mark_of : (wanted : List Bool) → (preconditions : List Precondition) → ℕ → Bool
+mark_of wanted preconditions d =
+    slice_index_or wanted d false && is_refused_so (slice_index_or preconditions d Free)
 
 -- a derivation that is not in the plan is not refused
 within : (terms : Terms) (opening : List Entry) (nodes : List Node) (d : ℕ)
-    → is_refused_so (standing_at terms opening (slice_get nodes d)) ≡ true → d < length nodes
+    → is_refused_so (precondition_at terms opening (slice_get nodes d)) ≡ true → d < length nodes
 within terms opening [] d h = absurd (false≢true h)
 within terms opening (node ∷ nodes) zero h = omega arith
 within terms opening (node ∷ nodes) (suc d) h =
@@ -41,25 +41,26 @@ and_true false b x y = absurd (false≢true x)
 
 -- the marks are those of the derivations that are wanted and refused
 pub marks_are : (run : Run) (opening : List Entry) (wanted : List Bool)
-    (standings : List Precondition) (marks : List Bool)
-    → AreStandings (terms_of run) opening run.graph.nodes standings → AreWanted run opening wanted
-    → marks ≡ map (mark_of wanted standings) (range_with_len 0 (length run.graph.nodes))
+    (preconditions : List Precondition) (marks : List Bool)
+    → ArePreconditions (terms_of run) opening run.graph.nodes preconditions
+    → AreWanted run opening wanted
+    → marks ≡ map (mark_of wanted preconditions) (range_with_len 0 (length run.graph.nodes))
     → (d : ℕ) → IsMarked marks (length run.graph.nodes) d ↔ IsUnsupportedIn run opening d
-marks_are run opening wanted standings marks are_standings are_wanted is d = (to, from)
+marks_are run opening wanted preconditions marks are_preconditions are_wanted is d = (to, from)
   where
     n : ℕ
     n = length run.graph.nodes
 
-    mark_at : d < n → slice_index_or marks d false ≡ mark_of wanted standings d
+    mark_at : d < n → slice_index_or marks d false ≡ mark_of wanted preconditions d
     mark_at lt =
         ap (λ (l : List Bool). slice_index_or l d false) is
-        ∙ get_or-map-range_with_len (mark_of wanted standings) 0 n d d false lt (omega arith)
+        ∙ get_or-map-range_with_len (mark_of wanted preconditions) 0 n d d false lt (omega arith)
 
     to : IsMarked marks n d → IsUnsupportedIn run opening d
     to (lt, marked) =
         let both = both_true _ _ (sym (mark_at lt) ∙ marked) in (
           are_wanted.yes d both.0,
-          sym (ap is_refused_so (are_standings.each d lt)) ∙ both.1,
+          sym (ap is_refused_so (are_preconditions.each d lt)) ∙ both.1,
         )
 
     from : IsUnsupportedIn run opening d → IsMarked marks n d
@@ -68,7 +69,7 @@ marks_are run opening wanted standings marks are_standings are_wanted is d = (to
           lt,
           mark_at lt
               ∙ and_true _ _ (are_wanted.no d is_wanted)
-              (ap is_refused_so (are_standings.each d lt) ∙ refused),
+              (ap is_refused_so (are_preconditions.each d lt) ∙ refused),
         )
 
 -- an entry that asks for nothing that is left out is passed over
@@ -78,7 +79,8 @@ pub key_passed : (other : List ℕ) (env : List EnvEntry) (i : ℕ) (d : EnvEntr
     → first_left_out other (map entry_of (drop (i + 1) env))
     ≡ first_left_out other (map entry_of (drop i env))
 key_passed other env i d below none =
-    let next : drop i env ≡ get_or env i d ∷ drop (i + 1) env = rw add-one (drop-cons env i d below) in
+    let next : drop i env ≡ get_or env i d ∷ drop (i + 1) env = rw add-one
+    (drop-cons env i d below) in
     rw (next, none) refl
 
 -- and the key of the first other one is found
@@ -87,7 +89,8 @@ pub key_found : (other : List ℕ) (env : List EnvEntry) (i : ℕ) (d : EnvEntry
     → list_any (same_bytes (get_or env i d).key.items) left_out ≡ true
     → (get_or env i d).key.items ≡ first_left_out other (map entry_of (drop i env))
 key_found other env i d below one =
-    let next : drop i env ≡ get_or env i d ∷ drop (i + 1) env = rw add-one (drop-cons env i d below) in
+    let next : drop i env ≡ get_or env i d ∷ drop (i + 1) env = rw add-one
+    (drop-cons env i d below) in
     rw (next, one) refl
 
 regrouped : (out name drv words cause hint end : List ℕ)

@@ -17,13 +17,13 @@ use Rattle.nix_realise.specs.Filed.{IsUnprinted, IsUnwrittenNew, new_bytes, unfi
 use Rattle.nix_realise.specs.JournalFiles.{IsUnwrittenJournal, journal_stop, max_journal_len}
 use Rattle.nix_realise.specs.JournalFiles.{text_stop, unwritten_stop}
 use Rattle.nix_realise.specs.StoreDirs.{IsStoreDirOf}
-use Rattle.nix_realise.specs.declared.adding.add_drv.AddDrvError.{AddDrvError}
-use Rattle.nix_realise.specs.declared.adding.add_drv.AddDrvError.TheVariants.{File, Line}
+use Rattle.nix_realise.specs.declared.additions.add_drv.AddDrvError.{AddDrvError}
+use Rattle.nix_realise.specs.declared.additions.add_drv.AddDrvError.TheVariants.{File, Line}
 use Rattle.nix_realise.specs.declared.io.all_written.Filed.{Filed}
-use Rattle.nix_realise.specs.declared.adding.add_text.AddTextError.{AddTextError}
-use Rattle.nix_realise.specs.declared.adding.add_text.AddTextError.TheVariants.{Text, Journal}
-use Rattle.nix_realise.specs.declared.adding.added_text.AddedText.{AddedText}
-use Rattle.nix_realise.specs.declared.adding.added_text.NamedText.{NamedText}
+use Rattle.nix_realise.specs.declared.additions.add_text.AddTextError.{AddTextError}
+use Rattle.nix_realise.specs.declared.additions.add_text.AddTextError.TheVariants.{Text, Journal}
+use Rattle.nix_realise.specs.declared.additions.added_text.AddedText.{AddedText}
+use Rattle.nix_realise.specs.declared.additions.added_text.NamedText.{NamedText}
 use Rattle.nix_realise.specs.declared.io.journal_file.OwnJournal.{OwnJournal}
 use Rattle.nix_realise.specs.declared.io.journal_write.UnwrittenJournal.{UnwrittenJournal}
 use Rattle.nix_realise.specs.declared.io.journal_write.UnwrittenJournal.TheVariants as journal_fault

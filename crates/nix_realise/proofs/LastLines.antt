@@ -3,7 +3,7 @@ use Rattle.std.proofs.Common.{◌≡◌, ◌∙◌, ℕ, ◌+◌, ◌<◌, List,
 use Rattle.std.specs.List.{flat_map}
 use Rattle.std.proofs.lemmas.List.Folds.{flat_map-map}
 use Rattle.run_report.specs.Listing.{numbers_of}
-use Rattle.run_report.specs.declared.listing.Listed.{Listed}
+use Rattle.run_report.specs.declared.report.listing.Listed.{Listed}
 
 -- one line more
 pub line_more : {X Y : Type 0} (line : X → List Y) (xs : List X) (i : ℕ) (d : X)

@@ -12,9 +12,9 @@ use Rattle.nix_drv.specs.declared.source.SourceFault.TheVariants.{Missing, Devic
 use Rattle.nix_realise.specs.CheckLines.{IsCheckReport, IsCheckVerdict, is_good, line_of}
 use Rattle.nix_realise.specs.declared.cli.exit.Status.{Status}
 use Rattle.nix_realise.specs.declared.cli.exit.Status.TheVariants as ended
-use Rattle.nix_realise.specs.declared.asking.verdict.Verdict.{Verdict}
-use Rattle.nix_realise.specs.declared.asking.verdict.Verdict.TheVariants.{Good, NoPath, Unreadable}
-use Rattle.nix_realise.specs.declared.asking.verdict.Verdict.TheVariants.{Refused}
+use Rattle.nix_realise.specs.declared.queries.check_verdict.Verdict.{Verdict}
+use Rattle.nix_realise.specs.declared.queries.check_verdict.Verdict.TheVariants.{Good, NoPath, Unreadable}
+use Rattle.nix_realise.specs.declared.queries.check_verdict.Verdict.TheVariants.{Refused}
 
 -- what one source lets be said of a word, one that gives the same answers does too
 pub verdict_same : (f g : List ℕ → Answer → Type 0) (dir word : List ℕ) (verdict : Verdict)

@@ -9,7 +9,7 @@ use Rattle.nix_realise.specs.Verifying.{AreLines, is_bad, line_of}
 use Rattle.nix_realise.specs.private.Verified.{IsFound}
 use Rattle.nix_realise.specs.declared.cli.exit.Status.{Status}
 use Rattle.nix_realise.specs.declared.cli.exit.Status.TheVariants.{Done, Unrealised}
-use Rattle.nix_realise.specs.declared.verifying.verified.Verified.{Verified}
+use Rattle.nix_realise.specs.declared.verification.verified.Verified.{Verified}
 
 -- no lines
 pub lines_nil : (journal : JournalValue) → AreLines journal [] [] Done

@@ -16,7 +16,7 @@ use Rattle.drv_graph.specs.declared.fault.NodeFault.TheVariants as node
 use Rattle.command_line.specs.declared.options.AddDrvRequest.{AddDrvRequest}
 use Rattle.nix_realise.specs.Files.{FileBytes}
 use Rattle.nix_realise.specs.StoreDirs.{IsStoreDirOf}
-use Rattle.nix_realise.specs.declared.adding.added_drv.AddedDrv.{AddedDrv}
+use Rattle.nix_realise.specs.declared.additions.added_drv.AddedDrv.{AddedDrv}
 use Rattle.nix_realise.specs.declared.io.files.FileFault.TheVariants as file
 use Rattle.nix_realise.specs.declared.cli.run_error.RunError.{RunError}
 use Rattle.nix_realise.specs.declared.cli.run_error.RunError.TheVariants.{BadDraft, BadDrv, BadName}

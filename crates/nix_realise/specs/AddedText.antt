@@ -18,9 +18,9 @@ use Rattle.valid_table.specs.declared.fault.TableFault.TheVariants as table
 use Rattle.command_line.specs.declared.options.AddTextRequest.{AddTextRequest}
 use Rattle.nix_realise.specs.Files.{FileBytes}
 use Rattle.nix_realise.specs.Registering.{record_of_text, text_entry}
-use Rattle.nix_realise.specs.declared.adding.added_text.AddedText.{AddedText}
-use Rattle.nix_realise.specs.declared.adding.added_text.NamedText.{NamedText}
-use Rattle.nix_realise.specs.declared.adding.text_record.TextRecord.{TextRecord}
+use Rattle.nix_realise.specs.declared.additions.added_text.AddedText.{AddedText}
+use Rattle.nix_realise.specs.declared.additions.added_text.NamedText.{NamedText}
+use Rattle.nix_realise.specs.declared.additions.text_record.TextRecord.{TextRecord}
 use Rattle.nix_realise.specs.declared.io.files.FileFault.TheVariants as file
 use Rattle.nix_realise.specs.declared.cli.run_error.RunError.{RunError}
 use Rattle.nix_realise.specs.declared.cli.run_error.RunError.TheVariants.{BadStoreDir, Unreadable, TooLong}

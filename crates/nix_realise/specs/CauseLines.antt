@@ -11,7 +11,7 @@ use Rattle.drv_graph.specs.declared.profile.Profile.{Profile}
 use Rattle.drv_graph.specs.declared.profile.Profile.TheVariants.{Nix, Plain}
 use Rattle.valid_table.specs.declared.entry.Entry.{Entry}
 use Rattle.run_report.specs.Reports.{AreByPath, path_at}
-use Rattle.run_states.specs.Runs.{IsWanted, Run as RunOver, left_out, standing_at, terms_of}
+use Rattle.run_states.specs.Runs.{IsWanted, Run as RunOver, left_out, precondition_at, terms_of}
 use Rattle.run_states.specs.Systems.{is_builtin}
 use Rattle.run_states.specs.declared.precondition.Precondition.{Precondition}
 use Rattle.run_states.specs.declared.precondition.Precondition.TheVariants.{Hindered}
@@ -19,16 +19,16 @@ use Rattle.run_states.specs.declared.state.Refusal.TheVariants.{Unsupported}
 use Rattle.nix_realise.specs.declared.cli.exit.Status.{Status}
 use Rattle.nix_realise.specs.declared.cli.exit.Status.TheVariants.{Unrealised}
 
--- whether a derivation with this standing is refused as `Unsupported`
+-- whether a derivation with this precondition is refused as `Unsupported`
 abbrev pub is_refused_so : Precondition → Bool
 is_refused_so (Hindered Unsupported) = true
-is_refused_so standing = false
+is_refused_so precondition = false
 
 -- a derivation is wanted, and refused as `Unsupported`
 abbrev pub IsUnsupportedIn : RunOver → (opening : List Entry) → ℕ → Type 0
 IsUnsupportedIn run opening d =
     IsWanted run opening d
-    × (is_refused_so (standing_at (terms_of run) opening (slice_get run.graph.nodes d)) ≡ true)
+    × (is_refused_so (precondition_at (terms_of run) opening (slice_get run.graph.nodes d)) ≡ true)
 
 -- the first key of an environment that asks for what is left out under `plain`, or another cause
 -- where there is none

@@ -13,9 +13,9 @@ use Rattle.nix_drv.specs.declared.source.SourceFault.TheVariants.{Missing, Devic
 use Rattle.nix_realise.specs.FaultWords.{name_fault_words, drv_fault_words}
 use Rattle.nix_realise.specs.declared.cli.exit.Status.{Status}
 use Rattle.nix_realise.specs.declared.cli.exit.Status.TheVariants as ended
-use Rattle.nix_realise.specs.declared.asking.verdict.Verdict.{Verdict}
-use Rattle.nix_realise.specs.declared.asking.verdict.Verdict.TheVariants.{Good, NoPath, Unreadable}
-use Rattle.nix_realise.specs.declared.asking.verdict.Verdict.TheVariants.{Refused}
+use Rattle.nix_realise.specs.declared.queries.check_verdict.Verdict.{Verdict}
+use Rattle.nix_realise.specs.declared.queries.check_verdict.Verdict.TheVariants.{Good, NoPath, Unreadable}
+use Rattle.nix_realise.specs.declared.queries.check_verdict.Verdict.TheVariants.{Refused}
 
 -- A verdict on a word. It is no path of the folder; or its file can't be read; or bytes that its
 -- file may have are refused as a derivation's text at that path; or they are accepted.

@@ -7,7 +7,7 @@ use Rattle.nix_realise.specs.AddedDrv.{IsAddingDrv}
 use Rattle.nix_realise.specs.Files.{FileBytes}
 use Rattle.nix_realise.specs.Endings.{path_line}
 use Rattle.nix_realise.specs.Folders.{may_give}
-use Rattle.nix_realise.specs.declared.adding.added_drv.AddedDrv.{AddedDrv}
+use Rattle.nix_realise.specs.declared.additions.added_drv.AddedDrv.{AddedDrv}
 use Rattle.nix_realise.specs.declared.io.all_written.AllWritten.{AllWritten}
 use Rattle.nix_realise.specs.declared.cli.exit.Status.TheVariants.{Done}
 use Rattle.nix_realise.specs.declared.cli.run_error.RunError.{RunError}

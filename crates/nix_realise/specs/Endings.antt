@@ -8,8 +8,8 @@ use Rattle.nix_realise.specs.AddedText.{HasNamedText, IsAddingText, IsNaming}
 use Rattle.nix_realise.specs.Filed.{HasLongJournal, HasShortJournal, new_bytes}
 use Rattle.nix_realise.specs.Files.{FileBytes}
 use Rattle.nix_realise.specs.Locking.{IsNotHeld}
-use Rattle.nix_realise.specs.declared.adding.added_text.AddedText.{AddedText}
-use Rattle.nix_realise.specs.declared.adding.added_text.NamedText.{NamedText}
+use Rattle.nix_realise.specs.declared.additions.added_text.AddedText.{AddedText}
+use Rattle.nix_realise.specs.declared.additions.added_text.NamedText.{NamedText}
 use Rattle.nix_realise.specs.declared.io.all_written.AllWritten.{AllWritten}
 use Rattle.nix_realise.specs.declared.cli.exit.Status.TheVariants.{Done}
 use Rattle.nix_realise.specs.declared.cli.run_error.RunError.{RunError}

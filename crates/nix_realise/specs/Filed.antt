@@ -3,13 +3,13 @@ use Rattle.std.specs.Prelude.{◌≡◌, ◌≤◌, ◌<◌, ℕ, Option, Some, 
 use Rattle.std.specs.Global.{Vec}
 use Rattle.nix_names.specs.Bytes.{Bytes, Path}
 use Rattle.nix_realise.specs.JournalFiles.{max_journal_len, text_stop, unwritten_stop}
-use Rattle.nix_realise.specs.declared.adding.add_drv.AddDrvError.{AddDrvError}
-use Rattle.nix_realise.specs.declared.adding.add_drv.AddDrvError.TheVariants.{File, Line}
+use Rattle.nix_realise.specs.declared.additions.add_drv.AddDrvError.{AddDrvError}
+use Rattle.nix_realise.specs.declared.additions.add_drv.AddDrvError.TheVariants.{File, Line}
 use Rattle.nix_realise.specs.declared.io.all_written.Filed.{Filed}
-use Rattle.nix_realise.specs.declared.adding.add_text.AddTextError.{AddTextError}
-use Rattle.nix_realise.specs.declared.adding.add_text.AddTextError.TheVariants.{Text, Journal}
-use Rattle.nix_realise.specs.declared.adding.added_drv.AddedDrv.{AddedDrv}
-use Rattle.nix_realise.specs.declared.adding.added_text.AddedText.{AddedText}
+use Rattle.nix_realise.specs.declared.additions.add_text.AddTextError.{AddTextError}
+use Rattle.nix_realise.specs.declared.additions.add_text.AddTextError.TheVariants.{Text, Journal}
+use Rattle.nix_realise.specs.declared.additions.added_drv.AddedDrv.{AddedDrv}
+use Rattle.nix_realise.specs.declared.additions.added_text.AddedText.{AddedText}
 use Rattle.nix_realise.specs.declared.io.journal_file.OwnJournal.{OwnJournal}
 use Rattle.nix_realise.specs.declared.io.journal_write.UnwrittenJournal.{UnwrittenJournal}
 use Rattle.nix_realise.specs.declared.io.journal_write.UnwrittenJournal.TheVariants as journal

@@ -20,7 +20,7 @@ use Rattle.nix_realise.specs.declared.cli.exit.Status.{Status}
 use Rattle.nix_realise.specs.declared.cli.exit.Status.TheVariants.{Done, Unrealised}
 use Rattle.nix_realise.specs.declared.cli.run_error.RunError.{RunError}
 use Rattle.nix_realise.specs.declared.cli.run_error.RunError.TheVariants.{NoMemory, Unwritable}
-use Rattle.nix_realise.specs.declared.asking.task.Task.{Task}
+use Rattle.nix_realise.specs.declared.queries.task.Task.{Task}
 
 -- the run that is forecast, for a system
 abbrev pub over : Platform → Task → RunOver

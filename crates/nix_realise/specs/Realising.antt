@@ -30,7 +30,7 @@ use Rattle.nix_realise.specs.declared.cli.exit.Outcome.{Outcome}
 use Rattle.nix_realise.specs.declared.cli.run_error.RunError.{RunError}
 use Rattle.nix_realise.specs.declared.cli.run_error.RunError.TheVariants.{JournalNotWritten, JournalTooLong}
 use Rattle.nix_realise.specs.declared.cli.run_error.RunError.TheVariants.{NoMemory, Run, Unwritable}
-use Rattle.nix_realise.specs.declared.asking.task.Task.{Task}
+use Rattle.nix_realise.specs.declared.queries.task.Task.{Task}
 use Rattle.nix_realise.specs.declared.io.trace_file.TracedRun.{TracedRun}
 use Rattle.nix_realise.specs.declared.words.kept_lines.KeptBuilds.{KeptBuilds}
 

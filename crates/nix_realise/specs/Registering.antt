@@ -16,7 +16,7 @@ use Rattle.valid_table.specs.declared.entry.Entry.{Entry}
 use Rattle.valid_table.specs.declared.entry.Entry.TheVariants.{Add}
 use Rattle.valid_table.specs.declared.fault.TableFault.{TableFault}
 use Rattle.valid_table.specs.declared.fault.TableFault.TheVariants.{NoMemory}
-use Rattle.nix_realise.specs.declared.adding.text_record.TextRecord.{TextRecord}
+use Rattle.nix_realise.specs.declared.additions.text_record.TextRecord.{TextRecord}
 
 -- the archive (NAR) of a text, which is that of a file that its owner may not execute
 unfoldable pub text_archive : (text : Bytes) → Bytes

@@ -19,7 +19,7 @@ use Rattle.nix_realise.specs.Files.{FileBytes}
 use Rattle.nix_realise.specs.declared.cli.run_error.RunError.{RunError}
 use Rattle.nix_realise.specs.declared.cli.run_error.RunError.TheVariants.{BadStoreDir, NoPath, BadDrv}
 use Rattle.nix_realise.specs.declared.cli.run_error.RunError.TheVariants.{NoMemory}
-use Rattle.nix_realise.specs.declared.asking.task.Task.{Task}
+use Rattle.nix_realise.specs.declared.queries.task.Task.{Task}
 
 -- the words are paths of the folder
 abbrev pub ArePaths : (dir : Dir) → (words : List Bytes) → Type 0

@@ -5,7 +5,7 @@ use Rattle.nix_names.specs.Bytes.{Bytes}
 use Rattle.process_build.specs.declared.process.builtins.BuiltinProgram.{BuiltinProgram}
 use Rattle.command_line.specs.declared.options.Builtin.{Builtin}
 use Rattle.command_line.specs.declared.options.RealiseRequest.{RealiseRequest}
-use Rattle.nix_realise.specs.declared.building.tools.Tools.{Tools}
+use Rattle.nix_realise.specs.declared.runs.tools.Tools.{Tools}
 use Rattle.nix_realise.specs.declared.cli.run_error.RunError.{RunError}
 use Rattle.nix_realise.specs.declared.cli.run_error.RunError.TheVariants.{NoBuildDir, NoMemory, NoRunner}
 

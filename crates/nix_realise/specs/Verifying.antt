@@ -5,7 +5,7 @@ use Rattle.std.specs.Io.KnownBytes.{Appends}
 use Rattle.std.specs.List.{flat_map, list_all}
 use Rattle.sha2.specs.Sha256.{sha256}
 use Rattle.nix_archive.specs.Archive.{nar}
-use Rattle.nix_archive.specs.Trees.{File, IsArchivable, Tree}
+use Rattle.nix_archive.specs.Trees.{IsArchivable, Tree}
 use Rattle.nix_names.specs.Bytes.{Bytes, Dir, Path}
 use Rattle.nix_names.specs.Digests.{algorithm_of}
 use Rattle.nix_names.specs.Names.{IsStoreDir}
@@ -19,6 +19,7 @@ use Rattle.valid_table.specs.Entries.{registered}
 use Rattle.valid_table.specs.PathInfos.{NarInfo, PathInfo}
 use Rattle.valid_table.specs.Tables.{JournalValue}
 use Rattle.valid_table.specs.Valid.{IsValid, Registers}
+use Rattle.build_outcome.specs.Hearing.{archived_digest}
 use Rattle.build_outcome.specs.Verdicts.{digest_by}
 use Rattle.command_line.specs.declared.options.VerifyRequest.{VerifyRequest}
 use Rattle.nix_realise.specs.AddedText.{IsJournalOf}
@@ -29,14 +30,13 @@ use Rattle.nix_realise.specs.declared.cli.exit.Status.TheVariants.{Done, Unreali
 use Rattle.nix_realise.specs.declared.cli.run_error.RunError.{RunError}
 use Rattle.nix_realise.specs.declared.cli.run_error.RunError.TheVariants.{BadStoreDir, NoMemory}
 use Rattle.nix_realise.specs.declared.cli.run_error.RunError.TheVariants.{NoPath, NotValid, Unwritable}
-use Rattle.nix_realise.specs.declared.verifying.verified.Verified.{Verified}
-use Rattle.nix_realise.specs.declared.verifying.verified.Verified.TheVariants.{Differs, Same, Unknown, Unreadable}
+use Rattle.nix_realise.specs.declared.verification.verified.Verified.{Verified}
+use Rattle.nix_realise.specs.declared.verification.verified.Verified.TheVariants.{Differs, Same, Unknown, Unreadable}
 
 -- the digest of a tree by a method and an algorithm: that of a file's bytes, and nothing has one
 -- else; or that of the tree's archive
 abbrev pub digest_in : Method → Algorithm → Tree → Option Digest
-digest_in Flat algorithm (File executable bytes) = Some (digest_by algorithm bytes)
-digest_in Flat algorithm tree = None
+digest_in Flat algorithm tree = archived_digest (Some algorithm) tree
 digest_in Recursive algorithm tree = Some (digest_by algorithm (nar tree))
 
 -- the tree has this digest, by its method

@@ -1,7 +1,5 @@
 -- What only private contracts and proofs cite.
 pub mod Asking
-pub mod FileDigests
-pub mod Hashing
 pub mod Inputs
 pub mod Leases
 pub mod PathReads

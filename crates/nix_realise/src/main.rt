@@ -2,26 +2,25 @@
 //!
 //! | Module | What is in it |
 //! |---|---|
-//! | `building` | the subcommand `realise` |
-//! | `asking` | the subcommands `check` and `plan`, which change nothing |
-//! | `adding` | the subcommands `add-text` and `add-drv` |
+//! | `runs` | the subcommand `realise` |
+//! | `queries` | the subcommands `check` and `plan`, which change nothing |
+//! | `additions` | the subcommands `add-text` and `add-drv` |
 //! | `archives` | the subcommands `dump`, `hash` and `restore` |
-//! | `verifying` | the subcommand `verify` |
+//! | `verification` | the subcommand `verify` |
 //! | `io` | files, folders and locks |
 //! | `words` | the words of faults, and the last lines of a run |
 //! | `cli` | the command line of the program, and how a run of it ends |
 #![tactic(auto)]
 
-mod adding;
+mod additions;
 mod archives;
-mod asking;
-mod building;
 mod cli;
 mod io;
-mod verifying;
+mod queries;
+mod runs;
+mod verification;
 mod words;
 
-pub use asking::check::check_lines;
 pub use cli::exit::{Exit, Status};
 pub use cli::process::run_process;
 pub use cli::program::{Machine, print_no_memory, refuse_words, run};
@@ -32,6 +31,7 @@ pub use io::lock_call::LockFault;
 pub use io::lock_file::{FileLock, LockRefusal};
 pub use io::locks::{LockProof, Locks, Unlocked};
 use process_build::{ProcessBuilders, ProgressLine, WithProgress};
+pub use queries::check::check_lines;
 use std::io::IsTerminal;
 use std::process::ExitCode;
 use std::rt::Env;

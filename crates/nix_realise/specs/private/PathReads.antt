@@ -9,7 +9,7 @@ use Rattle.nix_names.specs.declared.method.Method.{Method}
 use Rattle.nix_names.specs.declared.method.MethodDigest.{MethodDigest}
 use Rattle.valid_table.specs.PathInfos.{NarInfo, PathInfo}
 use Rattle.nix_realise.specs.Verifying.{HasSum, digest_in}
-use Rattle.nix_realise.specs.declared.verifying.path_read.PathRead.{PathRead}
+use Rattle.nix_realise.specs.declared.verification.path_read.PathRead.{PathRead}
 
 -- A tree was heard, and the SHA-256 and the length of its archive are these.
 pub record IsHeardWith {S : Type 0} (heard : S → List Token → S → Type 0) (before : S)

@@ -9,7 +9,7 @@ use Rattle.command_line.specs.declared.options.VerifyRequest.{VerifyRequest}
 use Rattle.nix_realise.specs.AddedText.{IsJournalOf}
 use Rattle.nix_realise.specs.Files.{FileBytes}
 use Rattle.nix_realise.specs.Verifying.{HasPaths, IsFinding, words_of}
-use Rattle.nix_realise.specs.declared.verifying.verified.Verified.{Verified}
+use Rattle.nix_realise.specs.declared.verification.verified.Verified.{Verified}
 
 -- a path is valid, and this is found of it by its record
 abbrev pub IsFound : JournalValue → Path → Verified → Type 0

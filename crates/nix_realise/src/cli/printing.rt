@@ -1,5 +1,5 @@
 //! Printing bytes and texts.
-ghost use Rattle.std.specs.Prelude.{◌≡◌, IfSome, OnOk};
+ghost use Rattle.std.specs.Prelude.{IfSome, OnOk};
 ghost use Rattle.std.specs.Io.KnownBytes.{Appends};
 
 use std::fmt::Display;

@@ -2,10 +2,10 @@
 ghost use Rattle.std.specs.Prelude.{◌≡◌};
 ghost use Rattle.nix_realise.specs.RunErrors.{row_of, words_of};
 
-use crate::building::summary::JournalOutcome;
 use crate::cli::exit::Status;
 use crate::io::journal_write::UnwrittenJournal;
 use crate::io::whole_file::WriteError;
+use crate::runs::summary::JournalOutcome;
 use FaultName::{OfArchive, OfJournal, OfName, OfNode, OfRun, Word};
 use drv_graph::NodeFault;
 use nix_names::{NameFault, StorePath};

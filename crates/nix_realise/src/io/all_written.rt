@@ -2,8 +2,8 @@
 ghost use Rattle.std.specs.Prelude.{◌≡◌};
 ghost use Rattle.nix_realise.specs.Filed.{AreFiled, IsDrvWritten};
 
-use crate::adding::added_drv::AddedDrv;
-use crate::adding::added_text::AddedText;
+use crate::additions::added_drv::AddedDrv;
+use crate::additions::added_text::AddedText;
 use crate::cli::exit::Status;
 use crate::io::journal_file::OwnJournal;
 use crate::io::whole_file::WriteReceipt;

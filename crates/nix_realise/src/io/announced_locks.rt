@@ -1,5 +1,5 @@
 //! The line that tells a terminal that a run waits for another one.
-ghost use Rattle.std.specs.Prelude.{◌≡◌, ◌++◌, OnOk, codes};
+ghost use Rattle.std.specs.Prelude.{OnOk};
 ghost use Rattle.std.specs.Io.KnownBytes.{Appends};
 ghost use Rattle.nix_realise.specs.private.Waiting.{waiting_line};
 

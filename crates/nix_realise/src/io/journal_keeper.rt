@@ -1,6 +1,6 @@
 //! The journal file, as it is written while a run goes on.
 ghost use Rattle.std.specs.Prelude.{◌≡◌, ◌≤◌, ◌<◌, IfErr, IfOk, false, length, string_bytes, true};
-ghost use Rattle.nix_realise.specs.JournalFiles.{IsUnwrittenJournal, max_journal_len};
+ghost use Rattle.nix_realise.specs.JournalFiles.{max_journal_len};
 
 use crate::io::journal_write::{UnwrittenJournal, write_journal};
 use crate::io::locks::LockProof;

@@ -1,5 +1,5 @@
 //! Whether Nix manages a store folder: one look at the database that it would manage it by.
-ghost use Rattle.std.specs.Prelude.{◌≡◌, IfErr, IfOk, false, true};
+ghost use Rattle.std.specs.Prelude.{◌≡◌, IfErr, IfOk, true};
 ghost use Rattle.std.specs.Path.{path_buf_bytes};
 ghost use Rattle.process_build.specs.Errors.{IsNoMemory};
 ghost use Rattle.nix_realise.specs.Locking.{IsAllowedBy, IsKeptOut, database_path};

@@ -2,20 +2,20 @@
 ghost use Rattle.std.specs.Prelude.{◌≡◌, ◌<◌, ◌↔◌, ◌&&◌, ◌++◌, IfOk, OnOk, flat_map, length, map};
 ghost use Rattle.nix_drv.specs.Parts.{entry_of};
 ghost use Rattle.run_report.specs.Listing.{AreWithin, IsMarked};
-ghost use Rattle.run_report.specs.declared.listing.Listed.{Listed};
+ghost use Rattle.run_report.specs.declared.report.listing.Listed.{Listed};
 ghost use Rattle.nix_realise.specs.CauseLines.{AreCauseLines, IsCauseText, IsUnsupportedIn};
 ghost use Rattle.nix_realise.specs.CauseLines.{cause_line, cause_of, first_left_out, hint_of, is_refused_so, line_with};
 ghost use Rattle.nix_realise.specs.RootsStatus.{roots_status};
 
-use crate::building::summary::roots_status;
 use crate::cli::exit::Status;
+use crate::runs::summary::roots_status;
 use crate::words::drv_line::write_front;
 use drv_graph::{Plan, Profile};
 use nix_drv::{Derivation, EnvEntry};
 use nix_names::StorePath;
 use run_report::{Listed, marked_by_path};
 use run_states::{System, is_left_out};
-use sched_core::{Book, Precondition, Refusal, standings_of, wanted_of};
+use sched_core::{Book, Precondition, Refusal, preconditions_of, wanted_of};
 use std::alloc::{AllocError, Global};
 use valid_table::{Journal, Outlet};
 
@@ -64,20 +64,21 @@ fn refused_marks(
     ensures each { IfOk result (λ marks. (d : _) → IsMarked marks.items (length plan.now.nodes) d
         ↔ IsUnsupportedIn (record { graph = plan.now; system = system.now }) opening.now.entries d) }
 {
-    let standings = standings_of(alloc, plan, opening, system)?;
-    let wanted = wanted_of(alloc, plan, &standings)?;
+    let preconditions = preconditions_of(alloc, plan, opening, system)?;
+    let wanted = wanted_of(alloc, plan, &preconditions)?;
     let mut marks = Vec::new(alloc);
     for number in 0..plan.len() {
-        marks.push(is_refused_so(wanted[number], standings[number]))?;
+        marks.push(is_refused_so(wanted[number], preconditions[number]))?;
     }
     Ok(marks)
 }
 
-// Whether a derivation that is wanted or not, and has this standing, is refused as `Unsupported`.
-fn is_refused_so(wanted: bool, standing: Precondition) -> bool
-    ensures { result ≡ (wanted && is_refused_so standing) }
+// Whether a derivation that is wanted or not, and has this precondition, is refused as
+// `Unsupported`.
+fn is_refused_so(wanted: bool, precondition: Precondition) -> bool
+    ensures { result ≡ (wanted && is_refused_so precondition) }
 {
-    wanted && matches!(standing, Precondition::Hindered(Refusal::Unsupported))
+    wanted && matches!(precondition, Precondition::Hindered(Refusal::Unsupported))
 }
 
 // Adds the lines of these derivations, which are refused so.

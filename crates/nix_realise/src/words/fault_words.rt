@@ -1,7 +1,7 @@
 //! The words by which a line names a fault: its name, and its value in parentheses.
 //!
 //! Each type of fault has one function here, which adds the words to a list of bytes.
-ghost use Rattle.std.specs.Prelude.{◌≡◌, ◌++◌, ◌∷◌, [], IfOk, OnOk, codes};
+ghost use Rattle.std.specs.Prelude.{◌≡◌, ◌++◌, IfOk, OnOk};
 ghost use Rattle.nix_realise.specs.FaultWords.{drv_fault_words, name_fault_words};
 ghost use Rattle.nix_realise.specs.FaultWords.{run_fault_words, table_fault_words};
 ghost use Rattle.nix_realise.specs.RunErrors.{stop_line, words_of};

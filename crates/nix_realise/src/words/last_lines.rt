@@ -1,14 +1,14 @@
 //! The lines that standard error gets at the end of a run of `realise`.
-ghost use Rattle.std.specs.Prelude.{◌≡◌, ◌++◌, IfOk, OnOk, codes, drop, flat_map, length};
+ghost use Rattle.std.specs.Prelude.{◌≡◌, ◌++◌, IfOk, OnOk, drop, flat_map, length};
 ghost use Rattle.process_build.specs.Options.{log_path_of};
 ghost use Rattle.run_report.specs.Listing.{AreWithin};
 ghost use Rattle.run_report.specs.Reports.{path_at};
 ghost use Rattle.nix_realise.specs.LastLines.{AreFailedLines, IsFailedText, IsLastText};
 ghost use Rattle.nix_realise.specs.LastLines.{failed_line, failed_marks, is_failed};
-ghost use Rattle.run_report.specs.declared.listing.Listed.{Listed};
+ghost use Rattle.run_report.specs.declared.report.listing.Listed.{Listed};
 
-use crate::building::summary::roots_status;
 use crate::cli::exit::Status;
+use crate::runs::summary::roots_status;
 use crate::words::cause_lines::cause_lines;
 use crate::words::drv_line::write_front;
 use crate::words::kept_lines::{KeptBuilds, kept_lines};

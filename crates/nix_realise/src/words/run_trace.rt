@@ -4,7 +4,7 @@ ghost use Rattle.nix_realise.specs.RunTraces.{IsRunTrace, lease_at, lease_end};
 ghost use Rattle.nix_realise.specs.RunTraces.{lease_of, leases_of};
 ghost use Rattle.nix_realise.specs.private.Leases.{derivation_of};
 
-use crate::building::summary::is_realised;
+use crate::runs::summary::is_realised;
 use process_build::{EndedLease, NotedTimes, trace_text};
 use sched_core::{Book, Event};
 use std::alloc::{AllocError, Global};

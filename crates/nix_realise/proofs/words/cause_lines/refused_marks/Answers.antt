@@ -3,7 +3,7 @@ use Rattle.std.proofs.lemmas.List.FromFn.{length-map-range_with_len, map-range_w
 use Rattle.std.specs.List.{range_with_len}
 use Rattle.std.specs.Prelude.{map}
 use Rattle.run_states.specs.Runs.{Run, terms_of}
-use Rattle.run_states.specs.StateTables.{AreStandings}
+use Rattle.run_states.specs.StateTables.{ArePreconditions}
 use Rattle.run_states.specs.declared.precondition.Precondition.{Precondition}
 use Rattle.run_states.specs.declared.precondition.Precondition.TheVariants.{Free}
 use Rattle.nix_realise.proofs.CauseLines.{mark_of, marks_are, read_within}
@@ -16,17 +16,18 @@ loop-number-preserved c =
     let below = c.loop-number-test.true in
     let nodes = c.len-number-end.ensures.value in
     let many = c.in_ok-wanted.ensures.count in
-    let standings = c.in_ok-standings.ensures.ok.count in
+    let preconditions = c.in_ok-preconditions.ensures.ok.count in
     let wanted = read_within c.in_ok-wanted.wanted.items n c.index.result.now false
     (omega (arith, below, nodes, many)) c.index.ensures in
-    let standing =
-    read_within c.in_ok-standings.standings.items n c.index-in-loop-number.result.now Free
-    (omega (arith, below, nodes, standings)) c.index-in-loop-number.ensures in
+    let precondition =
+    read_within c.in_ok-preconditions.preconditions.items n c.index-in-loop-number.result.now Free
+    (omega (arith, below, nodes, preconditions)) c.index-in-loop-number.ensures in
     c.in_ok-push.ensures.items
     ∙ ap₂ (λ marks mark. marks ++ mark ∷ []) c.loop-number.invariant
-    (c.is_refused_so.ensures ∙ ap₂ (λ w s. w && is_refused_so s) wanted standing)
+    (c.is_refused_so.ensures ∙ ap₂ (λ w s. w && is_refused_so s) wanted precondition)
     ∙ sym (map-range_with_len_more
-    (mark_of c.in_ok-wanted.wanted.items c.in_ok-standings.standings.items) 0 n n (omega arith))
+    (mark_of c.in_ok-wanted.wanted.items c.in_ok-preconditions.preconditions.items) 0 n n
+    (omega arith))
 
 pub returns-clause-count : goal.returns-clause-count
 returns-clause-count c =
@@ -35,14 +36,15 @@ returns-clause-count c =
     let count = c.len-number-end.ensures.value in
     ap length c.loop-number.invariant
     ∙ length-map-range_with_len
-    (mark_of c.in_ok-wanted.wanted.items c.in_ok-standings.standings.items) 0 c.loop-number.number
+    (mark_of c.in_ok-wanted.wanted.items c.in_ok-preconditions.preconditions.items) 0
+    c.loop-number.number
     ∙ omega (arith, most, least, count)
 
 pub returns-clause-each : goal.returns-clause-each
 returns-clause-each c =
     let run : Run = record { graph = c.args.plan.now; system = c.args.system.now } in
     let opening = c.args.opening.now.entries in
-    let standings : List Precondition = c.in_ok-standings.standings.items in
+    let preconditions : List Precondition = c.in_ok-preconditions.preconditions.items in
     let wanted : List Bool = c.in_ok-wanted.wanted.items in
     let most = c.loop-number-test.false in
     let least = c.loop-number.auto.number-end in
@@ -50,9 +52,10 @@ returns-clause-each c =
     let all : c.loop-number.number ≡ length c.args.plan.now.nodes =
     omega (arith, most, least, count) in
     let are_wanted = c.in_ok-wanted.ensures.ok run opening refl
-    (subst (AreStandings (terms_of run) opening run.graph.nodes) (sym c.deref.ensures.value)
-    c.in_ok-standings.ensures.ok) in
-    marks_are run opening wanted standings c.loop-number.marks.items c.in_ok-standings.ensures.ok
+    (subst (ArePreconditions (terms_of run) opening run.graph.nodes) (sym c.deref.ensures.value)
+    c.in_ok-preconditions.ensures.ok) in
+    marks_are run opening wanted preconditions c.loop-number.marks.items
+    c.in_ok-preconditions.ensures.ok
     are_wanted
     (c.loop-number.invariant
-    ∙ ap (λ n. map (mark_of wanted standings) (range_with_len 0 n)) all)
+    ∙ ap (λ n. map (mark_of wanted preconditions) (range_with_len 0 n)) all)

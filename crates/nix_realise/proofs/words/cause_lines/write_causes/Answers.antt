@@ -1,7 +1,7 @@
 use Rattle.std.proofs.Common.{◌∙◌, ℕ, List, [], ◌++◌, ap, sym}
 use Rattle.std.proofs.lemmas.Option.{get_or_from_slice_get}
 use Rattle.drv_graph.specs.Nodes.{paths_of}
-use Rattle.run_report.specs.declared.listing.Listed.{Listed}
+use Rattle.run_report.specs.declared.report.listing.Listed.{Listed}
 use Rattle.nix_realise.specs.CauseLines.{cause_if, cause_line}
 use Rattle.nix_realise.proofs.LastLines.{line_more}
 use Rattle.nix_realise.proofs.words.cause_lines.write_causes.Goals as goal

@@ -1,6 +1,6 @@
 use Rattle.std.proofs.Common.{◌≡◌, ◌++◌, List, ℕ, drop}
 use Rattle.std.specs.List.{flat_map}
-use Rattle.run_report.specs.declared.listing.Listed.{Listed}
+use Rattle.run_report.specs.declared.report.listing.Listed.{Listed}
 use Rattle.nix_realise.specs.CauseLines.{cause_line}
 use Rattle.nix_realise.proofs.words.cause_lines.write_causes.Given as goal
 

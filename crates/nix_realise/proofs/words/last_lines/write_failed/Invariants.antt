@@ -1,7 +1,7 @@
 use Rattle.std.proofs.Common.{◌≡◌, ◌++◌, List, ℕ, drop}
 use Rattle.std.specs.List.{flat_map}
 use Rattle.run_report.specs.Reports.{path_at}
-use Rattle.run_report.specs.declared.listing.Listed.{Listed}
+use Rattle.run_report.specs.declared.report.listing.Listed.{Listed}
 use Rattle.nix_realise.specs.LastLines.{failed_line}
 use Rattle.nix_realise.proofs.words.last_lines.write_failed.Given as goal
 

@@ -1,0 +1,9 @@
+use Rattle.std.proofs.Common.{take}
+use Rattle.std.specs.Prelude.{All}
+use Rattle.valid_table.specs.Entries.{registered}
+use Rattle.valid_table.specs.Valid.{IsValid}
+use Rattle.nix_realise.proofs.verification.asked_paths.stray_word.Given as goal
+
+-- the paths so far are valid
+abbrev pub invariant-loop-place : goal.invariant-loop-place
+invariant-loop-place l = All (IsValid (registered l.journal.entries)) (take l.place l.paths)
