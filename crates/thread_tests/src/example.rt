@@ -7,9 +7,9 @@ ghost use Rattle.store_run.specs.ScheduleExample.{both, in_turn, may_leave, side
 ghost use Rattle.store_run.specs.Scheduling.{AreAlike};
 
 use crate::plans::{Host, Made, SYSTEM, store_dir};
-use build_outcome::Prepared;
+use build_outcome::{Checked, Prepared, examined};
 use drv_graph::Plan;
-use nix_names::parse_path;
+use nix_names::{StorePath, parse_path};
 use ref_scan::Tree;
 use run_states::System;
 use sched_core::{Answer, Book, Build, Job, LeaseObserver, LeftOutput, Reason};
@@ -72,6 +72,17 @@ impl Build for Program {
             outputs,
         })
     }
+
+    fn run_examined(
+        &self,
+        number: u64,
+        job: &Job,
+        prepared: &Result<Prepared, Reason>,
+        permitted: &[StorePath],
+    ) -> Result<Result<Checked, Reason>, Reason> {
+        let outcome = self.run(number, job, prepared);
+        examined(self.alloc, job, permitted, outcome)
+    }
 }
 
 impl LeaseObserver for Program {
@@ -118,7 +129,7 @@ fn report_of<O: Outlet>(book: &Book<O>) -> Result<Vec<u8>, RunFault> {
     if !book.settled() {
         return Err(RunFault::ThreadFault);
     }
-    book.report().map_err(|_| RunFault::NoMemory)
+    Ok(book.report()?)
 }
 
 // The report of a run that went to its end, or why it didn't. Its book is closed.

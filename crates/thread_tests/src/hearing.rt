@@ -3,7 +3,8 @@
 ghost use Rattle.std.specs.Prelude.{⊤};
 
 use crate::plans::left;
-use build_outcome::Prepared;
+use build_outcome::{Checked, Prepared, examined};
+use nix_names::StorePath;
 use sched_core::{Answer, Build, Job, LeaseObserver, Reason};
 use std::alloc::Global;
 use std::sync::{Mutex, Wait};
@@ -182,6 +183,17 @@ impl<R: Wait + Clock> Build for Worker<'_, R> {
             }
         }
         self.behaviour.answer(self.alloc, job)
+    }
+
+    fn run_examined(
+        &self,
+        number: u64,
+        job: &Job,
+        prepared: &Result<Prepared, Reason>,
+        permitted: &[StorePath],
+    ) -> Result<Result<Checked, Reason>, Reason> {
+        let outcome = self.run(number, job, prepared);
+        examined(self.alloc, job, permitted, outcome)
     }
 }
 

@@ -1,8 +1,8 @@
 //! What workers do at the lock of a run: who holds it, who waits, and who is woken; and that it is
 //! not held for a closure.
 use crate::heard::{heard_from, heard_of};
-use crate::hearing::{Act, Acts, Behaviour, Gate, by, count, text_of, waiting};
-use crate::plans::{Host, Made, SOME, Uses, journal, plan, random_plan};
+use crate::hearing::{Act, Acts, Behaviour, Gate, by, text_of, waiting};
+use crate::plans::{Host, SOME, Uses, journal, plan, random_plan};
 use drv_graph::Plan;
 use std::alloc::Global;
 use std::test::*;
@@ -72,51 +72,6 @@ fn calls_of_each_worker(rt: HostRuntime) -> Result<(), Fail> {
             assert_eq!(rt; text.as_str(), *wanted);
         }
     }
-    Ok(())
-}
-
-// The plan of `count` derivations; each but the first uses the one before it, or the first one.
-fn line_or_star(alloc: Global, count: usize, is_line: bool) -> Result<Plan, Fail> {
-    let mut made = Made::new(alloc);
-    for number in 0..count {
-        let of = if is_line { number.wrapping_sub(1) } else { 0 };
-        made.push(alloc, &[of])?;
-    }
-    made.plan(alloc)
-}
-
-// How often 4 workers call the lock over such a plan, where three wait for the first derivation:
-// how often it is taken, and how often a worker waits, is woken, wakes one and wakes all.
-fn counts_of<R: Host>(rt: &R, alloc: Global, plan: Plan) -> Result<[usize; 5], Fail> {
-    let gates = [waiting(0, 3)];
-    let acts = acts_of(rt, alloc, plan, by(4, 0, &gates))?;
-    Ok([
-        count(&acts, Act::Lock(LockCall::Taken)),
-        count(&acts, Act::Lock(LockCall::Waits)),
-        count(&acts, Act::Lock(LockCall::Woken)),
-        count(&acts, Act::Lock(LockCall::WakesOne)),
-        count(&acts, Act::Lock(LockCall::WakesAll)),
-    ])
-}
-
-// Of a line the first worker builds all, and nobody is woken before the end. The lock is taken once
-// by each worker, and once after each derivation.
-#[test]
-fn calls_over_a_line(rt: HostRuntime) -> Result<(), Fail> {
-    let plan = line_or_star(rt.alloc(), 40, true)?;
-    assert_eq!(rt; counts_of(&rt, rt.alloc(), plan)?, [44, 3, 3, 0, 4]);
-    Ok(())
-}
-
-// Of a base with 40 users each lease but the first and the last wakes one. The lock is taken once
-// by each worker, once after each derivation, and once more by each worker that then finds nothing
-// ready, which the last one doesn't.
-#[test]
-fn calls_over_a_star(rt: HostRuntime) -> Result<(), Fail> {
-    let plan = line_or_star(rt.alloc(), 41, false)?;
-    let [taken, waits, woken, one, all] = counts_of(&rt, rt.alloc(), plan)?;
-    assert_eq!(rt; (waits, one, all), (woken, 39, 4));
-    assert!(rt; taken >= 45 && taken <= 48, "taken {taken} times");
     Ok(())
 }
 

@@ -3,20 +3,18 @@
 //!
 //! `archive EVENT ..` is the archive of the events, and `events BYTES N` tells those of an archive
 //! that comes in pieces of N bytes. `rewrite BYTES` is the archive that is written while one is
-//! read; its length and its SHA-256 are told. `altered BYTES` counts what comes of an archive in
-//! pieces of several lengths, and of those that differ a little from it, each read and written
-//! again. `archive_sum TREE` and the like are of the archive of a tree.
+//! read, with its length and its SHA-256. `archive_sum TREE` and the like are of a tree's archive.
 ghost use Rattle.std.specs.Prelude.{⊤};
 
 use crate::give::Give;
 use crate::line::{Line, halves, number_of};
-use crate::stop::{Found, Stop, Taken, call, tried};
+use crate::stop::{Found, Taken, call, tried};
 use crate::teller::Teller;
 use crate::world::World;
 use nix_archive::{ArchiveFault, ArchiveReader, ArchiveWriter, Both, DigestSink, Event, Hear};
 use ref_scan::{archive_digest, archive_into, archive_sum};
 use sha2::{Digest, Sha256, Sha512};
-use std::alloc::{AllocError, Global};
+use std::alloc::AllocError;
 
 /// Takes a line, if its call is one of these.
 pub(crate) fn take(teller: &mut Teller<'_>, world: &mut World, line: &Line<'_>) -> Found {
@@ -27,7 +25,6 @@ pub(crate) fn take(teller: &mut Teller<'_>, world: &mut World, line: &Line<'_>) 
         do "archive" => archive(teller, world, line);
         do "events" => events(teller, world, line);
         do "rewrite" => rewrite(teller, world, line);
-        do "altered" => altered(teller, world, line);
     }
 }
 
@@ -136,73 +133,4 @@ fn rewrite(teller: &mut Teller<'_>, world: &mut World, line: &Line<'_>) -> Taken
     teller.say(format_args!("{} bytes", second.sink.length));
     teller.hex(&second.sink.hasher.finalize());
     first.sink.give(teller, world, line)
-}
-
-// What comes of archives: how many are written again with the same bytes, how many may go on, and
-// how many are refused, with the sum of the places.
-type Counts = (usize, usize, usize, usize);
-
-const NONE: Counts = (0, 0, 0, 0);
-
-// Counts an archive that comes in pieces of a length.
-fn add(counts: Counts, alloc: Global, bytes: &[u8], length: usize) -> Result<Counts, Stop> {
-    let mut reader = ArchiveReader::new(alloc);
-    let mut writer = ArchiveWriter::begin(Vec::new(alloc))?;
-    let place = feed(&mut reader, bytes, length, &mut writer)?;
-    let (mut written, mut unfinished, mut refused, mut places) = counts;
-    match place {
-        Some(place) => {
-            refused = refused.saturating_add(1);
-            places = places.saturating_add(place);
-        }
-        None if !reader.is_done() => unfinished = unfinished.saturating_add(1),
-        None if writer.sink.as_slice() == bytes => written = written.saturating_add(1),
-        None => return Err(Stop::Lost("it is written again with other bytes")),
-    }
-    Ok((written, unfinished, refused, places))
-}
-
-fn tell(teller: &mut Teller<'_>, what: &str, counts: Counts) {
-    let (written, unfinished, refused, places) = counts;
-    teller.say(format_args!(
-        "{what}: {written} written, {unfinished} unfinished, {refused} refused at {places}"
-    ));
-}
-
-// The texts that end before the archive's last byte.
-fn of_cuts(alloc: Global, bytes: &[u8]) -> Result<Counts, Stop> {
-    let mut counts = NONE;
-    for end in 0..bytes.len() {
-        counts = add(counts, alloc, &bytes[..end], 5)?;
-    }
-    Ok(counts)
-}
-
-// The archives in which one bit differs.
-fn of_bits(alloc: Global, bytes: &[u8]) -> Result<Counts, Stop> {
-    const BITS: [u8; 8] = [1, 2, 4, 8, 16, 32, 64, 128];
-    let mut counts = NONE;
-    for bit in 0..bytes.len().saturating_mul(8) {
-        let mut changed = bytes.to_vec(alloc)?;
-        if let (Some(byte), Some(mask)) = (changed.get_mut(bit / 8), BITS.get(bit % 8)) {
-            *byte ^= mask;
-        }
-        counts = add(counts, alloc, &changed, 5)?;
-    }
-    Ok(counts)
-}
-
-// No call is told, since each takes memory often.
-fn altered(teller: &mut Teller<'_>, world: &World, line: &Line<'_>) -> Taken {
-    let (alloc, bytes) = (world.alloc, world.text(line.argument(0)));
-    let mut whole = NONE;
-    for length in [1, 7, 64, usize::MAX] {
-        whole = add(whole, alloc, bytes, length)?;
-    }
-    let longer = add(NONE, alloc, &[bytes, b"\0".as_slice()].concat(alloc)?, 5)?;
-    tell(teller, "in pieces", whole);
-    tell(teller, "with one bit changed", of_bits(alloc, bytes)?);
-    tell(teller, "cut", of_cuts(alloc, bytes)?);
-    tell(teller, "with a zero more", longer);
-    Ok(())
 }

@@ -22,9 +22,10 @@ use crate::teller::Teller;
 use crate::words::journals::push_known;
 use crate::words::scans::wide;
 use crate::world::World;
+use build_outcome::{HeardOutput, OutputHearer, examine_heard};
 use drv_graph::{Kind, Plan, Profile};
 use nix_names::{MethodDigest, StorePath};
-use ref_scan::Tree;
+use ref_scan::{Told as TreeTold, Tree, tell};
 use run_states::System;
 use sched_core::{
     Answer, Book, BookFault, Checked, Job, JobOutput, Lease, LeftOutput, Reason,
@@ -41,6 +42,7 @@ pub(crate) fn take(teller: &mut Teller<'_>, world: &mut World, line: &Line<'_>) 
         "permitted_beside" (reached = reached 0, job = job 2)
             => permitted_beside(world.alloc, reached, &job) => paths;
         do "examine" => examine(teller, world, line);
+        do "heard" => examine_told(teller, world, line);
         do "Book::open" => take_session(teller, world, line);
     }
 }
@@ -95,10 +97,65 @@ fn examine(teller: &mut Teller<'_>, world: &World, line: &Line<'_>) -> Taken {
     let answer = answer(world, line.arguments(2), job.outputs.len())?;
     let permitted = permitted_beside(world.alloc, Vec::new(world.alloc), &job)?;
     let verdict = examined(teller, &job, &permitted, answer);
+    tell_verdict(teller, world, verdict)
+}
+
+// `heard KIND OUTPUTS STATUS TREE..`: the same of trees that are heard, and of which none is kept.
+fn examine_told(teller: &mut Teller<'_>, world: &World, line: &Line<'_>) -> Taken {
+    let job = made_job(world, line.argument(0), line.argument(1))?;
+    let answer = answer(world, line.arguments(2), job.outputs.len())?;
+    let permitted = permitted_beside(world.alloc, Vec::new(world.alloc), &job)?;
+    let verdict = heard(teller, world.alloc, &job, &permitted, answer);
+    tell_verdict(teller, world, verdict)
+}
+
+// The records of a verdict, or its reason.
+fn tell_verdict(teller: &mut Teller<'_>, world: &World, verdict: Result<Checked, Reason>) -> Taken {
     let checked = teller.answered(verdict)?;
     let records = call!(teller, "Checked::records" => checked.records());
     teller.lines(&text_of(world.alloc, records)?);
     Ok(())
+}
+
+// The verdict on the trees of an answer to a job, each of which is heard.
+fn heard(
+    teller: &mut Teller<'_>,
+    alloc: Global,
+    job: &Job,
+    permitted: &[StorePath],
+    answer: Answer,
+) -> Result<Checked, Reason>
+    requires { IsRising permitted.now }
+{
+    let mut outputs = Vec::new(alloc);
+    for left in &answer.outputs {
+        outputs.push(match left {
+            Some(left) => Some(kept(teller, alloc, job, permitted, left)?),
+            None => None,
+        })?;
+    }
+    let status = answer.status;
+    call!(teller, "examine_heard" => examine_heard(alloc, job, permitted, status, outputs))
+}
+
+// What is kept of a tree that is told to a hearer; `ReadFault` where it has no archive.
+fn kept(
+    teller: &mut Teller<'_>,
+    alloc: Global,
+    job: &Job,
+    permitted: &[StorePath],
+    left: &LeftOutput,
+) -> Result<HeardOutput, Reason>
+    requires { IsRising permitted.now }
+{
+    let begun = call!(teller, "OutputHearer::new" => OutputHearer::new(alloc, job, permitted));
+    let mut hearer = begun?;
+    let told = call!(teller, "OutputHearer::hear" => tell(alloc, &left.tree, &mut hearer));
+    if told? == TreeTold::NoArchive {
+        return Err(Reason::ReadFault);
+    }
+    call!(teller, "OutputHearer::may_be_taken" => hearer.may_be_taken());
+    call!(teller, "OutputHearer::finish" => hearer.finish(left.others_may_write))
 }
 
 // `permitted_beside JOURNAL ROOTS OUTPUTS`: the closure of the roots.

@@ -1,5 +1,4 @@
-//! Derivations, their texts and their sources, plans, drafts and modulo texts. `Plan::load_as` and
-//! `fill_outputs_as` go by the profile `Nix`.
+//! Derivations, their texts, sources, plans and drafts. `.._as` calls go by the profile `Nix`.
 ghost use Rattle.std.specs.Prelude.{◌<◌, IfOk, length};
 
 use crate::give::{Appended, Give};
@@ -11,8 +10,8 @@ use crate::words::names::{digest_of, file_bytes};
 use crate::world::World;
 use drv_graph::{Kind, Plan, Profile, fill_outputs, fill_outputs_as, modulo_text};
 use nix_drv::{
-    Derivation, DrvSource, EnvEntry, Input, ListSource, ListedFile, Output, Parts, SourceFault,
-    check_text, named_text_path, read, references, text_path, write, write_string,
+    Derivation, DrvSource, Input, ListSource, ListedFile, Output, Parts, SourceFault, check_text,
+    named_text_path, read, references, text_path, write, write_string,
 };
 use nix_names::is_name;
 use std::alloc::{AllocError, Global};
@@ -125,16 +124,6 @@ fn parts(teller: &mut Teller<'_>, world: &mut World, line: &Line<'_>) -> Taken {
     Derivation::new(copy).give(teller, world, line)
 }
 
-// Entries with these keys, without values.
-fn entries(world: &World, words: &[&[u8]]) -> Result<Vec<EnvEntry>, AllocError> {
-    let mut entries = Vec::new(world.alloc);
-    for key in world.copies(words)? {
-        let value = Vec::new(world.alloc);
-        entries.push(EnvEntry { key, value })?;
-    }
-    Ok(entries)
-}
-
 // Leaves out the paths of the outputs, where a derivation has them.
 fn leave_out(drv: &Derivation, parts: &mut Parts) {
     for output in parts.outputs.iter_mut() {
@@ -148,13 +137,9 @@ fn leave_out(drv: &Derivation, parts: &mut Parts) {
 
 // Gives some parts in place of those of a derivation.
 fn change(world: &World, line: &Line<'_>, drv: &Derivation, parts: &mut Parts) -> Taken {
-    let words = line.arguments(2);
     match line.argument(1) {
         b"draft" => leave_out(drv, parts),
-        b"sources" => parts.sources = world.copies(words)?,
         b"builder" => parts.builder = world.text(line.argument(2)).to_vec(world.alloc)?,
-        b"args" => parts.args = world.copies(words)?,
-        b"env" => parts.env = entries(world, words)?,
         _ => {
             let other = world.drvs.get(line.argument(2))?;
             parts.inputs = other.parts().copy(world.alloc)?.inputs;

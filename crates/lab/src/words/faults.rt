@@ -122,7 +122,7 @@ impl Fault for GraphFault {
 }
 
 /// Takes a line, if its call is one of these. `faults` tells each fault but that of a reader whose
-/// writer is gone: a line that begins with the call by which the number is asked.
+/// writer is gone, by a line that begins with the call which asks for its number.
 pub(crate) fn take(teller: &mut Teller<'_>, world: &World, line: &Line<'_>) -> Found {
     if line.call != "faults" {
         return Ok(false);
@@ -140,8 +140,8 @@ const X: &[u8] = b"/nix/store/aaaaaaaaaaaaaaaaaaaaaaaaaaaaaaaa-x";
 
 const Y: &[u8] = b"/nix/store/bbbbbbbbbbbbbbbbbbbbbbbbbbbbbbbb-y";
 
-/// Tells some faults of one type, whose number is asked by a call.
-pub(crate) fn tell_all<F: Fault + Display, N: Fn(&F) -> u8>(
+// Tells some faults of one type, whose number is asked by a call.
+fn tell_all<F: Fault + Display, N: Fn(&F) -> u8>(
     teller: &mut Teller<'_>,
     call: &str,
     faults: &[F],

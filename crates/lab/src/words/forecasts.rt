@@ -10,7 +10,7 @@ use run_report::{
     Forecast, marked_by_path, write_name, write_outputs, write_path_line, write_refusal,
     write_refused, write_with_number, write_with_string, write_with_value,
 };
-use run_states::{Refusal, mark, standings_of, wanted_of};
+use run_states::{Refusal, mark, preconditions_of, wanted_of};
 
 /// Takes a line, if its call is one of these. `write_refused TEXT PLAN NUMBER WORD CAUSE` and the
 /// like add words to a kept text.
@@ -32,24 +32,24 @@ pub(crate) fn take(teller: &mut Teller<'_>, world: &mut World, line: &Line<'_>) 
             => Appended(write_with_value(word, value, &mut out), out);
         "write_with_string" (mut out = copy 0, word = text 1, value = text 2)
             => Appended(write_with_string(word, value, &mut out), out);
-        do "standings" => standings(teller, world, line);
+        do "preconditions" => preconditions(teller, world, line);
         do "marked" => marked(teller, world, line);
         do "forecast" => forecast(teller, world, line);
     }
 }
 
-// `standings PLAN JOURNAL SYSTEM`: how the derivations stand, and which are wanted.
-fn standings(teller: &mut Teller<'_>, world: &World, line: &Line<'_>) -> Taken {
+// `preconditions PLAN JOURNAL SYSTEM`: how the derivations stand, and which are wanted.
+fn preconditions(teller: &mut Teller<'_>, world: &World, line: &Line<'_>) -> Taken {
     let plan = world.plans.get(line.argument(0))?;
     let journal = world.journals.get(line.argument(1))?;
     let system = system(teller, world, line)?;
-    let standings = tried!(teller, "standings_of" =>
-        standings_of(world.alloc, plan, journal, &system))?;
-    if standings.len() != plan.len() {
-        return Err(Stop::Lost("too few standings"));
+    let preconditions = tried!(teller, "preconditions_of" =>
+        preconditions_of(world.alloc, plan, journal, &system))?;
+    if preconditions.len() != plan.len() {
+        return Err(Stop::Lost("too few preconditions"));
     }
-    let wanted = tried!(teller, "wanted_of" => wanted_of(world.alloc, plan, &standings))?;
-    teller.say(format_args!("{standings:?}"));
+    let wanted = tried!(teller, "wanted_of" => wanted_of(world.alloc, plan, &preconditions))?;
+    teller.say(format_args!("{preconditions:?}"));
     teller.say(format_args!("{wanted:?}"));
     Ok(())
 }

@@ -4,8 +4,7 @@
 //! archive (`HASH:SIZE`) are left out if there is none, and the outputs of a derivation as
 //! `DERIVER : PATH .. / PATH ..`. A version is `1`, `3`, or else 2.
 //!
-//! `Journal::append_each J` is a journal to which each entry of another one was added or appended,
-//! and `outlet J ENTRY` opens an outlet with a journal, in which an entry waits and is published.
+//! `outlet J ENTRY` opens an outlet with a journal, in which an entry waits and is published.
 ghost use Rattle.std.specs.Prelude.{◌≡◌, ◌≤◌, ◌++◌, IsTrue, length};
 ghost use Rattle.valid_table.specs.Entries.{registered_by};
 ghost use Rattle.valid_table.specs.Valid.{HasDrvPath};
@@ -19,7 +18,7 @@ use crate::words::names::digest_of;
 use crate::words::tables::{check_reference, tell_obstacle};
 use crate::world::World;
 use nix_names::{MethodDigest, is_drv_name};
-use std::alloc::{AllocError, Global};
+use std::alloc::AllocError;
 use valid_table::{
     Entry, Journal, ListOutlet, Nar, Outlet, Outputs, Record, Registration, TableFault, Version,
     write_lines,
@@ -37,7 +36,6 @@ pub(crate) fn take(teller: &mut Teller<'_>, world: &mut World, line: &Line<'_>) 
             => journal.write_in(world.alloc, version).map(Lines);
         "write_lines" (entries = entries 0, version = version 3)
             => write_lines(world.alloc, version, entries).map(Lines);
-        do "Journal::append_each" => append_each(teller, world, line);
         do "Journal::add" | "Journal::append" => add(teller, world, line);
         do "Journal::push_reserved" => push_reserved(teller, world, line);
         do "Record::new" => record(teller, world, line);
@@ -46,26 +44,6 @@ pub(crate) fn take(teller: &mut Teller<'_>, world: &mut World, line: &Line<'_>) 
         do "Entry::copy" => copy(teller, world, line);
         do "outlet" => outlet(teller, world, line);
     }
-}
-
-fn append_each(teller: &mut Teller<'_>, world: &mut World, line: &Line<'_>) -> Taken {
-    let mut entries = Vec::new(world.alloc);
-    for entry in world.journals.get(line.argument(0))?.entries() {
-        entries.push(entry.copy(world.alloc)?)?;
-    }
-    let answer = call!(teller, "Journal::append often" => journal_of(world.alloc, entries));
-    answer.give(teller, world, line)
-}
-
-// A journal to which these entries were added.
-fn journal_of(alloc: Global, entries: Vec<Entry>) -> Result<Journal, TableFault> {
-    let mut journal = Journal::new(alloc);
-    for entry in entries {
-        if let Some(answer) = added(&mut journal, entry) {
-            answer?;
-        }
-    }
-    Ok(journal)
 }
 
 // The answer of a journal to an entry; none where its deriver has no derivation's name.

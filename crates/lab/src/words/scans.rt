@@ -1,7 +1,7 @@
 //! Trees, scans and scanners, and the texts of which large ones are made.
 //!
-//! `zeros N` and `numbered TEMPLATE FIRST END HEAD` are texts; `file_tree`, `pieces`, `program`, `link`,
-//! `folder`, `wide` and `nested` are trees. A folder takes its trees: they are not kept any more.
+//! `numbered TEMPLATE FIRST END HEAD` is a text; `file_tree`, `pieces`, `program`, `link`, `folder`,
+//! `wide` and `nested` are trees. A folder takes its trees: they are not kept any more.
 //! `Scanner PATH .. : PIECE .. / PIECE ..` feeds a scanner for the paths, with cuts between pieces.
 
 use crate::give::Give;
@@ -19,7 +19,6 @@ pub(crate) fn take(teller: &mut Teller<'_>, world: &mut World, line: &Line<'_>) 
     words! { teller, world, line;
         "Tree::fits" (tree = trees 0) => (tree.fits(),);
         "scan" (permitted = rising 1, tree = trees 0) => scan(world.alloc, tree, &permitted);
-        keep "zeros" (count = number 0) => vec![in world.alloc; 0; count]?;
         keep "numbered" => numbered(world, line)?;
         keep "file_tree" (text = copy 0) => Tree::File(text);
         keep "program" (texts = copies 0) => Tree::Executable(texts);

@@ -7,7 +7,6 @@ use crate::give::Give;
 use crate::line::Line;
 use crate::stop::{Found, Stop, Taken, call, take_lines, tried};
 use crate::teller::Teller;
-use crate::words::faults::tell_all;
 use crate::world::World;
 use std::alloc::{AllocError, Global};
 use std::marker::Brand;
@@ -229,20 +228,5 @@ fn ask<J: ListId>(
         "closure" as "ViewReader::closure" (roots = paths 1)
             => reader.closure(world.alloc, &roots);
         "seen" as "ViewReader::seen Prefix::len" => (reader.seen().len(),);
-        do "fault" => fault(teller, world, line, reader);
     }
-}
-
-// Tells the fault of a reader whose writer is gone.
-fn fault<J: ListId>(
-    teller: &mut Teller<'_>,
-    world: &World,
-    line: &Line<'_>,
-    reader: &mut ViewReader<J>,
-) -> Taken {
-    if let Err(fault) = reader.look(&world.path(line.argument(1))?) {
-        let faults = [fault];
-        tell_all(teller, "ViewFault::number", &faults, |it| it.number())?;
-    }
-    Ok(())
 }
