@@ -11,14 +11,14 @@ from scenes import quoted, room  # It lets the modules of bench be found.
 from derivations import made, write_fixed
 from store_paths import make_path, text_path
 
-MAX_JOURNAL = 134217728
-DERIVATIONS = 65536
-INPUTS = 50000
+MAX_JOURNAL, DERIVATIONS, INPUTS = 134217728, 65536, 50000
 ROOM = 3 * 2**29  # What the largest group of cases writes, with a good deal over.
 FIRST = b"realiser-journal 2\n"
 TWIN = b"twin\n"  # What each fixed output is.
 digest_of = lambda data: "sha256:" + hashlib.sha256(data).hexdigest()
 used = lambda path: f'("{path}",["out"])'  # An input derivation of which `out` is used.
+outputs = lambda names, paths: ",".join(f'("{it}","{paths.get(it, "")}","","")' for it in names)
+leaves = lambda place, count, script_of: [Row(place, n, script=script_of(n)) for n in range(count)]
 # The lines that register some paths without digests and references.
 added = lambda paths: "".join(f"A {path} -\n" for path in paths).encode()
 
@@ -63,13 +63,9 @@ def text_of(outputs='("out","","","")', inputs="", sources="", args="", env=""):
     return f"{front}[{args}],[{env}])".encode()
 
 
-def most(part, element):
-    """How many elements of one length, given as a text, a derivation of 4 MiB has as this part."""
-    return (MAX_DRV - len(text_of(**{part: ""})) + 1) // (len(element) + 1)
-
-
-def filled(part, count, element_of):
-    return text_of(**{part: ",".join(element_of(number) for number in range(count))})
+# How many elements of one length, given as a text, a derivation of 4 MiB has as this part.
+most = lambda part, element: (MAX_DRV - len(text_of(**{part: ""})) + 1) // (len(element) + 1)
+filled = lambda part, count, each: text_of(**{part: ",".join(map(each, range(count)))})
 
 
 def listed_in(place, sources=(), drvs=()):
@@ -125,10 +121,6 @@ def chain(place, source):
     return rows
 
 
-def leaves(place, count, script_of):
-    return [Row(place, number, script=script_of(number)) for number in range(count)]
-
-
 def hub(place, rows):
     """A derivation with as many of these as inputs as 4 MiB hold, 50,000 at most."""
     count = (MAX_DRV - 2000) // (max(len(used(row.path)) for row in rows) + 1)
@@ -167,49 +159,32 @@ def picture(rows, roots):
 
 def with_outputs(place, names, text):
     """A draft of outputs, whose text is made of their paths; the filled text, and the paths."""
-    modulo = hashlib.sha256(text({}, True)).hexdigest()
+    modulo = hashlib.sha256(text({})).hexdigest()
     path_of = lambda name: make_path(f"output:{name}", modulo, place.folder, f"many-{name}")
     paths = {name: path_of(name) for name in names}
-    return text({}, False), text(paths, False), list(paths.values())
+    return text({}), text(paths), list(paths.values())
 
 
-def outputs(names, paths):
-    return ",".join(f'("{name}","{paths.get(name, "")}","","")' for name in names)
-
-
-def wide(place, rows):
-    """A draft of 64 outputs with these inputs; the filled text, and the outputs' paths in order."""
-    names = [f"o{number}" for number in range(10, 74)]
-    of = lambda is_modulo: sorted(row.modulo if is_modulo else row.path for row in rows)
-    inputs = lambda is_modulo: ",".join(map(used, of(is_modulo)))
-    text = lambda paths, is_modulo: text_of(outputs(names, paths), inputs(is_modulo))
-    return with_outputs(place, names, text)
+def referring(place, source, own, front, back=""):
+    """A draft whose output refers to a source, by what its builder finds as the output's path, and
+    which has more entries; the filled text, and the output's path."""
+    words = f'"-c",{quoted(f"echo {source} > {own}")}'
+    env = lambda paths: f'{front},("o","{paths.get("o", "")}"){back}'
+    parts = lambda paths: {"sources": quoted(source), "args": words, "env": env(paths)}
+    return with_outputs(place, ["o"], lambda paths: text_of(outputs(["o"], paths), **parts(paths)))
 
 
 def listing(place, listed, source):
-    """A draft whose output refers to a source, and may reach the listed paths; the filled text, and
-    the output's path. The list is too long for a variable, and goes into a file."""
-    words = f'"-c",{quoted(f"echo {source} > $o")}'
-    front, back = (
-        f'("allowedRequisites","{" ".join(listed)}")',
-        '("passAsFile","allowedRequisites")',
-    )
-    env = lambda paths: f'{front},("o","{paths.get("o", "")}"),{back}'
-    parts = lambda paths: {"sources": quoted(source), "args": words, "env": env(paths)}
-    text = lambda paths, _: text_of(outputs(["o"], paths), **parts(paths))
-    return with_outputs(place, ["o"], text)
+    """One that may reach the listed paths: too long for a variable, they go into a file."""
+    listed = f'("allowedRequisites","{" ".join(listed)}")'
+    return referring(place, source, "$o", listed, ',("passAsFile","allowedRequisites")')
 
 
 def limited(place, source, limit):
-    """A draft of structured attributes whose output refers to a source, and whose closure may have
-    so many bytes; the filled text, and the output's path."""
-    own = r"""/bin/sed 's/.*"outputs":{"o":"\([^"]*\)".*/\1/' .attrs.json"""
-    words = f'"-c",{quoted(f"echo {source} > $({own})")}'
+    """One of structured attributes, whose closure may have so many bytes."""
+    own = r"""$(/bin/sed 's/.*"outputs":{"o":"\([^"]*\)".*/\1/' .attrs.json)"""
     checks = quoted(f'{{"outputChecks":{{"o":{{"maxClosureSize":{limit}}}}}}}')
-    env = lambda paths: f'("__json",{checks}),("o","{paths.get("o", "")}")'
-    parts = lambda paths: {"sources": quoted(source), "args": words, "env": env(paths)}
-    text = lambda paths, _: text_of(outputs(["o"], paths), **parts(paths))
-    return with_outputs(place, ["o"], text)
+    return referring(place, source, own, f'("__json",{checks})')
 
 
 # What makes the outputs of `many_outputs`: each has the paths of so many before it.
@@ -224,8 +199,7 @@ for number, path in enumerate(paths):
 
 
 def many_outputs(place, count, variables=0):
-    """A draft of so many outputs, which refer to one another, and of so many variables more; the
-    filled text, and the outputs' paths in order."""
+    """A draft of outputs that refer to one another, and of variables; its text, and the paths."""
     names = [f"o{number:04d}" for number in range(count)]
     others = [f'("v{number:06d}","")' for number in range(variables)]
     writer = WRITER.replace("COUNT", str(count)).replace("BEFORE", str(BEFORE))
@@ -233,7 +207,7 @@ def many_outputs(place, count, variables=0):
     args = f'"-c",{quoted(f"exec {sys.executable} {file}")}'
     named = lambda paths: [f'("{name}","{paths.get(name, "")}")' for name in names]
     env = lambda paths: ",".join([*named(paths), *others])
-    text = lambda paths, _: text_of(outputs(names, paths), args=args, env=env(paths))
+    text = lambda paths: text_of(outputs(names, paths), args=args, env=env(paths))
     return with_outputs(place, names, text)
 
 

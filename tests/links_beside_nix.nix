@@ -21,18 +21,13 @@ in {
     # A shared library's links, and a link of one output to another.
     library = run "library" [ "out" "dev" ] ''
       mkdir -p $out/lib $dev/lib $dev/include
-      echo code > $out/lib/libx.so.1.2
-      chmod +x $out/lib/libx.so.1.2
-      ln -s libx.so.1.2 $out/lib/libx.so.1
-      ln -s libx.so.1 $out/lib/libx.so
-      ln -s $out/lib/libx.so $dev/lib/libx.so
-      echo declared > $dev/include/x.h
+      echo code > $out/lib/libx.so.1.2; chmod +x $out/lib/libx.so.1.2
+      ln -s libx.so.1.2 $out/lib/libx.so.1; ln -s libx.so.1 $out/lib/libx.so
+      ln -s $out/lib/libx.so $dev/lib/libx.so; echo declared > $dev/include/x.h
     '';
     program = one "program" ''
-      mkdir -p $out/bin
-      echo run path ${library}/lib > $out/bin/program
-      chmod 700 $out/bin/program
-      ln -s program $out/bin/alias
+      mkdir -p $out/bin; echo run path ${library}/lib > $out/bin/program
+      chmod 700 $out/bin/program; ln -s program $out/bin/alias
     '';
 
     # Outputs that are links: to a file, to a folder, to nothing, to another output, to themselves.
@@ -52,10 +47,8 @@ in {
     within = one "within" "ln -s x${part library}y $out";
     upper = one "upper" "ln -s $(echo ${part library} | tr a-z A-Z) $out";
     split = one "split" ''
-      mkdir $out
-      part=${part library}
-      printf %.16s $part > $out/a
-      ln -s ''${part#????????????????} $out/b
+      mkdir $out; part=${part library}
+      printf %.16s $part > $out/a; ln -s ''${part#????????????????} $out/b
     '';
 
     # A package of links alone, and a link to that.

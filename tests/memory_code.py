@@ -38,9 +38,9 @@ FRONT = rf"fn \w+ {AFTER_NAME}"
 WANT = rf"(?:\w+ :: )+(?:{VARIANTS})"
 CONVERSION = (
     r"impl (?:< T : Drop > )?From < (?P<of>AllocError|AllocFailed < T >) > for (?P<to>\w+)"
-    rf"(?: < '_ >)? (?P<impl>\d+)\{{ (?:ghost use [^;]*; )?ghost from_gives = {block('gives')} ;"
-    r" fn from \( _\w* : (?P=of) \) -> (?:Self|(?P=to)) \d+\{ "
-    rf"(?P=to) :: (?:{VARIANTS}) \d+\}} (?P=impl)\}}"
+    rf"(?: < '_ >)? (?P<impl>\d+)\{{ (?:ghost use [^;]*; )*ghost from_gives = {block('gives')} ;"
+    r" fn from \( \w+ : (?P=of) \) -> (?:Self|(?P=to)) \d+\{ "
+    rf"(?P=to) :: (?:(?:{VARIANTS})|\w+ \( \w+ :: from \( \w+ \) \)) \d+\}} (?P=impl)\}}"
 )
 # Attributes, of which `error` has a text that std's formatting fills by the fields alone; ghost
 # items; and clauses of functions.

@@ -26,6 +26,8 @@ process_build/src/failures.rt from
     # an error of std's without a number of the system's is that std was refused memory
 process_build/src/disk/outputs.rt most_below | Profile :: Nix => usize :: MAX , # no limit under nix
 process_build/src/disk/outputs.rt new | Profile :: Nix => ( usize :: MAX , usize :: MAX ) , # the same
+process_build/src/disk/removal.rt push_folders | names_at ( rt , folder , usize :: MAX ) # the same
+process_build/src/walk/tree_walk.rt most_names | _ => usize :: MAX , # the same
 valid_table/src/nar.rt new | if size > i64 :: MAX as u64 { # no length of an archive is as great
 process_build/src/disk/kept_folders.rt note_suffix
     | kept . resize ( number . checked_add ( 1 ) . ok_or ( AllocError ) ? , None ) ?
@@ -37,7 +39,7 @@ process_build/src/process/processes.rt may_have_run
 command_line/src/faults.rt - | name : "!" # the name of a fault, in the table of all of them
 command_line/src/arguments.rt cores | . range ( 0 ..= 65_535 ) # the numbers that an option takes
 nix_realise/src/archives/input.rt read_archive | [ 0 ; PIECE ] # the bytes of a piece, 65,536
-nix_realise/src/building/tools.rt processors | unwrap_or ( u16 :: MAX ) # no size: a number told
+nix_realise/src/runs/tools.rt processors | unwrap_or ( u16 :: MAX ) # no size: a number told
 nix_realise/src/cli/program.rt print_usage
     | if fault . kind ( ) == ErrorKind :: OutOfMemory { return print_no_memory ( err ) ; }
     # clap was refused memory
@@ -51,11 +53,10 @@ nix_realise/src/cli/program.rt print_no_line
     # what the call means
 nix_realise/src/cli/program.rt print_no_memory | print_bytes ( NO_MEMORY_LINE , err )
     # what the call means
-nix_realise/src/building/summary.rt journal_bytes | map_err ( | _ | AllocError )
+nix_realise/src/runs/summary.rt journal_bytes | map_err ( | _ | AllocError )
     # the only fault of the call is want of memory
-nix_realise/src/building/summary.rt report_of | map_err ( | _ | AllocError ) # the same
 nix_realise/src/cli/program.rt report | Err ( _ ) => Err ( RunError :: NoMemory ) # the same
-nix_realise/src/building/realise.rt keep
+nix_realise/src/runs/realise.rt keep
     | Err ( refused ) => JournalOutcome :: no_memory ( refused )
     # the only fault of the call is want of memory
 nix_realise/src/cli/process.rt run_process | Err ( _ ) => print_no_memory ( err )
@@ -84,8 +85,8 @@ process_build/src/disk/outputs.rt - | [ u8 ; MAX_PIECE ] # the bytes of a piece,
 process_build/src/disk/outputs.rt new | [ 0 ; MAX_PIECE ] # the same
 process_build/src/disk/outputs.rt names | [ 0 ; NAMES_AT_ONCE ] # 4,096 bytes of names
 process_build/src/disk/left_paths.rt left_paths | [ 0 ; NAMES_AT_ONCE ] # the same
-process_build/src/walk/telling.rt - | [ u8 ; MAX_PIECE ] # the bytes of a piece, 65,536
-process_build/src/walk/telling.rt new | [ 0 ; MAX_PIECE ] # the same
+process_build/src/walk/tree_walk.rt - | [ u8 ; MAX_PIECE ] # the bytes of a piece, 65,536
+process_build/src/walk/tree_walk.rt new | [ 0 ; MAX_PIECE ] # the same
 process_build/src/walk/entry_names.rt read_names | [ 0 ; NAMES_AT_ONCE ] # 4,096 bytes of names
 process_build/src/observe/counts.rt new | unsettled : usize :: MAX # no size: no count reaches it
 process_build/src/observe/time.rt micros_of | unwrap_or ( u64 :: MAX )

@@ -1,5 +1,4 @@
-"""Derivations and journals read apart from the program, by docs/FORMATS.md alone: what scripts
-compare the program's answers with."""
+"""Reads derivations and journals apart from the program, by docs/FORMATS.md alone."""
 
 import re
 
@@ -13,8 +12,7 @@ DIGITS = {b"md5": 32, b"sha1": 40, b"sha256": 64, b"sha512": 128}
 FIELDS = {b"1": 1, b"2": 1, b"3": 2}  # after the path, in A and O lines, by versions
 NAR = re.compile(rb"[0-9a-f]{64}:(0|[1-9][0-9]*)\Z")
 MAX_DRV = 4194304
-# The parts of a derivation: strings, tuples and lists. The first strings of a list's elements rise,
-# but where None follows the element.
+# The parts of a derivation: strings, tuples and lists, which rise but where None follows.
 PARTS = [[(str, str, str, str)], [(str, [str])], [str], str, str, [str, None], [(str, str)]]
 name_of = lambda path: path.rsplit(b"/", 1)[1][33:]
 
@@ -192,8 +190,7 @@ def faults_of(entries, numbers):
 
 
 def journal_of(folder, text):
-    """A journal's text as it is written, in version 3 where that is needed, else in version 2; and
-    the valid paths; else what is wrong."""
+    """A journal's text as it is written, in version 2 or, where needed, 3; and the valid paths."""
     rows = [row for entry in entries_of(folder, text) for row in entry]
     needs = any(row[3] not in (None, b"-") or (row[2] or b"").startswith(b"r:") for row in rows)
     fields = ([part for part in row[: 4 if needs else 3] if part is not None] for row in rows)

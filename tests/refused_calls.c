@@ -377,12 +377,15 @@ CALL(int, fsync, (int fd), "sync", path_of(fd, 0, room), SYS_fsync, fd)
 CALL(int, fdatasync, (int fd), "sync", path_of(fd, 0, room), SYS_fdatasync, fd)
 CALL(int, fchmod, (int fd, mode_t mode), "permissions", path_of(fd, 0, room), SYS_fchmod, fd, mode)
 CALL(int, chmod, (const char *path, mode_t mode), "permissions", path, SYS_chmod, path, mode)
+CALL(int, futimens, (int fd, const struct timespec times[2]), "times", path_of(fd, 0, room),
+     SYS_utimensat, fd, 0, times, 0)
 CALL(int, flock, (int fd, int how), "lock", path_of(fd, 0, room), SYS_flock, fd, how)
 CALL(int, unlink, (const char *path), "remove", path, SYS_unlink, path)
 CALL(int, rmdir, (const char *path), "remove", path, SYS_rmdir, path)
 CALL(int, unlinkat, (int dir, const char *name, int flags), "remove", path_of(dir, name, room),
      SYS_unlinkat, dir, name, flags)
 CALL(int, mkdir, (const char *path, mode_t mode), "make-folder", path, SYS_mkdir, path, mode)
+CALL(int, symlink, (const char *target, const char *path), "link", path, SYS_symlink, target, path)
 CALL(int, statx, (int dir, const char *path, int flags, unsigned mask, struct statx *found), "look",
      path_of(dir, path, room), SYS_statx, dir, path, flags, mask, found)
 CALL(ssize_t, readlink, (const char *path, char *bytes, size_t count), "read-link", path,

@@ -31,6 +31,7 @@ class Plan(Scene):
     # Whether the first derivation is realised before, and those that are built then.
     is_begun, builds = False, ()
     users = ("second",)  # Those that use the first.
+    entries_of = lambda self, name: self.entries  # What an environment has besides.
     good = lambda self: (0, self.report(dict.fromkeys(SCRIPTS, "build")), "")
 
     def prepare(self):
@@ -47,10 +48,6 @@ class Plan(Scene):
             run([self.program, "realise", "--store-dir", self.store, self.drv["first"]])
             for path in (str(self.journal), *self.paths["first"]):
                 self.old_files[os.path.basename(path)] = open(path).read()
-
-    def entries_of(self, name):
-        """What the environment of a derivation has besides."""
-        return self.entries
 
     def command(self):
         places = {"TRACE": self.folder / "trace", "LOGS": self.logs, "BUILD": self.build}
@@ -143,8 +140,7 @@ class Realise(Plan):
         return "journal tried" if self.made_beside(own) == 1 else "journal written"
 
     def moves_to(self, calls, at, is_before):
-        """What other workers moved to the name of a refused rename; or only what they did before
-        the call's thread looked at it again."""
+        """What others moved to the name of a refused rename; or before the thread's next look."""
         call, end = calls[at], len(calls)
         if call.kind != "rename":
             return []
@@ -299,8 +295,7 @@ class RealiseByRunner(Realise):
 
 
 class RealiseUnderNix(RealiseByRunner):
-    """The same under the profile `nix`, with a file that is passed, a link, and a folder for build
-    folders, in which the first name is taken."""
+    """The same under `nix`, with a passed file, a link, and build folders of which one is taken."""
 
     name = "realise under nix"
     options = (*RealiseByRunner.options, *"--profile nix --build-dir BUILD --cores 3".split())
@@ -335,8 +330,7 @@ class RealiseUnderNix(RealiseByRunner):
 
 
 class RealiseOfGraphs(Realise):
-    """`realise` of what asks for graphs of references: the second by structured attributes, with
-    checks."""
+    """`realise` of what asks for graphs: the second by structured attributes, with checks."""
 
     name, has_calls, users = "realise of graphs", False, ("second", "third")
     options = (*Realise.options, *"--profile nix --build-dir BUILD".split())
@@ -370,8 +364,7 @@ class RealiseFailing(RealiseByRunner):
         return [name for name in super().rest(found, stands) if not name.startswith(".build-")]
 
 
-BEGUN = {"has_calls": False, "is_begun": True}
-TRACED = ("--trace", "TRACE", "--jobs", "2")
+BEGUN, TRACED = {"has_calls": False, "is_begun": True}, ("--trace", "TRACE", "--jobs", "2")
 SCENES = [
     *ALL,
     Plan,

@@ -4,8 +4,10 @@ is stated of it. Those of `plan` and `realise` stand in `refused_runs.py`."""
 import hashlib
 import os
 import re
+import shutil
 
-from scenes import LOCK, contents, draft, empty, put, snapshot, text_path
+from scenes import HERE, LOCK, contents, draft, empty, put, run, snapshot, text_path
+from store_paths import base32
 
 # What is told where a call is refused: the status, standard output, and what follows the program's
 # name on standard error. `ever` stands for what an undisturbed run tells.
@@ -14,6 +16,7 @@ TOLD = {
     "bad": (2, "bad", ""),
     "file": (2, "", "FILE: Unreadable"),
     "derivation": (2, "", "DRV: Unreadable"),
+    "no archive": (2, "", "input: Unreadable"),
     "unread": (3, "", "journal: Unreadable"),
     "unwritten": (3, "", "journal: Unwritable"),
     "unlocked": (3, "", "STORE: Unwritable"),
@@ -30,17 +33,24 @@ TOLD = {
     "ReadFault": (1, "report", ""),
 }
 WRITING = "look create permissions write sync rename"
-READING = "look open read"
+READING, OF_TREES = "look open read", "read-link open-folder list"
+MAKING = "look make-folder create write permissions link"
 # The scenes, the kinds of call, where the call was made; what is told, and what stands then: the
 # old files, the new ones, the new text beside the old journal (text), outputs that the old journal
 # does not know (outputs), all but what needs the derivation (less), the old files and a temporary
 # one that could not be removed (left), the new ones and a folder that should be gone (moved).
 ROWS = [
-    ("check", READING, "derivation", "bad", "old"),
+    ("check verify", READING, "derivation", "bad", "old"),
+    ("verify", OF_TREES, "derivation", "bad", "old"),
+    ("dump hash", f"{READING} {OF_TREES}", "file", "file", "old"),
+    ("restore", "read", "", "no archive", "old"),
+    ("restore", MAKING, "file", "no derivation", "old"),
+    ("restore", MAKING, "file of what is cut short", "ever", "old"),
+    ("restore", "look open-folder list remove", "what was made", "ever", "left"),
     ("add-text add-drv words", "open read", "file", "file", "old"),
     ("add-text realise", "create lock", "lock", "unlocked", "old"),
-    ("add-text plan realise", READING, "journal read", "unread", "old"),
-    ("check add-text plan help", "print", "", "unprinted", "old"),
+    ("add-text plan realise verify", READING, "journal read", "unread", "old"),
+    ("check add-text plan help dump hash verify", "print", "", "unprinted", "old"),
     ("add-text", WRITING, "path", "no text", "old"),
     ("add-text", WRITING, "journal written", "unregistered", "text"),
     ("add-drv plan realise", READING, "derivation", "derivation", "old"),
@@ -66,19 +76,21 @@ ROWS = [
     ("realise", "look rename open-folder list remove", "folder aside", "ever", "moved"),
     ("realise", "make-folder create write permissions open spawn", "start", "NoStart", "less"),
     ("realise", "wait", "end", "ReadFault", "less"),
-    ("realise", READING + " permissions read-link open-folder list", "output", "ReadFault", "less"),
+    ("realise", f"{READING} {OF_TREES} permissions times", "output", "ReadFault", "less"),
     ("realise", "look open-folder remove", "build folder", "ever", "new"),
     ("realise", WRITING, "journal written", "unwritten", "outputs"),
     ("realise", WRITING, "journal kept", "ever", "new"),
-    ("words", "tell", "", "untold", "old"),
+    ("words restore", "tell", "", "untold", "old"),
 ]
-JOURNAL = "realiser-journal"
-FIRST_LINE = "realiser-journal 2\n"
+JOURNAL, FIRST_LINE = "realiser-journal", "realiser-journal 2\n"
 DOTTED = re.compile(r"\.nix_realise-(left-)?\d+(/|$)|\.build-\d+(/|$)")
 # What stands after a run that may leave temporary files: nothing is stated, or each file is whole.
 LEAVES = (None, "whole", "left", "moved")
 KEPT_FOLDERS = (".build-9", "other")
 KEPT_FILES = (".nix_realise-7", ".build-9/file", "other/file", "file")
+# An archive that Nix wrote, of folders with a file, a program and a link; its digest; a name.
+ARCHIVE = (HERE / "archives/deep.nar").read_bytes()
+DIGEST, NAME = hashlib.sha256(ARCHIVE).hexdigest(), "a" * 32 + "-tree"
 MET = set()
 # The same scene with another name, and with other settings.
 variant = lambda kind, name, **more: type(name, (kind,), {"name": name, **more})
@@ -105,10 +117,10 @@ class Scene:
     """A store folder with files that no run may touch, and a command."""
 
     subcommand = name = ""
-    # Whether calls of the system are refused to it too, so that all that it tells is stated;
-    # whether standard error is a terminal.
+    # Whether calls are refused to it too, and all is stated; whether standard error is a terminal.
     has_calls, is_shown = True, False
     is_raced = False  # Whether two workers' calls were made in another order than they were logged.
+    stdin, trees = b"", {}  # What standard input gives; archives whose trees stand before a run.
     # The words after the folder's option; where a call is made; whether a next run tells the same.
     command = lambda self: []
     place_of = lambda self, calls, at: ""
@@ -116,6 +128,11 @@ class Scene:
     # What an undisturbed run tells; none if that is not stated.
     good = lambda self: (0, self.path + "\n", "")
     found = lambda self: snapshot(self.store)  # All that stands where a run writes.
+    begin_again = lambda self: None  # What is done before the next run.
+    # Whether a call opens the journal, which may be gone by then: it counts as empty; or makes or
+    # opens the file that is locked, or asks for its lock.
+    is_of_journal = lambda self, call: call.kind == "open" and call.path == str(self.journal)
+    is_of_lock = lambda self, call: call.kind == "lock" or call.path == f"{self.store}/{LOCK}"
     # The orders that are possible of the refused call and those of other workers.
     races = lambda self, calls, at: [False]
 
@@ -153,15 +170,9 @@ class Scene:
             path.parent.mkdir(exist_ok=True, parents=True)
             path.write_text(text)
             path.chmod(0o640 if name in self.old_files else 0o644)
+        for name, archive in self.trees.items():
+            run([self.program, "restore", self.store / name], input=archive)
         self.laid, self.left = self.found(), set()
-
-    def is_of_journal(self, call):
-        """Whether a call opens the journal, which may be gone by then: it counts as empty."""
-        return call.kind == "open" and call.path == str(self.journal)
-
-    def is_of_lock(self, call):
-        """Whether a call makes or opens the file that is locked, or asks for its lock."""
-        return call.kind == "lock" or call.path == f"{self.store}/{LOCK}"
 
     def made_beside(self, calls):
         """How many files these calls make, but for the file that is locked."""
@@ -231,9 +242,14 @@ class Check(Scene):
     """`check` of two derivations."""
 
     subcommand = name = "check"
+    bad, ends = 2, ["run: Unwritable"]  # The status where one is bad, and the other faults.
     command = lambda self: self.drvs
-    place_of = lambda self, calls, at: "derivation" if calls[at].path in self.drvs else ""
+    place_of = lambda self, calls, at: "derivation" if self.read_at(calls[at]) else ""
     good = lambda self: (0, "".join(f"ok {path}\n" for path in self.drvs), "")
+
+    def read_at(self, call):
+        """What the command reads by a call."""
+        return next((it for it in self.drvs if f"{call.path}/".startswith(f"{it}/")), None)
 
     def prepare(self):
         for name in ("one", "two"):
@@ -241,21 +257,81 @@ class Check(Scene):
 
     def told_of(self, told, calls=(), at=None):
         if told == "bad" and at is not None:
-            bad = calls[at].path
+            bad = self.read_at(calls[at])
             rows = [f"bad {p}: Unreadable\n" if p == bad else f"ok {p}\n" for p in self.drvs]
-            return 2, "".join(rows), ""
+            return self.bad, "".join(rows), ""
         return super().told_of(told, calls, at)
 
     def is_stated(self, told):
         rows = [f"(ok {re.escape(p)}|bad {re.escape(p)}: Unreadable)\n" for p in self.drvs]
-        if told[0] in (0, 2) and not told[2]:
-            return re.fullmatch("".join(rows), told[1]) and (told[0] == 2) == ("bad" in told[1])
-        return told[0] == 3 and told[1] == "" and told[2] in ("", "nix_realise: run: Unwritable\n")
+        if told[0] in (0, self.bad) and not told[2]:
+            return re.fullmatch("".join(rows), told[1]) and (told[0] > 0) == ("bad" in told[1])
+        ends = ["", *(f"nix_realise: {end}\n" for end in self.ends)]
+        return told[0] == 3 and told[1] == "" and told[2] in ends
+
+
+class Verify(Check):
+    """`verify` of a tree and of a file by a journal."""
+
+    subcommand = name = "verify"
+    bad, ends = 1, [*Check.ends, "journal: Unreadable"]
+    command = lambda self: []
+
+    def prepare(self):
+        self.trees = {NAME: ARCHIVE}
+        self.drvs = [f"{self.store}/{name}" for name in (NAME, "b" * 32 + "-file")]
+        digest = f"r:sha256:{DIGEST} {DIGEST}:{len(ARCHIVE)}"
+        flat = f"sha256:{hashlib.sha256(b'text').hexdigest()} -"
+        text = f"realiser-journal 3\nA {self.drvs[0]} {digest}\nA {self.drvs[1]} {flat}\n"
+        self.old_files = {JOURNAL: text, os.path.basename(self.drvs[1]): "text"}
+
+    def place_of(self, calls, at):
+        is_journal = calls[at].path == str(self.journal)
+        return "journal read" if is_journal else super().place_of(calls, at)
+
+
+class Dump(Scene):
+    """`dump` of a tree."""
+
+    subcommand = name = "dump"
+    trees = {NAME: ARCHIVE}
+    words = lambda self: [self.program, self.subcommand, self.path]
+    good = lambda self: (0, ARCHIVE.decode(errors="surrogateescape"), "")
+    place_of = lambda self, calls, at: "file" if calls[at].path.startswith(self.path) else ""
+
+    def prepare(self):
+        self.file, self.path = self.store / NAME, f"{self.store}/{NAME}"
+
+
+class Restore(Dump):
+    """`restore` of a tree."""
+
+    subcommand = name = "restore"
+    trees, stdin = {}, ARCHIVE
+    good = lambda self: (0, "", "")
+    # What is told of an archive without its last eight bytes.
+    cut = property(lambda self: (2, "", f"nix_realise: {self.path}: BadNar({len(ARCHIVE) - 8})\n"))
+    begin_again = lambda self: shutil.rmtree(self.path, ignore_errors=True)
+
+    def place_of(self, calls, at):
+        # All of the archive comes at once, and then its end.
+        if not (place := super().place_of(calls, at)) or self.stdin == ARCHIVE:
+            return place
+        is_ended = [call.kind for call in calls[:at]].count("read") == 2
+        return "what was made" if is_ended else "file of what is cut short"
+
+    def strays(self, found, stands):
+        if isinstance(stands, dict):
+            return super().strays(found, stands)
+        of_tree = lambda some: {it: some[it][:2] for it in some if it.split("/")[0] == NAME}
+        made, whole = of_tree(found), of_tree(self.last)
+        rest = {name: entry for name, entry in found.items() if name not in made}
+        wanted = {"old": {}, "whole": {}, "new": whole, "moved": whole or made}.get(stands, made)
+        return super().strays(rest, stands) + ([] if made == wanted else [NAME])
 
 
 class AddText(Scene):
-    """`add-text` over an old file and a journal with an entry; or of a path that is valid, where no
-    file is changed."""
+    """`add-text` over an old file and a journal; or of a valid path, where no file is changed."""
 
     subcommand = name = "add-text"
     is_old, is_valid, held = True, False, JOURNAL
@@ -334,9 +410,7 @@ class Words(Scene):
     given, told = [], None
     good = lambda self: self.told
     place_of = lambda self, calls, at: "file" if calls[at].path == str(self.file) else ""
-
-    def prepare(self):
-        self.file.write_text("a text\n")
+    prepare = lambda self: self.file.write_text("a text\n")
 
     def words(self):
         places = {"STORE": str(self.store), "FILE": str(self.file)}
@@ -348,8 +422,14 @@ ELSEWHERE = ["check", "--store-dir", "store", "x"]
 WRONG = (2, "", "nix_realise: a/name: BadName\n")
 FOLDER = (2, "", "nix_realise: store: BadStoreDir\n")
 VERSION = (0, "nix_realise 0.1.0\n", "")
+HASHED = (0, f"sha256:{base32(bytes.fromhex(DIGEST))} {len(ARCHIVE)}\n", "")
 ALL = [
     Check,
+    Verify,
+    Dump,
+    variant(Dump, "hash", subcommand="hash", good=lambda self: HASHED),
+    Restore,
+    variant(Restore, "restore, cut short", stdin=ARCHIVE[:-8], good=lambda self: self.cut),
     AddText,
     variant(AddText, "add-text, no journal", is_old=False),
     AddTextRelative,

@@ -61,6 +61,8 @@ class Refusing:
 class Sweep:
     """The runs over one scene, and what was wrong in them."""
 
+    once = lambda self, env=None: run(self.scene.words(), env=env, input=self.scene.stdin)
+
     def __init__(self, refusing, scene, folder):
         self.refusing, self.scene = refusing, scene
         self.log = folder / f"log of {scene.name}"
@@ -71,7 +73,7 @@ class Sweep:
         self.scene.lay()
         self.log.unlink(missing_ok=True)
         self.runs += 1
-        told = self.shown(env) if self.scene.is_shown else run(self.scene.words(), env=env)
+        told = self.shown(env) if self.scene.is_shown else self.once(env)
         lines = self.log.read_text(errors="surrogateescape") if self.log.exists() else ""
         return told, lines.splitlines()
 
@@ -99,7 +101,8 @@ class Sweep:
         scene = self.scene
         if stray := scene.strays(scene.found(), stands):
             self.blame(what, "there is", stray)
-        status, out, err = run(scene.words())
+        scene.begin_again()
+        status, out, err = self.once()
         if status != scene.ample[0] or not scene.is_again(out):
             self.blame(what, "the next run ended with", status, out, err)
         if stray := scene.strays(scene.found(), scene.last):

@@ -26,8 +26,7 @@ PARTS = {
     "first calls": lambda calls, count: calls[:count],
     "last calls": lambda calls, count: calls[-count:],
 }
-LABELS = {"before", "calls by path", *PARTS}
-NUMBERS = {"most"}
+LABELS, NUMBERS = {"before", "calls by path", *PARTS}, {"most"}
 REFUSE = re.compile(r"\brefuse (E[A-Z]+)\b")
 # Whether a step is a run with the library.
 needs_library = lambda step: bool(LABELS & set(step.texts) or NUMBERS & set(step.numbers))

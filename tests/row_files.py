@@ -20,7 +20,7 @@ last word stands for all values that are left. All files have the texts and scen
 has each row taken once with each value: a word, or the numbers `1..9`; in a row it has that row
 taken so. `for <A> <B> => <C>` does so with each line below it, which has values divided as the
 words are. The last one before `=>` and at the end may have several words, and `\\n` in it ends a
-line. Below `for <A> <B> in` the lines are also divided by `; `.
+line. Below `for <A> <B> in`, and below `for <WORD> in`, the lines are also divided by `; `.
 """
 
 import collections
@@ -198,9 +198,11 @@ def with_values(text, values):
 class Row(collections.namedtuple("Row", "file name texts steps")):
     """A row: its file, its name, the words of the file with their texts, and its steps."""
 
-    def full_name(self):
-        """The names of the file and of the row."""
-        return f"{self.file.stem}::{self.name}"
+    full_name = lambda self: f"{self.file.stem}::{self.name}"
+
+    def is_named(self, name):
+        """Whether it has this name, with that of its file or without, whatever its words are."""
+        return any(f"{it}, ".startswith(f"{name}, ") for it in (self.name, self.full_name()))
 
     def settled(self):
         """The same row, whose runs have the answers that its words give."""
@@ -211,7 +213,7 @@ class Row(collections.namedtuple("Row", "file name texts steps")):
         """The same row with each value of the words of a `for`."""
         word, *words = step.words
         below = step.texts.get("", "")
-        if words[:1] == ["in"]:
+        if words[:1] == ["in"] and words[1:]:
             numbers = lambda ends: " ".join(map(str, range(int(ends[1]), int(ends[2]) + 1)))
             values = NUMBERED.sub(numbers, " ".join([*words[1:], below])).split()
             lines = [(f"{word} = {value}", {word: value}) for value in values]
@@ -271,8 +273,7 @@ class Reading:
             self.scenes[name] = [word.strip("<>") for word in words], self.steps
 
     def read_below(self, number, line):
-        """Reads a line that stands below a step, or that is a call right below the name of a row. A
-        text of calls is read as its lines."""
+        """Reads a line below a step, or a call below the name of a row; texts of calls by lines."""
         if self.last is None:
             self.last = Step(number, "lab")
             self.steps.append(self.last)
@@ -357,6 +358,5 @@ def reading_of(file, used=None):
     return reading
 
 
-def rows_of(file):
-    """The rows of a file."""
-    return reading_of(file, reading_of(file.with_name("words"))).given()
+# The rows of a file.
+rows_of = lambda file: reading_of(file, reading_of(file.with_name("words"))).given()

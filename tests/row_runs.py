@@ -11,12 +11,12 @@ bytes and refuses the next, with `err room N` standard error does; with `too muc
 with each room that is less than this text's. `limit N` is the greatest size of a file, and `ignore
 N` an ignored signal.
 
-`sh` has a shell take the text below, above the store folder; `nix_realise` is the program there,
-and a command that fails ends it. `start NAME WORD..` lets a run go on, and `await NAME` waits for
-its end. `goes-on NAME` sees that it has not ended, and `kill NAME H` kills it after H hundredths of
-the time that the run before took. `until PATH` waits until something stands there. `quickest H`
-sees that a run on a terminal has ended within H hundredths of a second. After `as-user` no run is
-the superuser's.
+`sh` has a shell take the text below, above the store folder; `nix_realise` is the program there, a
+command that fails ends it, and `fails N WORD..` wants one to fail with this status. `start NAME
+WORD..` lets a run go on, and `await NAME` waits for its end. `goes-on NAME` sees that it has not
+ended, and `kill NAME H` kills it after H hundredths of the time that the run before took. `until
+PATH` waits until something stands there. `quickest H` sees that a run on a terminal has ended
+within H hundredths of a second. After `as-user` no run is the superuser's.
 """
 
 import collections
@@ -40,6 +40,7 @@ from scenes import Fault, expect, told, until
 MOST_SECONDS, SOME_SECONDS = 120, 0.3
 # The greatest size of a file, at the end of which a stream of a run has little room.
 GREATEST_FILE = 2**30
+FAILS = 'fails() { n=$1; shift; if "$@"; then return 99; else test $? = $n; fi; }'  # For `sh`.
 NOBODY = 65534  # The user who is not the superuser.
 # What clears a line of a terminal, and a line that is cut at the last column.
 CLEAR, CUT = "\r\x1b[K", re.compile(r"\x1b\[\?7l(.*)\x1b\[\?7h")
@@ -181,7 +182,7 @@ def take_run(scene, step):
 
 def take_shell(scene, step):
     """Has a shell take a script, and compares what it writes and its status."""
-    head = f'export LC_ALL=C; nix_realise() {{ "{scene.program}" "$@"; }}\n'
+    head = f'export LC_ALL=C; nix_realise() {{ "{scene.program}" "$@"; }}\n{FAILS}\n'
     words = ["/bin/sh", "-e", "-c", head + scene.text(step)]
     compare(scene, step, Run(scene, words, step).ended())
 

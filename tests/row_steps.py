@@ -41,8 +41,7 @@ from scenes import HERE, LOCK, Fault, draft, expect, outputs_in, snapshot, told
 from store_paths import make_path, text_path
 
 WORD = re.compile(r"<[^<>\s]+>")
-# How many numbers are tried at most for an order of paths. Each gives the order of two paths in one
-# of two cases, and that of three in one of six.
+# How many numbers are tried for an order of paths: of two that comes in one of two cases.
 MOST_TRIES = 64
 ORDER = "<lesser>", "<greater>"
 WINDOW = 10  # How far before one of many derivations those may be that it uses.
@@ -59,6 +58,10 @@ is_kind = lambda kind: on_paths(lambda path: expect(kind, kind_of(path)))
 
 class Scene:
     """A store folder below a folder, in which the program runs."""
+
+    text = lambda self, step, label="": self.said(step.texts.get(label, ""))  # A text of a step.
+    # Takes a step. Fails where something else comes of it than it says.
+    take = lambda self, step: TAKEN[step.kind](self, step)
 
     def __init__(self, program, folder, texts, library=None):
         self.program, self.folder, self.texts = program, folder, texts
@@ -101,14 +104,6 @@ class Scene:
         if WORD.search(path):
             raise Fault("a path", path)
         return self.folder / path
-
-    def text(self, step, label=""):
-        """A text of a step."""
-        return self.said(step.texts.get(label, ""))
-
-    def take(self, step):
-        """Takes a step. Fails where something else comes of it than it says."""
-        TAKEN[step.kind](self, step)
 
     def put(self, name, word, text):
         """Puts the derivation of a draft into the store folder, and names its paths by a word."""

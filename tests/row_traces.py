@@ -47,4 +47,3 @@ def faults_of(found, rows, seconds):
         (begin, end), (start, last) = spans[one], spans[other]
         if found[one]["tid"] == found[other]["tid"] and begin < last and start < end:
             yield f"{one}: at the time of {other} by the same worker"
-

@@ -8,8 +8,7 @@ import subprocess
 from reading import entries_of
 from scenes import HERE, draft, expect, put, run
 
-RUNNERS = HERE.parent / "examples/runners"
-DRAFTS = HERE.parent / "examples/drafts"
+RUNNERS, DRAFTS = HERE.parent / "examples/runners", HERE.parent / "examples/drafts"
 # The store folder that the drafts of the demo name.
 DEMO_PATH = re.compile(r"/tmp/nufreld-demo/store/[0-9a-z]{32}-([A-Za-z0-9+._?=-]+)")
 
@@ -17,17 +16,22 @@ DEMO_PATH = re.compile(r"/tmp/nufreld-demo/store/[0-9a-z]{32}-([A-Za-z0-9+._?=-]
 class Scene:
     """A program, a store folder, and a folder outside of it."""
 
+    expect = lambda self, what, wanted, got: expect(f"{what}\n{wanted}", f"{what}\n{got}")
+
     def __init__(self, program, folder):
         self.program, self.folder = program, pathlib.Path(folder)
         self.store, self.outside = self.folder / "store", self.folder / "outside"
         self.store.mkdir()
         self.outside.mkdir()
         self.journal = self.store / "realiser-journal"
+        self.options = ()  # Of each run.
 
-    def put(self, name, script, inputs=(), more=(), builder="/bin/sh"):
-        """Puts a derivation, whose script has the folder outside as $F; its path and output's."""
+    def put(self, name, script, inputs=(), more=(), builder="/bin/sh", fixed=""):
+        """Puts a derivation, whose script has the folder outside as $F, and whose output may have a
+        SHA-256; its path and output's."""
         used, known = [(path, "out") for path in inputs], [("F", str(self.outside)), *more]
         text = draft(script, inputs=used, builder=builder, more=known)
+        text = text.replace('"","")', f'"sha256","{fixed}")', 1) if fixed else text
         path, outputs = put(self.program, self.store, name, text)
         return path, outputs["out"]
 
@@ -35,12 +39,12 @@ class Scene:
         return [self.program, subcommand, "--store-dir", str(self.store), *map(str, more)]
 
     def run(self, runner, paths, *options, begin=b""):
-        """What a run prints, and its status; by a runner where one is given. It finds no journal,
-        so that it builds all, if none is given."""
+        """What a run prints, and its status, by a runner and over a journal, if any are given."""
         self.journal.unlink(missing_ok=True)
         if begin:
             self.journal.write_bytes(begin)
         given = ["--runner", runner] if runner else []
+        given += self.options
         status, out, err = run(self.words("realise", *given, *options, *paths))
         return f"{out}{err}status {status}\n"
 
@@ -49,9 +53,6 @@ class Scene:
         path, output = self.put(name, script, **more)
         self.expect(what, report(path, output, reason), self.run(runner, [path]))
         return path, pathlib.Path(output)
-
-    def expect(self, what, wanted, got):
-        expect(f"{what}\n{wanted}", f"{what}\n{got}")
 
     def entries(self):
         rows = sorted(entries_of(str(self.store).encode(), self.journal.read_bytes()))

@@ -2,8 +2,6 @@
 
 import contextlib
 import errno
-import importlib.machinery
-import importlib.util
 import os
 import pathlib
 import shutil
@@ -15,10 +13,9 @@ import time
 
 HERE = pathlib.Path(__file__).resolve().parent
 sys.path.insert(0, str(HERE.parent / "bench"))
+from program import PROGRAM, built, lab_program, module_at  # noqa: E402,F401
 from store_paths import text_path  # noqa: E402,F401
 
-BUILT = HERE.parent / "crates/nix_realise/out/nix_realise"
-LAB = HERE.parent / "crates/lab/out/lab"
 PATH = ("PATH", "/usr/sbin:/usr/bin:/sbin:/bin")
 MEMORY = "/dev/shm"
 LOCK = ".nix_realise-lock"  # The file of a store folder that is locked.
@@ -27,8 +24,6 @@ CHANGED_MEANWHILE = "ENOENT ENOTDIR ENAMETOOLONG EINVAL ELOOP EISDIR".split()
 number_of = lambda words, name, default: int(option(words, name) or default)
 # Kinds, permissions and what is held, without numbers and times.
 contents = lambda found: {name: entry[:2] for name, entry in found.items()}
-# The path of `lab`: that of the variable LAB, or the one that was built here.
-lab_program = lambda: built(os.environ.get("LAB", LAB), "cd crates/lab && rt run")
 
 
 class Fault(Exception):
@@ -65,26 +60,10 @@ def whole(text):
     return lines + ([last + " (without an end of line)"] if last else [])
 
 
-def module_at(name):
-    """A script of this repository as a module. Nothing is kept of it beside the script."""
-    sys.dont_write_bytecode = True
-    loader = importlib.machinery.SourceFileLoader("script", str(HERE.parent / name))
-    module = importlib.util.module_from_spec(importlib.util.spec_from_loader("script", loader))
-    loader.exec_module(module)
-    return module
-
-
-def built(path, how):
-    program = pathlib.Path(path).resolve()
-    if not os.access(program, os.X_OK):
-        sys.exit(f"{program} is not there: build it by ({how})")
-    return str(program)
-
-
 def program_of(words):
     """The program's path: the first word that is no option, else the one that was built here."""
     given = [word for word in words if not word.startswith("--")]
-    return built(given[0] if given else BUILT, "cd crates/nix_realise && rt run -- --help")
+    return built(given[0] if given else PROGRAM, "cd crates/nix_realise && rt run -- --help")
 
 
 def room(need=2**28):
