@@ -1,6 +1,8 @@
-"""Finds the program that measures, runs programs, and reads what was measured."""
+"""Finds the programs, runs them, and reads what was measured. `tests/` uses it too."""
 
 import collections
+import importlib.machinery
+import importlib.util
 import os
 import re
 import subprocess
@@ -9,6 +11,7 @@ import tempfile
 import time
 
 TOP = os.path.dirname(os.path.dirname(os.path.abspath(__file__)))
+PROGRAM = os.path.join(TOP, "crates", "nix_realise", "out", "nix_realise")
 # A call that was measured: its name, the nanoseconds that it took, and the lines that tell its
 # answer. The calls of a line that tells none of them are one without a name.
 Call = collections.namedtuple("Call", "name nanos told")
@@ -17,13 +20,36 @@ BEGINS, ENDS, TOOK = (
 )
 
 
+def module_at(name):
+    """A script of this repository as a module. Nothing is kept of it beside the script."""
+    sys.dont_write_bytecode = True
+    loader = importlib.machinery.SourceFileLoader("script", os.path.join(TOP, name))
+    module = importlib.util.module_from_spec(importlib.util.spec_from_loader("script", loader))
+    loader.exec_module(module)
+    return module
+
+
+def built(path, how):
+    """The whole path of a program that is built by hand. Ends where it is not there."""
+    program = os.path.realpath(path)
+    if not os.access(program, os.X_OK):
+        sys.exit(f"{program} is not there: build it by ({how})")
+    return program
+
+
 def lab_program():
     """The path of `lab`, whose lines call the libraries: the value of LAB, or what is built by
     hand, as the program of a run is."""
-    program = os.environ.get("LAB") or os.path.join(TOP, "crates", "lab", "out", "lab")
-    if not os.path.exists(program):
-        sys.exit("build the program first: (cd crates/lab && rt run)")
-    return program
+    place = os.environ.get("LAB") or os.path.join(TOP, "crates", "lab", "out", "lab")
+    return built(place, "cd crates/lab && rt run")
+
+
+def own_seconds(pid):
+    """The processor time of a process, also of one that has ended and was not waited for, without
+    that of its children."""
+    with open(f"/proc/{pid}/stat", encoding="ascii", errors="replace") as file:
+        fields = file.read().rpartition(")")[2].split()
+    return (int(fields[11]) + int(fields[12])) / os.sysconf("SC_CLK_TCK")
 
 
 def measured(command, script="", **options):
@@ -45,12 +71,11 @@ def measured(command, script="", **options):
     return printed, passed, usage.ru_maxrss * 1024
 
 
-def calls_of(*script):
-    """The calls that `lab` makes by these lines, and the most memory that it held. What is told
-    before the first call is left out."""
-    printed, _, memory = measured(
-        [lab_program(), "--times"], "".join(f"{line}\n" for line in script)
-    )
+def calls_of(*script, program=None):
+    """The calls that `lab`, or another one, makes by these lines, and the most memory that it held.
+    What is told before the first call is left out."""
+    lines = "".join(f"{line}\n" for line in script)
+    printed, _, memory = measured([program or lab_program(), "--times"], lines)
     calls, name = [], ""
     for line in printed.splitlines():
         if match := ENDS.fullmatch(line):
