@@ -141,6 +141,25 @@ def unlisted():
                 yield f"PROVED.md does not list {it.crate}::{it.module} {it.name}, which no clause binds"
 
 
+def made_up():
+    """The functions of which PROVED.md says what they could make up, and the tests that it and
+    SECURITY.md name, that are not there."""
+    proved, secure = ((TOP / f"docs/{it}.md").read_text() for it in ("PROVED", "SECURITY"))
+    table = proved.split("| Function | What it could make up | Test |")[1].split("\n\n")[0]
+    lines = [line.split("|") for line in table.splitlines()[2:]]
+    found = (it for crate in program_crates() for it in functions_of(crate))
+    known = {it.name.rpartition("::")[2] for it in found}
+    for name in re.findall(r"`(\w+)`", " ".join(line[1] for line in lines)):
+        if name not in known:
+            yield f"PROVED.md: no function has the name {name}"
+    rows = "\n".join(path.read_text() for path in sorted((TOP / "tests/rows").glob("*.rows")))
+    known = {*re.findall(r"(?m)^== (\S+)", rows), *(it.name for it in (TOP / "tests").iterdir())}
+    named = [line[3] for line in lines] + re.findall(r"\bTests?: ([^.]*)\.", secure)
+    for name in re.findall(r"`(?:tests/)?([\w-]+)`", " ".join(named)):
+        if name not in known:
+            yield f"PROVED.md or SECURITY.md: no test has the name {name}"
+
+
 def unnamed():
     """The laws that PROVED.md does not name."""
     text = (TOP / "docs/PROVED.md").read_text()

@@ -196,7 +196,7 @@ class Definitions:
         """The number of the line at which a definition begins, or None."""
         heads = (
             rf"(?:abbrev |unfoldable )?pub (?:record |data )?{re.escape(name)}(?![\w'])",
-            rf"  (?:pub )?{re.escape(name)} :",
+            rf"  (?:pub )?(?:data )?{re.escape(name)} :",
         )
         return next(
             (at for head in heads for at, it in enumerate(self.lines) if re.match(head, it)), None
