@@ -1,255 +1,276 @@
--- What the limits leave after the tokens of a tree.
-use Rattle.std.proofs.Common.{◌≡◌, ◌∙◌, ◌≤◌, ◌<◌, ℕ, suc, ◌+◌, ◌-◌, ◌^◌, max, true, ◌||◌, nat_lt, Option, Some, None, List, [], ◌∷◌, ◌++◌, ⊎_elim, length, map, refl, ap, sym, subst, append_assoc, arith, ltb-true, ltb-false, lt-ltb, le-ltb, inl, inr}
-use Rattle.std.specs.Prelude.{◌↔◌, ◌≢◌}
-use Rattle.std.proofs.lemmas.Bool.{cases_Bool, cases_lt, cond-false, cond-true, or_cases, or_from, or_parts}
+-- What the tokens of a tree count.
+use Rattle.std.proofs.Common.{◌≡◌, ◌∙◌, ◌≤◌, ℕ, ◌+◌, ◌-◌, ◌^◌, max, List, [], ◌∷◌, ◌++◌, length, map, refl, ap, sym, subst, append_assoc, arith, inl, inr}
+use Rattle.std.proofs.lemmas.Bool.{cases_lt}
+use Rattle.std.specs.Prelude.{◌↔◌}
+use Rattle.std.proofs.lemmas.List.Sums.{sum_by-append, sum_by-cons, sum_by_push}
 use Rattle.nix_archive.specs.Tokens.{Token, FolderBegun, EntryBegun, EntryEnded, FolderEnded, FileBegun, FileByte, FileEnded, LinkTo, tokens_of, tokens_among}
 use Rattle.nix_archive.specs.Trees.{Bytes, Tree as Archived, Entries, File, Link, Folder, NoEntries, Entry}
 use Rattle.ref_scan.specs.ArchivedTrees.{KeepsLimits, archived_bytes, archived_depth, archived_entries, bytes_of_entries, count_of_entries, depth_of_entries}
-use Rattle.ref_scan.specs.Counting.{CountsHearLimits, CountsStayPast, beside, counted_by, counted_one, entered, limits, returned}
-use Rattle.ref_scan.specs.private.HearingLaws.{counted_after}
-use Rattle.ref_scan.specs.declared.hearing.tree_counts.Allowance.{Allowance}
+use Rattle.ref_scan.specs.Counting.{AreCountsOf, CountsHearLimits, CountsStayPast, CountsTellLimits, IsWithin, KeepWithin, bytes_at, bytes_heard, deepest_from, entries_at, entries_heard, in_64_bits, level_after, level_at}
+use Rattle.ref_scan.specs.declared.hearing.tree_counts.TreeCounts.{TreeCounts}
 
-abbrev allowance : (entries bytes levels : ℕ) → Allowance
-allowance entries bytes levels = record { entries = entries; bytes = bytes; levels = levels }
+-- ---- tokens behind others
 
--- ---- nothing left stays so
+level_least : (l : ℕ) (ts : List Token) → l ≤ deepest_from l ts
+level_least l [] = omega arith
+level_least l (t ∷ ts) = omega arith
 
-none_one : (t : Token) → counted_one t None ≡ None
-none_one FolderBegun = refl
-none_one (EntryBegun name) = refl
-none_one EntryEnded = refl
-none_one FolderEnded = refl
-none_one (FileBegun executable size) = refl
-none_one (FileByte byte) = refl
-none_one (FileEnded size) = refl
-none_one (LinkTo target) = refl
+level_most : (l : ℕ) (ts : List Token) → level_after l ts ≤ deepest_from l ts
+level_most l [] = omega arith
+level_most l (t ∷ ts) = omega (arith, level_most (level_at l t) ts)
 
-pub none_more : (ts : List Token) → counted_by ts None ≡ None
-none_more [] = refl
-none_more (t ∷ ts) = ap (counted_by ts) (none_one t) ∙ none_more ts
+level_both : (l : ℕ) (xs ys : List Token)
+    → level_after l (xs ++ ys) ≡ level_after (level_after l xs) ys
+level_both l [] ys = refl
+level_both l (x ∷ xs) ys = level_both (level_at l x) xs ys
 
--- ---- a piece
+deepest_both : (l : ℕ) (xs ys : List Token) → deepest_from l (xs ++ ys)
+    ≡ max (deepest_from l xs) (deepest_from (level_after l xs) ys)
+deepest_both l [] ys = omega (arith, level_least l ys)
+deepest_both l (x ∷ xs) ys = omega (arith, deepest_both (level_at l x) xs ys)
 
--- what is left beside bytes that fit in, and beside more
-beside_fit : (n : ℕ) (s : Allowance) → n ≤ s.bytes
-    → beside n (Some s) ≡ Some (record s { bytes = s.bytes - n })
-beside_fit n s le = cond-false (nat_lt s.bytes n) None
-    (Some (record s { bytes = s.bytes - n })) (le-ltb s.bytes n le)
+-- Tokens count so many entries and bytes, lead so many levels down, and back.
+pub record Measures (ts : List Token) (e b d : ℕ) : Type 0 where
+  pub entries : entries_heard ts ≡ e
+  pub bytes : bytes_heard ts ≡ b
+  pub level : (l : ℕ) → level_after l ts ≡ l
+  pub deepest : (l : ℕ) → deepest_from l ts ≡ l + d
 
-beside_past : (n : ℕ) (s : Allowance) → s.bytes < n → beside n (Some s) ≡ None
-beside_past n s lt = cond-true (nat_lt s.bytes n) None
-    (Some (record s { bytes = s.bytes - n })) (lt-ltb s.bytes n lt)
+measure_none : Measures [] 0 0 0
+measure_none = record {
+  entries = refl;
+  bytes = refl;
+  level = λ l. refl;
+  deepest = λ l. omega arith;
+}
 
-beside_none : (left : Option Allowance) → beside 0 left ≡ left
-beside_none None = refl
-beside_none (Some s) =
-    let same : s.bytes - 0 ≡ s.bytes = omega arith in
-    beside_fit 0 s (omega arith) ∙ ap (λ n. Some (record s { bytes = n })) same
+measure_both : (xs ys : List Token) (e b d e' b' d' : ℕ) → Measures xs e b d → Measures ys e' b' d'
+    → Measures (xs ++ ys) (e + e') (b + b') (max d d')
+measure_both xs ys e b d e' b' d' h k = record {
+  entries = omega (arith, sum_by-append entries_at xs ys, h.entries, k.entries);
+  bytes = omega (arith, sum_by-append bytes_at xs ys, h.bytes, k.bytes);
+  level = λ l. level_both l xs ys ∙ ap (λ n. level_after n ys) (h.level l) ∙ k.level l;
+  deepest = λ l.
+      let behind : deepest_from (level_after l xs) ys ≡ l + d' =
+      ap (λ n. deepest_from n ys) (h.level l) ∙ k.deepest l in
+      omega (arith, deepest_both l xs ys, behind, h.deepest l);
+}
 
-beside_later : (n : ℕ) (s : Allowance) → 1 ≤ s.bytes
-    → beside n (beside 1 (Some s)) ≡ beside (suc n) (Some s)
-beside_later n s le =
-    let one : Allowance = record s { bytes = s.bytes - 1 } in
-    ap (beside n) (beside_fit 1 s le)
-    ∙ elim (cases_lt s.bytes (suc n)) [
-      | inl lt ↦ beside_past n one (omega (arith, lt)) ∙ sym (beside_past (suc n) s lt)
-      | inr fit ↦
-          let same : s.bytes - 1 - n ≡ s.bytes - suc n = omega arith in
-          beside_fit n one (omega (arith, fit)) ∙ ap (λ m. Some (record s { bytes = m })) same
-          ∙ sym (beside_fit (suc n) s fit)
-    ]
+-- a token that leads to no other level
+pub measure_one : (t : Token) → ((l : ℕ) → level_at l t ≡ l)
+    → Measures (t ∷ []) (entries_at t) (bytes_at t) 0
+measure_one t stays = record {
+  entries = omega arith;
+  bytes = omega arith;
+  level = stays;
+  deepest = λ l. omega (arith, stays l);
+}
 
-beside_more : (n : ℕ) (left : Option Allowance) → beside n (beside 1 left) ≡ beside (suc n) left
-beside_more n None = refl
-beside_more n (Some s) = elim (cases_lt s.bytes 1) [
-  | inl lt ↦ ap (beside n) (beside_past 1 s lt) ∙ sym (beside_past (suc n) s (omega (arith, lt)))
-  | inr le ↦ beside_later n s le
-]
+pub measure_bytes : (bytes : Bytes) → Measures (map FileByte bytes) 0 (length bytes) 0
+measure_bytes [] = measure_none
+measure_bytes (b ∷ bs) =
+    let same : 1 + length bs ≡ length (b ∷ bs) = omega arith in
+    subst (λ (n : ℕ). Measures (map FileByte (b ∷ bs)) 0 n 0) same
+    (measure_both (FileByte b ∷ []) (map FileByte bs) 0 1 0 0 (length bs) 0
+    (measure_one (FileByte b) (λ l. refl)) (measure_bytes bs))
 
-pub piece_counted : (bytes : Bytes) (left : Option Allowance)
-    → counted_by (map FileByte bytes) left ≡ beside (length bytes) left
-piece_counted [] left = sym (beside_none left)
-piece_counted (b ∷ bs) left =
-    piece_counted bs (beside 1 left) ∙ beside_more (length bs) left
+-- an entry, with what stands under its name
+measure_entry : (name : Bytes) (ts : List Token) (e b d : ℕ) → Measures ts e b d
+    → Measures (EntryBegun name ∷ (ts ++ EntryEnded ∷ [])) (1 + e) b (1 + d)
+measure_entry name ts e b d h = record {
+  entries = omega (
+    arith,
+    sum_by-cons entries_at (EntryBegun name) (ts ++ EntryEnded ∷ []),
+    sum_by-append entries_at ts (EntryEnded ∷ []),
+    h.entries,
+  );
+  bytes = omega (
+    arith,
+    sum_by-cons bytes_at (EntryBegun name) (ts ++ EntryEnded ∷ []),
+    sum_by-append bytes_at ts (EntryEnded ∷ []),
+    h.bytes,
+  );
+  level = λ l. omega (arith, level_both (l + 1) ts (EntryEnded ∷ []), h.level (l + 1));
+  deepest = λ l. omega (
+    arith,
+    deepest_both (l + 1) ts (EntryEnded ∷ []),
+    h.level (l + 1),
+    h.deepest (l + 1),
+  );
+}
 
 -- ---- trees
 
--- what is left of an allowance beside so many entries, bytes and levels, if they fit in
-abbrev IsLeft : (entries bytes depth : ℕ) (s : Allowance) → Option Allowance → Type 0
-IsLeft entries bytes depth s None =
-    entries ≤ s.entries → bytes ≤ s.bytes → depth ≤ s.levels + 1 → ⊥
-IsLeft entries bytes depth s (Some t) = (t.entries + entries ≡ s.entries)
-    × (t.bytes + bytes ≡ s.bytes) × (t.levels ≡ s.levels) × (depth ≤ s.levels + 1)
+-- the levels below a tree's root
+abbrev below : Archived → ℕ
+below (File executable bytes) = 0
+below (Link target) = 0
+below (Folder entries) = depth_of_entries entries
 
--- the tokens count so many entries, bytes and levels
-abbrev Count : List Token → (entries bytes depth : ℕ) → Type 0
-Count ts entries bytes depth = (s : Allowance) → s.levels < 2 ^ 64
-    → IsLeft entries bytes depth s (counted_by ts (Some s))
+depth_is : (a : Archived) → archived_depth a ≡ 1 + below a
+depth_is (File _ _) = refl
+depth_is (Link _) = refl
+depth_is (Folder _) = refl
 
-left_both : (e b d e' b' d' : ℕ) (s t : Allowance) (r : Option Allowance)
-    → IsLeft e b d s (Some t) → IsLeft e' b' d' t r → IsLeft (e + e') (b + b') (max d d') s r
-left_both e b d e' b' d' s t None h k =
-    λ p q r. k (omega (arith, h)) (omega (arith, h)) (omega (arith, h))
-left_both e b d e' b' d' s t (Some u) h k =
-    (omega (arith, h, k), omega (arith, h, k), omega (arith, h, k), omega (arith, h, k))
-
-left_then : (ts : List Token) (e b d e' b' d' : ℕ) (s : Allowance) (r : Option Allowance)
-    → s.levels < 2 ^ 64 → IsLeft e b d s r → Count ts e' b' d'
-    → IsLeft (e + e') (b + b') (max d d') s (counted_by ts r)
-left_then ts e b d e' b' d' s None few h k =
-    subst (IsLeft (e + e') (b + b') (max d d') s) (sym (none_more ts))
-    (λ p q r. h (omega arith) (omega arith) (omega arith))
-left_then ts e b d e' b' d' s (Some t) few h k =
-    left_both e b d e' b' d' s t (counted_by ts (Some t)) h (k t (omega (arith, h)))
-
-count_both : (xs ys : List Token) (e b d e' b' d' : ℕ) → Count xs e b d → Count ys e' b' d'
-    → Count (xs ++ ys) (e + e') (b + b') (max d d')
-count_both xs ys e b d e' b' d' h k = λ s few.
-    subst (IsLeft (e + e') (b + b') (max d d') s) (sym (counted_after xs ys (Some s)))
-    (left_then ys e b d e' b' d' s (counted_by xs (Some s)) few (h s few) k)
-
--- bytes
-beside_left : (n : ℕ) (s : Allowance) → IsLeft 0 n 1 s (beside n (Some s))
-beside_left n s = elim (cases_lt s.bytes n) [
-  | inl lt ↦ subst (IsLeft 0 n 1 s) (sym (beside_past n s lt))
-      (λ p q r. absurd (omega (arith, lt, q)))
-  | inr le ↦ subst (IsLeft 0 n 1 s) (sym (beside_fit n s le))
-      (omega arith, omega (arith, le), refl, omega arith)
-]
-
--- an entry
-entered_fit : (s : Allowance) → 1 ≤ s.entries → 1 ≤ s.levels → entered (Some s)
-    ≡ Some (record s { entries = s.entries - 1; levels = s.levels - 1 })
-entered_fit s p q = cond-false (nat_lt s.entries 1 || nat_lt s.levels 1) None
-    (Some (record s { entries = s.entries - 1; levels = s.levels - 1 }))
-    (or_from (nat_lt s.entries 1) (nat_lt s.levels 1) (le-ltb s.entries 1 p) (le-ltb s.levels 1 q))
-
-entered_past : (s : Allowance) → (nat_lt s.entries 1 || nat_lt s.levels 1) ≡ true
-    → entered (Some s) ≡ None
-entered_past s is = cond-true (nat_lt s.entries 1 || nat_lt s.levels 1) None
-    (Some (record s { entries = s.entries - 1; levels = s.levels - 1 })) is
-
-returned_left : (e b d : ℕ) (s : Allowance) (r : Option Allowance) → s.levels < 2 ^ 64
-    → 1 ≤ s.entries → 1 ≤ s.levels
-    → IsLeft e b d (record s { entries = s.entries - 1; levels = s.levels - 1 }) r
-    → IsLeft (1 + e) b (1 + d) s (returned r)
-returned_left e b d s None few p q h = λ x y z. h (omega arith) (omega arith) (omega arith)
-returned_left e b d s (Some u) few p q h =
-    (omega (arith, h), omega (arith, h), omega (arith, h), omega (arith, h))
-
-entry_fit : (name : Bytes) (ts : List Token) (e b d : ℕ) (s : Allowance) → s.levels < 2 ^ 64
-    → 1 ≤ s.entries → 1 ≤ s.levels → Count ts e b d → IsLeft (1 + e) b (1 + d) s
-    (counted_by (EntryBegun name ∷ (ts ++ EntryEnded ∷ [])) (Some s))
-entry_fit name ts e b d s few p q h =
-    let within : Allowance = record s { entries = s.entries - 1; levels = s.levels - 1 } in
-    subst (IsLeft (1 + e) b (1 + d) s)
-    (sym (ap (counted_by (ts ++ EntryEnded ∷ [])) (entered_fit s p q)
-    ∙ counted_after ts (EntryEnded ∷ []) (Some within)))
-    (returned_left e b d s (counted_by ts (Some within)) few p q (h within (omega (arith, few))))
-
-entry_past : (name : Bytes) (ts : List Token) (e b d : ℕ) (s : Allowance) → 1 ≤ d
-    → (nat_lt s.entries 1 || nat_lt s.levels 1) ≡ true → IsLeft (1 + e) b (1 + d) s
-    (counted_by (EntryBegun name ∷ (ts ++ EntryEnded ∷ [])) (Some s))
-entry_past name ts e b d s deep is =
-    subst (IsLeft (1 + e) b (1 + d) s)
-    (sym (ap (counted_by (ts ++ EntryEnded ∷ [])) (entered_past s is)
-    ∙ none_more (ts ++ EntryEnded ∷ [])))
-    (λ p q r. ⊎_elim (λ few. absurd (omega (arith, p, ltb-true s.entries 1 few)))
-    (λ few. absurd (omega (arith, r, deep, ltb-true s.levels 1 few)))
-    (or_cases (nat_lt s.entries 1) (nat_lt s.levels 1) is))
-
-count_entry : (name : Bytes) (ts : List Token) (e b d : ℕ) → 1 ≤ d → Count ts e b d
-    → Count (EntryBegun name ∷ (ts ++ EntryEnded ∷ [])) (1 + e) b (1 + d)
-count_entry name ts e b d deep h = λ s few.
-    ⊎_elim
-    (λ is. entry_past name ts e b d s deep is)
-    (λ is.
-    let parts = or_parts (nat_lt s.entries 1) (nat_lt s.levels 1) is in
-    entry_fit name ts e b d s few (ltb-false s.entries 1 parts.0)
-    (ltb-false s.levels 1 parts.1) h)
-    (cases_Bool (nat_lt s.entries 1 || nat_lt s.levels 1))
-
--- a token that counts nothing, behind others
-count_last : (ts : List Token) (t : Token) (e b d : ℕ)
-    → ((left : Option Allowance) → counted_one t left ≡ left) → Count ts e b d
-    → Count (ts ++ t ∷ []) e b d
-count_last ts t e b d none h = λ s few.
-    subst (IsLeft e b d s)
-    (sym (counted_after ts (t ∷ []) (Some s) ∙ none (counted_by ts (Some s)))) (h s few)
-
-count_bytes : (bytes : Bytes) → Count (map FileByte bytes) 0 (length bytes) 1
-count_bytes bytes = λ s few.
-    subst (IsLeft 0 (length bytes) 1 s) (sym (piece_counted bytes (Some s)))
-    (beside_left (length bytes) s)
-
-depth_some : (a : Archived) → 1 ≤ archived_depth a
-depth_some (File _ _) = omega arith
-depth_some (Link _) = omega arith
-depth_some (Folder _) = omega arith
+-- behind a token that counts nothing, and before one
+measure_within : (first last : Token) (ts : List Token) (e b d : ℕ)
+    → Measures (first ∷ []) 0 0 0 → Measures (last ∷ []) 0 0 0 → Measures ts e b d
+    → Measures (first ∷ (ts ++ last ∷ [])) e b d
+measure_within first last ts e b d before after h =
+    let whole = measure_both (first ∷ []) (ts ++ last ∷ []) 0 0 0 (e + 0) (b + 0) (max d 0) before
+    (measure_both ts (last ∷ []) e b d 0 0 0 h after) in
+    record {
+      entries = omega (arith, whole.entries);
+      bytes = omega (arith, whole.bytes);
+      level = whole.level;
+      deepest = λ l. omega (arith, whole.deepest l);
+    }
 
 mutual
-  pub count_tree : (a : Archived) → Count (tokens_of a) (archived_entries a) (archived_bytes a)
-      (archived_depth a)
-  count_tree (File executable bytes) =
-      count_last (map FileByte bytes) (FileEnded (length bytes)) 0 (length bytes) 1
-      (λ left. refl) (count_bytes bytes)
-  count_tree (Link target) = λ s few. beside_left (length target) s
-  count_tree (Folder entries) =
-      count_last (tokens_among entries) FolderEnded (count_of_entries entries)
-      (bytes_of_entries entries) (1 + depth_of_entries entries) (λ left. refl)
-      (count_entries entries)
+  measure_tree : (a : Archived)
+      → Measures (tokens_of a) (archived_entries a) (archived_bytes a) (below a)
+  measure_tree (File executable bytes) =
+      measure_within (FileBegun executable (length bytes)) (FileEnded (length bytes))
+      (map FileByte bytes) 0 (length bytes) 0
+      (measure_one (FileBegun executable (length bytes)) (λ l. refl))
+      (measure_one (FileEnded (length bytes)) (λ l. refl)) (measure_bytes bytes)
+  measure_tree (Link target) = measure_one (LinkTo target) (λ l. refl)
+  measure_tree (Folder entries) =
+      measure_within FolderBegun FolderEnded (tokens_among entries) (count_of_entries entries)
+      (bytes_of_entries entries) (depth_of_entries entries) (measure_one FolderBegun (λ l. refl))
+      (measure_one FolderEnded (λ l. refl)) (measure_entries entries)
 
-  pub count_entries : (entries : Entries) → Count (tokens_among entries) (count_of_entries entries)
-      (bytes_of_entries entries) (1 + depth_of_entries entries)
-  count_entries NoEntries = λ s few. (omega arith, omega arith, refl, omega arith)
-  count_entries (Entry name tree rest) =
-      let one = EntryBegun name ∷ (tokens_of tree ++ EntryEnded ∷ []) in
-      let d : ℕ = archived_depth tree in
-      let ds : ℕ = depth_of_entries rest in
+  measure_entries : (entries : Entries) → Measures (tokens_among entries)
+      (count_of_entries entries) (bytes_of_entries entries) (depth_of_entries entries)
+  measure_entries NoEntries = measure_none
+  measure_entries (Entry name tree rest) =
+      let one : List Token = EntryBegun name ∷ (tokens_of tree ++ EntryEnded ∷ []) in
       let together : one ++ tokens_among rest ≡ tokens_among (Entry name tree rest) =
       ap (λ l. EntryBegun name ∷ l)
       (append_assoc (tokens_of tree) (EntryEnded ∷ []) (tokens_among rest)) in
-      let deep : max (1 + d) (1 + ds) ≡ 1 + max d ds = omega arith in
-      subst (λ (ts : List Token). Count ts (1 + archived_entries tree + count_of_entries rest)
-      (archived_bytes tree + bytes_of_entries rest) (1 + max d ds)) together
-      (subst (Count (one ++ tokens_among rest)
+      let deep : max (1 + below tree) (depth_of_entries rest)
+      ≡ max (archived_depth tree) (depth_of_entries rest) =
+      ap (λ n. max n (depth_of_entries rest)) (sym (depth_is tree)) in
+      subst (λ (ts : List Token). Measures ts (1 + archived_entries tree + count_of_entries rest)
+      (archived_bytes tree + bytes_of_entries rest)
+      (max (archived_depth tree) (depth_of_entries rest))) together
+      (subst (Measures (one ++ tokens_among rest)
       (1 + archived_entries tree + count_of_entries rest)
       (archived_bytes tree + bytes_of_entries rest)) deep
-      (count_both one (tokens_among rest) (1 + archived_entries tree) (archived_bytes tree) (1 + d)
-      (count_of_entries rest) (bytes_of_entries rest) (1 + ds)
-      (count_entry name (tokens_of tree) (archived_entries tree) (archived_bytes tree) d
-      (depth_some tree) (count_tree tree)) (count_entries rest)))
+      (measure_both one (tokens_among rest) (1 + archived_entries tree) (archived_bytes tree)
+      (1 + below tree) (count_of_entries rest) (bytes_of_entries rest) (depth_of_entries rest)
+      (measure_entry name (tokens_of tree) (archived_entries tree) (archived_bytes tree)
+      (below tree) (measure_tree tree)) (measure_entries rest)))
 
--- ---- the limits
+-- ---- counts
 
-left_limits : (a : Archived) (r : Option Allowance)
-    → IsLeft (archived_entries a) (archived_bytes a) (archived_depth a) limits r
-    → (r ≢ None) ↔ KeepsLimits a
-left_limits a None h = (
-  λ some. absurd (some refl),
-  λ keeps is. h keeps.entries keeps.bytes keeps.depth,
-)
-left_limits a (Some t) h = (
-  λ some. record {
-    depth = h.3;
-    entries = omega (arith, h.0);
-    bytes = omega (arith, h.1);
+-- counts became others by tokens that lead to no other level
+pub counted_level : (s t : TreeCounts) (earlier said : List Token) (bytes : ℕ)
+    → Measures said 0 bytes 0 → AreCountsOf earlier s → t.entries ≡ s.entries
+    → t.bytes ≡ in_64_bits (s.bytes + bytes) → t.level ≡ s.level → t.deepest ≡ s.deepest
+    → AreCountsOf (earlier ++ said) t
+counted_level s t earlier said bytes h are p q r u =
+    let same : deepest_from 0 (earlier ++ said) ≡ deepest_from 0 earlier =
+    omega (
+      arith,
+      deepest_both 0 earlier said,
+      h.deepest (level_after 0 earlier),
+      level_most 0 earlier,
+    ) in
+    record {
+      entries = omega (arith, sum_by-append entries_at earlier said, h.entries, are.entries, p);
+      bytes = omega (arith, sum_by-append bytes_at earlier said, h.bytes, are.bytes, q);
+      deepest = u ∙ are.deepest ∙ sym (ap in_64_bits same);
+      level = λ few. r ∙ are.level (omega (arith, few, same))
+          ∙ sym (level_both 0 earlier said ∙ h.level (level_after 0 earlier));
+    }
+
+pub counted_begin : (s t : TreeCounts) (earlier : List Token) (name : Bytes) → AreCountsOf earlier s
+    → t.entries ≡ in_64_bits (s.entries + 1) → t.bytes ≡ s.bytes
+    → t.level ≡ in_64_bits (s.level + 1) → t.deepest ≡ max s.deepest t.level
+    → AreCountsOf (earlier ++ EntryBegun name ∷ []) t
+counted_begin s t earlier name are p q r u =
+    let deep = deepest_both 0 earlier (EntryBegun name ∷ []) in
+    let most = level_most 0 earlier in
+    let begun = level_both 0 earlier (EntryBegun name ∷ []) in
+    record {
+      entries = omega (arith, sum_by_push entries_at earlier (EntryBegun name), are.entries, p);
+      bytes = omega (arith, sum_by_push bytes_at earlier (EntryBegun name), are.bytes, q);
+      deepest = elim (cases_lt (deepest_from 0 earlier) (2 ^ 64)) [
+        | inl few ↦ omega (arith, are.level few, are.deepest, deep, most, r, u)
+        | inr past ↦ omega (arith, are.deepest, deep, r, u, past)
+      ];
+      level = λ few. omega (arith, are.level (omega (arith, few, deep)), deep, most, begun, r, few);
+    }
+
+pub counted_end : (s t : TreeCounts) (earlier : List Token) → AreCountsOf earlier s
+    → t.entries ≡ s.entries → t.bytes ≡ s.bytes → t.level ≡ s.level - 1 → t.deepest ≡ s.deepest
+    → AreCountsOf (earlier ++ EntryEnded ∷ []) t
+counted_end s t earlier are p q r u =
+    let deep = deepest_both 0 earlier (EntryEnded ∷ []) in
+    let most = level_most 0 earlier in
+    record {
+      entries = omega (arith, sum_by_push entries_at earlier EntryEnded, are.entries, p);
+      bytes = omega (arith, sum_by_push bytes_at earlier EntryEnded, are.bytes, q);
+      deepest = omega (arith, are.deepest, deep, most, u);
+      level = λ few. omega (
+        arith,
+        are.level (omega (arith, few, deep)),
+        level_both 0 earlier (EntryEnded ∷ []),
+        r,
+      );
+    }
+
+-- the limits
+counts_tell : (said : List Token) (counts : TreeCounts) → AreCountsOf said counts
+    → IsWithin counts ↔ KeepWithin said
+counts_tell said counts are = (
+  λ within. record {
+    entries = omega (arith, are.entries, within.entries);
+    bytes = omega (arith, are.bytes, within.bytes);
+    levels = omega (arith, are.deepest, within.levels);
   },
-  λ keeps is. absurd cc,
+  λ keep. record {
+    entries = omega (arith, are.entries, keep.entries);
+    bytes = omega (arith, are.bytes, keep.bytes);
+    levels = omega (arith, are.deepest, keep.levels);
+  },
 )
+
+tree_keeps : (a : Archived) → KeepWithin (tokens_of a) ↔ KeepsLimits a
+tree_keeps a =
+    let h = measure_tree a in (
+      λ keep. record {
+        depth = omega (arith, depth_is a, h.deepest 0, keep.levels);
+        entries = omega (arith, h.entries, keep.entries);
+        bytes = omega (arith, h.bytes, keep.bytes);
+      },
+      λ keeps. record {
+        entries = omega (arith, h.entries, keeps.entries);
+        bytes = omega (arith, h.bytes, keeps.bytes);
+        levels = omega (arith, depth_is a, h.deepest 0, keeps.depth);
+      },
+    )
+
+pub counts_tell_limits : CountsTellLimits
+counts_tell_limits new counts said begun heard = counts_tell said counts (heard [] begun)
 
 pub counts_hear_limits : CountsHearLimits
 counts_hear_limits new counts archived begun heard =
-    left_limits archived counts.left
-    (subst (IsLeft (archived_entries archived) (archived_bytes archived) (archived_depth archived)
-    limits) (sym (heard ∙ ap (counted_by (tokens_of archived)) begun))
-    (count_tree archived limits (omega arith)))
+    let told = counts_tell (tokens_of archived) counts (heard [] begun) in
+    let keeps = tree_keeps archived in
+    (λ within. keeps.0 (told.0 within), λ limits. told.1 (keeps.1 limits))
+
+-- what keeps the limits does so without its last tokens
+keep_before : (said later : List Token) → KeepWithin (said ++ later) → KeepWithin said
+keep_before said later keep = record {
+  entries = omega (arith, sum_by-append entries_at said later, keep.entries);
+  bytes = omega (arith, sum_by-append bytes_at said later, keep.bytes);
+  levels = omega (arith, deepest_both 0 said later, keep.levels);
+}
 
 pub counts_stay_past : CountsStayPast
-counts_stay_past new counts said later archived begun heard whole keeps none =
-    let all : counted_by (tokens_of archived) (Some limits) ≡ None =
-    ap (λ l. counted_by l (Some limits)) whole ∙ counted_after said later (Some limits)
-    ∙ ap (λ l. counted_by later (counted_by said l)) (sym begun)
-    ∙ ap (counted_by later) (sym heard ∙ none) ∙ none_more later in
-    (left_limits archived (counted_by (tokens_of archived) (Some limits))
-    (count_tree archived limits (omega arith))).1 keeps all
+counts_stay_past new counts said later archived begun heard whole keeps =
+    (counts_tell said counts (heard [] begun)).1
+    (keep_before said later
+    (subst (λ (ts : List Token). KeepWithin ts) whole ((tree_keeps archived).1 keeps)))

@@ -1,59 +1,83 @@
--- What the limits of an output bound, counted at the tokens of a tree.
-use Rattle.std.specs.Prelude.{◌≡◌, ◌≢◌, ◌↔◌, ◌+◌, ◌-◌, ◌^◌, ◌||◌, min, nat_lt, ℕ, Option, Some, None, List, [], ◌∷◌, ◌++◌, length, if◌then◌else◌}
-use Rattle.nix_archive.specs.Tokens.{Token, FolderBegun, EntryBegun, EntryEnded, FolderEnded, FileBegun, FileByte, FileEnded, LinkTo, tokens_of}
+-- The entries, the bytes and the levels of which the tokens of a tree tell, and the limits of an
+-- output.
+use Rattle.std.specs.Prelude.{◌≡◌, ◌↔◌, ◌+◌, ◌-◌, ◌<◌, ◌≤◌, ◌^◌, max, min, sum_by, ℕ, List, [], ◌∷◌, ◌++◌, length}
+use Rattle.nix_archive.specs.Tokens.{Token, EntryBegun, EntryEnded, FileByte, LinkTo, tokens_of}
 use Rattle.nix_archive.specs.Trees.{Tree as Archived}
 use Rattle.ref_scan.specs.ArchivedTrees.{KeepsLimits}
-use Rattle.ref_scan.specs.declared.hearing.tree_counts.Allowance.{Allowance}
 use Rattle.ref_scan.specs.declared.hearing.tree_counts.TreeCounts.{TreeCounts}
 
--- what is left within an entry that begins, if an entry and a level are left
-abbrev pub entered : Option Allowance → Option Allowance
-entered None = None
-entered (Some left) = if nat_lt left.entries 1 || nat_lt left.levels 1 then None else
-    Some (record left { entries = left.entries - 1; levels = left.levels - 1 })
+-- how many entries begin at a token
+abbrev pub entries_at : Token → ℕ
+entries_at (EntryBegun name) = 1
+entries_at token = 0
 
--- what is left where an entry ended
-abbrev pub returned : Option Allowance → Option Allowance
-returned None = None
-returned (Some left) = Some (record left { levels = min (left.levels + 1) (2 ^ 64 - 1) })
+-- how many bytes of files and of links' targets a token has
+abbrev pub bytes_at : Token → ℕ
+bytes_at (FileByte byte) = 1
+bytes_at (LinkTo target) = length target
+bytes_at token = 0
 
--- what is left beside so many bytes, if they fit in
-abbrev pub beside : ℕ → Option Allowance → Option Allowance
-beside count None = None
-beside count (Some left) = if nat_lt left.bytes count then None else
-    Some (record left { bytes = left.bytes - count })
+-- in how many entries the place behind a token lies, if the place before it lies in so many
+abbrev pub level_at : (level : ℕ) → Token → ℕ
+level_at level (EntryBegun name) = level + 1
+level_at level EntryEnded = level - 1
+level_at level token = level
 
--- what is left after a token: an entry is counted where it begins, and a file byte by byte
-abbrev pub counted_one : Token → Option Allowance → Option Allowance
-counted_one FolderBegun left = left
-counted_one (EntryBegun name) left = entered left
-counted_one EntryEnded left = returned left
-counted_one FolderEnded left = left
-counted_one (FileBegun executable size) left = left
-counted_one (FileByte byte) left = beside 1 left
-counted_one (FileEnded size) left = left
-counted_one (LinkTo target) left = beside (length target) left
+-- how many entries begin
+abbrev pub entries_heard : List Token → ℕ
+entries_heard said = sum_by entries_at said
 
--- what is left after tokens
-abbrev pub counted_by : List Token → Option Allowance → Option Allowance
-counted_by [] left = left
-counted_by (token ∷ tokens) left = counted_by tokens (counted_one token left)
+-- how many bytes files and links' targets have together
+abbrev pub bytes_heard : List Token → ℕ
+bytes_heard said = sum_by bytes_at said
 
--- the limits of an output: 65,536 entries, 64 MiB of files and targets, 31 levels below the root
-abbrev pub limits : Allowance
-limits = record { entries = 65536; bytes = 67108864; levels = 31 }
+-- in how many entries the place behind tokens lies
+abbrev pub level_after : (level : ℕ) → List Token → ℕ
+level_after level [] = level
+level_after level (token ∷ said) = level_after (level_at level token) said
+
+-- in how many entries the deepest place before, between or behind tokens lies
+abbrev pub deepest_from : (level : ℕ) → List Token → ℕ
+deepest_from level [] = level
+deepest_from level (token ∷ said) = max level (deepest_from (level_at level token) said)
+
+-- The tokens keep the limits of an output: 65,536 entries, 64 MiB of files and targets, and 31
+-- levels below the root.
+pub record KeepWithin (said : List Token) : Type 0 where
+  pub entries : entries_heard said ≤ 65536
+  pub bytes : bytes_heard said ≤ 67108864
+  pub levels : deepest_from 0 said ≤ 31
+
+-- a number, or 2^64 - 1 if it is more
+abbrev pub in_64_bits : ℕ → ℕ
+in_64_bits number = min number (2 ^ 64 - 1)
+
+-- Counts are those of these tokens, from the begin of a tree on.
+pub record AreCountsOf (said : List Token) (counts : TreeCounts) : Type 0 where
+  pub entries : counts.entries ≡ in_64_bits (entries_heard said)
+  pub bytes : counts.bytes ≡ in_64_bits (bytes_heard said)
+  pub deepest : counts.deepest ≡ in_64_bits (deepest_from 0 said)
+  pub level : deepest_from 0 said < 2 ^ 64 → counts.level ≡ level_after 0 said
 
 -- nothing was counted
 abbrev pub IsNewCounts : TreeCounts → Type 0
-IsNewCounts counts = counts.left ≡ Some limits
+IsNewCounts counts = AreCountsOf [] counts
 
--- counts became others by hearing some tokens
+-- counts became others by hearing some tokens, after any that they had heard
 abbrev pub IsCountHeard : TreeCounts → List Token → TreeCounts → Type 0
-IsCountHeard before tokens after = after.left ≡ counted_by tokens before.left
+IsCountHeard before said after = (earlier : List Token) → AreCountsOf earlier before
+    → AreCountsOf (earlier ++ said) after
 
--- what was counted keeps the limits
-abbrev pub IsWithin : TreeCounts → Type 0
-IsWithin counts = counts.left ≢ None
+-- What was counted keeps the limits.
+pub record IsWithin (counts : TreeCounts) : Type 0 where
+  pub entries : counts.entries ≤ 65536
+  pub bytes : counts.bytes ≤ 67108864
+  pub levels : counts.deepest ≤ 31
+
+-- counts of tokens tell whether these keep the limits
+abbrev pub CountsTellLimits : Type 0
+CountsTellLimits = (new counts : TreeCounts) (said : List Token) → IsNewCounts new
+    → IsCountHeard new said counts → IsWithin counts ↔ KeepWithin said
 
 -- counts of all of a tree tell whether it keeps the limits
 abbrev pub CountsHearLimits : Type 0

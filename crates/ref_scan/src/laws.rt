@@ -2,7 +2,7 @@
 //! nothing.
 ghost use Rattle.ref_scan.specs.ArchivedTrees.{ArchivesHaveTrees, ArchivesMeasureAlike, ShortArchivesLie};
 ghost use Rattle.ref_scan.specs.Archives.{ArchiveIsOne};
-ghost use Rattle.ref_scan.specs.Counting.{CountsHearLimits, CountsStayPast};
+ghost use Rattle.ref_scan.specs.Counting.{CountsHearLimits, CountsStayPast, CountsTellLimits};
 ghost use Rattle.ref_scan.specs.Hearing.{HeardTreesLie};
 ghost use Rattle.ref_scan.specs.Links.{LinksAdd};
 ghost use Rattle.ref_scan.specs.Scan.{IsFound};
@@ -35,9 +35,10 @@ pub fn archives_measure_alike()
     ensures { ArchivesMeasureAlike }
 {}
 
-/// Counts that heard all of a tree tell whether it keeps the limits of an output; and a tree is past
-/// them as soon as what was heard of it is.
+/// Counts tell whether the tokens that they heard keep the limits of an output. Those of all of a
+/// tree tell whether the tree does; and a tree is past the limits as soon as what was heard of it is.
 pub fn counts_hear_limits()
+    ensures tokens { CountsTellLimits }
     ensures whole { CountsHearLimits }
     ensures past { CountsStayPast }
 {}

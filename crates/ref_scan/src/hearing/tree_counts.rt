@@ -1,29 +1,22 @@
 //! What the limits of an output bound, counted of a tree that is heard.
-ghost use Rattle.std.specs.Prelude.{◌≡◌, ◌↔◌, IsTrue, Some};
-ghost use Rattle.nix_archive.specs.Tokens.{tokens};
-ghost use Rattle.ref_scan.specs.Counting.{IsNewCounts, IsWithin, beside, counted_by, entered, returned};
+ghost use Rattle.std.specs.Prelude.{◌↔◌, IsTrue};
+ghost use Rattle.ref_scan.specs.Counting.{IsNewCounts, IsWithin};
 
 use crate::tree::{MAX_DEPTH, MAX_ENTRIES, MAX_FILE_BYTES};
 use nix_archive::{Event, Hear};
 use std::alloc::AllocError;
 
-/// What a tree that is heard may still take up.
-#[derive(Clone, Copy)]
-pub struct Allowance {
-    /// How many entries.
-    pub entries: usize,
-    /// How many bytes of files and of links' targets.
-    pub bytes: usize,
-    /// How many levels below the present one.
-    pub levels: usize,
-}
-
-/// Counts the levels, the entries and the bytes of the tree that it hears against the limits of an
-/// output. It takes no memory.
+/// Counts the entries, the bytes and the levels of the tree that it hears. It takes no memory.
 #[derive(Drop)]
 pub struct TreeCounts {
-    // nothing, once the tree is past a limit
-    left: Option<Allowance>,
+    // how many entries began
+    entries: usize,
+    // how many bytes files and links' targets have
+    bytes: usize,
+    // in how many entries the present place lies
+    level: usize,
+    // in how many the deepest one lay
+    deepest: usize,
 }
 
 impl TreeCounts {
@@ -32,11 +25,10 @@ impl TreeCounts {
         ensures { IsNewCounts result }
     {
         TreeCounts {
-            left: Some(Allowance {
-                entries: MAX_ENTRIES,
-                bytes: MAX_FILE_BYTES,
-                levels: MAX_DEPTH - 1,
-            }),
+            entries: 0,
+            bytes: 0,
+            level: 0,
+            deepest: 0,
         }
     }
 
@@ -45,7 +37,7 @@ impl TreeCounts {
     pub fn fit(&self) -> bool
         ensures { IsTrue result ↔ IsWithin self.now }
     {
-        self.left.is_some()
+        self.entries <= MAX_ENTRIES && self.bytes <= MAX_FILE_BYTES && self.deepest < MAX_DEPTH
     }
 }
 
@@ -60,58 +52,17 @@ impl Hear for TreeCounts {
     ghost joins = { λ s m t before after h g. count_both s m t before after h g };
 
     fn hear(&mut self, event: Event<'_>) -> Result<(), AllocError> {
-        let Some(left) = self.left else {
-            return Ok(());
-        };
-        self.left = left.after(event);
-        Ok(())
-    }
-}
-
-impl Allowance {
-    // What is left after an event, if it keeps within the limits.
-    fn after(self, event: Event<'_>) -> Option<Allowance>
-        ensures { result ≡ counted_by (tokens event.entry) (Some self) }
-    {
         match event {
-            Event::BeginEntry(_) => self.in_entry(),
-            Event::EndEntry => Some(self.behind_entry()),
-            Event::Piece(bytes) => self.beside_bytes(bytes.len()),
-            Event::Link(target) => self.beside_bytes(target.len()),
-            Event::BeginFolder | Event::EndFolder | Event::BeginFile(_, _) | Event::EndFile(_) => {
-                Some(self)
+            Event::BeginEntry(_) => {
+                self.entries = self.entries.saturating_add(1);
+                self.level = self.level.saturating_add(1);
+                self.deepest = self.deepest.max(self.level);
             }
+            Event::EndEntry => self.level = self.level.saturating_sub(1),
+            Event::Piece(bytes) => self.bytes = self.bytes.saturating_add(bytes.len()),
+            Event::Link(target) => self.bytes = self.bytes.saturating_add(target.len()),
+            Event::BeginFolder | Event::EndFolder | Event::BeginFile(_, _) | Event::EndFile(_) => {}
         }
-    }
-
-    // What is left within an entry that begins, if an entry and a level are left.
-    fn in_entry(self) -> Option<Allowance>
-        ensures { result ≡ entered (Some self) }
-    {
-        Some(Allowance {
-            entries: self.entries.checked_sub(1)?,
-            levels: self.levels.checked_sub(1)?,
-            ..self
-        })
-    }
-
-    // What is left where an entry ended.
-    fn behind_entry(self) -> Allowance
-        ensures { Some result ≡ returned (Some self) }
-    {
-        Allowance {
-            levels: self.levels.saturating_add(1),
-            ..self
-        }
-    }
-
-    // What is left beside some bytes, if they fit in.
-    fn beside_bytes(self, count: usize) -> Option<Allowance>
-        ensures { result ≡ beside count (Some self) }
-    {
-        Some(Allowance {
-            bytes: self.bytes.checked_sub(count)?,
-            ..self
-        })
+        Ok(())
     }
 }
