@@ -14,7 +14,7 @@ use Rattle.nix_names.proofs.Lists.{get_grows, get_push_cases, get_pushed}
 use Rattle.drv_graph.specs.declared.kinds.Kind.{Kind}
 use Rattle.nix_archive.specs.Archive.{nar}
 use Rattle.ref_scan.specs.Archives.{IsArchiveSum, IsOfArchive, HasArchive as IsArchived, HasNoArchive as IsNotArchived}
-use Rattle.ref_scan.specs.declared.telling.sum.ArchiveSum.{ArchiveSum}
+use Rattle.ref_scan.specs.declared.tree_archive.sum.ArchiveSum.{ArchiveSum}
 use Rattle.ref_scan.specs.declared.tree.Tree.{Tree}
 use Rattle.ref_scan.proofs.Belows.{one_archive as archive_is_one}
 use Rattle.valid_table.specs.PathInfos.{NarInfo}

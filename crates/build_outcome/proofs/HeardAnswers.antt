@@ -12,8 +12,8 @@ use Rattle.build_outcome.specs.Verdicts.{AreRead, IsExamining, IsUnread, left_at
 use Rattle.build_outcome.specs.declared.job.Answer.{Answer}
 use Rattle.build_outcome.specs.declared.job.Job.{Job}
 use Rattle.build_outcome.specs.declared.job.LeftOutput.{LeftOutput}
-use Rattle.build_outcome.specs.declared.known.Outputs.{Outputs}
-use Rattle.build_outcome.specs.declared.known.Outputs.TheVariants.{Heard}
+use Rattle.build_outcome.specs.declared.known_outputs.Outputs.{Outputs}
+use Rattle.build_outcome.specs.declared.known_outputs.Outputs.TheVariants.{Heard}
 use Rattle.build_outcome.specs.declared.reason.Reason.{Reason}
 use Rattle.build_outcome.specs.declared.sums.OutputSum.{OutputSum}
 use Rattle.build_outcome.specs.private.Judging.{AreKept, IsKeptAt, IsReadAs}

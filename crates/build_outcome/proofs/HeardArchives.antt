@@ -13,8 +13,8 @@ use Rattle.ref_scan.specs.declared.tree.Tree.{Tree}
 use Rattle.build_outcome.specs.Hearing.{IsArchiveBegun, IsArchiveHeard, IsWriterBegun, IsWritten}
 use Rattle.build_outcome.specs.Sums.{IsOutputSum}
 use Rattle.build_outcome.specs.Verdicts.{NeedsArchive}
-use Rattle.build_outcome.specs.declared.heard.archive_hearer.ArchiveHearer.{ArchiveHearer}
-use Rattle.build_outcome.specs.declared.heard.archive_sink.ArchiveSink.{ArchiveSink}
+use Rattle.build_outcome.specs.declared.hearers.archive_hearer.ArchiveHearer.{ArchiveHearer}
+use Rattle.build_outcome.specs.declared.hearers.archive_sink.ArchiveSink.{ArchiveSink}
 use Rattle.build_outcome.specs.declared.sums.OutputSum.{OutputSum}
 use Rattle.build_outcome.specs.Sinks.{SumsArchive}
 use Rattle.build_outcome.specs.private.Sinks.{IsSumFor}

@@ -11,8 +11,8 @@ use Rattle.drv_graph.specs.declared.profile.Profile.{Profile}
 use Rattle.drv_graph.specs.declared.profile.Profile.TheVariants.{Nix, Plain}
 use Rattle.build_outcome.specs.Hearing.{HashesIn, IsFileBegun, IsFileHeard, IsHashedIn, archived_digest, byte_of, bytes_in, has_other, marked}
 use Rattle.build_outcome.specs.Verdicts.{digest_by}
-use Rattle.build_outcome.specs.declared.heard.algorithm_sink.AlgorithmSink.{AlgorithmSink}
-use Rattle.build_outcome.specs.declared.heard.file_hearer.FileHearer.{FileHearer}
+use Rattle.build_outcome.specs.declared.hearers.algorithm_sink.AlgorithmSink.{AlgorithmSink}
+use Rattle.build_outcome.specs.declared.hearers.file_hearer.FileHearer.{FileHearer}
 use Rattle.build_outcome.specs.private.Hearing.{IsFlatArchived, is_flat_heard}
 use Rattle.build_outcome.specs.private.HearingLaws.{hashed_in_none}
 use Rattle.build_outcome.specs.Sinks.{Hashes}

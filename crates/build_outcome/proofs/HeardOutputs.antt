@@ -25,7 +25,7 @@ use Rattle.ref_scan.proofs.MadeTrees.{archives_have_trees, heard_trees_lie, shor
 use Rattle.build_outcome.specs.Heard.{IsHeardOutput, IsKeptOf, IsNotKept, IsSumKept, Kept, file_algorithm}
 use Rattle.build_outcome.specs.Hearing.{IsOutputBegun, IsOutputHeard, IsStillWithin, archived_digest}
 use Rattle.build_outcome.specs.Verdicts.{IsFlatFile, MayBeTaken, NeedsArchive, digest_by, file_digest_of}
-use Rattle.build_outcome.specs.declared.heard.output_hearer.OutputHearer.{OutputHearer}
+use Rattle.build_outcome.specs.declared.hearers.output_hearer.OutputHearer.{OutputHearer}
 use Rattle.build_outcome.specs.declared.job.Job.{Job}
 use Rattle.build_outcome.specs.declared.reason.Reason.{Reason}
 use Rattle.build_outcome.specs.declared.reason.Reason.TheVariants.{ReadFault, TooLarge}

@@ -11,8 +11,8 @@ use Rattle.build_outcome.specs.Verdicts.{AreOutputsThere, AreRecords, HasBadMode
 use Rattle.build_outcome.specs.declared.job.Answer.{Answer}
 use Rattle.build_outcome.specs.declared.job.Job.{Job}
 use Rattle.build_outcome.specs.declared.job.LeftOutput.{LeftOutput}
-use Rattle.build_outcome.specs.declared.known.Known.{Known}
-use Rattle.build_outcome.specs.declared.known.Outputs.{Outputs}
+use Rattle.build_outcome.specs.declared.known_outputs.Known.{Known}
+use Rattle.build_outcome.specs.declared.known_outputs.Outputs.{Outputs}
 use Rattle.build_outcome.specs.declared.reason.Reason.{Reason}
 use Rattle.build_outcome.specs.declared.reason.Reason.TheVariants.{MissingOutput, OutOfMemory}
 use Rattle.build_outcome.specs.private.Judging.{AreKnown, IsKnown, IsReadAs, IsTreeTaken}

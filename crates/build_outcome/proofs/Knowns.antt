@@ -27,10 +27,10 @@ use Rattle.build_outcome.specs.Verdicts.{HasArchive, HasForm, IsDigestBy, IsFlat
 use Rattle.build_outcome.specs.declared.job.Answer.{Answer}
 use Rattle.build_outcome.specs.declared.job.Job.{Job}
 use Rattle.build_outcome.specs.declared.job.LeftOutput.{LeftOutput}
-use Rattle.build_outcome.specs.declared.known.Known.{Known}
-use Rattle.build_outcome.specs.declared.known.Known.TheVariants.{Heard as OfHeard, Tree as OfTree}
-use Rattle.build_outcome.specs.declared.known.Outputs.{Outputs}
-use Rattle.build_outcome.specs.declared.known.Outputs.TheVariants.{Trees}
+use Rattle.build_outcome.specs.declared.known_outputs.Known.{Known}
+use Rattle.build_outcome.specs.declared.known_outputs.Known.TheVariants.{Heard as OfHeard, Tree as OfTree}
+use Rattle.build_outcome.specs.declared.known_outputs.Outputs.{Outputs}
+use Rattle.build_outcome.specs.declared.known_outputs.Outputs.TheVariants.{Trees}
 use Rattle.build_outcome.specs.declared.reason.Reason.{Reason}
 use Rattle.build_outcome.specs.declared.reason.Reason.TheVariants.{HashMismatch, NotFlatFile}
 use Rattle.build_outcome.specs.declared.sums.OutputSum.{OutputSum}

@@ -14,15 +14,15 @@ use Rattle.drv_graph.specs.declared.profile.Profile.{Profile}
 use Rattle.drv_graph.specs.declared.profile.Profile.TheVariants.{Nix, Plain}
 use Rattle.ref_scan.specs.Counting.{IsCountHeard, IsNewCounts, IsWithin}
 use Rattle.ref_scan.specs.Hearing.{IsNewScanner, IsScanHeard}
-use Rattle.ref_scan.specs.declared.hearing.tree_counts.TreeCounts.{TreeCounts}
+use Rattle.ref_scan.specs.declared.hearers.tree_counts.TreeCounts.{TreeCounts}
 use Rattle.build_outcome.specs.Heard.{file_algorithm}
 use Rattle.build_outcome.specs.Verdicts.{NeedsArchive, digest_by}
 use Rattle.build_outcome.specs.Sinks.{Hashes, IsSummedBy, SumsArchive}
-use Rattle.build_outcome.specs.declared.heard.algorithm_sink.AlgorithmSink.{AlgorithmSink}
-use Rattle.build_outcome.specs.declared.heard.archive_hearer.ArchiveHearer.{ArchiveHearer}
-use Rattle.build_outcome.specs.declared.heard.archive_sink.ArchiveSink.{ArchiveSink}
-use Rattle.build_outcome.specs.declared.heard.file_hearer.FileHearer.{FileHearer}
-use Rattle.build_outcome.specs.declared.heard.output_hearer.OutputHearer.{OutputHearer}
+use Rattle.build_outcome.specs.declared.hearers.algorithm_sink.AlgorithmSink.{AlgorithmSink}
+use Rattle.build_outcome.specs.declared.hearers.archive_hearer.ArchiveHearer.{ArchiveHearer}
+use Rattle.build_outcome.specs.declared.hearers.archive_sink.ArchiveSink.{ArchiveSink}
+use Rattle.build_outcome.specs.declared.hearers.file_hearer.FileHearer.{FileHearer}
+use Rattle.build_outcome.specs.declared.hearers.output_hearer.OutputHearer.{OutputHearer}
 use Rattle.build_outcome.specs.declared.job.Job.{Job}
 
 -- ---- files

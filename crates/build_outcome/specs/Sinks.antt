@@ -8,9 +8,9 @@ use Rattle.nix_names.specs.Bytes.{Bytes}
 use Rattle.nix_names.specs.declared.digest.Algorithm.{Algorithm}
 use Rattle.nix_names.specs.declared.digest.Algorithm.TheVariants as by
 use Rattle.drv_graph.specs.declared.kinds.Kind.{Kind}
-use Rattle.build_outcome.specs.declared.heard.algorithm_sink.AlgorithmSink.{AlgorithmSink}
-use Rattle.build_outcome.specs.declared.heard.algorithm_sink.AlgorithmSink.TheVariants.{Md5, Sha1, Sha256, Sha512}
-use Rattle.build_outcome.specs.declared.heard.archive_sink.ArchiveSink.{ArchiveSink}
+use Rattle.build_outcome.specs.declared.hearers.algorithm_sink.AlgorithmSink.{AlgorithmSink}
+use Rattle.build_outcome.specs.declared.hearers.algorithm_sink.AlgorithmSink.TheVariants.{Md5, Sha1, Sha256, Sha512}
+use Rattle.build_outcome.specs.declared.hearers.archive_sink.ArchiveSink.{ArchiveSink}
 use Rattle.build_outcome.specs.Sums.{archive_algorithm}
 
 -- the sink hashes by this algorithm, and took these bytes

@@ -7,9 +7,9 @@ ghost use Rattle.build_outcome.specs.declared.reason.Reason.{Reason};
 ghost use Rattle.build_outcome.specs.declared.reason.Reason.TheVariants.{OutOfMemory};
 ghost use Rattle.build_outcome.specs.Heard.{IsRunExamined};
 
-use crate::checked::Checked;
+use crate::checked_records::Checked;
 use crate::job::{Answer, Job};
-use crate::prepared::Prepared;
+use crate::preparation::Prepared;
 use crate::reason::Reason;
 use nix_names::StorePath;
 

@@ -10,20 +10,20 @@
 //! | `specifiers` | the paths that a list names |
 //! | `roots` | where the closure of an output begins |
 //! | `reach` | the numbers to which links lead |
-//! | `rising` | paths in rising order |
-//! | `used` | the paths that an output uses, and the first that a check bars |
+//! | `path_order` | paths in rising order |
+//! | `used_paths` | the paths that an output uses, and the first that a check bars |
 //! | `sizes` | the sizes of closures |
-//! | `testing` | the tests of all outputs |
+//! | `output_tests` | the tests of all outputs |
 
 pub(crate) mod check;
 pub(crate) mod closure;
 pub(crate) mod job_checks;
 pub(crate) mod lists;
+pub(crate) mod output_tests;
+pub(crate) mod path_order;
 pub(crate) mod reach;
-pub(crate) mod rising;
 pub(crate) mod roots;
 pub(crate) mod sizes;
 pub(crate) mod specifiers;
-pub(crate) mod testing;
 pub(crate) mod tokens;
-pub(crate) mod used;
+pub(crate) mod used_paths;

@@ -9,7 +9,7 @@ ghost use Rattle.build_outcome.specs.declared.job.LeftOutput.{LeftOutput as AnOu
 ghost use Rattle.build_outcome.specs.private.Judging.{IsKnown, IsTreeTaken};
 
 use crate::job::Job;
-use crate::known::Known;
+use crate::known_outputs::Known;
 use crate::sums::OutputSum;
 use drv_graph::{Kind, Profile};
 use nix_names::{Algorithm, Method, MethodDigest, StorePath};

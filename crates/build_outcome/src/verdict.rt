@@ -9,15 +9,15 @@ ghost use Rattle.build_outcome.specs.Heard.{AreHeard, IsExaminedOf, IsExaminedOu
 ghost use Rattle.build_outcome.specs.Verdicts.{AreOutputsThere, AreRecords, HasBadMode, HaveGoodModes, IsCyclic, IsExamining, IsTaken, IsVerdict, outputs_of};
 ghost use Rattle.build_outcome.specs.private.Judging.{IsReadAs};
 
-use crate::checked::Checked;
+use crate::acceptance::check_known;
+use crate::checked_records::Checked;
 use crate::cycle::is_cyclic;
-use crate::heard::heard_output::HeardOutput;
+use crate::hearers::heard_output::HeardOutput;
 use crate::job::{Answer, Job, JobOutput};
-use crate::known::Outputs;
+use crate::known_outputs::Outputs;
 use crate::reason::Reason;
 use crate::record::record_of;
 use crate::sums::sums_of;
-use crate::taking::check_known;
 use drv_graph::Profile;
 use nix_names::StorePath;
 use std::alloc::{AllocError, Global};

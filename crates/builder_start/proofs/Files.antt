@@ -8,7 +8,7 @@ use Rattle.nix_names.specs.Names.{same_bytes}
 use Rattle.nix_names.proofs.Lists.{Contains-map, Contains-middle, parts_at, taken_more}
 use Rattle.valid_table.specs.declared.entry.Registration.{Registration}
 use Rattle.build_outcome.specs.declared.job.WholeInput.{WholeInput}
-use Rattle.build_outcome.specs.declared.prepared.PreparedFile.{PreparedFile}
+use Rattle.build_outcome.specs.declared.preparation.PreparedFile.{PreparedFile}
 use Rattle.build_outcome.specs.declared.reason.Reason.{Reason}
 use Rattle.builder_start.specs.Entries.{IsFileOf, IsGoodPair, last_pairs, root_of}
 use Rattle.builder_start.specs.Graphs.{IsGraph}

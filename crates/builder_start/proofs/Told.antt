@@ -11,7 +11,7 @@ use Rattle.structured_attrs.specs.declared.graph.GraphRow.{GraphRow}
 use Rattle.structured_attrs.specs.declared.outputs.OutputPath.{OutputPath}
 use Rattle.build_outcome.specs.declared.job.Job.{Job}
 use Rattle.build_outcome.specs.declared.job.JobOutput.{JobOutput}
-use Rattle.build_outcome.specs.declared.prepared.AttributeTexts.{AttributeTexts}
+use Rattle.build_outcome.specs.declared.preparation.AttributeTexts.{AttributeTexts}
 use Rattle.build_outcome.specs.declared.reason.Reason.{Reason}
 use Rattle.build_outcome.specs.declared.reason.Reason.TheVariants.{BadGraph, UnknownNar}
 use Rattle.builder_start.specs.Structured.{AreGoodRequests, AreTexts, IsFirstWithoutNar, IsGraphOf, with_all, with_graphs, with_paths}

@@ -8,7 +8,7 @@ use Rattle.valid_table.specs.Entries.{paths_registered}
 use Rattle.valid_table.specs.declared.entry.Registration.{Registration}
 use Rattle.structured_attrs.specs.Registrations.{registrations_text}
 use Rattle.build_outcome.specs.declared.job.WholeInput.{WholeInput}
-use Rattle.build_outcome.specs.declared.prepared.PreparedFile.{PreparedFile}
+use Rattle.build_outcome.specs.declared.preparation.PreparedFile.{PreparedFile}
 use Rattle.builder_start.specs.Graphs.{IsGraph, MayBeGraph}
 
 -- ---- what is asked for

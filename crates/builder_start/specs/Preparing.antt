@@ -4,8 +4,8 @@ use Rattle.std.specs.Prelude.{◌≡◌, ◌⊎◌, None, Some, List}
 use Rattle.nix_names.specs.Bytes.{Bytes}
 use Rattle.valid_table.specs.declared.entry.Registration.{Registration}
 use Rattle.build_outcome.specs.declared.job.Job.{Job}
-use Rattle.build_outcome.specs.declared.prepared.Prepared.{Prepared}
-use Rattle.build_outcome.specs.declared.prepared.Prepared.TheVariants.{Entries, Structured}
+use Rattle.build_outcome.specs.declared.preparation.Prepared.{Prepared}
+use Rattle.build_outcome.specs.declared.preparation.Prepared.TheVariants.{Entries, Structured}
 use Rattle.build_outcome.specs.declared.reason.Reason.{Reason}
 use Rattle.build_outcome.specs.declared.reason.Reason.TheVariants.{BadAttributes, BadGraph, UnknownNar}
 use Rattle.build_outcome.specs.Attributes.{json_of}

@@ -25,7 +25,7 @@ use Rattle.build_outcome.specs.Verdicts.{outputs_of}
 use Rattle.build_outcome.specs.declared.job.Job.{Job}
 use Rattle.build_outcome.specs.declared.job.JobOutput.{JobOutput}
 use Rattle.build_outcome.specs.declared.job.WholeInput.{WholeInput}
-use Rattle.build_outcome.specs.declared.prepared.AttributeTexts.{AttributeTexts}
+use Rattle.build_outcome.specs.declared.preparation.AttributeTexts.{AttributeTexts}
 use Rattle.builder_start.specs.Addresses.{content_address}
 use Rattle.builder_start.specs.Graphs.{AreClosureRecords, AreGraphPaths, IsInGraph, MayBeGraph}
 

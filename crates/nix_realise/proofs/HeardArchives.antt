@@ -12,7 +12,7 @@ use Rattle.nix_archive.specs.private.SumLaws.{summed_both}
 use Rattle.nix_archive.proofs.Texts.{text_of_tree}
 use Rattle.nix_names.specs.declared.digest.Algorithm.{Algorithm}
 use Rattle.build_outcome.specs.Sinks.{Hashes, IsHashedBy}
-use Rattle.build_outcome.specs.declared.heard.algorithm_sink.AlgorithmSink.{AlgorithmSink}
+use Rattle.build_outcome.specs.declared.hearers.algorithm_sink.AlgorithmSink.{AlgorithmSink}
 use Rattle.nix_realise.specs.ArchiveEndings.{IsNar}
 use Rattle.nix_realise.specs.private.Printing.{IsPrinted, printed_both}
 use Rattle.nix_realise.specs.declared.archives.dump.PrintSink.{PrintSink}

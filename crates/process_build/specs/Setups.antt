@@ -17,9 +17,9 @@ use Rattle.drv_graph.specs.declared.profile.Profile.TheVariants.{Nix, Plain}
 use Rattle.build_outcome.specs.Tokens.{tokens}
 use Rattle.build_outcome.specs.declared.job.Job.{Job}
 use Rattle.build_outcome.specs.declared.job.JobOutput.{JobOutput}
-use Rattle.build_outcome.specs.declared.prepared.Prepared.{Prepared}
-use Rattle.build_outcome.specs.declared.prepared.Prepared.TheVariants.{Entries, Structured}
-use Rattle.build_outcome.specs.declared.prepared.PreparedFile.{PreparedFile}
+use Rattle.build_outcome.specs.declared.preparation.Prepared.{Prepared}
+use Rattle.build_outcome.specs.declared.preparation.Prepared.TheVariants.{Entries, Structured}
+use Rattle.build_outcome.specs.declared.preparation.PreparedFile.{PreparedFile}
 use Rattle.process_build.specs.declared.process.builtins.OwnBuiltin.{OwnBuiltin}
 use Rattle.process_build.specs.declared.process.setup.Setup.{Setup}
 use Rattle.process_build.specs.declared.process.setup.SetupFile.{SetupFile}

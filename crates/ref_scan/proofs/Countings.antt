@@ -7,7 +7,7 @@ use Rattle.nix_archive.specs.Tokens.{Token, FolderBegun, EntryBegun, EntryEnded,
 use Rattle.nix_archive.specs.Trees.{Bytes, Tree as Archived, Entries, File, Link, Folder, NoEntries, Entry}
 use Rattle.ref_scan.specs.ArchivedTrees.{KeepsLimits, archived_bytes, archived_depth, archived_entries, bytes_of_entries, count_of_entries, depth_of_entries}
 use Rattle.ref_scan.specs.Counting.{AreCountsOf, CountsHearLimits, CountsStayPast, CountsTellLimits, IsWithin, KeepWithin, bytes_at, bytes_heard, deepest_from, entries_at, entries_heard, in_64_bits, level_after, level_at}
-use Rattle.ref_scan.specs.declared.hearing.tree_counts.TreeCounts.{TreeCounts}
+use Rattle.ref_scan.specs.declared.hearers.tree_counts.TreeCounts.{TreeCounts}
 
 -- ---- tokens behind others
 

@@ -10,7 +10,7 @@ use Rattle.ref_scan.specs.Feed.{Feed, lists_of}
 use Rattle.ref_scan.specs.Hearing.{AreTokensShort, IsFoundAtHearing, fed_by}
 use Rattle.ref_scan.specs.Scan.{IsFoundIn, OccursIn}
 use Rattle.ref_scan.specs.Trees.{pieces}
-use Rattle.ref_scan.specs.declared.hearing.tree_scanner.TreeScanner.{TreeScanner}
+use Rattle.ref_scan.specs.declared.hearers.tree_scanner.TreeScanner.{TreeScanner}
 use Rattle.ref_scan.proofs.ArchivedMeasures.{measured_alike}
 use Rattle.ref_scan.proofs.Pieces.{found_before_none}
 

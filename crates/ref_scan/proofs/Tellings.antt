@@ -11,10 +11,10 @@ use Rattle.nix_archive.proofs.Texts.{text_of_tree}
 use Rattle.ref_scan.specs.Archives.{HasArchive, HasNoArchive, IsArchiveOf, IsHeard}
 use Rattle.ref_scan.specs.Trees.{joined}
 use Rattle.ref_scan.specs.private.Telling.{Ahead, AreInOrder, InFolder, IsBegun, IsFileTold, IsNode, IsOrderOf, IsStep, IsTelling, IsVisit, Nothing, Outer, Says, Tells, Then, entry_end, order_of}
-use Rattle.ref_scan.specs.declared.telling.node.Node.{Node}
-use Rattle.ref_scan.specs.declared.telling.node.Node.TheVariants.{Heard, Begun, Refused}
-use Rattle.ref_scan.specs.declared.telling.told.Told.{Told}
-use Rattle.ref_scan.specs.declared.telling.told.Told.TheVariants.{Whole, NoArchive}
+use Rattle.ref_scan.specs.declared.tree_archive.node.Node.{Node}
+use Rattle.ref_scan.specs.declared.tree_archive.node.Node.TheVariants.{Heard, Begun, Refused}
+use Rattle.ref_scan.specs.declared.tree_archive.outcome.Told.{Told}
+use Rattle.ref_scan.specs.declared.tree_archive.outcome.Told.TheVariants.{Whole, NoArchive}
 use Rattle.ref_scan.specs.declared.tree.Tree.{Tree, Pieces, Executable, Dir}
 use Rattle.ref_scan.specs.declared.tree.Member.{Member}
 use Rattle.ref_scan.proofs.Folders.{count_dir}

@@ -5,9 +5,9 @@ use Rattle.nix_archive.specs.Archive.{nar}
 use Rattle.nix_archive.specs.Tokens.{Token, tokens_of}
 use Rattle.nix_archive.specs.Trees.{Bytes, Tree as Archived, File as ArchivedFile, Link as ArchivedLink, Folder, Entries, NoEntries, Entry, IsArchivable}
 use Rattle.ref_scan.specs.Trees.{joined}
-use Rattle.ref_scan.specs.declared.telling.sum.ArchiveSum.{ArchiveSum}
-use Rattle.ref_scan.specs.declared.telling.told.Told.{Told}
-use Rattle.ref_scan.specs.declared.telling.told.Told.TheVariants.{Whole, NoArchive}
+use Rattle.ref_scan.specs.declared.tree_archive.sum.ArchiveSum.{ArchiveSum}
+use Rattle.ref_scan.specs.declared.tree_archive.outcome.Told.{Told}
+use Rattle.ref_scan.specs.declared.tree_archive.outcome.Told.TheVariants.{Whole, NoArchive}
 use Rattle.ref_scan.specs.declared.tree.Tree.{Tree, File, Pieces, Executable, Link, Dir', Row_of-Member, end_of-Member, more_of-Member}
 
 -- the entries are the others, whose order stays, and this one, which stands at any place

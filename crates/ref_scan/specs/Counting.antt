@@ -4,7 +4,7 @@ use Rattle.std.specs.Prelude.{◌≡◌, ◌↔◌, ◌+◌, ◌-◌, ◌<◌, �
 use Rattle.nix_archive.specs.Tokens.{Token, EntryBegun, EntryEnded, FileByte, LinkTo, tokens_of}
 use Rattle.nix_archive.specs.Trees.{Tree as Archived}
 use Rattle.ref_scan.specs.ArchivedTrees.{KeepsLimits}
-use Rattle.ref_scan.specs.declared.hearing.tree_counts.TreeCounts.{TreeCounts}
+use Rattle.ref_scan.specs.declared.hearers.tree_counts.TreeCounts.{TreeCounts}
 
 -- how many entries begin at a token
 abbrev pub entries_at : Token → ℕ

@@ -7,7 +7,7 @@ use Rattle.ref_scan.specs.Archives.{IsArchiveOf}
 use Rattle.ref_scan.specs.ArchivedTrees.{KeepsLimits, LiesInMemory}
 use Rattle.ref_scan.specs.Feed.{Feed}
 use Rattle.ref_scan.specs.Scan.{IsFound}
-use Rattle.ref_scan.specs.declared.hearing.tree_scanner.TreeScanner.{TreeScanner}
+use Rattle.ref_scan.specs.declared.hearers.tree_scanner.TreeScanner.{TreeScanner}
 use Rattle.ref_scan.specs.declared.tree.Tree.{Tree}
 
 -- the list that goes on has more bytes

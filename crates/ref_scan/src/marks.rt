@@ -4,7 +4,7 @@ ghost use Rattle.nix_names.specs.Rising.{IsRising};
 ghost use Rattle.nix_names.specs.StorePaths.{hash_part_of, is_hash_part};
 ghost use Rattle.ref_scan.specs.Scan.{IsFoundIn, OccursIn};
 
-use crate::fed::{FedBytes, Piece};
+use crate::fed_bytes::{FedBytes, Piece};
 use crate::index::{Index, part_of};
 use crate::seam::{KEPT, seam, tail_behind};
 use crate::search::search;

@@ -21,9 +21,9 @@ use Rattle.build_outcome.specs.Attributes.{json_of, value_under}
 use Rattle.build_outcome.specs.Tokens.{tokens}
 use Rattle.build_outcome.specs.declared.job.Job.{Job}
 use Rattle.build_outcome.specs.declared.job.WholeInput.{WholeInput}
-use Rattle.build_outcome.specs.declared.prepared.Prepared.{Prepared}
-use Rattle.build_outcome.specs.declared.prepared.Prepared.TheVariants.{Entries, Structured}
-use Rattle.build_outcome.specs.declared.prepared.PreparedFile.{PreparedFile}
+use Rattle.build_outcome.specs.declared.preparation.Prepared.{Prepared}
+use Rattle.build_outcome.specs.declared.preparation.Prepared.TheVariants.{Entries, Structured}
+use Rattle.build_outcome.specs.declared.preparation.PreparedFile.{PreparedFile}
 use Rattle.build_outcome.specs.declared.reason.Reason.{Reason}
 use Rattle.builder_start.specs.Asked.{AsksForRecords, graphs_of, tokens_or_none}
 use Rattle.builder_start.specs.Entries.{AreFiles, IsFileOf, IsGoodPair, is_file_name, pairs_of, root_of}

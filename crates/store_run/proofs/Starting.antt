@@ -9,7 +9,7 @@ use Rattle.valid_table.proofs.Reaching.{reached_more}
 use Rattle.valid_view.specs.Answers.{AreRecords}
 use Rattle.run_states.proofs.Dones.{part_with}
 use Rattle.build_outcome.specs.declared.job.Job.{Job}
-use Rattle.build_outcome.specs.declared.prepared.Prepared.{Prepared}
+use Rattle.build_outcome.specs.declared.preparation.Prepared.{Prepared}
 use Rattle.build_outcome.specs.declared.reason.Reason.{Reason}
 use Rattle.build_outcome.specs.declared.reason.Reason.TheVariants.{OutOfMemory}
 use Rattle.builder_start.specs.Preparing.{IsPrepared, IsUnprepared}

@@ -8,9 +8,9 @@ use Rattle.nix_drv.specs.Parts.{entry_of}
 use Rattle.drv_graph.specs.declared.profile.Profile.TheVariants.{Nix}
 use Rattle.valid_table.specs.declared.entry.Entry.{Entry}
 use Rattle.build_outcome.specs.declared.job.Job.{Job}
-use Rattle.build_outcome.specs.declared.prepared.Prepared.{Prepared}
-use Rattle.build_outcome.specs.declared.prepared.Prepared.TheVariants.{Entries}
-use Rattle.build_outcome.specs.declared.prepared.PreparedFile.{PreparedFile}
+use Rattle.build_outcome.specs.declared.preparation.Prepared.{Prepared}
+use Rattle.build_outcome.specs.declared.preparation.Prepared.TheVariants.{Entries}
+use Rattle.build_outcome.specs.declared.preparation.PreparedFile.{PreparedFile}
 use Rattle.build_outcome.specs.declared.reason.Reason.{Reason}
 use Rattle.store_run.specs.DiamondExample.{base, base_out, file_of, left, left_out}
 

@@ -7,8 +7,8 @@ use Rattle.valid_table.specs.declared.entry.Registration.{Registration}
 use Rattle.valid_view.specs.Answers.{AreRecords}
 use Rattle.valid_view.specs.Shown.{IsShowable}
 use Rattle.build_outcome.specs.declared.job.Job.{Job}
-use Rattle.build_outcome.specs.declared.prepared.Prepared.{Prepared}
-use Rattle.build_outcome.specs.declared.prepared.Prepared.TheVariants.{Entries}
+use Rattle.build_outcome.specs.declared.preparation.Prepared.{Prepared}
+use Rattle.build_outcome.specs.declared.preparation.Prepared.TheVariants.{Entries}
 use Rattle.build_outcome.specs.declared.reason.Reason.{Reason}
 use Rattle.build_outcome.specs.declared.reason.Reason.TheVariants.{OutOfMemory}
 use Rattle.builder_start.specs.Asked.{AsksForRecords}

@@ -6,7 +6,7 @@ ghost use Rattle.drv_graph.specs.Nodes.{output_paths_of};
 ghost use Rattle.drv_graph.specs.Plans.{AreTwins, IsPlan};
 ghost use Rattle.run_states.specs.Runs.{state_in};
 ghost use Rattle.build_outcome.specs.declared.job.Job.{Job};
-ghost use Rattle.build_outcome.specs.declared.prepared.Prepared.{Prepared};
+ghost use Rattle.build_outcome.specs.declared.preparation.Prepared.{Prepared};
 ghost use Rattle.build_outcome.specs.declared.reason.Reason.{Reason};
 ghost use Rattle.build_outcome.specs.declared.reason.Reason.TheVariants.{ExitStatus};
 ghost use Rattle.builder_start.specs.Asked.{AsksForRecords};

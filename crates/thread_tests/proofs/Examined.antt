@@ -5,7 +5,7 @@ use Rattle.valid_table.specs.PathInfos.{PathInfo}
 use Rattle.build_outcome.specs.Heard.{IsExaminedOutcome, IsRunExamined}
 use Rattle.build_outcome.specs.declared.job.Answer.{Answer}
 use Rattle.build_outcome.specs.declared.job.Job.{Job}
-use Rattle.build_outcome.specs.declared.prepared.Prepared.{Prepared}
+use Rattle.build_outcome.specs.declared.preparation.Prepared.{Prepared}
 use Rattle.build_outcome.specs.declared.reason.Reason.{Reason}
 use Rattle.build_outcome.specs.declared.reason.Reason.TheVariants.{OutOfMemory}
 

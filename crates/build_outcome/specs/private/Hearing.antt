@@ -8,7 +8,7 @@ use Rattle.drv_graph.specs.declared.profile.Profile.{Profile}
 use Rattle.drv_graph.specs.declared.profile.Profile.TheVariants.{Nix, Plain}
 use Rattle.build_outcome.specs.Hearing.{IsArchiveHeard}
 use Rattle.build_outcome.specs.Verdicts.{NeedsArchive}
-use Rattle.build_outcome.specs.declared.heard.archive_hearer.ArchiveHearer.{ArchiveHearer}
+use Rattle.build_outcome.specs.declared.hearers.archive_hearer.ArchiveHearer.{ArchiveHearer}
 use Rattle.build_outcome.specs.declared.reason.Reason.{Reason}
 use Rattle.build_outcome.specs.declared.reason.Reason.TheVariants.{ReadFault}
 use Rattle.build_outcome.specs.declared.sums.OutputSum.{OutputSum}

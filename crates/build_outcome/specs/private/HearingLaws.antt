@@ -10,11 +10,11 @@ use Rattle.nix_names.specs.Bytes.{Bytes}
 use Rattle.ref_scan.specs.private.HearingLaws.{count_both, count_none, scan_both, scan_none}
 use Rattle.build_outcome.specs.Hearing.{HashesIn, IsArchiveHeard, IsFileHeard, IsHashedIn, IsOutputHeard, IsWritten, byte_of, bytes_in, has_other, is_other, marked}
 use Rattle.build_outcome.specs.private.Sinks.{summed_more, summed_nothing}
-use Rattle.build_outcome.specs.declared.heard.algorithm_sink.AlgorithmSink.{AlgorithmSink}
-use Rattle.build_outcome.specs.declared.heard.archive_hearer.ArchiveHearer.{ArchiveHearer}
-use Rattle.build_outcome.specs.declared.heard.archive_sink.ArchiveSink.{ArchiveSink}
-use Rattle.build_outcome.specs.declared.heard.file_hearer.FileHearer.{FileHearer}
-use Rattle.build_outcome.specs.declared.heard.output_hearer.OutputHearer.{OutputHearer}
+use Rattle.build_outcome.specs.declared.hearers.algorithm_sink.AlgorithmSink.{AlgorithmSink}
+use Rattle.build_outcome.specs.declared.hearers.archive_hearer.ArchiveHearer.{ArchiveHearer}
+use Rattle.build_outcome.specs.declared.hearers.archive_sink.ArchiveSink.{ArchiveSink}
+use Rattle.build_outcome.specs.declared.hearers.file_hearer.FileHearer.{FileHearer}
+use Rattle.build_outcome.specs.declared.hearers.output_hearer.OutputHearer.{OutputHearer}
 
 -- ---- files
 

@@ -11,10 +11,10 @@ use Rattle.build_outcome.specs.private.Summing.{AreSums}
 use Rattle.build_outcome.specs.declared.job.Answer.{Answer}
 use Rattle.build_outcome.specs.declared.job.Job.{Job}
 use Rattle.build_outcome.specs.declared.job.LeftOutput.{LeftOutput}
-use Rattle.build_outcome.specs.declared.known.Known.{Known}
-use Rattle.build_outcome.specs.declared.known.Known.TheVariants.{Tree as OfTree, Heard as OfHeard}
-use Rattle.build_outcome.specs.declared.known.Outputs.{Outputs}
-use Rattle.build_outcome.specs.declared.known.Outputs.TheVariants.{Trees, Heard}
+use Rattle.build_outcome.specs.declared.known_outputs.Known.{Known}
+use Rattle.build_outcome.specs.declared.known_outputs.Known.TheVariants.{Tree as OfTree, Heard as OfHeard}
+use Rattle.build_outcome.specs.declared.known_outputs.Outputs.{Outputs}
+use Rattle.build_outcome.specs.declared.known_outputs.Outputs.TheVariants.{Trees, Heard}
 use Rattle.build_outcome.specs.declared.reason.Reason.{Reason}
 use Rattle.build_outcome.specs.declared.sums.OutputSum.{OutputSum}
 

@@ -4,8 +4,8 @@ use Rattle.std.proofs.Common.{append-nil, append_assoc, subst, sym}
 use Rattle.sha2.specs.Sha256.{sha256}
 use Rattle.nix_names.specs.Bytes.{Bytes}
 use Rattle.drv_graph.specs.declared.kinds.Kind.{Kind}
-use Rattle.build_outcome.specs.declared.heard.algorithm_sink.AlgorithmSink.{AlgorithmSink}
-use Rattle.build_outcome.specs.declared.heard.archive_sink.ArchiveSink.{ArchiveSink}
+use Rattle.build_outcome.specs.declared.hearers.algorithm_sink.AlgorithmSink.{AlgorithmSink}
+use Rattle.build_outcome.specs.declared.hearers.archive_sink.ArchiveSink.{ArchiveSink}
 use Rattle.build_outcome.specs.declared.sums.OutputSum.{OutputSum}
 use Rattle.build_outcome.specs.Sinks.{Hashes, IsHashedBy, IsSummedBy, SumsArchive}
 use Rattle.build_outcome.specs.Sums.{archive_algorithm}

@@ -6,7 +6,7 @@ ghost use Rattle.build_outcome.specs.Checks.{AreRootsOf};
 ghost use Rattle.build_outcome.specs.Verdicts.{outputs_of};
 ghost use Rattle.build_outcome.specs.private.RootPaths.{AddsOutside, IsMetPath, RefersOut};
 
-use crate::checked::Checked;
+use crate::checked_records::Checked;
 use crate::checks::reach::reached_from;
 use crate::job::Job;
 use crate::links::{each_once, links_by, place_of};

@@ -6,7 +6,7 @@ ghost use Rattle.build_outcome.specs.Checks.{IsFirstPath, nar_at, registration_o
 ghost use Rattle.build_outcome.specs.declared.job.JobOutput.{JobOutput as JobOutputStruct};
 ghost use Rattle.build_outcome.specs.private.Sizing.{AreNars, kept_nar};
 
-use crate::checks::rising::place_among;
+use crate::checks::path_order::place_among;
 use crate::job::JobOutput;
 use indexmap::IndexMap;
 use nix_names::StorePath;

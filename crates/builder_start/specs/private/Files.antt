@@ -2,7 +2,7 @@
 use Rattle.std.specs.Prelude.{◌≡◌, Bool, true, false, List, [], ◌∷◌, ◌++◌, string_bytes}
 use Rattle.valid_table.specs.declared.entry.Registration.{Registration}
 use Rattle.structured_attrs.specs.Registrations.{registrations_text}
-use Rattle.build_outcome.specs.declared.prepared.PreparedFile.{PreparedFile}
+use Rattle.build_outcome.specs.declared.preparation.PreparedFile.{PreparedFile}
 use Rattle.builder_start.specs.declared.pairs.Pair.{Pair}
 
 -- the file of a pair with this graph was added, where a later pair doesn't have its name

@@ -16,7 +16,7 @@ use Rattle.process_build.specs.declared.process.options.OwnOptions.{OwnOptions}
 use Rattle.process_build.specs.declared.process.processes.Preparation.{Preparation}
 use Rattle.process_build.specs.declared.process.surroundings.Surroundings.{Surroundings}
 use Rattle.build_outcome.specs.declared.job.Job.{Job}
-use Rattle.build_outcome.specs.declared.prepared.Prepared.{Prepared}
+use Rattle.build_outcome.specs.declared.preparation.Prepared.{Prepared}
 
 -- the log of the derivation with this number: none without a folder of logs
 abbrev pub IsLogOf : OwnOptions → (derivation : ℕ) → Option LogPath → Type 0

@@ -5,8 +5,8 @@ use Rattle.nix_archive.specs.Tokens.{Token}
 use Rattle.ref_scan.specs.Counting.{AreCountsOf, IsCountHeard}
 use Rattle.ref_scan.specs.Feed.{Feed}
 use Rattle.ref_scan.specs.Hearing.{AreTokensShort, IsScanHeard, fed_by, fed_one}
-use Rattle.ref_scan.specs.declared.hearing.tree_counts.TreeCounts.{TreeCounts}
-use Rattle.ref_scan.specs.declared.hearing.tree_scanner.TreeScanner.{TreeScanner}
+use Rattle.ref_scan.specs.declared.hearers.tree_counts.TreeCounts.{TreeCounts}
+use Rattle.ref_scan.specs.declared.hearers.tree_scanner.TreeScanner.{TreeScanner}
 
 pub fed_after : (before after : List Token) (feed : Feed)
     → fed_by (before ++ after) feed ≡ fed_by after (fed_by before feed)

@@ -7,10 +7,10 @@ use Rattle.nix_archive.specs.Tokens.{Token, EntryEnded, FolderBegun, FolderEnded
 use Rattle.nix_archive.specs.Trees.{Bytes, Tree as Archived, Entries, NoEntries, Entry, AreEntries, IsAfter, IsArchivable, IsName, IsString}
 use Rattle.ref_scan.specs.Archives.{HasNoArchive, IsArchiveOf, IsBeside}
 use Rattle.ref_scan.specs.Trees.{entry_count}
-use Rattle.ref_scan.specs.declared.telling.told.Told.{Told}
-use Rattle.ref_scan.specs.declared.telling.told.Told.TheVariants.{Whole, NoArchive}
-use Rattle.ref_scan.specs.declared.telling.node.Node.{Node}
-use Rattle.ref_scan.specs.declared.telling.node.Node.TheVariants.{Heard, Begun, Refused}
+use Rattle.ref_scan.specs.declared.tree_archive.outcome.Told.{Told}
+use Rattle.ref_scan.specs.declared.tree_archive.outcome.Told.TheVariants.{Whole, NoArchive}
+use Rattle.ref_scan.specs.declared.tree_archive.node.Node.{Node}
+use Rattle.ref_scan.specs.declared.tree_archive.node.Node.TheVariants.{Heard, Begun, Refused}
 use Rattle.ref_scan.specs.declared.tree.Tree.{Tree}
 use Rattle.ref_scan.specs.declared.tree.Member.{Member}
 use Rattle.ref_scan.specs.private.Walk.{count_below}

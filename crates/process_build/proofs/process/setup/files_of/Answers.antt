@@ -1,6 +1,6 @@
 use Rattle.std.proofs.Common.{◌∙◌, ◌++◌, ap, map, subst, sym}
 use Rattle.std.specs.List.{AllZip}
-use Rattle.build_outcome.specs.declared.prepared.Prepared.TheVariants.{Entries}
+use Rattle.build_outcome.specs.declared.preparation.Prepared.TheVariants.{Entries}
 use Rattle.process_build.specs.Setups.{IsFileOf, entries_in_files, file_of_entry, file_of_graph}
 use Rattle.process_build.specs.Setups.{files_under}
 use Rattle.process_build.proofs.process.setup.files_of.Goals as goal

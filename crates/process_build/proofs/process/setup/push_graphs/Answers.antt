@@ -4,7 +4,7 @@ use Rattle.std.specs.List.{AllZip}
 use Rattle.std.proofs.lemmas.List.{map_more, take_all}
 use Rattle.std.proofs.lemmas.Slice.Zip.{all_zipped_more}
 use Rattle.build_outcome.specs.declared.job.JobOutput.{JobOutput}
-use Rattle.build_outcome.specs.declared.prepared.PreparedFile.{PreparedFile}
+use Rattle.build_outcome.specs.declared.preparation.PreparedFile.{PreparedFile}
 use Rattle.process_build.specs.Setups.{FileText, IsFileOf, file_of_graph}
 use Rattle.process_build.specs.declared.process.setup.SetupFile.{SetupFile}
 use Rattle.process_build.proofs.process.setup.push_graphs.Goals as goal
