@@ -8,7 +8,7 @@ use Rattle.drv_graph.specs.Nodes.{Node}
 use Rattle.drv_graph.specs.Plans.{Graph}
 use Rattle.drv_graph.specs.SoundGraphs.{IsSound}
 use Rattle.drv_graph.specs.PlanNodes.{AreKept, IsPlanNode, IsSameNode, nodes_of}
-use Rattle.drv_graph.specs.declared.node.PlanNode.{PlanNode}
+use Rattle.drv_graph.specs.declared.plans.node.PlanNode.{PlanNode}
 use Rattle.drv_graph.specs.declared.profile.Profile.{Profile}
 
 -- one path more was copied

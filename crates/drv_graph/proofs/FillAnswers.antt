@@ -30,9 +30,9 @@ use Rattle.drv_graph.specs.private.Walks.{IsUsed}
 use Rattle.drv_graph.specs.declared.fault.GraphFault.{GraphFault}
 use Rattle.drv_graph.specs.declared.fault.GraphFault.TheVariants.{NoMemory, At, Draft, Name}
 use Rattle.drv_graph.specs.declared.fault.NodeFault.TheVariants.{Text}
-use Rattle.drv_graph.specs.declared.fill.Target.{Target}
-use Rattle.drv_graph.specs.declared.node.PlanNode.{PlanNode}
-use Rattle.drv_graph.specs.declared.outputs.UsedInput.{UsedInput}
+use Rattle.drv_graph.specs.declared.drafts.fill.Target.{Target}
+use Rattle.drv_graph.specs.declared.plans.node.PlanNode.{PlanNode}
+use Rattle.drv_graph.specs.declared.outputs.output_checks.UsedInput.{UsedInput}
 use Rattle.drv_graph.proofs.FilledDrafts.{filled_right}
 use Rattle.drv_graph.proofs.PathLists.{other_path}
 use Rattle.drv_graph.proofs.UsedNodes.{used_drvs, used_hashes, used_paths}

@@ -19,7 +19,7 @@ use Rattle.drv_graph.specs.PlanNodes.{node_of, nodes_of}
 use Rattle.drv_graph.specs.Plans.{AreTwins}
 use Rattle.drv_graph.specs.TwinLaws.{TwinsAreTold}
 use Rattle.drv_graph.specs.Twins.{are_among, are_twins, are_twins_at, first_twin_of}
-use Rattle.drv_graph.specs.declared.node.PlanNode.{PlanNode}
+use Rattle.drv_graph.specs.declared.plans.node.PlanNode.{PlanNode}
 
 -- ---- the test of twins
 

@@ -3,8 +3,8 @@ use Rattle.std.proofs.Common.{◌≡◌, ◌∙◌, ℕ, List, [], ◌∷◌, �
 use Rattle.std.specs.Prelude.{⊤}
 use Rattle.nix_drv.specs.Sources.{Answer}
 use Rattle.drv_graph.specs.private.Walks.{IsGoingOn, IsStepping, LeavesNone}
-use Rattle.drv_graph.specs.declared.walk_state.WalkState.{WalkState}
-use Rattle.drv_graph.specs.declared.walk_state.Visit.{Visit}
+use Rattle.drv_graph.specs.declared.walks.walk_state.WalkState.{WalkState}
+use Rattle.drv_graph.specs.declared.walks.walk_state.Visit.{Visit}
 use Rattle.drv_graph.specs.declared.profile.Profile.{Profile}
 
 -- the derivation is kept open, with one number more

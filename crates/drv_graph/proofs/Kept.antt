@@ -14,7 +14,7 @@ use Rattle.drv_graph.specs.Plans.{AreDrvsOf, AreNumbers, Graph}
 use Rattle.drv_graph.specs.PlanNodes.{AreKept, IsPlanNode, drvs_of, node_of, nodes_of}
 use Rattle.drv_graph.specs.SoundGraphs.{IsSound}
 use Rattle.drv_graph.specs.Twins.{are_twins_at, first_twin_of}
-use Rattle.drv_graph.specs.declared.node.PlanNode.{PlanNode}
+use Rattle.drv_graph.specs.declared.plans.node.PlanNode.{PlanNode}
 use Rattle.drv_graph.proofs.FirstTwins.{first_within}
 use Rattle.drv_graph.proofs.Numbers.{number_grows}
 use Rattle.drv_graph.proofs.PathLists.{same_place}

@@ -21,10 +21,10 @@ use Rattle.drv_graph.specs.PlanNodes.{AreKept, HasHash, IsPlanNode, node_of, nod
 use Rattle.drv_graph.specs.private.Walks.{HasAllNumbers, IsWalkSoFar, IsLeavingFault, IsVisit, LeavesVisit, SetsEntry, kept_visit, marked, visited}
 use Rattle.indexmap.specs.IndexMap.{keys}
 use Rattle.drv_graph.specs.declared.fault.GraphFault.{GraphFault}
-use Rattle.drv_graph.specs.declared.walk_state.WalkState.{WalkState}
-use Rattle.drv_graph.specs.declared.walk_state.Visit.{Visit}
+use Rattle.drv_graph.specs.declared.walks.walk_state.WalkState.{WalkState}
+use Rattle.drv_graph.specs.declared.walks.walk_state.Visit.{Visit}
 use Rattle.drv_graph.specs.declared.kinds.Kind.{Kind}
-use Rattle.drv_graph.specs.declared.node.PlanNode.{PlanNode}
+use Rattle.drv_graph.specs.declared.plans.node.PlanNode.{PlanNode}
 use Rattle.drv_graph.specs.Twins.{are_twins}
 use Rattle.drv_graph.proofs.FirstTwins.{owner_first, position_grows, position_push, twins_alone}
 use Rattle.drv_graph.proofs.Numbers.{hashes_grow, numbers_grow}

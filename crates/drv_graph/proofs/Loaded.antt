@@ -17,7 +17,7 @@ use Rattle.drv_graph.specs.Plans.AreLeft.{none_left}
 use Rattle.drv_graph.specs.PlanNodes.{AreKept, IsPlanNode, nodes_of}
 use Rattle.drv_graph.specs.SoundGraphs.{IsSound}
 use Rattle.drv_graph.specs.private.Walks.{AreMarks, IsEmptyWalk, IsReachedAll, IsVisited, IsWalked, marked}
-use Rattle.drv_graph.specs.declared.walk_state.WalkState.{WalkState}
+use Rattle.drv_graph.specs.declared.walks.walk_state.WalkState.{WalkState}
 use Rattle.drv_graph.proofs.Marks.{marks_none}
 use Rattle.drv_graph.proofs.Numbers.{numbers_grow, numbers_within}
 use Rattle.drv_graph.proofs.OwnOutputs.{all_named}

@@ -15,7 +15,7 @@ use Rattle.drv_graph.specs.private.Walks.{SetsEntry}
 use Rattle.drv_graph.specs.declared.fault.GraphFault.{GraphFault}
 use Rattle.drv_graph.specs.declared.fault.GraphFault.TheVariants.{At}
 use Rattle.drv_graph.specs.declared.fault.NodeFault.TheVariants.{OutputClash}
-use Rattle.drv_graph.specs.declared.node.PlanNode.{PlanNode}
+use Rattle.drv_graph.specs.declared.plans.node.PlanNode.{PlanNode}
 use Rattle.drv_graph.proofs.PathLists.{all_among, as_long, known_cases, not_before, path_cases}
 use Rattle.nix_names.proofs.Lists.{Contains-first, Contains-from_get, Contains-map, Contains-nothing, Contains-push_cases, either_side, get_grows, get_mapped, get_push_cases, get_pushed, get_source, same_element}
 

@@ -15,8 +15,8 @@ use Rattle.drv_graph.specs.Loading.{max_nodes}
 use Rattle.drv_graph.specs.private.Walks.{Advances, Descends, IsMeeting, IsReadingFault, IsTextFaultAt, Opens, marked}
 use Rattle.drv_graph.specs.declared.fault.GraphFault.{GraphFault}
 use Rattle.drv_graph.specs.declared.fault.GraphFault.TheVariants.{NoMemory, At, Draft, Name}
-use Rattle.drv_graph.specs.declared.walk_state.Visit.{Visit}
-use Rattle.drv_graph.specs.declared.walk.Meeting.TheVariants.{Done, New}
+use Rattle.drv_graph.specs.declared.walks.walk_state.Visit.{Visit}
+use Rattle.drv_graph.specs.declared.walks.walk.Meeting.TheVariants.{Done, New}
 use Rattle.drv_graph.proofs.Marks.{sets_entry}
 
 -- a text with a fault

@@ -13,7 +13,7 @@ use Rattle.drv_graph.specs.declared.fault.GraphFault.TheVariants.{NoMemory, At, 
 use Rattle.drv_graph.specs.declared.fault.NodeFault.TheVariants.{Unreadable, TooMany, Text, Cycle, Outputs, OutputClash}
 use Rattle.drv_graph.specs.declared.fault.OutputFault.{OutputFault}
 use Rattle.drv_graph.specs.declared.kinds.Kind.{Kind}
-use Rattle.drv_graph.specs.declared.walk_state.WalkState.{WalkState}
+use Rattle.drv_graph.specs.declared.walks.walk_state.WalkState.{WalkState}
 use Rattle.drv_graph.specs.declared.profile.Profile.{Profile}
 
 pub gives_back : (G H : List ℕ → Answer → Type 0) → GivesSame G H → GivesSame H G

@@ -16,10 +16,10 @@ use Rattle.drv_graph.specs.private.Walks.{IsLeavingFault, IsOutputFaultAt, IsUse
 use Rattle.drv_graph.specs.declared.fault.GraphFault.{GraphFault}
 use Rattle.drv_graph.specs.declared.fault.GraphFault.TheVariants.{NoMemory, At, Draft, Name}
 use Rattle.drv_graph.specs.declared.fault.OutputFault.{OutputFault}
-use Rattle.drv_graph.specs.declared.walk_state.Visit.{Visit}
+use Rattle.drv_graph.specs.declared.walks.walk_state.Visit.{Visit}
 use Rattle.drv_graph.specs.declared.kinds.Kind.{Kind}
-use Rattle.drv_graph.specs.declared.node.PlanNode.{PlanNode}
-use Rattle.drv_graph.specs.declared.outputs.UsedInput.{UsedInput}
+use Rattle.drv_graph.specs.declared.plans.node.PlanNode.{PlanNode}
+use Rattle.drv_graph.specs.declared.outputs.output_checks.UsedInput.{UsedInput}
 use Rattle.drv_graph.proofs.Numbers.{first_number, later_numbers, numbers_within}
 use Rattle.nix_names.proofs.Lists.{Contains-from_get, Contains-map, get_mapped}
 use Rattle.drv_graph.specs.declared.profile.Profile.{Profile}

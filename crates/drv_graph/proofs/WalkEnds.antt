@@ -20,8 +20,8 @@ use Rattle.drv_graph.specs.declared.fault.GraphFault.TheVariants.{NoMemory, At, 
 use Rattle.drv_graph.specs.declared.fault.NodeFault.TheVariants.{Unreadable, TooMany, Text, Cycle, Outputs, OutputClash}
 use Rattle.drv_graph.specs.declared.fault.OutputFault.{OutputFault}
 use Rattle.drv_graph.specs.declared.kinds.Kind.{Kind}
-use Rattle.drv_graph.specs.declared.walk_state.WalkState.{WalkState}
-use Rattle.drv_graph.specs.declared.walk_state.Visit.{Visit}
+use Rattle.drv_graph.specs.declared.walks.walk_state.WalkState.{WalkState}
+use Rattle.drv_graph.specs.declared.walks.walk_state.Visit.{Visit}
 use Rattle.drv_graph.proofs.Marks.{marks_left, pending_not_left}
 use Rattle.drv_graph.proofs.Numbers.{numbers_grow}
 use Rattle.drv_graph.proofs.PathLists.{distinct_push}

@@ -16,8 +16,8 @@ use Rattle.drv_graph.specs.private.Walks.{IsGoingOn, IsMeetingFault, IsReadingFa
 use Rattle.drv_graph.specs.declared.fault.GraphFault.{GraphFault}
 use Rattle.drv_graph.specs.declared.fault.GraphFault.TheVariants.{NoMemory, At, Draft, Name}
 use Rattle.drv_graph.specs.declared.fault.NodeFault.TheVariants.{Unreadable, TooMany, Text, Cycle, Outputs, OutputClash}
-use Rattle.drv_graph.specs.declared.walk_state.WalkState.{WalkState}
-use Rattle.drv_graph.specs.declared.walk_state.Visit.{Visit}
+use Rattle.drv_graph.specs.declared.walks.walk_state.WalkState.{WalkState}
+use Rattle.drv_graph.specs.declared.walks.walk_state.Visit.{Visit}
 use Rattle.drv_graph.specs.Plans.AreLeft.{none_left, passed_over}
 use Rattle.std.proofs.lemmas.List.Elements.{All-nil}
 use Rattle.drv_graph.proofs.InStore.{sources_in_store}

@@ -10,8 +10,8 @@ use Rattle.drv_graph.specs.Plans.{AreLeft, AreNumbers, IsReachedBy, MayBeAt, May
 use Rattle.drv_graph.specs.Plans.AreLeft.{passed_over, left_behind_inputs}
 use Rattle.drv_graph.specs.PlanNodes.{nodes_of}
 use Rattle.drv_graph.specs.private.Walks.{Advances, AreMarks, IsWalkSoFar, IsVisit, IsWalked, LeavesNone, Opens, marked, pending_of, visited}
-use Rattle.drv_graph.specs.declared.walk_state.WalkState.{WalkState}
-use Rattle.drv_graph.specs.declared.walk_state.Visit.{Visit}
+use Rattle.drv_graph.specs.declared.walks.walk_state.WalkState.{WalkState}
+use Rattle.drv_graph.specs.declared.walks.walk_state.Visit.{Visit}
 use Rattle.drv_graph.proofs.Marks.{marks_opened, new_not_left, new_not_pending}
 use Rattle.drv_graph.proofs.Numbers.{numbers_push}
 use Rattle.drv_graph.proofs.PlanOrder.{left_later, reached_more}

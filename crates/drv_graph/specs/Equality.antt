@@ -6,7 +6,7 @@ use Rattle.nix_drv.specs.Equality.{same_drv, same_drv_laws}
 use Rattle.drv_graph.specs.Nodes.{Node}
 use Rattle.drv_graph.specs.Plans.{Graph}
 use Rattle.drv_graph.specs.PlanNodes.{node_of}
-use Rattle.drv_graph.specs.declared.node.PlanNode.{PlanNode}
+use Rattle.drv_graph.specs.declared.plans.node.PlanNode.{PlanNode}
 use Rattle.drv_graph.specs.declared.profile.Profile.{Profile}
 use Rattle.drv_graph.specs.declared.profile.Profile.TheVariants.{Plain, Nix}
 

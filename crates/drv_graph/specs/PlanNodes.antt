@@ -10,7 +10,7 @@ pub use Rattle.drv_graph.specs.Nodes.{output_paths_of}
 use Rattle.drv_graph.specs.Plans.{AreNumbers}
 use Rattle.drv_graph.specs.Twins.{are_twins}
 use Rattle.drv_graph.specs.declared.kinds.Kind.{Kind}
-use Rattle.drv_graph.specs.declared.node.PlanNode.{PlanNode}
+use Rattle.drv_graph.specs.declared.plans.node.PlanNode.{PlanNode}
 
 -- a derivation of a plan, as the plan's definition has it
 abbrev pub node_of : PlanNode → Node

@@ -3,49 +3,31 @@
 //!
 //! | Module | What is in it |
 //! |---|---|
-//! | `plan`, `plan_eq` | plans: loaded, what they tell of each derivation, and when two are equal |
-//! | `load` | how all that some roots reach is found |
-//! | `walk` | how derivations are walked, depth first |
-//! | `walk_state` | the state of a walk, and how it leaves a derivation |
-//! | `output_owners` | which derivation owns an output path |
-//! | `node` | a derivation of a plan, and what is kept beside it |
+//! | `plans` | plans, and the derivations that are in them |
+//! | `walks` | the walk over all derivations that some roots reach |
 //! | `profile` | the rules under which plans are loaded |
-//! | `kinds`, `kind_of` | the kinds of outputs, and a derivation's kind |
-//! | `modulo` | the texts behind modulo hashes |
-//! | `expected` | the paths that outputs must have |
-//! | `values` | whether the paths in a text are the expected ones |
-//! | `outputs` | what is wrong with a derivation's outputs |
-//! | `fill` | drafts, filled with the expected paths |
-//! | `places` | paths put into a draft's empty places |
+//! | `kinds` | the kinds of outputs |
+//! | `outputs` | a derivation's outputs: their kind, their paths, and what is wrong with them |
+//! | `drafts` | drafts, filled with the expected paths |
 //! | `paths` | store paths parsed and copied |
 //! | `laws` | laws over the definitions that contracts cite |
 //! | `fault` | why derivations make no plan |
 #![tactic(auto)]
 
-mod expected;
+mod drafts;
 mod fault;
-mod fill;
-mod kind_of;
 mod kinds;
 pub mod laws;
-mod load;
-mod modulo;
-mod node;
-mod output_owners;
 mod outputs;
 mod paths;
-mod places;
-mod plan;
-mod plan_eq;
+mod plans;
 mod profile;
-mod values;
-mod walk;
-mod walk_state;
+mod walks;
 
+pub use drafts::fill::{fill_outputs, fill_outputs_as};
 pub use fault::{GraphFault, NodeFault, OutputFault};
-pub use fill::{fill_outputs, fill_outputs_as};
 pub use kinds::Kind;
-pub use modulo::modulo_text;
 pub use nix_names::Method;
-pub use plan::Plan;
+pub use outputs::modulo::modulo_text;
+pub use plans::plan::Plan;
 pub use profile::Profile;

@@ -21,7 +21,7 @@ use Rattle.drv_graph.specs.declared.fault.GraphFault.TheVariants.{NoMemory, Draf
 use Rattle.drv_graph.specs.declared.fault.NodeFault.TheVariants.{Text, Outputs}
 use Rattle.drv_graph.specs.declared.fault.OutputFault.{OutputFault}
 use Rattle.drv_graph.specs.declared.fault.OutputFault.TheVariants.{NoMemory as NoRoom}
-use Rattle.drv_graph.specs.declared.fill.Target.{Target}
+use Rattle.drv_graph.specs.declared.drafts.fill.Target.{Target}
 use Rattle.drv_graph.specs.declared.kinds.Kind.{Kind}
 use Rattle.drv_graph.specs.declared.profile.Profile.{Profile}
 

@@ -8,7 +8,7 @@ use Rattle.drv_graph.specs.Plans.{HaveSamePaths}
 use Rattle.drv_graph.specs.declared.fault.GraphFault.{GraphFault}
 use Rattle.drv_graph.specs.declared.fault.GraphFault.TheVariants.{NoMemory, At}
 use Rattle.drv_graph.specs.declared.fault.NodeFault.TheVariants.{OutputClash}
-use Rattle.drv_graph.specs.declared.node.PlanNode.{PlanNode}
+use Rattle.drv_graph.specs.declared.plans.node.PlanNode.{PlanNode}
 
 -- the number of the derivation that owns an output path, if one does
 abbrev pub owned : {S : Type 0} → IndexMap Path ℕ S → Path → Option ℕ

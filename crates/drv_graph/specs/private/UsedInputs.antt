@@ -4,7 +4,7 @@ use Rattle.std.specs.Prelude.{List, map}
 use Rattle.nix_names.specs.Bytes.{Path, Name, Hash}
 use Rattle.nix_drv.specs.Derivation.{Drv}
 use Rattle.drv_graph.specs.Outputs.{Use}
-use Rattle.drv_graph.specs.declared.outputs.UsedInput.{UsedInput}
+use Rattle.drv_graph.specs.declared.outputs.output_checks.UsedInput.{UsedInput}
 
 -- the paths of inputs
 abbrev pub paths_of_uses : List UsedInput → List Path

@@ -17,19 +17,19 @@ use Rattle.drv_graph.specs.Plans.{AreLawful, AreLeft, AreNumbers, AreTwins, IsRe
 use Rattle.drv_graph.specs.private.Owners.{AreOwners, outputs_of, owned}
 use Rattle.drv_graph.specs.PlanNodes.{AreKept, HasHash, nodes_of}
 use Rattle.drv_graph.specs.declared.kinds.Kind.{Kind}
-use Rattle.drv_graph.specs.declared.outputs.UsedInput.{UsedInput}
+use Rattle.drv_graph.specs.declared.outputs.output_checks.UsedInput.{UsedInput}
 use Rattle.drv_graph.specs.declared.fault.GraphFault.{GraphFault}
 use Rattle.drv_graph.specs.declared.fault.GraphFault.TheVariants.{NoMemory, At}
 use Rattle.drv_graph.specs.declared.fault.NodeFault.{NodeFault}
 use Rattle.drv_graph.specs.declared.fault.NodeFault.TheVariants.{Unreadable, TooMany, Text, Cycle, Outputs, OutputClash}
 use Rattle.drv_graph.specs.declared.fault.OutputFault.{OutputFault}
 use Rattle.drv_graph.specs.declared.fault.OutputFault.TheVariants.{NoMemory as NoRoom}
-use Rattle.drv_graph.specs.declared.walk_state.WalkState.{WalkState}
-use Rattle.drv_graph.specs.declared.walk_state.Visit.{Visit}
-use Rattle.drv_graph.specs.declared.load.LoadedGraph.{LoadedGraph}
-use Rattle.drv_graph.specs.declared.walk.Meeting.{Meeting}
-use Rattle.drv_graph.specs.declared.walk.Meeting.TheVariants.{Done, New}
-use Rattle.drv_graph.specs.declared.node.PlanNode.{PlanNode}
+use Rattle.drv_graph.specs.declared.walks.walk_state.WalkState.{WalkState}
+use Rattle.drv_graph.specs.declared.walks.walk_state.Visit.{Visit}
+use Rattle.drv_graph.specs.declared.walks.reach.LoadedGraph.{LoadedGraph}
+use Rattle.drv_graph.specs.declared.walks.walk.Meeting.{Meeting}
+use Rattle.drv_graph.specs.declared.walks.walk.Meeting.TheVariants.{Done, New}
+use Rattle.drv_graph.specs.declared.plans.node.PlanNode.{PlanNode}
 use Rattle.drv_graph.specs.declared.profile.Profile.{Profile}
 
 -- a path's mark: none where the path wasn't met, one without a number while its derivation is open,

@@ -1,6 +1,0 @@
-use Rattle.std.proofs.Common.{rules}
-use Rattle.drv_graph.proofs.Masking.{masked_parts}
-use Rattle.drv_graph.proofs.modulo.masked_parts.Goals as goal
-
-pub returns : goal.returns
-returns c = search (rules, masked_parts)

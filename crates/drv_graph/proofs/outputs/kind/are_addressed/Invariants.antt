@@ -1,0 +1,8 @@
+use Rattle.std.proofs.Common.{map, take}
+use Rattle.std.specs.Prelude.{All}
+use Rattle.nix_drv.specs.Parts.{output_of}
+use Rattle.drv_graph.specs.Kinds.{IsAddressed}
+use Rattle.drv_graph.proofs.outputs.kind.are_addressed.Given as goal
+
+abbrev pub invariant-loop-output : goal.invariant-loop-output
+invariant-loop-output l = All IsAddressed (take l.output-index (map output_of l.outputs))

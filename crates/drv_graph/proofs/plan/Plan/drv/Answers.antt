@@ -1,6 +1,0 @@
-use Rattle.std.proofs.Common.{rules}
-use Rattle.drv_graph.proofs.Kept.{kept_drv}
-use Rattle.drv_graph.proofs.plan.Plan.drv.Goals as goal
-
-pub returns : goal.returns
-returns c = search (rules, kept_drv)
