@@ -83,32 +83,27 @@ beside_pieces P name node others (Entry f t rest) (inr (fewer, is, h)) =
     (beside_pieces P name node fewer rest h))
     (alike_moved P here this few))
 
-beside_depth : (name : Bytes) (node : Archived) (others entries : Entries)
-    → IsBeside name node others entries
-    → depth_of_entries entries ≡ max (archived_depth node) (depth_of_entries others)
-beside_depth name node others NoEntries h = absurd h
-beside_depth name node others (Entry f t rest) (inl e) =
-    omega (arith, ap archived_depth e.1, ap depth_of_entries e.2)
-beside_depth name node others (Entry f t rest) (inr (fewer, is, h)) =
-    omega (arith, ap depth_of_entries is, beside_depth name node fewer rest h)
+-- A folder's entries have the measures of one entry and of the others.
+record BesideOthers (node : Archived) (others entries : Entries) : Type 0 where
+  depth : depth_of_entries entries ≡ max (archived_depth node) (depth_of_entries others)
+  count : count_of_entries entries ≡ 1 + archived_entries node + count_of_entries others
+  bytes : bytes_of_entries entries ≡ archived_bytes node + bytes_of_entries others
 
-beside_count : (name : Bytes) (node : Archived) (others entries : Entries)
-    → IsBeside name node others entries
-    → count_of_entries entries ≡ 1 + archived_entries node + count_of_entries others
-beside_count name node others NoEntries h = absurd h
-beside_count name node others (Entry f t rest) (inl e) =
-    omega (arith, ap archived_entries e.1, ap count_of_entries e.2)
-beside_count name node others (Entry f t rest) (inr (fewer, is, h)) =
-    omega (arith, ap count_of_entries is, beside_count name node fewer rest h)
-
-beside_bytes : (name : Bytes) (node : Archived) (others entries : Entries)
-    → IsBeside name node others entries
-    → bytes_of_entries entries ≡ archived_bytes node + bytes_of_entries others
-beside_bytes name node others NoEntries h = absurd h
-beside_bytes name node others (Entry f t rest) (inl e) =
-    omega (arith, ap archived_bytes e.1, ap bytes_of_entries e.2)
-beside_bytes name node others (Entry f t rest) (inr (fewer, is, h)) =
-    omega (arith, ap bytes_of_entries is, beside_bytes name node fewer rest h)
+beside_measures : (name : Bytes) (node : Archived) (others entries : Entries)
+    → IsBeside name node others entries → BesideOthers node others entries
+beside_measures name node others NoEntries h = absurd h
+beside_measures name node others (Entry f t rest) (inl e) = record {
+  depth = omega (arith, ap archived_depth e.1, ap depth_of_entries e.2);
+  count = omega (arith, ap archived_entries e.1, ap count_of_entries e.2);
+  bytes = omega (arith, ap archived_bytes e.1, ap bytes_of_entries e.2);
+}
+beside_measures name node others (Entry f t rest) (inr (fewer, is, h)) =
+    let more = beside_measures name node fewer rest h in
+    record {
+      depth = omega (arith, ap depth_of_entries is, more.depth);
+      count = omega (arith, ap count_of_entries is, more.count);
+      bytes = omega (arith, ap bytes_of_entries is, more.bytes);
+    }
 
 -- ---- trees, and the members of folders
 
@@ -143,84 +138,70 @@ mutual
       (pieces_alike_among P rest others more))
       (one.1, one.0)
 
-mutual
-  depth_alike : (tree : Tree) (a : Archived) → IsArchiveOf tree a → depth_of tree ≡ archived_depth a
-  depth_alike (File bytes) a h = sym (ap archived_depth h)
-  depth_alike (Pieces parts) a h = sym (ap archived_depth h)
-  depth_alike (Executable parts) a h = sym (ap archived_depth h)
-  depth_alike (Link target) a h = sym (ap archived_depth h)
-  depth_alike (Dir' shape members) a (es, is, h) =
-      omega (arith, depth_alike_among members es h, ap archived_depth is)
+-- A tree in memory has the measures of that of its archive.
+record AreMeasures (tree : Tree) (a : Archived) : Type 0 where
+  depth : depth_of tree ≡ archived_depth a
+  count : entry_count tree ≡ archived_entries a
+  bytes : file_bytes tree ≡ archived_bytes a
 
-  depth_alike_among : {m : _} (row : Row_of-Member m) (entries : Entries) → AreEntriesOf row entries
-      → depth_among row ≡ depth_of_entries entries
-  depth_alike_among end_of-Member _ h = sym (ap depth_of_entries h)
-  depth_alike_among (more_of-Member name tree rest) entries (node, others, of, beside, more) =
-      omega (
-        arith,
-        depth_alike tree node of,
-        depth_alike_among rest others more,
-        beside_depth name.items node others entries beside,
-      )
+-- The same of a folder's members.
+record AreMeasuresAmong {m : _} (row : Row_of-Member m) (entries : Entries) : Type 0 where
+  depth : depth_among row ≡ depth_of_entries entries
+  count : entry_count_among row ≡ count_of_entries entries
+  bytes : file_bytes_among row ≡ bytes_of_entries entries
+
+measures_at : (tree : Tree) (a b : Archived) → a ≡ b → AreMeasures tree b → AreMeasures tree a
+measures_at tree a b is measures = subst (λ (x : Archived). AreMeasures tree x) (sym is) measures
 
 mutual
-  count_alike : (tree : Tree) (a : Archived) → IsArchiveOf tree a
-      → entry_count tree ≡ archived_entries a
-  count_alike (File bytes) a h = sym (ap archived_entries h)
-  count_alike (Pieces parts) a h = sym (ap archived_entries h)
-  count_alike (Executable parts) a h = sym (ap archived_entries h)
-  count_alike (Link target) a h = sym (ap archived_entries h)
-  count_alike (Dir' shape members) a (es, is, h) =
-      omega (arith, count_alike_among members es h, ap archived_entries is)
+  measures_of : (tree : Tree) (a : Archived) → IsArchiveOf tree a → AreMeasures tree a
+  measures_of (File bytes) a h =
+      measures_at (File bytes) a _ h (record { depth = refl; count = refl; bytes = refl })
+  measures_of (Pieces parts) a h =
+      measures_at (Pieces parts) a _ h (record { depth = refl; count = refl; bytes = refl })
+  measures_of (Executable parts) a h =
+      measures_at (Executable parts) a _ h (record { depth = refl; count = refl; bytes = refl })
+  measures_of (Link target) a h =
+      measures_at (Link target) a _ h (record { depth = refl; count = refl; bytes = refl })
+  measures_of (Dir' shape members) a (es, is, h) =
+      let among = measures_among members es h in
+      measures_at (Dir' shape members) a _ is (record {
+        depth = omega (arith, among.depth);
+        count = among.count;
+        bytes = among.bytes;
+      })
 
-  count_alike_among : {m : _} (row : Row_of-Member m) (entries : Entries) → AreEntriesOf row entries
-      → entry_count_among row ≡ count_of_entries entries
-  count_alike_among end_of-Member _ h = sym (ap count_of_entries h)
-  count_alike_among (more_of-Member name tree rest) entries (node, others, of, beside, more) =
-      omega (
-        arith,
-        count_alike tree node of,
-        count_alike_among rest others more,
-        beside_count name.items node others entries beside,
-      )
-
-mutual
-  bytes_alike : (tree : Tree) (a : Archived) → IsArchiveOf tree a
-      → file_bytes tree ≡ archived_bytes a
-  bytes_alike (File bytes) a h = sym (ap archived_bytes h)
-  bytes_alike (Pieces parts) a h = sym (ap archived_bytes h)
-  bytes_alike (Executable parts) a h = sym (ap archived_bytes h)
-  bytes_alike (Link target) a h = sym (ap archived_bytes h)
-  bytes_alike (Dir' shape members) a (es, is, h) =
-      omega (arith, bytes_alike_among members es h, ap archived_bytes is)
-
-  bytes_alike_among : {m : _} (row : Row_of-Member m) (entries : Entries) → AreEntriesOf row entries
-      → file_bytes_among row ≡ bytes_of_entries entries
-  bytes_alike_among end_of-Member _ h = sym (ap bytes_of_entries h)
-  bytes_alike_among (more_of-Member name tree rest) entries (node, others, of, beside, more) =
-      omega (
-        arith,
-        bytes_alike tree node of,
-        bytes_alike_among rest others more,
-        beside_bytes name.items node others entries beside,
-      )
+  measures_among : {m : _} (row : Row_of-Member m) (entries : Entries) → AreEntriesOf row entries
+      → AreMeasuresAmong row entries
+  measures_among end_of-Member entries h = record {
+    depth = sym (ap depth_of_entries h);
+    count = sym (ap count_of_entries h);
+    bytes = sym (ap bytes_of_entries h);
+  }
+  measures_among (more_of-Member name tree rest) entries (node, others, of, beside, more) =
+      let one = measures_of tree node of in
+      let among = measures_among rest others more in
+      let both = beside_measures name.items node others entries beside in
+      record {
+        depth = omega (arith, one.depth, among.depth, both.depth);
+        count = omega (arith, one.count, among.count, both.count);
+        bytes = omega (arith, one.bytes, among.bytes, both.bytes);
+      }
 
 pub measured_alike : (tree : Tree) (a : Archived) → IsArchiveOf tree a → IsMeasuredAlike tree a
 measured_alike tree a h =
-    let depth = depth_alike tree a h in
-    let count = count_alike tree a h in
-    let bytes = bytes_alike tree a h in
+    let are = measures_of tree a h in
     record {
       limits = (
         λ fits. record {
-          depth = omega (arith, depth, fits.depth);
-          entries = omega (arith, count, fits.entries);
-          bytes = omega (arith, bytes, fits.bytes);
+          depth = omega (arith, are.depth, fits.depth);
+          entries = omega (arith, are.count, fits.entries);
+          bytes = omega (arith, are.bytes, fits.bytes);
         },
         λ keeps. record {
-          depth = omega (arith, depth, keeps.depth);
-          entries = omega (arith, count, keeps.entries);
-          bytes = omega (arith, bytes, keeps.bytes);
+          depth = omega (arith, are.depth, keeps.depth);
+          entries = omega (arith, are.count, keeps.entries);
+          bytes = omega (arith, are.bytes, keeps.bytes);
         },
       );
       occurs = λ part. pieces_alike (Within part) tree a h;

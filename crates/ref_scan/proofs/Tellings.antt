@@ -297,7 +297,7 @@ module _ {S : Type 0} (heard : S → List Token → S → Type 0) where
         hears = subst (λ l. heard s l t) all a.hears;
       }
 
-  -- the walk comes to a member that has no archive
+  -- the walk meets a member that has no archive
   pub root_refused : {s t : S} (tree : Tree) (folders : List (List Member))
       → IsTelling heard s t (Root tree) (Ahead folders)
       → ((ts : List Token) → Ahead folders ts → ⊥) → HasNoArchive tree

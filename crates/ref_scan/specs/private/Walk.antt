@@ -1,5 +1,5 @@
--- A walk of a tree by a list of what it has put off: of each folder that it is in, the members to
--- which it comes later. The folder that it comes to next is the last one.
+-- A walk of a tree by a list of what it has put off: of each folder that it is in, the members
+-- that it visits later. The last folder is the one in which it goes on.
 use Rattle.std.specs.Prelude.{◌≡◌, ℕ, ◌+◌, ◌*◌, ◌≤◌, List, [], ◌∷◌, ◌++◌}
 use Rattle.std.specs.Borrow.{Bor}
 use Rattle.nix_names.specs.Bytes.{Bytes}
