@@ -159,10 +159,9 @@ impl<R: Files + Logs + Env + AllocGlobal, P: Processes> Build for ProcessBuild<'
         Ok(left?.answer())
     }
 
-    /// Builds a job as `run` does, but reads what lies at each output's path once and keeps no
-    /// file's bytes, and examines it. The reasons of `run`, and `ReadFault` too where a file has
-    /// another length when its reading ends than it had when it began, or an archive that is asked
-    /// for has 2^63 bytes or more.
+    /// Reads what lies at each output's path once, and keeps no file's bytes. `ReadFault` also where
+    /// a file has another length when its reading ends than it had when it began, or an archive that
+    /// is asked for has 2^63 bytes or more.
     fn run_examined(
         &self,
         number: u64,
