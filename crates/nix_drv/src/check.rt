@@ -1,19 +1,26 @@
 //! Whether a derivation stands at its own path.
-ghost use Rattle.std.specs.Prelude.{◌≡◌, ◌++◌, [], ◌∷◌, map, All, IfOk, IfErr, IsTrue, OnOk};
-ghost use Rattle.nix_names.specs.Names.{is_name};
+ghost use Rattle.std.specs.Prelude.{◌≡◌, ◌≢◌, ◌++◌, [], ◌∷◌, map, All, Err, IfOk, IfErr, OnOk};
+ghost use Rattle.sha2.specs.Sha256.{sha256};
 ghost use Rattle.nix_names.specs.StorePaths.{IsPathOf};
-ghost use Rattle.nix_drv.specs.Checked.{IsCheck};
+ghost use Rattle.nix_drv.specs.Checked.{IsCheck, IsReadAt};
 ghost use Rattle.nix_drv.specs.Order.{key as key_of};
-ghost use Rattle.nix_drv.specs.OwnPath.{IsOwnPath, referenced_paths};
+ghost use Rattle.nix_drv.specs.OwnPath.{referenced_paths};
 ghost use Rattle.nix_drv.specs.References.{IsReferencesOf, IsStrayFault};
 
 use crate::derivation::Derivation;
 use crate::element::Element;
 use crate::fault::DrvFault;
 use crate::reading::read;
-use crate::text_paths::named_text_path;
+use crate::text_paths::{digested_text_path, named_text_path};
 use nix_names::{NameFault, StoreDir, StorePath, is_drv_name, parse_path};
 use std::alloc::Global;
+
+// A derivation that was read, and the references of its text.
+#[derive(Drop)]
+struct ReadText {
+    drv: Derivation,
+    refs: Vec<StorePath>,
+}
 
 /// The derivation whose text the bytes at this path are. Tests these in order, and answers the
 /// first fault: `NotADrvName` where the path's name does not end in `.drv` after at least one
@@ -29,34 +36,59 @@ pub fn check_text(
 ) -> Result<Derivation, DrvFault>
     ensures { IsCheck dir.now path.now bytes.now result }
 {
-    let name = path.name();
-    if !is_drv_name(name) {
+    let text = read_text(alloc, dir, path, bytes)?;
+    let own = named_text_path(alloc, dir, path.name(), bytes, &text.refs)?;
+    at_own_path(text.drv, own, path)
+}
+
+/// What `check_text` answers, for bytes whose SHA-256 is known. Costs one reading and one sort of
+/// the references.
+pub fn check_digested_text(
+    alloc: Global,
+    dir: &StoreDir,
+    path: &StorePath,
+    bytes: &[u8],
+    digest: &[u8; 32],
+) -> Result<Derivation, DrvFault>
+    requires { digest.now ≡ sha256 bytes.now }
+    ensures { IsCheck dir.now path.now bytes.now result }
+{
+    let text = read_text(alloc, dir, path, bytes)?;
+    let own = digested_text_path(alloc, dir, path.name(), digest, &text.refs)?;
+    at_own_path(text.drv, own, path)
+}
+
+// Reads the derivation whose text the bytes at this path are, and its references. Answers the
+// faults of `check_text` but for `TextPathMismatch`.
+fn read_text(
+    alloc: Global,
+    dir: &StoreDir,
+    path: &StorePath,
+    bytes: &[u8],
+) -> Result<ReadText, DrvFault>
+    ensures ok { IfOk result (λ text. IsReadAt path.now bytes.now text.drv
+        × All (IsPathOf dir.now) (referenced_paths text.drv)
+        × IsReferencesOf (referenced_paths text.drv) text.refs.items) }
+    ensures err { IfErr result (λ fault. IsCheck dir.now path.now bytes.now (Err fault)) }
+{
+    if !is_drv_name(path.name()) {
         return Err(DrvFault::NotADrvName);
     }
     let drv = read(alloc, bytes)?;
-    let own = own_path(alloc, dir, name, bytes, &drv)?;
+    let refs = references(alloc, dir, &drv)?;
+    Ok(ReadText { drv, refs })
+}
+
+// The derivation, where its own path is the path at which its text was found.
+fn at_own_path(drv: Derivation, own: StorePath, path: &StorePath) -> Result<Derivation, DrvFault>
+    ensures ok { IfOk result (λ kept. (kept ≡ drv) × (own ≡ path.now)) }
+    ensures err { IfErr result
+        (λ fault. (fault ≡ DrvFault.TextPathMismatch own) × (own ≢ path.now)) }
+{
     if own != *path {
         return Err(DrvFault::TextPathMismatch(own));
     }
     Ok(drv)
-}
-
-// The own path of a derivation's text in the folder, under a name.
-fn own_path(
-    alloc: Global,
-    dir: &StoreDir,
-    name: &[u8],
-    bytes: &[u8],
-    drv: &Derivation,
-) -> Result<StorePath, DrvFault>
-    requires { IsTrue (is_name name.now) }
-    ensures ok { IfOk result
-        (λ own. All (IsPathOf dir.now) (referenced_paths drv.now)
-        × IsOwnPath dir.now name.now drv.now bytes.now own) }
-    ensures err { IfErr result (IsStrayFault dir.now (referenced_paths drv.now)) }
-{
-    let refs = references(alloc, dir, drv)?;
-    Ok(named_text_path(alloc, dir, name, bytes, &refs)?)
 }
 
 /// The references of a derivation's text: the paths of its input derivations and its sources, in

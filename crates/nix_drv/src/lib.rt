@@ -30,7 +30,7 @@ mod source;
 mod text_paths;
 mod writing;
 
-pub use check::{check_text, references};
+pub use check::{check_digested_text, check_text, references};
 pub use derivation::{Derivation, EnvEntry, Input, Output, Parts};
 pub use fault::DrvFault;
 pub use listing::{ListSource, ListedFile};

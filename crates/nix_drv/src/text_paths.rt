@@ -3,6 +3,7 @@ ghost use Rattle.std.specs.Prelude.{◌≡◌, Some, None, IfOk, IsTrue, if◌th
 ghost use Rattle.nix_names.specs.Answers.{Answers};
 ghost use Rattle.nix_names.specs.Names.{is_name};
 ghost use Rattle.nix_names.specs.Rising.{IsRising};
+ghost use Rattle.nix_names.specs.StorePaths.{store_path};
 ghost use Rattle.nix_drv.specs.OwnPath.{text_kind, text_path};
 
 use nix_names::{NameFault, StoreDir, StorePath, is_name, make_named_path};
@@ -44,8 +45,23 @@ pub fn named_text_path(
     requires named { IsTrue (is_name name.now) }
     ensures { IfOk result (λ path. path ≡ text_path dir.now name.now bytes.now refs.now) }
 {
+    digested_text_path(alloc, dir, name, &Sha256::digest(bytes), refs)
+}
+
+/// The path of a text, by the SHA-256 of its bytes.
+pub(crate) fn digested_text_path(
+    alloc: Global,
+    dir: &StoreDir,
+    name: &[u8],
+    digest: &[u8; 32],
+    refs: &[StorePath],
+) -> Result<StorePath, AllocError>
+    requires { IsTrue (is_name name.now) }
+    ensures { IfOk result (λ path.
+        path ≡ store_path (text_kind refs.now) digest.now dir.now name.now) }
+{
     let kind = text_kind(alloc, refs)?;
-    make_named_path(alloc, &kind, &Sha256::digest(bytes), dir, name)
+    make_named_path(alloc, &kind, digest, dir, name)
 }
 
 // The type of a text path: `text`, then each reference after a colon.
