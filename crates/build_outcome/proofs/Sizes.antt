@@ -303,10 +303,10 @@ same_nars registrations job infos paths records count are path has =
         let there = output_known job infos path count own in none-some there.0 (sym e ∙ there.1) in
         let from = Contains-from_map (λ (r : Registration). r.path) records path
         (are.each path has apart) in
-        let place = get_from_contains records from.0 from.1 in
+        let index = get_from_contains records from.0 from.1 in
         let here : record_at records path ≡ Some from.0 =
         subst (λ (p : List ℕ). record_at records p ≡ Some from.0) from.2
-        (record_of_rising records place.0 from.0 are.rising place.1) in
+        (record_of_rising records index.0 from.0 are.rising index.1) in
         let there : record_at registrations path ≡ Some from.0 =
         subst (λ (p : List ℕ). record_at registrations p ≡ Some from.0) from.2
         (All-contains (λ (r : Registration). record_at registrations r.path ≡ Some r) records

@@ -97,10 +97,10 @@ folder_front path is hash name hash_is name_is' =
     ap (λ (l : List ℕ). length l) p.parts in
     let dir_long = length-append is.dir (47 ∷ p.hash ++ (45 ∷ p.name)) in
     let base_long = length-append p.hash (45 ∷ p.name) in
-    let place : length path - (length hash + 1 + length name) - 1 ≡ length is.dir =
+    let index : length path - (length hash + 1 + length name) - 1 ≡ length is.dir =
     omega (arith, hash_long, name_long, long, dir_long, base_long) in (
       omega (arith, hash_long, name_long, long, dir_long, base_long),
-      ap (λ n. take n path) place ∙ ap (take (length is.dir)) p.parts
+      ap (λ n. take n path) index ∙ ap (take (length is.dir)) p.parts
           ∙ take_at is.dir (47 ∷ p.hash ++ (45 ∷ p.name)) (length is.dir) refl,
     )
 

@@ -17,7 +17,7 @@ use Rattle.build_outcome.specs.declared.job.Job.{Job}
 use Rattle.build_outcome.specs.declared.reason.Reason.{Reason}
 use Rattle.build_outcome.specs.declared.reason.Reason.TheVariants.{BadAttributes, NotAllowed, OutOfMemory}
 use Rattle.build_outcome.specs.private.Testing.{IsFailed, IsPassed, IsTesting, lists_at}
-use Rattle.build_outcome.proofs.RisingPlaces.{first_alike}
+use Rattle.build_outcome.proofs.RisingIndices.{first_alike}
 use Rattle.build_outcome.proofs.TestLists.{all_none, all_one, checks_more, checks_parts, fixed_more, fixed_parts}
 
 module _ (job : Job) (permitted : List (List ℕ)) (infos : List PathInfo)
@@ -40,8 +40,8 @@ module _ (job : Job) (permitted : List (List ℕ)) (infos : List PathInfo)
 
   fixed_fault : (registrations : List Registration) (n : ℕ) (why : Reason)
       → IsTestFault registrations job permitted infos (OfFixed n) why
-      → IsFixedJob job × ((place : ℕ) × IsFirstPath permitted (RefersAt infos n) place)
-  fixed_fault registrations n (NotAllowed output place) fault = (fault.1, (place, fault.2))
+      → IsFixedJob job × ((index : ℕ) × IsFirstPath permitted (RefersAt infos n) index)
+  fixed_fault registrations n (NotAllowed output index) fault = (fault.1, (index, fault.2))
   fixed_fault registrations n why fault = absurd fault
 
   pub not_fixed : (count : ℕ) → (IsFixedJob job → ⊥)
@@ -73,13 +73,13 @@ module _ (job : Job) (permitted : List (List ℕ)) (infos : List PathInfo)
       none first.is.0 (subst (λ (i : PathInfo). Contains i.references first.is.0)
       (same_element infos n refers.0 info refers.1 at) refers.2))))
 
-  pub fixed_failed : (count n place : ℕ) (info : PathInfo)
+  pub fixed_failed : (count n index : ℕ) (info : PathInfo)
       → All (IsPassed job permitted infos closures) (map OfFixed (range_with_len 0 n))
       → n < count → IsFixedJob job → slice_get infos n ≡ Some info
-      → IsFirstPath permitted (λ path. Contains info.references path) place
+      → IsFirstPath permitted (λ path. Contains info.references path) index
       → IsTesting job permitted infos closures (map OfFixed (range_with_len 0 count))
-      (Err (NotAllowed n place))
-  fixed_failed count n place info before low fixed at first = inr (
+      (Err (NotAllowed n index))
+  fixed_failed count n index info before low fixed at first = inr (
     OfFixed n,
     record {
       before = map OfFixed (range_with_len 0 n);
@@ -89,7 +89,7 @@ module _ (job : Job) (permitted : List (List ℕ)) (infos : List PathInfo)
       is = λ registrations have. (
         refl,
         fixed,
-        first_alike permitted (λ path. Contains info.references path) (RefersAt infos n) place
+        first_alike permitted (λ path. Contains info.references path) (RefersAt infos n) index
             (λ path. (
               λ has. (info, at, has),
               λ h. subst (λ (i : PathInfo). Contains i.references path)

@@ -22,7 +22,7 @@ use Rattle.drv_graph.specs.Filling.{AreInStore, IsFilledText, IsFilling, MayFill
 use Rattle.drv_graph.specs.private.FillSteps.{AreDraftPaths, AreUsed, IsFillRefused, IsFilledBehind, IsStrayRefused, IsTarget, IsTextPath, IsTextRefused}
 use Rattle.drv_graph.specs.Loading.{IsLoading}
 use Rattle.drv_graph.specs.Nodes.{AreHashes, Node, inputs_of}
-use Rattle.drv_graph.specs.private.Placing.{IsPlaced}
+use Rattle.drv_graph.specs.private.Insertion.{IsInserted}
 use Rattle.drv_graph.specs.PlanNodes.{AreKept, nodes_of}
 use Rattle.drv_graph.specs.Plans.{AreDrvsOf, AreNumbers, Graph, IsPlan, each_once}
 use Rattle.drv_graph.specs.private.UsedInputs.{drvs_of_uses, hashes_of}
@@ -45,8 +45,8 @@ pub stray_draft : (dir : List ℕ) (paths : List (List ℕ)) (fault : DrvFault) 
     → IsStrayFault dir paths fault → IsStrayRefused dir paths (Draft (Text fault))
 stray_draft dir paths (BadReference text) some stray = inr (text, refl, stray)
 stray_draft dir paths NoSpace some stray = absurd (some refl)
-stray_draft dir paths (Syntax place) some stray = absurd stray
-stray_draft dir paths (Order place) some stray = absurd stray
+stray_draft dir paths (Syntax index) some stray = absurd stray
+stray_draft dir paths (Order index) some stray = absurd stray
 stray_draft dir paths TooLong some stray = absurd stray
 stray_draft dir paths (TextPathMismatch path) some stray = absurd stray
 stray_draft dir paths NotADrvName some stray = absurd stray
@@ -118,7 +118,7 @@ pub filled_behind : {profile : Profile} (dir name : List ℕ) (nodes : List Node
     (draft filled : Drv) (used : List Drv)
     (hashes paths given : List (List ℕ)) → AreUsed nodes draft used hashes
     → AreDraftPaths profile dir name draft used hashes paths → given ≡ paths
-    → IsPlaced given draft filled
+    → IsInserted given draft filled
     → IsFilledBehind profile dir name nodes draft filled
 filled_behind dir name nodes draft filled used hashes paths given behind (kind, right, expected)
     same is = record {
@@ -128,7 +128,7 @@ filled_behind dir name nodes draft filled used hashes paths given behind (kind, 
       kind = kind;
       right = right;
       filled_is = filled_right _ _ _ _ _ _ expected _ _ right
-          (subst (λ (ps : List (List ℕ)). IsPlaced ps draft filled) same is);
+          (subst (λ (ps : List (List ℕ)). IsInserted ps draft filled) same is);
     }
 
 -- ---- all of it

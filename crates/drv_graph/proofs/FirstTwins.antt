@@ -61,7 +61,7 @@ module _ {X : Type 0} (p : X → Bool) where
       ≡ (if not b then 1 + position_or_len p xs else 0)
   at x xs b is = search (rules, not)
 
-  -- one element more in front of lists that have it at one place
+  -- one element more in front of lists that have it at one index
   behind : (z : X) (xs ys : List X) (b : Bool) → p z ≡ b
       → (b ≡ false → position_or_len p xs ≡ position_or_len p ys)
       → position_or_len p (z ∷ xs) ≡ position_or_len p (z ∷ ys)

@@ -7,7 +7,7 @@ use Rattle.drv_graph.specs.Loading.{AreDistinct}
 use Rattle.drv_graph.specs.Nodes.{Node, inputs_of, paths_of}
 use Rattle.drv_graph.specs.Plans.{AreLeft, IsReachedBy, LeadsBy, Uses}
 use Rattle.drv_graph.specs.Plans.AreLeft.{none_left, passed_over, left_behind_inputs}
-use Rattle.drv_graph.proofs.PathLists.{same_place}
+use Rattle.drv_graph.proofs.PathLists.{same_index}
 use Rattle.nix_names.proofs.Lists.{Contains-cons_cases, Contains-first, Contains-later, Contains-nothing, Contains-push_cases, get_from_contains, get_mapped}
 
 -- paths left in two runs are left in one
@@ -115,8 +115,8 @@ same_node nodes a b once has_a has_b same =
     ≡ Some b.path = get_mapped (λ (n : Node). n.path) nodes at_a.0 a at_a.1 ∙ ap Some same in
     let path_b : slice_get (paths_of nodes) at_b.0
     ≡ Some b.path = get_mapped (λ (n : Node). n.path) nodes at_b.0 b at_b.1 in
-    let place = same_place _ _ _ _ once path_a path_b in
-    same_Some a b (sym at_a.1 ∙ ap (λ n. slice_get nodes n) place ∙ at_b.1)
+    let index = same_index _ _ _ _ once path_a path_b in
+    same_Some a b (sym at_a.1 ∙ ap (λ n. slice_get nodes n) index ∙ at_b.1)
 
 -- one more step
 pub leads_more : (Step : List ℕ → List ℕ → Type 0) (from to next : List ℕ) (steps : List (List ℕ))

@@ -16,9 +16,9 @@ ghost use Rattle.drv_graph.specs.Plans.{AreNumbers};
 ghost use Rattle.drv_graph.specs.private.UsedInputs.{drvs_of_uses, hashes_of, paths_of_uses as used_paths_of};
 
 use crate::fault::{GraphFault, NodeFault, OutputFault};
+use crate::insertion::insert_paths;
 use crate::outputs::{UsedInput, expected_outputs};
 use crate::paths::known_paths;
-use crate::places::place;
 use crate::plan::Plan;
 use crate::profile::{Profile, Rules};
 use crate::walk_state::used_inputs;
@@ -151,7 +151,7 @@ fn load_inputs<S: DrvSource>(
     Plan::load_as(alloc, profile, source, dir, &inputs)
 }
 
-// The draft with its outputs' expected paths in its empty places, by the plan of its inputs.
+// The draft with its outputs' expected paths where it has none, by the plan of its inputs.
 fn fill(
     alloc: Global,
     dir: &StoreDir,
@@ -171,7 +171,7 @@ fn fill(
         dir,
     };
     let paths = draft_paths(alloc, &rules, name, draft, &used)?;
-    Ok(place(alloc, draft, &paths)?)
+    Ok(insert_paths(alloc, draft, &paths)?)
 }
 
 // The expected paths of the draft's outputs, or the first fault of them.

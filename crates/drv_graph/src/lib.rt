@@ -16,7 +16,7 @@
 //! | `values` | whether the paths in a text are the expected ones |
 //! | `outputs` | what is wrong with a derivation's outputs |
 //! | `fill` | drafts, filled with the expected paths |
-//! | `places` | paths put into a draft's empty places |
+//! | `insertion` | paths put into a draft where it has none |
 //! | `paths` | store paths parsed and copied |
 //! | `laws` | laws over the definitions that contracts cite |
 //! | `fault` | why derivations make no plan |
@@ -25,6 +25,7 @@
 mod expected;
 mod fault;
 mod fill;
+mod insertion;
 mod kind_of;
 mod kinds;
 pub mod laws;
@@ -34,7 +35,6 @@ mod node;
 mod output_owners;
 mod outputs;
 mod paths;
-mod places;
 mod plan;
 mod plan_eq;
 mod profile;

@@ -106,31 +106,31 @@ impl<T: Drop> Shelf<T> {
     }
 
     // Where the value that `$NAME` stands for is kept; past the end where none is.
-    fn place(&self, word: &[u8]) -> usize {
-        let place = match word.strip_prefix(b"$") {
+    fn index(&self, word: &[u8]) -> usize {
+        let index = match word.strip_prefix(b"$") {
             Some(name) => self.kept.iter().position(|kept| kept.0.as_slice() == name),
             None => None,
         };
-        place.unwrap_or(self.kept.len())
+        index.unwrap_or(self.kept.len())
     }
 
     /// The value that `$NAME` stands for.
     pub(crate) fn get(&self, word: &[u8]) -> Result<&T, Stop> {
-        let kept = self.kept.get(self.place(word));
+        let kept = self.kept.get(self.index(word));
         Ok(&kept.ok_or(NOTHING)?.1)
     }
 
     /// The value that `$NAME` stands for, to be changed.
     pub(crate) fn get_mut(&mut self, word: &[u8]) -> Result<&mut T, Stop> {
-        let place = self.place(word);
-        Ok(&mut self.kept.get_mut(place).ok_or(NOTHING)?.1)
+        let index = self.index(word);
+        Ok(&mut self.kept.get_mut(index).ok_or(NOTHING)?.1)
     }
 
     /// Takes out the value that `$NAME` stands for.
     pub(crate) fn take(&mut self, word: &[u8]) -> Result<T, Stop> {
-        let place = self.place(word);
-        if place < self.kept.len() {
-            return Ok(self.kept.swap_remove(place).1);
+        let index = self.index(word);
+        if index < self.kept.len() {
+            return Ok(self.kept.swap_remove(index).1);
         }
         Err(NOTHING)
     }

@@ -50,8 +50,8 @@ pub fault_behind : (dir text : List ℕ) (before after : List (List ℕ)) (found
 fault_behind dir text before after (fault.BadReference spelled) good stray =
     search (rules, stray_behind)
 fault_behind dir text before after fault.NoMemory good stray = tt
-fault_behind dir text before after (fault.Syntax place) good stray = stray
-fault_behind dir text before after (fault.Order place) good stray = stray
+fault_behind dir text before after (fault.Syntax index) good stray = stray
+fault_behind dir text before after (fault.Order index) good stray = stray
 fault_behind dir text before after fault.TooLong good stray = stray
 fault_behind dir text before after (fault.TextPathMismatch expected) good stray = stray
 fault_behind dir text before after fault.NotADrvName good stray = stray
@@ -70,8 +70,8 @@ pub fault_within : (dir : List ℕ) (before texts after : List (List ℕ)) (foun
 fault_within dir before texts after (fault.BadReference spelled) good stray =
     search (rules, stray_within)
 fault_within dir before texts after fault.NoMemory good stray = tt
-fault_within dir before texts after (fault.Syntax place) good stray = stray
-fault_within dir before texts after (fault.Order place) good stray = stray
+fault_within dir before texts after (fault.Syntax index) good stray = stray
+fault_within dir before texts after (fault.Order index) good stray = stray
 fault_within dir before texts after fault.TooLong good stray = stray
 fault_within dir before texts after (fault.TextPathMismatch expected) good stray = stray
 fault_within dir before texts after fault.NotADrvName good stray = stray
@@ -83,7 +83,7 @@ items_at : {A : Type 0} (view : A → List ℕ) (items : List A) (i : ℕ) (d : 
 items_at view items i d below = ap (map view) (split_at items i d below)
     ∙ map-append view (take i items) (get_or items i d ∷ drop (suc i) items)
 
--- the same of the item at a place, seen as its text
+-- the same of the item at an index, seen as its text
 pub fault_at : {A : Type 0} (view : A → List ℕ) (dir text : List ℕ) (items : List A) (i : ℕ) (d : A)
     (found : DrvFault) → i < length items → d ≡ get_or items i d → text ≡ view d
     → All (IsPathOf dir) (map view (take i items)) → IsStrayFault dir (text ∷ []) found

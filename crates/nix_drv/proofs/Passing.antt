@@ -7,15 +7,15 @@ use Rattle.nix_drv.specs.Order.{key, IsViolationAmong, IsViolation, InOrder, IsF
 use Rattle.nix_drv.specs.private.Reading.{◌>>=◌}
 use Rattle.nix_drv.specs.private.Passing.{behind, pass_among, pass_list, pass}
 
--- the place as the machine has it
+-- the offset as the machine has it
 abbrev pub capped : ℕ → ℕ
-capped place = min place (2 ^ 64 - 1)
+capped offset = min offset (2 ^ 64 - 1)
 
--- there is no such place up to the end, or the least one is answered
+-- there is no such offset up to the end, or the least one is answered
 abbrev pub Passes : (ℕ → Type 0) → ℕ → Result ℕ ℕ → Type 0
 Passes P end (Ok q) = (q ≡ capped end) × ((r : ℕ) → P r → ⊥)
-Passes P end (Err q) = (place : ℕ) × P place × ((other : ℕ) → P other → place ≤ other)
-    × (q ≡ capped place)
+Passes P end (Err q) = (offset : ℕ) × P offset × ((other : ℕ) → P other → offset ≤ other)
+    × (q ≡ capped offset)
 
 same_passes : (P Q : ℕ → Type 0) (end : ℕ) (x : Result ℕ ℕ) → ((r : ℕ) → P r → Q r)
     → ((r : ℕ) → Q r → P r) → Passes P end x → Passes Q end x
@@ -107,7 +107,7 @@ violation_below (Then a b) p v r (inr at) =
     search (rules, length-append, violation_below b _ _ r at)
 violation_below (Many order g) p vs r at = search (rules, list_below, violation_below g)
 
--- ---- the least place
+-- ---- the least offset
 
 -- what is known of going over one element
 record PassesEach {A : Type 0} (text_of : A → List ℕ) (Within : ℕ → A → ℕ → Type 0)
@@ -181,7 +181,7 @@ list_passes order key_of text_of Within one each p (v ∷ vs) =
     (pass_among order key_of one None q (v ∷ vs))) (sym after)
     (among_passes order key_of text_of Within one each None (p + 1) (v ∷ vs)))
 
--- going over a value answers the least place of a violation, or the place after the text where
+-- going over a value answers the least offset of a violation, or the offset after the text where
 -- there is none
 pub pass-exact : (g : Grammar) (p : ℕ) (v : Value g)
     → Passes (IsViolation g p v) (p + length (text g v)) (pass g (capped p) v)
@@ -216,11 +216,11 @@ pub pass_out_of_order : (g : Grammar) (v : Value g) (q : ℕ) → pass g 0 v ≡
 pass_out_of_order g v q e none = let h : Passes (IsViolation g 0 v) (0 + length (text g v))
     (Err q) = from_start g v _ e in none h.0 h.1
 
-pub pass_first : (g : Grammar) (v : Value g) (place : ℕ) → length (text g v) < 2 ^ 64 → pass g 0 v
-    ≡ Err place → IsFirstViolation g v place
-pass_first g v place small e =
-    let h : Passes (IsViolation g 0 v) (0 + length (text g v)) (Err place) =
+pub pass_first : (g : Grammar) (v : Value g) (offset : ℕ) → length (text g v) < 2 ^ 64 → pass g 0 v
+    ≡ Err offset → IsFirstViolation g v offset
+pass_first g v offset small e =
+    let h : Passes (IsViolation g 0 v) (0 + length (text g v)) (Err offset) =
     from_start g v _ e in
     let within : h.0 ≤ 0 + length (text g v) = violation_below g 0 v _ h.1 in
-    let is : h.0 ≡ place = omega (arith, h.3) in
+    let is : h.0 ≡ offset = omega (arith, h.3) in
     subst (IsFirstViolation g v) is (record { is_violation = h.1; least = h.2 })

@@ -47,11 +47,11 @@ length-spellings (b ∷ v) =
       sum_by-cons (λ (x : ℕ). cond (is_some (letter x)) 1 0) b v,
     )
 
-pub string_end : (place escapes first second last : ℕ) (v : List ℕ) → escapes
+pub string_end : (offset escapes first second last : ℕ) (v : List ℕ) → escapes
     ≡ count_by (λ b. is_some (letter b)) v
-    → first ≡ behind place (length v) → second ≡ behind first escapes → last ≡ behind second 2
-    → last ≡ behind place (length (string_text v))
-string_end place escapes first second last v e one two three =
+    → first ≡ behind offset (length v) → second ≡ behind first escapes → last ≡ behind second 2
+    → last ≡ behind offset (length (string_text v))
+string_end offset escapes first second last v e one two three =
     search (rules, length-spellings, length-append)
 
 rest_behind : (s : List ℕ) → 1 ≤ length s → get_or s 0 0 ∷ take (length s - 1) (drop 1 s) ≡ s

@@ -114,8 +114,8 @@ impl Element for Vec<u8> {
     }
 
     #[tactic(auto, unfolding(crate::specs::private::Passing::pass))]
-    fn pass(&self, place: usize) -> Result<usize, usize> {
-        Ok(pass_str(self, place))
+    fn pass(&self, offset: usize) -> Result<usize, usize> {
+        Ok(pass_str(self, offset))
     }
 
     #[tactic(auto, unfolding(crate::specs::Grammar::text))]
@@ -146,8 +146,8 @@ impl Element for EnvEntry {
     }
 
     #[tactic(auto, unfolding(crate::specs::private::Passing::pass))]
-    fn pass(&self, place: usize) -> Result<usize, usize> {
-        let at = pass_str(&self.key, place.saturating_add(1));
+    fn pass(&self, offset: usize) -> Result<usize, usize> {
+        let at = pass_str(&self.key, offset.saturating_add(1));
         let at = pass_str(&self.value, at.saturating_add(1));
         Ok(at.saturating_add(1))
     }
@@ -185,8 +185,8 @@ impl Element for Input {
     }
 
     #[tactic(auto, unfolding(crate::specs::private::Passing::pass))]
-    fn pass(&self, place: usize) -> Result<usize, usize> {
-        let at = pass_str(&self.path, place.saturating_add(1));
+    fn pass(&self, offset: usize) -> Result<usize, usize> {
+        let at = pass_str(&self.path, offset.saturating_add(1));
         let at = pass_list(KeyOrder::Rising, &self.names, at.saturating_add(1))?;
         Ok(at.saturating_add(1))
     }
@@ -233,8 +233,8 @@ impl Element for Output {
     }
 
     #[tactic(auto, unfolding(crate::specs::private::Passing::pass))]
-    fn pass(&self, place: usize) -> Result<usize, usize> {
-        let at = pass_str(&self.name, place.saturating_add(1));
+    fn pass(&self, offset: usize) -> Result<usize, usize> {
+        let at = pass_str(&self.name, offset.saturating_add(1));
         let at = pass_str(&self.path, at.saturating_add(1));
         let at = pass_str(&self.algo, at.saturating_add(1));
         let at = pass_str(&self.hash, at.saturating_add(1));
@@ -307,20 +307,20 @@ pub(crate) fn read_parts(alloc: Global, bytes: &[u8]) -> Result<(Parts, &[u8]), 
     Ok((parts, rest))
 }
 
-// The place after the text of the system, builder, arguments and environment, which begins at this
-// place, or the place in it of the first element that breaks the order of its list.
+// The offset after the text of the system, builder, arguments and environment, which begins at this
+// offset, or the offset in it of the first element that breaks the order of its list.
 #[tactic(auto, unfolding(crate::specs::private::Passing::pass))]
-fn pass_build(parts: &Parts, place: usize) -> Result<usize, usize>
-    ensures { result ≡ pass_of build_form place (parts_build parts.now) }
+fn pass_build(parts: &Parts, offset: usize) -> Result<usize, usize>
+    ensures { result ≡ pass_of build_form offset (parts_build parts.now) }
 {
-    let at = pass_str(&parts.system, place);
+    let at = pass_str(&parts.system, offset);
     let at = pass_str(&parts.builder, at.saturating_add(1));
     let at = pass_list(KeyOrder::Free, &parts.args, at.saturating_add(1))?;
     let at = pass_list(KeyOrder::Rising, &parts.env, at.saturating_add(1))?;
     Ok(at.saturating_add(1))
 }
 
-// The place after the parts' text, or the place in it of the first element that breaks the order
+// The offset after the parts' text, or the offset in it of the first element that breaks the order
 // of its list.
 #[tactic(auto, unfolding(crate::specs::private::Passing::pass))]
 pub(crate) fn pass_parts(parts: &Parts) -> Result<usize, usize>

@@ -49,12 +49,12 @@ fn escapes_in(bytes: &[u8]) -> usize
         .count()
 }
 
-// The place after the string's text, which begins at this place. A place above `usize::MAX` counts
-// as `usize::MAX`.
-pub(crate) fn pass_str(bytes: &[u8], place: usize) -> usize
-    ensures { result ≡ behind place (length (string_text bytes.now)) }
+// The offset after the string's text, which begins at this offset. An offset above `usize::MAX`
+// counts as `usize::MAX`.
+pub(crate) fn pass_str(bytes: &[u8], offset: usize) -> usize
+    ensures { result ≡ behind offset (length (string_text bytes.now)) }
 {
-    place
+    offset
         .saturating_add(bytes.len())
         .saturating_add(escapes_in(bytes))
         .saturating_add(2)

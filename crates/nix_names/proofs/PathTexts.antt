@@ -11,7 +11,7 @@ use Rattle.nix_names.specs.Names.{IsStoreDir, is_name}
 use Rattle.nix_names.specs.StorePaths.{IsPathOf, IsStorePath, base_of, hash_part_of, is_hash_part, name_of, path_text}
 use Rattle.nix_names.proofs.PathBytes.{no_slash_in_name, no_slash_in_digit, all_no_slash}
 
--- what stands after the place n, where the element before n is the last that passes
+-- what stands after the offset n, where the element before n is the last that passes
 after_last_from : (p : ℕ → Bool) (xs : List ℕ) (n : ℕ) → n ≤ length xs
     → ((k : ℕ) → n ≤ k → k < length xs → not (p (get_or xs k 0)) ≡ true)
     → not (p (get_or xs (n - 1) 0)) ≡ false → after_last p xs ≡ drop n xs
@@ -176,8 +176,8 @@ without_slash text none =
     let len : suffix_len (λ b. not (b == 47)) text
     ≡ length text - 0 = suffix_len_is (λ b. not (b == 47)) text 0 0 (omega arith)
     (λ k low high. unmet _ (none k low high)) (λ positive. absurd (omega arith)) in
-    let place : length text - suffix_len (λ b. not (b == 47)) text ≡ 0 = omega arith in
-    sym (ap (λ k. drop k text) place)
+    let offset : length text - suffix_len (λ b. not (b == 47)) text ≡ 0 = omega arith in
+    sym (ap (λ k. drop k text) offset)
 
 -- one text is the path of one folder, hash part and name only
 pub parts_from_text : (dir hash name other part title : List ℕ) → is_hash_part hash ≡ true

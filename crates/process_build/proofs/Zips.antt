@@ -1,4 +1,4 @@
--- Two lists whose items go together, place by place.
+-- Two lists whose items go together, index by index.
 use Rattle.std.proofs.Common.{◌≡◌, ◌∙◌, ap, sym, subst, refl, ℕ, zero, suc, List, [], ◌∷◌, ◌++◌}
 use Rattle.std.proofs.Common.{◌+◌, ◌<◌, arith, get_or, length, map, take}
 use Rattle.std.specs.List.{AllZip, Contains}

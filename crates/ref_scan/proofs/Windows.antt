@@ -40,21 +40,21 @@ byte_of_part part bytes x y i is lt =
 
 -- past a byte that no part has
 pub within_past :
-    (part bytes : List ℕ) (place : ℕ) →
-    IsTrue (is_hash_part part) → place < 32 → is_digit (get_or bytes place 0) ≡ false →
-    Within part bytes → Within part (drop (place + 1) bytes)
-within_past part bytes place is_part lt foreign (x, y, is) =
+    (part bytes : List ℕ) (offset : ℕ) →
+    IsTrue (is_hash_part part) → offset < 32 → is_digit (get_or bytes offset 0) ≡ false →
+    Within part bytes → Within part (drop (offset + 1) bytes)
+within_past part bytes offset is_part lt foreign (x, y, is) =
     let long = hash_part_long part is_part in
     ⊎_elim
-    (λ (before : length x < place + 1).
-    let i = place - length x in
-    let at : length x + i ≡ place = omega arith in
+    (λ (before : length x < offset + 1).
+    let i = offset - length x in
+    let at : length x + i ≡ offset = omega arith in
     let same = byte_of_part part bytes x y i is (omega arith) in
     absurd (false≢true
     (sym foreign ∙ ap is_digit (subst (λ k. get_or bytes k 0 ≡ get_or part i 0) at same)
     ∙ hash_part_digit part is_part i (omega arith))))
-    (λ (behind : place + 1 ≤ length x). within_behind part bytes (place + 1) x y is behind)
-    (cases_lt (length x) (place + 1))
+    (λ (behind : offset + 1 ≤ length x). within_behind part bytes (offset + 1) x y is behind)
+    (cases_lt (length x) (offset + 1))
 
 -- past the first byte, where the window there is no part
 pub within_next :

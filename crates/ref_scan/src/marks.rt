@@ -121,8 +121,8 @@ impl Marks {
         if self.index.is_in_order() {
             return self.met[number];
         }
-        match self.index.place_of(&part_of(&paths[number])) {
-            Some(place) => self.met[place],
+        match self.index.part_number(&part_of(&paths[number])) {
+            Some(part) => self.met[part],
             None => false,
         }
     }

@@ -265,8 +265,8 @@ impl Search {
 // are read as the double, and then the nearest ones.
 pub(crate) fn digits_of(alloc: Global, bits: u64) -> Result<(Vec<u8>, Point), AllocError> {
     let range = Range::of(bits);
-    let place = place_of(range.upper.power);
-    let (count, power) = POWERS.get(place).copied().unwrap_or((0, 0));
+    let index = index_of(range.upper.power);
+    let (count, power) = POWERS.get(index).copied().unwrap_or((0, 0));
     let range = range.times(Scaled { count, power });
     let limit = range.upper.count.wrapping_sub(1);
     let mut search = Search {
@@ -279,14 +279,14 @@ pub(crate) fn digits_of(alloc: Global, bits: u64) -> Result<(Vec<u8>, Point), Al
         Some(left) => small(left),
         None => small(search.find_fraction(limit, shift)?).wrapping_neg(),
     };
-    let ten = 300i32.wrapping_sub(small(place).wrapping_mul(8));
+    let ten = 300i32.wrapping_sub(small(index).wrapping_mul(8));
     let length = small(search.digits.len());
     let point = point_of(ten.wrapping_add(behind).wrapping_add(length));
     Ok((search.digits, point))
 }
 
-// The place of the power of ten by which a number with this power of two gets one from -60 to -32.
-fn place_of(power: i32) -> usize {
+// The index of the power of ten by which a number with this power of two gets one from -60 to -32.
+fn index_of(power: i32) -> usize {
     let wanted = (-61i32).wrapping_sub(power);
     let ten = wanted.wrapping_mul(78_913) / (1 << 18) + i32::from(0 < wanted);
     ten.wrapping_add(307).clamp(0, 639) as usize / 8

@@ -15,7 +15,7 @@ use std::num::{nearest_f64_to_f32_with_nan, saturating_f64_to_i64};
 pub enum Variable {
     /// A variable with one value.
     Plain,
-    /// An array whose items have places.
+    /// An array whose items have indices.
     Indexed,
     /// An array whose items have keys.
     Associative,

@@ -118,8 +118,8 @@ fn first_wrong(alloc: Global, acts: &[(usize, Act)], count: usize) -> Wrong {
     let mut holder = None;
     for (worker, act) in acts {
         match (last.get_mut(*worker), holder_after(holder, *worker, *act)) {
-            (Some(place), Some(after)) if may_follow(*place, *act) => {
-                *place = *act;
+            (Some(did), Some(after)) if may_follow(*did, *act) => {
+                *did = *act;
                 holder = after;
             }
             _ => return Ok(Some((*worker, *act))),

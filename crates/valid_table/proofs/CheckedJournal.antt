@@ -210,20 +210,20 @@ least_wrong entries pre e rest first line last m parts right split first_right w
 
 -- no fault stands before a line up to which all are right
 pub least_fault :
-    (entries pre : List Entry) (e : Entry) (rest : List Entry) (line : Line) (place n : ℕ) →
+    (entries pre : List Entry) (e : Entry) (rest : List Entry) (line : Line) (index n : ℕ) →
     entries ≡ pre ++ e ∷ rest →
     AreRight [] pre →
     IsRightUpTo (paths_registered (registered pre))
     (paths_registered (registered pre ++ registered_by e))
-    (entry_lines e) line place →
-    n ≡ length (lines pre) + place + 1 →
+    (entry_lines e) line index →
+    n ≡ length (lines pre) + index + 1 →
     IsLeastFault entries n
-least_fault entries pre e rest line place n parts right up number m fault =
+least_fault entries pre e rest line index n parts right up number m fault =
     omega (
       arith,
       least_wrong _ _ e _ _ _ _ m parts right up.parts
           up.right (wrong_line _ m fault),
-      up.is_place,
+      up.is_index,
     )
 
 -- a line that registers a known path
@@ -268,19 +268,19 @@ check_behind pre entry known first result same check = search rules
 module _ (entries : List Entry) (i : ℕ) (entry : Entry) (lt : i < length entries)
     (is : entry ≡ get_or entries i entry) where
   -- a line up to which all are right stands there
-  stands_there : (line : Line) (place n : ℕ)
+  stands_there : (line : Line) (index n : ℕ)
       → IsRightUpTo (paths_registered (registered (take i entries)))
       (paths_registered (registered (take i entries) ++ registered_by entry)) (entry_lines entry)
-      line place
-      → n ≡ length (lines (take i entries)) + place + 1
+      line index
+      → n ≡ length (lines (take i entries)) + index + 1
       → StandsAt entries (take i entries) entry line n
-  stands_there line place n up number = record {
+  stands_there line index n up number = record {
     after = drop (i + 1) entries;
     parts = parts_at _ i _ lt is;
     first = up.before;
     last = up.after;
     is_line = up.parts;
-    number = omega (arith, up.is_place);
+    number = omega (arith, up.is_index);
   }
 
   -- the first fault of entries
@@ -288,14 +288,14 @@ module _ (entries : List Entry) (i : ℕ) (entry : Entry) (lt : i < length entri
       → first ≡ length (lines (take i entries)) + 1
       → IsCheckBehind (take i entries) entry first (Err fault)
       → IsEntriesChecking entries (Err fault)
-  first_fault first (Twice n) right number (line, place, up, known, counted) =
-      let at : n ≡ length (lines (take i entries)) + place + 1 = omega arith in (
+  first_fault first (Twice n) right number (line, index, up, known, counted) =
+      let at : n ≡ length (lines (take i entries)) + index + 1 = omega arith in (
         twice_at _ _ _ _ n (stands_there _ _ n up at) known,
         least_fault _ _ _ _ _ _ n
             (parts_at _ i _ lt is) right up at,
       )
-  first_fault first (NotClosed n) right number (line, place, up, other, counted) =
-      let at : n ≡ length (lines (take i entries)) + place + 1 = omega arith in (
+  first_fault first (NotClosed n) right number (line, index, up, other, counted) =
+      let at : n ≡ length (lines (take i entries)) + index + 1 = omega arith in (
         open_at _ _ _ _ n (stands_there _ _ n up at) other,
         least_fault _ _ _ _ _ _ n
             (parts_at _ i _ lt is) right up at,

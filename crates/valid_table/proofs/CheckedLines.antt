@@ -45,7 +45,7 @@ line_count_fits rs i r lt is =
       ap (λ x. length (output_lines x)) is,
     )
 
--- the place of an unknown path is within the list
+-- the index of an unknown path is within the list
 pub unknown_within : (all paths : List (List ℕ)) (at : ℕ) → IsFirstUnknownAt all paths at → at
     < length paths
 unknown_within all paths at (path, first, is) = search (rules, length-append)

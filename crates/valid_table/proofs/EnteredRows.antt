@@ -167,11 +167,11 @@ same_check all known rs new first (Ok behind) same (long, closed, number) =
 same_check all known rs new first (Err (Twice n)) same (lt, closed, number) =
     (lt, All-weaker (Contains all) (Contains known) (λ p has. (same p).0 has) _ closed, number)
 same_check all known rs new first (Err (NotClosed n)) same
-    (before, r, after, place, parts, lt, closed, unknown, number) = (
+    (before, r, after, index, parts, lt, closed, unknown, number) = (
       before,
       r,
       after,
-      place,
+      index,
       parts,
       lt,
       All-weaker (Contains all) (Contains known) (λ p has. (same p).0 has) _ closed,

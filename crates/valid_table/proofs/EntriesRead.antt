@@ -7,7 +7,7 @@ use Rattle.std.proofs.lemmas.List.Elements.{All-nil, All-push}
 use Rattle.valid_table.specs.private.LineTexts.{lines_text}
 use Rattle.valid_table.specs.private.Readers.{HasEntry, HasToBegin, SoFarEntries, StopsInText}
 use Rattle.valid_table.specs.Reading.{BeginsVersion}
-use Rattle.valid_table.specs.private.Steps.{Place, Begun, Stops}
+use Rattle.valid_table.specs.private.Steps.{Position, Begun, Stops}
 use Rattle.valid_table.specs.Texts.{IsEntryIn, IsJournalText, First, entry_lines, lines, text, version_line}
 use Rattle.valid_table.specs.declared.entry.Entry.{Entry}
 use Rattle.valid_table.specs.declared.path_table.version.Version.{Version}
@@ -71,7 +71,7 @@ version_begins version dir bytes entries rest so_far = search (rules, append_ass
 -- where the lines of an entry stop, so do those of the text
 pub text_stops : (version : Version) (dir bytes : List ℕ) (entries : List Entry) (rest : List ℕ)
     (left : ℕ) → SoFarEntries version dir bytes entries rest
-    → ((from : Place) → HasToBegin from rest → Stops version dir from rest left)
+    → ((from : Position) → HasToBegin from rest → Stops version dir from rest left)
     → StopsInText dir bytes left
 text_stops version dir bytes entries rest left so_far stops =
     inl (version, version_begins _ _ _ _ _ so_far, so_far.leads left stops)

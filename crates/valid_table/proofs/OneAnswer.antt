@@ -36,16 +36,16 @@ in_lines entries before entry line n s =
       omega (arith, s.number, length-append (lines before) s.first),
     )
 
--- one line stands at a place
+-- one line stands at an index
 one_line : (entries before other : List Entry) (entry another : Entry) (a b : Line) (n : ℕ)
     → StandsAt entries before entry a n → StandsAt entries other another b n → a ≡ b
 one_line entries before other entry another a b n one two =
     let here = in_lines _ _ _ a n one in
     let there = in_lines _ _ _ b n two in
-    let place : length here.0 ≡ length there.0 = omega (arith, here.3, there.3) in
+    let index : length here.0 ≡ length there.0 = omega (arith, here.3, there.3) in
     sym (get_or_at here.0 a here.1 First (length here.0) refl)
     ∙ ap (λ (ls : List Line). get_or ls (length here.0) First) (sym here.2 ∙ there.2)
-    ∙ get_or_at there.0 b there.1 First (length here.0) (sym place)
+    ∙ get_or_at there.0 b there.1 First (length here.0) (sym index)
 
 -- so no line refers to a path and registers one
 one_fault : (entries : List Entry) (n : ℕ) → IsNotClosedAt entries n → IsTwiceAt entries n → ⊥

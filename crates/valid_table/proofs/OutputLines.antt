@@ -15,7 +15,7 @@ use Rattle.valid_table.specs.Texts.{IsOf, Line, Output, output_lines}
 use Rattle.valid_table.specs.declared.entry.Registration.{Registration}
 use Rattle.valid_table.specs.declared.path_table.version.Version.{Version}
 use Rattle.valid_table.proofs.Leading.{text_and}
-use Rattle.valid_table.proofs.LineLists.{may_stand, outputs_back, place_at}
+use Rattle.valid_table.proofs.LineLists.{may_stand, outputs_back, position_at}
 use Rattle.valid_table.proofs.LineSteps.{StopsIn, first, stop_behind, stop_here, stops_back, stops_in}
 use Rattle.valid_table.proofs.RisingPaths.{above_of_rising, rising_more}
 
@@ -38,14 +38,14 @@ text_more version outputs o behind =
 
 may_follow : (version : Version) (dir : List ℕ) (before last : Option (List ℕ)) (path : List ℕ)
     (digest : Option MethodDigest) (nar : Option NarInfo)
-    → MayBeLine version dir (place_at before last) (Output path digest nar)
+    → MayBeLine version dir (position_at before last) (Output path digest nar)
     → MayBeOutputAfter version dir before path digest nar
 may_follow version dir None last path digest nar may = may
 may_follow version dir (Some output) last path digest nar may = may
 
 -- there an output's letter comes
 letter_ahead : (before last : Option (List ℕ)) (bytes fields : List ℕ) → bytes ≡ 79 ∷ 32 ∷ fields
-    → Ahead (place_at before last) bytes
+    → Ahead (position_at before last) bytes
 letter_ahead None last bytes fields begins = (fields, begins)
 letter_ahead (Some output) last bytes fields begins = tt
 
@@ -53,7 +53,7 @@ letter_ahead (Some output) last bytes fields begins = tt
 stuck : (version : Version) (dir : List ℕ) (before last : Option (List ℕ)) (bytes : List ℕ)
     (left : ℕ)
     → (h : IsBadFields version dir 79 before bytes left) → (line : Line) (rest : List ℕ)
-    → GoesOnWith version dir (place_at before last) bytes line rest → ⊥
+    → GoesOnWith version dir (position_at before last) bytes line rest → ⊥
 stuck version dir before last bytes left h (Output path digest nar) rest go =
     search (rules, may_follow)
 stuck version dir before last bytes left h line rest go = search (rules, first)
@@ -62,9 +62,9 @@ stuck version dir before last bytes left h line rest go = search (rules, first)
 output_stops : (version : Version) (dir : List ℕ) (before last : Option (List ℕ)) (bytes : List ℕ)
     (left : ℕ)
     → StopsInRegistration version dir 79 before bytes left
-    → Stops version dir (place_at before last) bytes left
+    → Stops version dir (position_at before last) bytes left
 output_stops version dir before last bytes left (inl h) =
-    search (rules, place_at, stop_here, letter_ahead, stuck)
+    search (rules, position_at, stop_here, letter_ahead, stuck)
 output_stops version dir before last bytes left (inr h) =
     stop_behind _ _ _ _ _ _ _
     (h.begins ∙ ap (λ (f : List ℕ). 79 ∷ 32 ∷ f) h.line.parts)

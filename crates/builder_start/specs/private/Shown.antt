@@ -47,6 +47,6 @@ abbrev pub IsUntold : List Registration → Job → (text : Bytes) → Reason �
 IsUntold rows job text reason = IsWhy BadAttributes (AreAttributes job text → ⊥) reason
     ⊎ ((taken : AreAttributes job text)
     × (IsWhy BadGraph (AreGoodRequests rows job.whole_inputs.items taken.asked → ⊥) reason
-    ⊎ ((place : ℕ) × (reason ≡ UnknownNar place)
+    ⊎ ((index : ℕ) × (reason ≡ UnknownNar index)
     × AreGoodRequests rows job.whole_inputs.items taken.asked
-    × IsFirstWithoutNar rows job taken.asked place)))
+    × IsFirstWithoutNar rows job taken.asked index)))

@@ -2,13 +2,12 @@
 //!
 //! `Book::open PLAN JOURNAL SYSTEM` begins the lines of a book, which end with `close` (`session`).
 //! Behind a system there may stand its features and the builtin builders that have a program, each
-//! as a list with commas.
-//! What a builder leaves is a status, or `killed`, and a tree for each output: `-` where nothing
-//! lies, `file:TEXT`, `zeros:N` for a file of N bytes, `parts:A:B` for a file in these pieces, or
-//! `folder:N` for a folder of N empty files of one name; `program:A:B` is a file in pieces that its
-//! owner may execute. It has `open:` before it where others than its owner may write it. The last
-//! tree stands for those that are left out. A kind is a digest by a method, or another word, and has
-//! `nix/` before it under that profile.
+//! as a list with commas. What a builder leaves is a status, or `killed`, and a tree for each
+//! output: `-` where nothing lies, `file:TEXT`, `zeros:N` for a file of N bytes, `parts:A:B` for a
+//! file in these pieces, or `folder:N` for a folder of N empty files of one name; `program:A:B` is
+//! a file in pieces that its owner may execute. It has `open:` before it where others than its
+//! owner may write it. The last tree stands for those that are left out. A kind is a digest by a
+//! method, or another word, and has `nix/` before it under that profile.
 ghost use Rattle.std.specs.Prelude.{IfOk};
 ghost use Rattle.nix_names.specs.Rising.{IsRising};
 ghost use Rattle.build_outcome.specs.Verdicts.{IsExamining};
@@ -252,8 +251,8 @@ pub(crate) fn status_of(word: &[u8]) -> Option<i32> {
 /// The answer of a builder at so many outputs, by the words of its status and of its trees.
 pub(crate) fn answer(world: &World, words: &[&[u8]], count: usize) -> Result<Answer, AllocError> {
     let mut outputs = Vec::new(world.alloc);
-    for place in 0..count.max(words.len().saturating_sub(1)) {
-        outputs.push(match words.iter().skip(1).nth(place).or(words.last()) {
+    for index in 0..count.max(words.len().saturating_sub(1)) {
+        outputs.push(match words.iter().skip(1).nth(index).or(words.last()) {
             Some(word) => left(world, word)?,
             None => None,
         })?;

@@ -1,6 +1,6 @@
--- Passing over a value whose text begins at a place. The result is the place after the text, or
--- the place of the first element that breaks the order of its list. A place of 2^64 or more counts
--- as 2^64 - 1, the greatest number of the machine.
+-- Passing over a value whose text begins at an offset. The result is the offset after the text, or
+-- the offset of the first element that breaks the order of its list. An offset of 2^64 or more
+-- counts as 2^64 - 1, the greatest number of the machine.
 use Rattle.std.specs.Prelude.{ℕ, ◌+◌, ◌-◌, ◌^◌, min, if◌then◌else◌, List, [], ◌∷◌, length, Option, Some, None, Result, Ok, Err}
 use Rattle.nix_names.specs.Bytes.{Bytes}
 use Rattle.nix_drv.specs.Strings.{string_text}
@@ -8,9 +8,9 @@ use Rattle.nix_drv.specs.Grammar.{ListOrder, Grammar, Fixed, Str, Then, Many, Va
 use Rattle.nix_drv.specs.Order.{key, breaks}
 use Rattle.nix_drv.specs.private.Reading.{◌>>=◌}
 
--- the place that is `count` bytes after a place
-abbrev pub behind : (place count : ℕ) → ℕ
-behind place count = min (place + count) (2 ^ 64 - 1)
+-- the offset that is `count` bytes after an offset
+abbrev pub behind : (offset count : ℕ) → ℕ
+behind offset count = min (offset + count) (2 ^ 64 - 1)
 
 -- passes over elements with a comma after each, the first at p; the element before them, if there
 -- is one, has the key `before`

@@ -55,12 +55,12 @@ impl<L: Locks, W: Write + Copy> Locks for AnnouncedLocks<'_, L, W> {
 }
 
 impl<L: JournalSinks, W> JournalSinks for AnnouncedLocks<'_, L, W> {
-    type Place = L::Place;
+    type Sink = L::Sink;
 
     ghost keeps_at = { L.keeps_at };
 
-    fn place(&self, holding: LockProof<'_>, path: String) -> Result<L::Place, AllocError> {
-        self.locks.place(holding, path)
+    fn sink(&self, holding: LockProof<'_>, path: String) -> Result<L::Sink, AllocError> {
+        self.locks.sink(holding, path)
     }
 }
 

@@ -7,7 +7,7 @@ ghost use Rattle.valid_table.specs.BadLines.{BeginsOutput};
 ghost use Rattle.valid_table.specs.Entries.{paths_registered};
 ghost use Rattle.valid_table.specs.private.Readers.{HasEntry, HasNoFields, HasOutputs, ReadsReferences, HasRegistration, HasToBegin, IsFieldsLine, IsNoLine, StopsInReferences, StopsInRegistration, StopsInText, StopsWhere};
 ghost use Rattle.valid_table.specs.Reading.{BeginsVersion, IsJournalReading, answered};
-ghost use Rattle.valid_table.specs.private.Steps.{IsAbove, Place, Opened, Stops};
+ghost use Rattle.valid_table.specs.private.Steps.{IsAbove, Position, Opened, Stops};
 ghost use Rattle.valid_table.specs.Texts.{IsJournalText};
 ghost use Rattle.valid_table.specs.declared.path_table.version.Version.{Version as AVersion};
 
@@ -241,7 +241,7 @@ fn done_of<'a>(
         (λ x. HasEntry version dir.now bytes.now x.0 x.1.now)) }
     ensures left { IfErr result
         (StopsWhere
-        (λ left. (from : Place) → HasToBegin from bytes.now
+        (λ left. (from : Position) → HasToBegin from bytes.now
         → Stops version dir.now from bytes.now left)) }
 {
     let Some(fields) = behind_letter(b'D', bytes) else {
@@ -265,7 +265,7 @@ fn entry_of<'a>(
     ensures ok { IfOk result (λ x. HasEntry version dir.now bytes.now x.0 x.1.now) }
     ensures left { IfErr result
         (StopsWhere
-        (λ left. (from : Place) → HasToBegin from bytes.now
+        (λ left. (from : Position) → HasToBegin from bytes.now
         → Stops version dir.now from bytes.now left)) }
 {
     if let Some((added, rest)) = registration_of(alloc, dir, version, b'A', None, bytes)? {

@@ -52,18 +52,19 @@ returns-in_err-paths-clause-err c =
           c.in_err-paths.ensures.err,
     ))
 
-pub place-requires : goal.place-requires
-place-requires c = paths_long _ _ _ _ _ _ _ c.in_ok-paths.ensures.ok c.deref-2.ensures.value
+pub insert_paths-requires : goal.insert_paths-requires
+insert_paths-requires c = paths_long _ _ _ _ _ _ _ c.in_ok-paths.ensures.ok c.deref-2.ensures.value
 
 pub returns-clause-ok : goal.returns-clause-ok
 returns-clause-ok c =
     subst
     (λ (p : Profile). IsFilledBehind p c.args.dir.now c.args.name.now c.args.plan.now.nodes
-    c.args.draft.now c.in_ok-place.field-0) c.profile.ensures
+    c.args.draft.now c.in_ok-insert_paths.field-0) c.profile.ensures
     (filled_behind _ _ _ _
     _ _ _
     _ _
     (behind _ _ _ _
     _ _ _ c.nodes.ensures.nodes
     c.roots.ensures c.requires c.nodes.ensures.kept c.in_ok-used.ensures.ok
-    c.deref.ensures.value) c.in_ok-paths.ensures.ok c.deref-2.ensures.value c.in_ok-place.ensures)
+    c.deref.ensures.value) c.in_ok-paths.ensures.ok c.deref-2.ensures.value
+    c.in_ok-insert_paths.ensures)

@@ -4,14 +4,14 @@ use Rattle.process_build.proofs.Under.{joins_under, one_under}
 use Rattle.process_build.proofs.Walking.{at_above, emptied, whole_at}
 use Rattle.process_build.proofs.walk.tree_walk.end_folder.Goals as goal
 
-pub returns-in_default-clause-place : goal.returns-in_default-clause-place
-returns-in_default-clause-place g c = λ profile start ahead at.
+pub returns-in_default-clause-position : goal.returns-in_default-clause-position
+returns-in_default-clause-position g c = λ profile start ahead at.
     whole_at _ (joins_under _ g.met.H.Hear.joins profile) _ _ _ _ _ (emptied _ _ _
     c.in_default.ensures.items c.in_default.ensures.rest c.in_default.ensures.cases.0) at
     (one_under _ g.met.H.Hear.joins profile _ _ _ c.in_ok-tell_event.ensures.told tt)
 
-pub returns-clause-place : goal.returns-clause-place
-returns-clause-place g c = λ profile start ahead at.
+pub returns-clause-position : goal.returns-clause-position
+returns-clause-position g c = λ profile start ahead at.
     at_above _ (joins_under _ g.met.H.Hear.joins profile) _ _ _ _ _ _ _ _
     c.in-Some.ensures.items at
     (one_under _ g.met.H.Hear.joins profile _ _ _ c.in_ok-tell_event.ensures.told tt)

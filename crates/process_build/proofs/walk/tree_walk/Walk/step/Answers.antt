@@ -5,18 +5,18 @@ use Rattle.process_build.proofs.Under.{joins_under, one_under}
 use Rattle.process_build.proofs.Walking.{at_deeper, at_more, popped}
 use Rattle.process_build.proofs.walk.tree_walk.Walk.step.Goals as goal
 
-pub returns-in_default-clause-place : goal.returns-in_default-clause-place
-returns-in_default-clause-place g c = λ start at. c.in_ok-above.ensures.place _ start _ at
+pub returns-in_default-clause-position : goal.returns-in_default-clause-position
+returns-in_default-clause-position g c = λ start at. c.in_ok-above.ensures.position _ start _ at
 
-pub returns-in-Some-2-clause-place : goal.returns-in-Some-2-clause-place
-returns-in-Some-2-clause-place g c = λ start at.
+pub returns-in-Some-2-clause-position : goal.returns-in-Some-2-clause-position
+returns-in-Some-2-clause-position g c = λ start at.
     at_deeper _ (joins_under _ g.met.H.Hear.joins _) _ _ _ _ _ _ _ _ _ _
     (popped _ _ _ _ c.in-Some.ensures.items c.deref.ensures.value) c.in_ok-push.ensures.items at
     (one_under _ g.met.H.Hear.joins _ _ _ _ c.in_ok-tell_event.ensures.told tt)
     (rw c.in-Some-2.is at c.in_ok-inside.ensures.found)
 
-pub returns-clause-place : goal.returns-clause-place
-returns-clause-place g c = λ start at.
+pub returns-clause-position : goal.returns-clause-position
+returns-clause-position g c = λ start at.
     at_more _ (joins_under _ g.met.H.Hear.joins _) _ _ _ _ _ _ _ _ _
     (popped _ _ _ _ c.in-Some.ensures.items c.deref.ensures.value) at
     (one_under _ g.met.H.Hear.joins _ _ _ _ c.in_ok-tell_event.ensures.told tt)
