@@ -56,7 +56,7 @@ nix_realise/src/cli/program.rt print_no_memory | print_bytes ( NO_MEMORY_LINE , 
 nix_realise/src/runs/summary.rt journal_bytes | map_err ( | _ | AllocError )
     # the only fault of the call is want of memory
 nix_realise/src/cli/program.rt report | Err ( _ ) => Err ( RunError :: NoMemory ) # the same
-nix_realise/src/runs/realise.rt keep
+nix_realise/src/runs/realise.rt write_unsettled
     | Err ( refused ) => JournalOutcome :: no_memory ( refused )
     # the only fault of the call is want of memory
 nix_realise/src/cli/process.rt run_process | Err ( _ ) => print_no_memory ( err )

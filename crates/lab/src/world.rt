@@ -136,7 +136,7 @@ impl<T: Drop> Shelf<T> {
     }
 
     /// Keeps a value under a name, in place of what was kept there; under no name not at all.
-    pub(crate) fn keep(&mut self, name: &[u8], value: T) -> Taken {
+    pub(crate) fn put(&mut self, name: &[u8], value: T) -> Taken {
         if !name.is_empty() {
             self.kept.retain(|kept| kept.0.as_slice() != name);
             let name = name.to_vec(*self.kept.allocator())?;

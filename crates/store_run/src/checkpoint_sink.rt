@@ -32,7 +32,7 @@ pub trait CheckpointSink {
 // Where each text may be put that is kept of a run over the basis.
 #[derive(Drop)]
 pub(crate) struct TextSink<J: ListId, B: Build, S: Basis, K: CheckpointSink> {
-    keep: K,
+    inner: K,
     of: PhantomData<(J, B, S)>,
 }
 
@@ -48,11 +48,11 @@ impl<J: ListId, B: Build, S: Basis, K: CheckpointSink> Model for TextSink<J, B, 
 
 impl<J: ListId, B: Build, S: Basis, K: CheckpointSink> TextSink<J, B, S, K> {
     // A sink where each such text may be put.
-    pub(crate) fn new(keep: K) -> TextSink<J, B, S, K>
+    pub(crate) fn new(inner: K) -> TextSink<J, B, S, K>
         requires { TakesEachInterimJournal B.may (J.Showing.shown J.book) S.is_this_run K.may_keep }
     {
         TextSink {
-            keep,
+            inner,
             of: PhantomData,
         }
     }
@@ -109,7 +109,7 @@ where
     let Ok(()) = text.go_on(news) else {
         return None;
     };
-    if sink.keep.keep(text.bytes(), text.shown()) {
+    if sink.inner.keep(text.bytes(), text.shown()) {
         text.note_kept(count);
     }
     start?.elapsed(rt).ok()

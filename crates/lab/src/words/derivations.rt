@@ -210,7 +210,7 @@ fn list(teller: &mut Teller<'_>, world: &mut World, line: &Line<'_>) -> Taken {
     let (files, failing) = files(world.alloc, &list)?;
     let made = call!(teller, "ListSource::new" => ListSource::new(world.alloc, files, failing));
     drop(teller.answered(made)?);
-    world.texts.keep(line.name, list)
+    world.texts.put(line.name, list)
 }
 
 // The fetch of a source with a number, after as many others.
@@ -279,7 +279,7 @@ fn node(teller: &mut Teller<'_>, world: &mut World, line: &Line<'_>) -> Taken {
     teller.paths(outputs);
     teller.paths(sources);
     let copy = drv.copy(world.alloc)?;
-    world.drvs.keep(line.name, copy)
+    world.drvs.put(line.name, copy)
 }
 
 fn tell_kind(teller: &mut Teller<'_>, alloc: Global, kind: Kind) -> Taken {
@@ -313,7 +313,7 @@ fn fill(teller: &mut Teller<'_>, world: &mut World, line: &Line<'_>) -> Taken {
     tell_failures(teller, &source);
     let (drv, path) = teller.answered(answer)?;
     teller.say(path.as_str());
-    world.drvs.keep(line.name, drv)
+    world.drvs.put(line.name, drv)
 }
 
 // The digests that words stand for.

@@ -282,13 +282,13 @@ impl<'a, R: Files + AllocGlobal> Realisation<'a, '_, '_, R> {
         ensures { IsCutShort fault (is_some book.entry) result }
     {
         match book {
-            Some(book) => RunError::Run(fault, self.keep(book)),
+            Some(book) => RunError::Run(fault, self.write_unsettled(book)),
             None => RunError::Run(fault, JournalOutcome::no_book()),
         }
     }
 
     // Puts the journal of a book that isn't settled in place of the journal file.
-    fn keep<V: Outlet>(&self, book: &Book<V>) -> JournalOutcome
+    fn write_unsettled<V: Outlet>(&self, book: &Book<V>) -> JournalOutcome
         ensures { result.has_book ≡ true }
     {
         match journal_bytes(self.rt.alloc(), book) {

@@ -198,7 +198,7 @@ impl<R: Files + AllocGlobal + Wait, P> LeaseObserver for ProcessBuild<'_, R, P> 
     fn ended(&self, is_good: bool, _unsettled: usize) {
         match self.left.take() {
             Some(left) if is_good => self.clear(&left),
-            Some(left) => self.keep(&left),
+            Some(left) => self.note_kept_folder(&left),
             None => {}
         }
     }
@@ -243,7 +243,7 @@ impl<R: Files + AllocGlobal, P> ProcessBuild<'_, R, P> {
 impl<R: Files + AllocGlobal + Wait, P> ProcessBuild<'_, R, P> {
     // Adds a build folder to the list of those that are kept, unless nothing lies there. The list
     // has room for every derivation of the run.
-    fn keep(&self, left: &BuildFolder) {
+    fn note_kept_folder(&self, left: &BuildFolder) {
         let Some(kept) = self.options.kept() else {
             return;
         };
