@@ -40,9 +40,9 @@ index_missing paths path index rises within told (k, low, at) =
     ∙ ap ordering_reverse
     (Less-from_sorted (slice_cmp nat_cmp) _ j _ d (sorted_from_rising _ rises)
     (omega arith) lt)))) in
-    let above : index ≤ k → ⊥ = λ behind.
+    let above : index ≤ k → ⊥ = λ later.
     let greater : slice_cmp nat_cmp (get_or paths k path) path
-    ≡ Greater = sides.1 k path behind low in
+    ≡ Greater = sides.1 k path later low in
     not_below_itself path
     (nat_list_cmp_total.antisymm path path
     ∙ ap ordering_reverse
@@ -52,7 +52,7 @@ index_missing paths path index rises within told (k, low, at) =
     (λ apart. ⊎_elim
     (λ before. not_below_itself path (subst (λ p. IsBelow p path) at
     (sides.0 k path (omega arith) before)))
-    (λ behind. above (omega arith))
+    (λ later. above (omega arith))
     apart)
     (either_side k index)
 
@@ -97,8 +97,8 @@ first_used permitted used Bars i index path rises rises' here at bars earlier =
     (subst (λ k. slice_get used k ≡ Some other) e found.1) here) below))
     (λ apart. ⊎_elim
     (λ before. earlier found.0 other before found.1 holds.1)
-    (λ behind. not_below_itself path (below_trans path other path
-    (below_later used i found.0 path other rises' behind here found.1) below))
+    (λ later. not_below_itself path (below_trans path other path
+    (below_later used i found.0 path other rises' later here found.1) below))
     apart)
     (either_side found.0 i))
 
@@ -118,8 +118,8 @@ first_of_all permitted paths index path rises rises' here at =
     (subst (λ k. slice_get paths k ≡ Some other) e found.1) here) below))
     (λ apart. ⊎_elim
     (λ before. absurd (omega arith))
-    (λ behind. not_below_itself path (below_trans path other path
-    (below_later paths 0 found.0 path other rises' behind here found.1) below))
+    (λ later. not_below_itself path (below_trans path other path
+    (below_later paths 0 found.0 path other rises' later here found.1) below))
     apart)
     (either_side found.0 0))
 

@@ -1,4 +1,4 @@
--- The parts of the check of outputs, one behind the other.
+-- The parts of the check of outputs, one after the other.
 use Rattle.std.proofs.Common.{◌≡◌, ◌+◌, ◌<◌, ℕ, zero, suc, Bool, true, false, List, [], ◌∷◌, ◌++◌, add-one, append-nil, append_assoc, get_or, length, take, drop, map, Some, inl, inr, sym, ap, subst, ◌∙◌, arith, rules}
 use Rattle.std.specs.Prelude.{All, Contains, IfOk, Result, Ok, Err}
 use Rattle.std.specs.List.{slice_get}
@@ -355,8 +355,8 @@ one_entry env i j a b rises at_a at_b same =
     elim (cases_lt i j) [
       | inl before ↦ absurd (indices_one _ i j _ rises key_a key_b before)
       | inr not_before ↦ elim (cases_lt j i) [
-        | inl behind ↦ absurd (indices_one _ j i _ rises key_b key_a behind)
-        | inr not_behind ↦
+        | inl later ↦ absurd (indices_one _ j i _ rises key_b key_a later)
+        | inr not_after ↦
             let index : i ≡ j = omega arith in
             same_Some a b (sym at_a ∙ ap (λ (n : ℕ). slice_get env n) index ∙ at_b)
       ]

@@ -1,4 +1,4 @@
--- All that some roots reach: what was left behind the first roots, and the plan behind all of them.
+-- All that some roots reach: what was left after the first roots, and the plan after all of them.
 use Rattle.std.proofs.Common.{◌≡◌, ℕ, ◌+◌, ◌≤◌, List, [], ◌∷◌, ◌++◌, length, take, refl, sym, subst, nat_eq, None, rules}
 use Rattle.std.specs.Prelude.{All, Contains}
 use Rattle.std.specs.Cmp.Lexicographic.{pointwise}

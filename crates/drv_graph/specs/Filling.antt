@@ -77,11 +77,11 @@ pub record MayFill (profile : Profile) (dir : Dir) (gives : Path → Answer → 
 pub record IsFilledText (profile : Profile) (dir : Dir) (gives : Path → Answer → Type 0)
     (name : Name)
     (draft filled : Drv) (bytes : Bytes) : Type 0 where
-  pub behind : MayFill profile dir gives name draft
+  pub basis : MayFill profile dir gives name draft
   pub kind : Kind
-  pub right : IsOutputsCheck IsThePathOrEmpty profile dir name draft behind.used behind.hashes
+  pub right : IsOutputsCheck IsThePathOrEmpty profile dir name draft basis.used basis.hashes
       (Ok kind)
-  pub filled_is : IsFilled (IsExpected dir name kind draft behind.hashes) draft filled
+  pub filled_is : IsFilled (IsExpected dir name kind draft basis.hashes) draft filled
   pub is_text : IsDrvText filled bytes
 
 -- a draft's references are all paths of the folder
@@ -99,8 +99,8 @@ IsTrueOfDraft profile dir gives name draft (Text TooLong) = AreInStore dir draft
     × (max_len < length bytes))
 IsTrueOfDraft profile dir gives name draft (Outputs fault) =
     AreInStore dir draft × (fault ≢ NoRoom)
-    × ((behind : MayFill profile dir gives name draft)
-    × IsOutputsCheck IsThePathOrEmpty profile dir name draft behind.used behind.hashes (Err fault))
+    × ((basis : MayFill profile dir gives name draft)
+    × IsOutputsCheck IsThePathOrEmpty profile dir name draft basis.used basis.hashes (Err fault))
 IsTrueOfDraft profile dir gives name draft fault = ⊥
 
 -- What filling a draft under a name answers: the filled derivation with the path of its text, or

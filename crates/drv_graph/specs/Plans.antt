@@ -63,7 +63,7 @@ pub data AreLeft (nodes : List Node) : (before paths after : List Path) → Type
   passed_over : (path : Path) (before paths after : List Path)
       → Contains before path → AreLeft nodes before paths after
       → AreLeft nodes before (path ∷ paths) after
-  left_behind_inputs : (node : Node) (before inputs paths after : List Path)
+  left_after_inputs : (node : Node) (before inputs paths after : List Path)
       → Contains nodes node → (Contains before node.path → ⊥)
       → AreLeft nodes before (inputs_of node.drv) inputs → (Contains inputs node.path → ⊥)
       → AreLeft nodes (inputs ++ node.path ∷ []) paths after

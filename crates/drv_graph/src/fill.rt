@@ -9,7 +9,7 @@ ghost use Rattle.nix_drv.specs.OwnPath.{referenced_paths};
 ghost use Rattle.nix_drv.specs.References.{IsReferencesOf};
 ghost use Rattle.nix_drv.specs.Sources.{GivesSame};
 ghost use Rattle.drv_graph.specs.Filling.{AreNames, IsFilling, file_name};
-ghost use Rattle.drv_graph.specs.private.FillSteps.{AreDraftPaths, AreOutputsRefused, IsFillRefused, IsFilledBehind, IsNameRefused, IsStrayRefused, IsTarget, IsTargetRefused, IsTextPath, IsTextRefused};
+ghost use Rattle.drv_graph.specs.private.FillSteps.{AreDraftPaths, AreOutputsRefused, IsFillRefused, IsFilledAfter, IsNameRefused, IsStrayRefused, IsTarget, IsTargetRefused, IsTextPath, IsTextRefused};
 ghost use Rattle.drv_graph.specs.Loading.{IsCountedFault, IsLoading};
 ghost use Rattle.drv_graph.specs.Nodes.{inputs_of};
 ghost use Rattle.drv_graph.specs.Plans.{AreNumbers};
@@ -160,7 +160,7 @@ fn fill(
     plan: &Plan,
 ) -> Result<Derivation, GraphFault>
     requires { AreNumbers plan.now.nodes plan.now.roots (inputs_of draft.now) }
-    ensures ok { IfOk result (IsFilledBehind plan.now.profile dir.now name.now plan.now.nodes
+    ensures ok { IfOk result (IsFilledAfter plan.now.profile dir.now name.now plan.now.nodes
         draft.now) }
     ensures err { IfErr result (IsFillRefused plan.now.profile dir.now name.now plan.now.nodes
         draft.now) }

@@ -11,7 +11,7 @@
 //! | `node` | a derivation of a plan, and what is kept beside it |
 //! | `profile` | the rules under which plans are loaded |
 //! | `kinds`, `kind_of` | the kinds of outputs, and a derivation's kind |
-//! | `modulo` | the texts behind modulo hashes |
+//! | `modulo` | the texts of which modulo hashes are taken |
 //! | `expected` | the paths that outputs must have |
 //! | `values` | whether the paths in a text are the expected ones |
 //! | `outputs` | what is wrong with a derivation's outputs |

@@ -1,5 +1,5 @@
-//! The texts behind modulo hashes: a derivation's text in which each input's path is replaced by
-//! its modulo hash, with or without the paths of the outputs.
+//! The texts of which modulo hashes are taken: a derivation's text in which each input's path is
+//! replaced by its modulo hash, with or without the paths of the outputs.
 ghost use Rattle.std.specs.Prelude.{◌≡◌, ◌++◌, ◌∷◌, [], ◌+◌, ◌<◌, ◌≤◌, length, map, vec_capacity, vec_len, IfOk, IfErr, OnOk};
 ghost use Rattle.std.specs.Cmp.Lexicographic.{slice_cmp};
 ghost use Rattle.std.specs.List.{AllZip};

@@ -35,7 +35,7 @@ macro_rules! argument {
     ($t:ident $w:ident $line:ident job $n:literal) => { made_job($w, b"", $line.argument($n))? };
     ($t:ident $w:ident $line:ident reached $n:literal) => { reached($w, $line)? };
     ($t:ident $w:ident $line:ident before $mark:literal) => { rising($w, $line.divided($mark).0)? };
-    ($t:ident $w:ident $line:ident behind $mark:literal) => { rising($w, $line.divided($mark).1)? };
+    ($t:ident $w:ident $line:ident after $mark:literal) => { rising($w, $line.divided($mark).1)? };
     ($t:ident $w:ident $line:ident $shelf:ident $n:literal) => {
         $w.$shelf.get($line.argument($n))?
     };

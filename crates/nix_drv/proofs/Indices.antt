@@ -95,7 +95,7 @@ index_none key_of xs wanted i rises parts (j, below, is) =
     elim (cases_lt j i) [
       | inl before ↦ let less = point.0 j d (omega arith) before in let clash : Less
           ≡ Equal = sym less ∙ ties in cc
-      | inr behind ↦ let more = point.1 j d behind within in let clash : Greater ≡ Equal = sym more
+      | inr after ↦ let more = point.1 j d after within in let clash : Greater ≡ Equal = sym more
           ∙ ties in cc
     ]
 

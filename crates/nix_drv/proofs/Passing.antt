@@ -5,7 +5,7 @@ use Rattle.std.proofs.lemmas.Bool.{cond_both}
 use Rattle.nix_drv.specs.Grammar.{ListOrder, Grammar, Fixed, Str, Then, Many, Value, text, separated, each_with_comma}
 use Rattle.nix_drv.specs.Order.{key, IsViolationAmong, IsViolation, InOrder, IsFirstViolation}
 use Rattle.nix_drv.specs.private.Reading.{◌>>=◌}
-use Rattle.nix_drv.specs.private.Passing.{behind, pass_among, pass_list, pass}
+use Rattle.nix_drv.specs.private.Passing.{offset_after, pass_among, pass_list, pass}
 
 -- the offset as the machine has it
 abbrev pub capped : ℕ → ℕ
@@ -126,9 +126,10 @@ among_passes {A} order key_of text_of Within one each before p (v ∷ vs) =
     let mid = p + length (text_of v) in
     let Later : ℕ → Type 0 = IsViolationAmong order key_of text_of Within (Some (key_of v))
     (mid + 1) vs in
-    let next : ℕ → Result ℕ ℕ = λ q. pass_among order key_of one (Some (key_of v)) (behind q 1) vs
+    let next : ℕ → Result ℕ ℕ =
+    λ q. pass_among order key_of one (Some (key_of v)) (offset_after q 1) vs
     in
-    let after : behind (capped mid) 1 ≡ capped (mid + 1) = omega arith in
+    let after : offset_after (capped mid) 1 ≡ capped (mid + 1) = omega arith in
     let end : ℕ = p + length (each_with_comma text_of (v ∷ vs)) in
     let is_end : mid + 1 + length (each_with_comma text_of vs)
     ≡ end = omega (arith, length-append (text_of v) (44 ∷ each_with_comma text_of vs)) in
@@ -173,7 +174,7 @@ list_passes order key_of text_of Within one each p (v ∷ vs) =
     let is_end : p + 1 + length (each_with_comma text_of (v ∷ vs)) ≡ p
     + length (91 ∷ separated text_of (v ∷ vs) ++ 93 ∷ []) =
     omega (arith, brackets_around text_of v vs) in
-    let after : behind (capped p) 1 ≡ capped (p + 1) = omega arith in
+    let after : offset_after (capped p) 1 ≡ capped (p + 1) = omega arith in
     subst (λ (e : ℕ). Passes (IsViolationAmong order key_of text_of Within None (p + 1) (v ∷ vs)) e
     (pass_list order key_of one (capped p) (v ∷ vs))) is_end
     (subst (λ (q : ℕ). Passes (IsViolationAmong order key_of text_of Within None (p + 1) (v ∷ vs))

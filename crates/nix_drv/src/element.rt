@@ -80,7 +80,7 @@ pub(crate) fn read_list<T: Element + Drop>(
 {
     let rest = fixed_of(bytes, b"[")?;
     match rest {
-        [b']', behind @ ..] => Ok((Vec::new(alloc), behind)),
+        [b']', tail @ ..] => Ok((Vec::new(alloc), tail)),
         _ => read_elements(alloc, rest),
     }
 }
@@ -100,8 +100,8 @@ fn read_elements<T: Element + Drop>(
         let (item, after) = T::read(alloc, rest)?;
         items.push(item)?;
         match next_of(after)? {
-            (Next::Comma, behind) => rest = behind,
-            (Next::End, behind) => return Ok((items, behind)),
+            (Next::Comma, tail) => rest = tail,
+            (Next::End, tail) => return Ok((items, tail)),
         }
     }
 }

@@ -38,14 +38,14 @@ module _ {X : Type 0} (Other Kind : X → Type 0) where
     no_first list x first all = apart x
         (All-contains Other list x all (first_contained list x first)) first.is
 
-    one_of_parts : (before other after behind : List X) (x y : X) → before ++ x ∷ after ≡ other
-        ++ y ∷ behind → All Other before → All Other other → Kind x → Kind y → x ≡ y
-    one_of_parts [] [] after behind x y e all all' is is' = cc
-    one_of_parts [] (z ∷ other) after behind x y e all all' is is' = search (rules, All-head)
-    one_of_parts (z ∷ before) [] after behind x y e all all' is is' = search (rules, All-head)
-    one_of_parts (z ∷ before) (w ∷ other) after behind x y e all all' is is' =
-        let tail : before ++ x ∷ after ≡ other ++ y ∷ behind = cc in
-        one_of_parts before other after behind x y tail (All-tail Other z before all)
+    one_of_parts : (before other after later : List X) (x y : X) → before ++ x ∷ after ≡ other
+        ++ y ∷ later → All Other before → All Other other → Kind x → Kind y → x ≡ y
+    one_of_parts [] [] after later x y e all all' is is' = cc
+    one_of_parts [] (z ∷ other) after later x y e all all' is is' = search (rules, All-head)
+    one_of_parts (z ∷ before) [] after later x y e all all' is is' = search (rules, All-head)
+    one_of_parts (z ∷ before) (w ∷ other) after later x y e all all' is is' =
+        let tail : before ++ x ∷ after ≡ other ++ y ∷ later = cc in
+        one_of_parts before other after later x y tail (All-tail Other z before all)
         (All-tail Other w other all') is is'
 
     -- there is one first element

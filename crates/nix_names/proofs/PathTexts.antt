@@ -18,9 +18,9 @@ after_last_from : (p : ℕ → Bool) (xs : List ℕ) (n : ℕ) → n ≤ length 
 after_last_from p xs n within from before = search (rules, not, suffix_len_is)
 
 -- an element after the front and one more
-behind : (front back : List ℕ) (x k : ℕ) → length front + 1 ≤ k → get_or (front ++ x ∷ back) k 0
+after : (front back : List ℕ) (x k : ℕ) → length front + 1 ≤ k → get_or (front ++ x ∷ back) k 0
     ≡ get_or back (k - (length front + 1)) 0
-behind front back x k low = search (rules, get_or-append_right)
+after front back x k low = search (rules, get_or-append_right)
 
 -- the front and one more element, and what is left without them
 front_more : (front back : List ℕ) (x : ℕ) → length (front ++ x ∷ back) ≡ length front + 1
@@ -41,7 +41,7 @@ after_last_at p front back x passes others =
     let at : get_or (front ++ x ∷ back) (n - 1) 0
     ≡ x = get_or_at front x back 0 (n - 1) (omega arith) in
     after_last_from p (front ++ x ∷ back) n (omega arith)
-    (λ k low high. rw (behind front back x k low) (others (k - n) 0 (omega arith)))
+    (λ k low high. rw (after front back x k low) (others (k - n) 0 (omega arith)))
     (rw at (not_from_true (p x) passes)) ∙ drop_front_more front back x
 
 -- a hash part has 32 bytes
@@ -166,9 +166,9 @@ unmet true none = absurd (none refl)
 unmet false none = refl
 
 -- the base name begins after the last slash
-pub behind_last_slash : (text : List ℕ) (slash : ℕ) → IsLastByte (is_byte 47) text (Some slash)
+pub after_last_slash : (text : List ℕ) (slash : ℕ) → IsLastByte (is_byte 47) text (Some slash)
     → drop (slash + 1) text ≡ base_of text
-behind_last_slash text slash last = search (rules, after_last_from, unmet, not_from_true)
+after_last_slash text slash last = search (rules, after_last_from, unmet, not_from_true)
 
 -- where there is no slash, all is the base name
 pub without_slash : (text : List ℕ) → IsLastByte (is_byte 47) text None → drop 0 text ≡ base_of text

@@ -31,20 +31,20 @@ begun_by (Fail k n reason) d lease count below is = by (eqb k d) is
     by false is = absurd cc
 
 -- the same of the first of some events, by the phase that the others leave
-behind : (e : Event) (es : List Event) (d lease count : ℕ) (p : Phase) → phase_of es d ≡ p
+after : (e : Event) (es : List Event) (d lease count : ℕ) (p : Phase) → phase_of es d ≡ p
     → derivation_of e < count → ((n : ℕ) → phase_of es d ≡ Begun n → d < count)
     → later (phase_by e d) p ≡ Begun lease → d < count
-behind e es d lease count Idle was below rest is = begun_by e d lease count below is
-behind e es d lease count (Begun n) was below rest is = rest n was
-behind e es d lease count Ended was below rest is = absurd cc
-behind e es d lease count (Broken reason) was below rest is = absurd cc
+after e es d lease count Idle was below rest is = begun_by e d lease count below is
+after e es d lease count (Begun n) was below rest is = rest n was
+after e es d lease count Ended was below rest is = absurd cc
+after e es d lease count (Broken reason) was below rest is = absurd cc
 
 -- a derivation that has begun is that of an event
 begun_within : (events : List Event) (d lease count : ℕ)
     → All (λ e. derivation_of e < count) events → phase_of events d ≡ Begun lease → d < count
 begun_within [] d lease count each is = absurd cc
 begun_within (e ∷ es) d lease count each is =
-    behind e es d lease count (phase_of es d) refl
+    after e es d lease count (phase_of es d) refl
     (All-head (λ x. derivation_of x < count) e es each)
     (λ n. begun_within es d n count (All-tail (λ x. derivation_of x < count) e es each)) is
 

@@ -169,7 +169,7 @@ count_entry name ts e b d deep h = λ s few.
     (ltb-false s.levels 1 parts.1) h)
     (cases_Bool (nat_lt s.entries 1 || nat_lt s.levels 1))
 
--- a token that counts nothing, behind others
+-- a token that counts nothing, after others
 count_last : (ts : List Token) (t : Token) (e b d : ℕ)
     → ((left : Option Allowance) → counted_one t left ≡ left) → Count ts e b d
     → Count (ts ++ t ∷ []) e b d

@@ -22,10 +22,10 @@ pub digits_more :
     AreDigits bytes offset 32 →
     is_digit (get_or bytes (offset - 1) 0) ≡ true →
     AreDigits bytes (offset - 1) 32
-digits_more bytes offset some behind here k low high =
+digits_more bytes offset some after here k low high =
     ⊎_elim
     (λ (lt : k < offset).
     let at : k ≡ offset - 1 = omega arith in
     ap (λ i. is_digit (get_or bytes i 0)) at ∙ here)
-    (λ (le : offset ≤ k). behind k le high)
+    (λ (le : offset ≤ k). after k le high)
     (cases_lt k offset)

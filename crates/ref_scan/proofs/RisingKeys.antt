@@ -101,7 +101,7 @@ key_missing parts keys window key number is of_window rises apart has =
     let sides = searched keys key (Err number) apart (not_above keys rises) in
     elim (cases_lt at.0 number) [
       | inl before ↦ absurd (omega (arith, at.3, of_window, sides.1 at.0 before))
-      | inr behind ↦ absurd (omega (arith, at.3, of_window, sides.2 at.0 behind at.1))
+      | inr later ↦ absurd (omega (arith, at.3, of_window, sides.2 at.0 later at.1))
     ]
 
 other_part :

@@ -39,9 +39,9 @@ searching_past parts old met bytes start offset are before lt foreign =
           let part = part_at parts k in
           ⊎_elim
           inl
-          (λ behind. inr
+          (λ after. inr
           (subst (Within part) (drop-drop (offset + 1) start bytes)
-          (within_past part (drop start bytes) offset (are k [] at) lt foreign behind)))
+          (within_past part (drop start bytes) offset (are k [] at) lt foreign after)))
           (before.rest k at h);
     }
 
@@ -66,11 +66,11 @@ searching_next parts old met new bytes start are before marked =
           let part = part_at parts k in
           ⊎_elim
           (λ m. inl ((marked.each k at).1 (inl m)))
-          (λ behind.
+          (λ after.
           ⊎_elim
           (λ window. inl ((marked.each k at).1 (inr window)))
           (λ later. inr (subst (Within part) (drop-drop 1 start bytes) later))
-          (within_next part (drop start bytes) (are k [] at) behind))
+          (within_next part (drop start bytes) (are k [] at) after))
           (before.rest k at h);
     }
 
@@ -88,8 +88,8 @@ searching_end parts old met bytes start are before few =
         λ h. ⊎_elim
             (before.stays k at)
             (λ within. ⊎_elim (λ m. m)
-            (λ behind. absurd (within_few (part_at parts k) (drop start bytes) (are k [] at) few
-            behind))
+            (λ after. absurd (within_few (part_at parts k) (drop start bytes) (are k [] at) few
+            after))
             (before.rest k at within))
             h,
       );

@@ -241,7 +241,7 @@ impl Search {
         Ok(None)
     }
 
-    // Finds digits behind the point of the limit until they are enough, and says how many.
+    // Finds digits after the point of the limit until they are enough, and says how many.
     fn find_fraction(&mut self, limit: u64, shift: u32) -> Result<usize, AllocError> {
         let one = 1u64.wrapping_shl(shift);
         let mut rest = limit & one.wrapping_sub(1);
@@ -275,13 +275,13 @@ pub(crate) fn digits_of(alloc: Global, bits: u64) -> Result<(Vec<u8>, Point), Al
         distance: limit.wrapping_sub(range.value.count),
     };
     let shift = range.upper.power.wrapping_neg().cast_unsigned();
-    let behind = match search.find_whole(limit, shift)? {
+    let after = match search.find_whole(limit, shift)? {
         Some(left) => small(left),
         None => small(search.find_fraction(limit, shift)?).wrapping_neg(),
     };
     let ten = 300i32.wrapping_sub(small(index).wrapping_mul(8));
     let length = small(search.digits.len());
-    let point = point_of(ten.wrapping_add(behind).wrapping_add(length));
+    let point = point_of(ten.wrapping_add(after).wrapping_add(length));
     Ok((search.digits, point))
 }
 
@@ -292,12 +292,12 @@ fn index_of(power: i32) -> usize {
     ten.wrapping_add(307).clamp(0, 639) as usize / 8
 }
 
-// The point behind so many digits, or before so many zeros.
-fn point_of(behind: i32) -> Point {
-    if 0 < behind {
-        Point::Behind(behind.unsigned_abs())
+// The point after so many digits, or before so many zeros.
+fn point_of(after: i32) -> Point {
+    if 0 < after {
+        Point::After(after.unsigned_abs())
     } else {
-        Point::Before(behind.unsigned_abs())
+        Point::Before(after.unsigned_abs())
     }
 }
 

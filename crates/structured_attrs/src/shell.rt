@@ -43,7 +43,7 @@ impl Variable {
         }
     }
 
-    // What stands behind the value.
+    // What stands after the value.
     fn after(self) -> &'static [u8]
         ensures { result.now ≡ texts.after_of self }
     {
@@ -144,7 +144,7 @@ fn is_name_start(byte: u8) -> bool
     (b'A' <= byte && byte <= b'Z') || (b'a' <= byte && byte <= b'z') || byte == b'_'
 }
 
-// Whether a name may have a byte behind the first.
+// Whether a name may have a byte after the first.
 fn is_name_byte(byte: u8) -> bool
     ensures { result ≡ is_name_byte byte }
 {

@@ -177,8 +177,8 @@ fn is_apart_first<R: Host>(rt: &R, alloc: Global) -> Result<bool, Fail> {
     let gates = [(0, act, 1)];
     let behaviour = by(2, 0, &gates);
     let (acts, _) = heard_from(rt, alloc, (plan, journal), behaviour)?;
-    let mut behind = acts.iter().skip_while(|(_, known)| *known != act);
-    let first = behind.find(|(_, act)| *act == Act::Lock(LockCall::Taken));
+    let mut later = acts.iter().skip_while(|(_, known)| *known != act);
+    let first = later.find(|(_, act)| *act == Act::Lock(LockCall::Taken));
     Ok(matches!(first, Some((0, _))))
 }
 

@@ -127,7 +127,7 @@ module _ (known all : List (List ℕ)) where
       IsNewPrefix known (paths_registered (registered_by entry)) new →
       IsLineCheck all (registered_by entry) new (first + length (header entry)) result →
       IsEntryCheck known all (entry_lines entry) first result
-  entry_checked entry new first (Ok behind) prefix (long, closed, number) =
+  entry_checked entry new first (Ok following) prefix (long, closed, number) =
       let rs = registered_by entry in
       let lines = entry_lines_are _ in (
         subst (All Right) (sym lines) (up_to _ _ (all_new _ _ _ prefix long) closed),

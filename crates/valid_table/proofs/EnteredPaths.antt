@@ -132,13 +132,13 @@ closed_all known rs n long all = subst (λ l. All (Contains known) (references_o
     (take_all n rs long) all
 
 -- the path of the registration after the new ones is the first that is known
-pub known_behind :
+pub known_after :
     (known : List (List ℕ)) (rs : List Registration) (count : ℕ) →
     IsNewPrefix known (paths_registered rs) count →
     count < length rs →
     (r : Registration) × (slice_get rs count ≡ Some r)
     × IsFirst (IsNotKnown known) (Contains known) (paths_registered rs) r.path
-known_behind known rs count prefix lt =
+known_after known rs count prefix lt =
     let (r, read) = element_at rs count lt in
     let some = get_mapped (λ (x : Registration). x.path) rs _ r read in (
       r,

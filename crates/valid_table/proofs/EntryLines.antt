@@ -9,8 +9,8 @@ use Rattle.valid_table.specs.declared.entry.Entry.TheVariants.{Add, Done}
 use Rattle.valid_table.specs.declared.entry.Registration.{Registration}
 use Rattle.valid_table.specs.declared.path_table.version.Version.{Version}
 use Rattle.valid_table.proofs.Leading.{line_of}
-use Rattle.valid_table.proofs.LineLists.{IsBehind, entry_back, within_enters}
-use Rattle.valid_table.proofs.LineSteps.{StopsIn, first, stop_behind, stop_here, stops_back, stops_in}
+use Rattle.valid_table.proofs.LineLists.{IsAfter, entry_back, within_enters}
+use Rattle.valid_table.proofs.LineSteps.{StopsIn, first, stop_after, stop_here, stops_back, stops_in}
 
 -- ---- where an entry has to begin
 
@@ -28,7 +28,7 @@ nothing_ahead Opened bytes begins = absurd begins
 nothing_ahead from bytes begins = tt
 
 -- after the lines of an entry one has to begin, where no further line of it does
-end_begins : (entry : Entry) (to : Position) (rest : List ℕ) → IsBehind entry to → IsEnd entry rest
+end_begins : (entry : Entry) (to : Position) (rest : List ℕ) → IsAfter entry to → IsEnd entry rest
     → HasToBegin to rest
 end_begins (Add r) (Within None last) rest is ends = ends
 end_begins (Done deriver outputs) (Within (Some output) last) rest is ends = ends
@@ -64,7 +64,7 @@ pub added_stops : (version : Version) (dir : List ℕ) (from : Position) (bytes 
 added_stops version dir from bytes left (inl h) begins =
     search (rules, stop_here, nothing_ahead, bad_added)
 added_stops version dir from bytes left (inr h) begins =
-    stop_behind _ _ _ _ _ _ left
+    stop_after _ _ _ _ _ _ left
     (h.begins ∙ ap (λ (f : List ℕ). 65 ∷ 32 ∷ f) h.line.parts)
     (has_to_enter version dir from bytes begins (Added h.path h.digest h.nar)
     (h.line.of_dir, h.line.is_known))
@@ -97,7 +97,7 @@ pub done_stops : (version : Version) (dir : List ℕ) (from : Position)
     ≡ 68 ∷ 32 ∷ fields → IsDeriverLine dir fields path rest → Stops version dir Opened rest left
     → HasToBegin from bytes → Stops version dir from bytes left
 done_stops version dir from bytes fields path rest left begun line h begins =
-    stop_behind _ _ _ _ _ _ _
+    stop_after _ _ _ _ _ _ _
     (deriver_text version dir bytes fields path rest begun line)
     (has_to_enter version dir from bytes begins (Deriver path) (line.line.of_dir, line.named)) h
 
@@ -132,10 +132,10 @@ no_entry version dir from (c ∷ more) some added derived begins =
 
 -- ---- entries that were read
 
-pub done_found : (version : Version) (dir bytes fields deriver behind rest : List ℕ)
+pub done_found : (version : Version) (dir bytes fields deriver after rest : List ℕ)
     (read shown : List Registration)
-    → bytes ≡ 68 ∷ 32 ∷ fields → IsDeriverLine dir fields deriver behind
-    → HasOutputs version dir behind read rest → shown ≡ read
+    → bytes ≡ 68 ∷ 32 ∷ fields → IsDeriverLine dir fields deriver after
+    → HasOutputs version dir after read rest → shown ≡ read
     → HasEntry version dir bytes (Done deriver shown) rest
-done_found version dir bytes fields deriver behind rest read shown begun line h same =
+done_found version dir bytes fields deriver after rest read shown begun line h same =
     search (rules, deriver_text, append_assoc)

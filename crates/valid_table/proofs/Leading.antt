@@ -4,7 +4,7 @@ use Rattle.std.proofs.lemmas.List.{append-nil, append_assoc, length-append}
 use Rattle.std.proofs.lemmas.List.Concat.{flat_map-append}
 use Rattle.std.proofs.lemmas.List.Elements.{All-cons, All-nil, All-head, All-tail}
 use Rattle.valid_table.specs.private.LineTexts.{lines_text}
-use Rattle.valid_table.specs.private.Steps.{Position, Start, Begun, Opened, Within, Ahead, GoesOnWith, LeadsTo, MayBeLine, behind}
+use Rattle.valid_table.specs.private.Steps.{Position, Start, Begun, Opened, Within, Ahead, GoesOnWith, LeadsTo, MayBeLine, position_after}
 use Rattle.valid_table.specs.Texts.{Line, First, Added, Deriver, Output, Reference, line_text}
 use Rattle.valid_table.specs.declared.path_table.version.Version.{Version}
 use Rattle.valid_table.proofs.LineTexts.{IsLineOf, same_lines}
@@ -18,7 +18,7 @@ pub leads_prefix : (version : Version) (dir : List ℕ) (Is : Position → Type 
     (λ to. LeadsTo version dir Is to b) from a
 leads_prefix version dir Is from [] b leads = leads
 leads_prefix version dir Is from (line ∷ a) b leads =
-    (leads.0, leads_prefix version dir Is (behind from line) a b leads.1)
+    (leads.0, leads_prefix version dir Is (position_after from line) a b leads.1)
 
 -- and back
 pub leads_joined : (version : Version) (dir : List ℕ) (Is : Position → Type 0) (from : Position)
@@ -27,7 +27,7 @@ pub leads_joined : (version : Version) (dir : List ℕ) (Is : Position → Type 
     → LeadsTo version dir Is from (a ++ b)
 leads_joined version dir Is from [] b leads = leads
 leads_joined version dir Is from (line ∷ a) b leads =
-    (leads.0, leads_joined _ dir Is (behind from line) a b leads.1)
+    (leads.0, leads_joined _ dir Is (position_after from line) a b leads.1)
 
 -- what holds of the position to which lines lead
 pub leads_weaker : (version : Version) (dir : List ℕ) (Is Also : Position → Type 0)
@@ -36,7 +36,7 @@ pub leads_weaker : (version : Version) (dir : List ℕ) (Is Also : Position → 
     → LeadsTo version dir Also from a
 leads_weaker version dir Is Also weaker from [] leads = weaker from leads
 leads_weaker version dir Is Also weaker from (line ∷ a) leads =
-    (leads.0, leads_weaker _ dir Is Also weaker (behind from line) a leads.1)
+    (leads.0, leads_weaker _ dir Is Also weaker (position_after from line) a leads.1)
 
 pub leads_both : (version : Version) (dir : List ℕ) (Is Also : Position → Type 0) (from : Position)
     (a : List Line)
@@ -44,7 +44,7 @@ pub leads_both : (version : Version) (dir : List ℕ) (Is Also : Position → Ty
     → LeadsTo version dir (λ to. Is to × Also to) from a
 leads_both version dir Is Also from [] one two = (one, two)
 leads_both version dir Is Also from (line ∷ a) one two =
-    (one.0, leads_both _ dir Is Also (behind from line) a one.1 two.1)
+    (one.0, leads_both _ dir Is Also (position_after from line) a one.1 two.1)
 
 pub leads_some : (version : Version) (dir : List ℕ) (X : Type 0) (Is : X → Position → Type 0)
     (from : Position)
@@ -52,13 +52,14 @@ pub leads_some : (version : Version) (dir : List ℕ) (X : Type 0) (Is : X → P
     × LeadsTo version dir (Is x) from a
 leads_some version dir X Is from [] leads = leads
 leads_some version dir X Is from (line ∷ a) leads =
-    search (rules, leads_some _ dir X Is (behind from line) a leads.1)
+    search (rules, leads_some _ dir X Is (position_after from line) a leads.1)
 
 pub leads_end : (version : Version) (dir : List ℕ) (Is : Position → Type 0) (from : Position)
     (a : List Line)
     → LeadsTo version dir Is from a → (to : Position) × Is to
 leads_end version dir Is from [] leads = (from, leads)
-leads_end version dir Is from (line ∷ a) leads = leads_end _ dir Is (behind from line) a leads.1
+leads_end version dir Is from (line ∷ a) leads =
+    leads_end _ dir Is (position_after from line) a leads.1
 
 -- after a deriver the lines go on with an output
 pub ahead_of : (version : Version) (dir : List ℕ) (Is : Position → Type 0) (position : Position)
@@ -93,7 +94,7 @@ pub lines_of : (version : Version) (dir : List ℕ) (Is : Position → Type 0) (
     → LeadsTo version dir Is from lines → All (IsLineOf version dir) lines
 lines_of version dir Is from [] leads = All-nil (IsLineOf version dir)
 lines_of version dir Is from (line ∷ more) leads =
-    search (rules, All-cons, line_of, lines_of _ _ Is (behind from line) more leads.1)
+    search (rules, All-cons, line_of, lines_of _ _ Is (position_after from line) more leads.1)
 
 -- ---- bytes tell lines
 
@@ -137,14 +138,14 @@ aligned version dir (l ∷ a) (m ∷ b) x y one two e =
     ]
 
 -- where a line stands after the first ones, it goes on from where these lead
-goes_behind : (version : Version) (dir : List ℕ) (Is Also : Position → Type 0) (from : Position)
+goes_after : (version : Version) (dir : List ℕ) (Is Also : Position → Type 0) (from : Position)
     (a b : List Line)
     (line : Line) (c : List Line) (x y : List ℕ) → ((to : Position) → Also to → Ahead to y)
     → LeadsTo version dir Is from a → LeadsTo version dir Also from b
     → b ≡ a ++ line ∷ c → x ≡ lines_text version (line ∷ c) ++ y
     → LeadsTo version dir (λ to. Is to × GoesOnWith version dir to x line
     (lines_text version c ++ y)) from a
-goes_behind version dir Is Also from a b line c x y weaker one two is rest =
+goes_after version dir Is Also from a b line c x y weaker one two is rest =
     leads_both _ _ Is (λ to. GoesOnWith version dir to x line (lines_text version c ++ y))
     _ a one
     (leads_weaker _ _ (λ to. LeadsTo version dir Also to (line ∷ c))
@@ -161,9 +162,9 @@ abbrev pub GoesOn : Version → List ℕ → (Position → Type 0) → Position 
 GoesOn version dir Is from a x = (line : Line) × (more : List ℕ)
     × LeadsTo version dir (λ to. Is to × GoesOnWith version dir to x line more) from a
 
-nothing_behind : (a x : List ℕ) → [] ≡ a ++ x → x ≡ []
-nothing_behind [] x e = sym e
-nothing_behind (b ∷ a) x e = cc e
+nothing_after : (a x : List ℕ) → [] ≡ a ++ x → x ≡ []
+nothing_after [] x e = sym e
+nothing_after (b ∷ a) x e = cc e
 
 -- lines in the bytes of others lead to their end, or one goes on
 pub go_on : (version : Version) (dir : List ℕ) (Is Also : Position → Type 0) (from : Position)
@@ -177,7 +178,7 @@ go_on version dir Is Also from a b x weaker one two e =
     (lines_of _ _ Also _ b two)
     (e ∙ sym (append-nil (lines_text version b)))) [
       | inl d ↦ on d.0 d.1 d.2
-      | inr d ↦ inl (nothing_behind _ x d.2)
+      | inr d ↦ inl (nothing_after _ x d.2)
     ]
   where
     on : (c : List Line) → b ≡ a ++ c → x ≡ lines_text version c ++ [] → (x ≡ [])
@@ -186,7 +187,7 @@ go_on version dir Is Also from a b x weaker one two e =
     on (line ∷ c) is rest = inr (
       line,
       lines_text version c ++ [],
-      goes_behind _ _ Is Also _ a b _ c x [] weaker one two is rest,
+      goes_after _ _ Is Also _ a b _ c x [] weaker one two is rest,
     )
 
 -- where one line more leads on in the same bytes, it goes on
@@ -208,5 +209,5 @@ one_more version dir Is Also from a b x y weaker one two long e =
     on (line ∷ c) is rest = (
       line,
       lines_text version c ++ y,
-      goes_behind _ _ Is Also _ a b _ c x y weaker one two is rest,
+      goes_after _ _ Is Also _ a b _ c x y weaker one two is rest,
     )

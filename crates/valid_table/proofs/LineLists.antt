@@ -8,7 +8,7 @@ use Rattle.nix_names.specs.declared.method.MethodDigest.{MethodDigest}
 use Rattle.valid_table.specs.PathInfos.{NarInfo}
 use Rattle.valid_table.specs.Entries.{paths_registered}
 use Rattle.valid_table.specs.private.LineTexts.{lines_text}
-use Rattle.valid_table.specs.private.Steps.{Position, Start, Begun, Opened, Within, Ahead, LeadsTo, MayBegin, MayBeOutputAfter, MayBeLine, behind}
+use Rattle.valid_table.specs.private.Steps.{Position, Start, Begun, Opened, Within, Ahead, LeadsTo, MayBegin, MayBeOutputAfter, MayBeLine, position_after}
 use Rattle.valid_table.specs.Texts.{IsKnownOf, IsEntryIn, IsOf, IsJournalText, Line, First, Added, Deriver, Output, Reference, entry_lines, lines, output_lines, text}
 use Rattle.valid_table.specs.declared.entry.Entry.{Entry}
 use Rattle.valid_table.specs.declared.entry.Entry.TheVariants.{Add, Done}
@@ -23,7 +23,7 @@ use Rattle.valid_table.proofs.RisingPaths.{AreAbove, above_of_rising, rising_of_
 abbrev pub IsBackward : Version → List ℕ → (Position → List Line → Type 0) → Type 0
 IsBackward version dir Of = (from : Position) (line : Line) (more : List Line)
     → MayBeLine version dir from line
-    → Of (behind from line) more → Of from (line ∷ more)
+    → Of (position_after from line) more → Of from (line ∷ more)
 
 -- references that rise after the one before them
 pub references_back : (version : Version) (dir : List ℕ) (Of : Position → List Line → Type 0)
@@ -84,25 +84,25 @@ MayEnter version dir position = (line : Line) → MayBegin version dir line
     → MayBeLine version dir position line
 
 -- a position is after the lines of an entry
-abbrev pub IsBehind : Entry → Position → Type 0
-IsBehind (Add r) (Within None last) = Unit {0}
-IsBehind (Done deriver outputs) (Within (Some output) last) = Unit {0}
-IsBehind entry position = ⊥
+abbrev pub IsAfter : Entry → Position → Type 0
+IsAfter (Add r) (Within None last) = Unit {0}
+IsAfter (Done deriver outputs) (Within (Some output) last) = Unit {0}
+IsAfter entry position = ⊥
 
 -- after outputs is after the last of them
-behind_outputs : (deriver path : List ℕ) (paths : List (List ℕ)) (outputs : List Registration)
-    (reference : Option (List ℕ)) → IsBehind (Done deriver outputs)
+after_outputs : (deriver path : List ℕ) (paths : List (List ℕ)) (outputs : List Registration)
+    (reference : Option (List ℕ)) → IsAfter (Done deriver outputs)
     (position_at (last_or (Some path) paths) reference)
-behind_outputs deriver path [] outputs reference = tt
-behind_outputs deriver path (next ∷ paths) outputs reference =
-    behind_outputs deriver next paths outputs reference
+after_outputs deriver path [] outputs reference = tt
+after_outputs deriver path (next ∷ paths) outputs reference =
+    after_outputs deriver next paths outputs reference
 
 -- an entry
 pub entry_back : (version : Version) (dir : List ℕ) (Of : Position → List Line → Type 0)
     → IsBackward version dir Of
     → (from : Position) (entry : Entry) (more : List Line) → MayEnter version dir from
     → IsEntryIn version dir entry
-    → ((to : Position) → IsBehind entry to → Of to more)
+    → ((to : Position) → IsAfter entry to → Of to more)
     → Of from (entry_lines entry ++ more)
 entry_back version dir Of back from (Add r) more may is of =
     back from (Added r.path r.info.digest r.info.nar) (map Reference r.info.references ++ more)
@@ -117,7 +117,7 @@ entry_back version dir Of back from (Done deriver (o ∷ outputs)) more may is o
     (outputs_back _ _ Of back (o ∷ outputs) None None _ is.4
     (above_of_rising (paths_registered (o ∷ outputs)) is.3)
     (λ reference. of (position_at (last_or None (paths_registered (o ∷ outputs))) reference)
-    (behind_outputs deriver o.path (paths_registered outputs) (o ∷ outputs) reference)))
+    (after_outputs deriver o.path (paths_registered outputs) (o ∷ outputs) reference)))
 
 -- ---- lines that end a journal
 
@@ -144,13 +144,13 @@ within_enters version dir output last (Deriver path) may = may
 within_enters version dir output last line may = absurd may
 
 -- after the lines of an entry another may begin, and a journal may end
-behind_enters : (version : Version) (dir : List ℕ) (entry : Entry) (to : Position)
-    → IsBehind entry to
+after_enters : (version : Version) (dir : List ℕ) (entry : Entry) (to : Position)
+    → IsAfter entry to
     → MayEnter version dir to
     × MayEnd to
-behind_enters version dir entry (Within output last) is = (within_enters _ _ _ _, tt)
-behind_enters version dir (Add r) to is = absurd is
-behind_enters version dir (Done deriver outputs) to is = absurd is
+after_enters version dir entry (Within output last) is = (within_enters _ _ _ _, tt)
+after_enters version dir (Add r) to is = absurd is
+after_enters version dir (Done deriver outputs) to is = absurd is
 
 -- the lines of entries end a journal from where an entry may begin
 pub entries_end : (version : Version) (dir : List ℕ) (position : Position) (entries : List Entry)
@@ -161,15 +161,15 @@ entries_end version dir position [] begins each = begins.1
 entries_end version dir position (entry ∷ entries) begins each =
     entry_back _ _ (Ends version dir) (λ from line more may ends. (may, ends)) _ _
     _ begins.0 (All-head (IsEntryIn version dir) _ _ each)
-    (λ to is. entries_end version dir to entries (behind_enters version dir entry to is)
+    (λ to is. entries_end version dir to entries (after_enters version dir entry to is)
     (All-tail (IsEntryIn version dir) _ _ each))
 
 -- ---- what is still to come
 
 -- outputs rise after one; without one there are none
-abbrev RiseBehind : Option (List ℕ) → List Registration → Type 0
-RiseBehind None outputs = outputs ≡ []
-RiseBehind (Some before) outputs = AreAbove (Some before) (paths_registered outputs)
+abbrev RiseAfter : Option (List ℕ) → List Registration → Type 0
+RiseAfter None outputs = outputs ≡ []
+RiseAfter (Some before) outputs = AreAbove (Some before) (paths_registered outputs)
 
 -- references and outputs may come at a position
 abbrev MayCome : Position → List (List ℕ) → List Registration → Type 0
@@ -178,7 +178,7 @@ MayCome Begun references outputs = (references ≡ []) × (outputs ≡ [])
 MayCome Opened references outputs = (references ≡ []) × (outputs ≢ [])
     × AreAbove None (paths_registered outputs)
 MayCome (Within output last) references outputs = AreAbove last references
-    × RiseBehind output outputs
+    × RiseAfter output outputs
 
 -- At a position the lines of references come, then those of outputs, and then those of entries.
 record Comes (version : Version) (dir : List ℕ) (position : Position) (come : List Line)
@@ -193,9 +193,9 @@ record Comes (version : Version) (dir : List ℕ) (position : Position) (come : 
   pub entries_of_dir : All (IsEntryIn version dir) entries
   pub may : MayCome position references outputs
 
-none_behind : (output : Option (List ℕ)) → RiseBehind output []
-none_behind None = refl
-none_behind (Some before) = tt
+none_after : (output : Option (List ℕ)) → RiseAfter output []
+none_after None = refl
+none_after (Some before) = tt
 
 -- entries alone
 entries_come : (version : Version) (dir : List ℕ) (position : Position) (come : List Line)
@@ -287,7 +287,7 @@ ToCome version dir position come = Comes version dir position come
 -- one more line
 comes_back : (version : Version) (dir : List ℕ) (position : Position) (line : Line)
     (come : List Line)
-    → MayBeLine version dir position line → ToCome version dir (behind position line) come
+    → MayBeLine version dir position line → ToCome version dir (position_after position line) come
     → ToCome version dir position (line ∷ come)
 comes_back version dir Start line come may c = tt
 comes_back version dir Begun (Added path digest nar) come may c = search (rules, one_added, may)
@@ -295,9 +295,9 @@ comes_back version dir Begun (Deriver path) come may c = search (rules, one_done
 comes_back version dir Opened (Output path digest nar) come may c =
     one_output _ _ _ _ _ _ _ may.0 may.1 c (refl, λ none. cc none, (tt, c.may.1))
 comes_back version dir (Within output last) (Added path digest nar) come may c =
-    search (rules, one_added, none_behind)
+    search (rules, one_added, none_after)
 comes_back version dir (Within output last) (Deriver path) come may c =
-    search (rules, one_done, none_behind, may)
+    search (rules, one_done, none_after, may)
 comes_back version dir (Within (Some before) last) (Output path digest nar) come may c =
     one_output _ _ _ _ _ _ _ may.0 may.1 c (tt, (may.2, c.may.1))
 comes_back version dir (Within output last) (Reference path) come may c =
@@ -312,9 +312,9 @@ ends_come version dir Start [] ends = tt
 ends_come version dir Begun [] ends = search (rules, entries_come, All-nil)
 ends_come version dir Opened [] ends = absurd ends
 ends_come version dir (Within output last) [] ends =
-    entries_come _ _ _ [] [] (tt, none_behind _) (All-nil (IsEntryIn version dir)) refl
+    entries_come _ _ _ [] [] (tt, none_after _) (All-nil (IsEntryIn version dir)) refl
 ends_come version dir position (line ∷ come) ends =
-    search (rules, comes_back, ends_come version dir (behind position line) come ends.1)
+    search (rules, comes_back, ends_come version dir (position_after position line) come ends.1)
 
 -- ---- the texts of journals
 

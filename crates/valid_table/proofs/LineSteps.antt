@@ -5,7 +5,7 @@ use Rattle.valid_table.specs.private.LineTexts.{lines_text}
 use Rattle.valid_table.specs.private.Readers.{StopsWhere}
 use Rattle.valid_table.specs.declared.journal_text.reading.LineFault.{LineFault}
 use Rattle.valid_table.specs.declared.journal_text.reading.LineFault.TheVariants.{NoMemory, Left}
-use Rattle.valid_table.specs.private.Steps.{Position, Ahead, GoesOnWith, MayBeLine, Stops, behind}
+use Rattle.valid_table.specs.private.Steps.{Position, Ahead, GoesOnWith, MayBeLine, Stops, position_after}
 use Rattle.valid_table.specs.Texts.{Line, line_text}
 use Rattle.valid_table.specs.declared.path_table.version.Version.{Version}
 use Rattle.valid_table.proofs.LineLists.{IsBackward}
@@ -23,12 +23,12 @@ pub stop_here : (version : Version) (dir : List ℕ) (position : Position) (bad 
 stop_here version dir position bad c more begins ahead stuck = search rules
 
 -- one line, and where the lines after it stop
-pub stop_behind : (version : Version) (dir : List ℕ) (from : Position) (bytes : List ℕ)
+pub stop_after : (version : Version) (dir : List ℕ) (from : Position) (bytes : List ℕ)
     (line : Line)
     (more : List ℕ)
     (left : ℕ) → bytes ≡ line_text version line ++ more → MayBeLine version dir from line
-    → Stops version dir (behind from line) more left → Stops version dir from bytes left
-stop_behind version dir from bytes line more left parts may h = record {
+    → Stops version dir (position_after from line) more left → Stops version dir from bytes left
+stop_after version dir from bytes line more left parts may h = record {
   lines = line ∷ h.lines;
   bad = h.bad;
   parts = parts ∙ ap (λ (t : List ℕ). line_text version line ++ t) h.parts
@@ -46,7 +46,7 @@ StopsIn version dir rest left from lines =
 -- they stop where those after the first one do
 pub stops_back : (version : Version) (dir rest : List ℕ) (left : ℕ)
     → IsBackward version dir (StopsIn version dir rest left)
-stops_back version dir rest left from line more may h = search (rules, stop_behind, append_assoc)
+stops_back version dir rest left from line more may h = search (rules, stop_after, append_assoc)
 
 -- the same bytes stop with the same left
 pub stops_in : (version : Version) (dir : List ℕ) (from : Position) (lines : List Line)

@@ -23,15 +23,15 @@ in_lines : (entries before : List Entry) (entry : Entry) (line : Line) (n : ℕ)
     → StandsAt entries before entry line n → (prefix : List Line) × (rest : List Line)
     × (lines entries ≡ prefix ++ line ∷ rest) × (n ≡ suc (length prefix))
 in_lines entries before entry line n s =
-    let behind = flat_map entry_lines s.after in
-    let parts : lines entries ≡ (lines before ++ s.first) ++ line ∷ (s.last ++ behind) =
+    let later = flat_map entry_lines s.after in
+    let parts : lines entries ≡ (lines before ++ s.first) ++ line ∷ (s.last ++ later) =
     ap lines s.parts
     ∙ ap (λ (ls : List Line). First ∷ ls) (flat_map-append entry_lines before (entry ∷ s.after))
-    ∙ ap (λ (ls : List Line). lines before ++ (ls ++ behind)) s.is_line
-    ∙ ap (λ (ls : List Line). lines before ++ ls) (append_assoc s.first (line ∷ s.last) behind)
-    ∙ sym (append_assoc (lines before) s.first (line ∷ (s.last ++ behind))) in (
+    ∙ ap (λ (ls : List Line). lines before ++ (ls ++ later)) s.is_line
+    ∙ ap (λ (ls : List Line). lines before ++ ls) (append_assoc s.first (line ∷ s.last) later)
+    ∙ sym (append_assoc (lines before) s.first (line ∷ (s.last ++ later))) in (
       lines before ++ s.first,
-      s.last ++ behind,
+      s.last ++ later,
       parts,
       omega (arith, s.number, length-append (lines before) s.first),
     )

@@ -16,7 +16,7 @@ use Rattle.valid_table.specs.declared.entry.Registration.{Registration}
 use Rattle.valid_table.specs.declared.path_table.version.Version.{Version}
 use Rattle.valid_table.proofs.Leading.{text_and}
 use Rattle.valid_table.proofs.LineLists.{may_stand, outputs_back, position_at}
-use Rattle.valid_table.proofs.LineSteps.{StopsIn, first, stop_behind, stop_here, stops_back, stops_in}
+use Rattle.valid_table.proofs.LineSteps.{StopsIn, first, stop_after, stop_here, stops_back, stops_in}
 use Rattle.valid_table.proofs.RisingPaths.{above_of_rising, rising_more}
 
 -- the lines of outputs, and of one more
@@ -26,13 +26,13 @@ lines_more : (outputs : List Registration) (o : Registration)
 lines_more outputs o = search (rules, flat_map-append, append-nil)
 
 -- the text of outputs, and of one more
-text_more : (version : Version) (outputs : List Registration) (o : Registration) (behind : List ℕ)
+text_more : (version : Version) (outputs : List Registration) (o : Registration) (after : List ℕ)
     → lines_text version (flat_map output_lines outputs) ++
-    (registration_text version 79 o ++ behind)
-    ≡ lines_text version (flat_map output_lines (outputs ++ o ∷ [])) ++ behind
-text_more version outputs o behind =
-    text_and version (flat_map output_lines outputs) (output_lines o) behind
-    ∙ ap (λ some. lines_text version some ++ behind) (lines_more _ o)
+    (registration_text version 79 o ++ after)
+    ≡ lines_text version (flat_map output_lines (outputs ++ o ∷ [])) ++ after
+text_more version outputs o after =
+    text_and version (flat_map output_lines outputs) (output_lines o) after
+    ∙ ap (λ some. lines_text version some ++ after) (lines_more _ o)
 
 -- ---- where an output stops
 
@@ -66,7 +66,7 @@ output_stops : (version : Version) (dir : List ℕ) (before last : Option (List 
 output_stops version dir before last bytes left (inl h) =
     search (rules, position_at, stop_here, letter_ahead, stuck)
 output_stops version dir before last bytes left (inr h) =
-    stop_behind _ _ _ _ _ _ _
+    stop_after _ _ _ _ _ _ _
     (h.begins ∙ ap (λ (f : List ℕ). 79 ∷ 32 ∷ f) h.line.parts)
     (may_stand _ _ _ _ _ _ _ (h.line.of_dir, h.line.is_known, h.above))
     (h.stops version (Some h.path))
@@ -88,17 +88,17 @@ outputs_stop version dir bytes outputs rest before left so_far is h =
 
 -- one more output
 pub outputs_more : (version : Version) (dir bytes : List ℕ) (outputs more : List Registration)
-    (rest behind : List ℕ)
+    (rest after : List ℕ)
     (before : Option (List ℕ)) (o : Registration) → SoFarOutputs version dir bytes outputs rest
     → before
     ≡ last_or None (paths_registered outputs)
-    → HasRegistration version dir 79 before rest o behind → more ≡ outputs ++ o ∷ []
-    → SoFarOutputs version dir bytes more behind
-outputs_more version dir bytes outputs more rest behind before o so_far is h pushed =
+    → HasRegistration version dir 79 before rest o after → more ≡ outputs ++ o ∷ []
+    → SoFarOutputs version dir bytes more after
+outputs_more version dir bytes outputs more rest after before o so_far is h pushed =
     rw pushed (record {
       parts = so_far.parts ∙ ap (λ t. lines_text version (flat_map output_lines outputs) ++ t)
           h.parts
-          ∙ text_more _ _ o behind;
+          ∙ text_more _ _ o after;
       of_dir = All-push (IsOf version dir) _ o so_far.of_dir h.of_dir;
       rising = subst IsRising (sym (map-append (λ (r : Registration). r.path) outputs (o ∷ [])))
           (rising_more _ _ so_far.rising

@@ -1,7 +1,7 @@
 //! Books, their leases and verdicts.
 //!
 //! `Book::open PLAN JOURNAL SYSTEM` begins the lines of a book, which end with `close` (`session`).
-//! Behind a system there may stand its features and the builtin builders that have a program, each
+//! After a system there may stand its features and the builtin builders that have a program, each
 //! as a list with commas. What a builder leaves is a status, or `killed`, and a tree for each
 //! output: `-` where nothing lies, `file:TEXT`, `zeros:N` for a file of N bytes, `parts:A:B` for a
 //! file in these pieces, or `folder:N` for a folder of N empty files of one name; `program:A:B` is
@@ -57,7 +57,7 @@ pub(crate) fn opening(
     Ok((plan, journal, system(teller, world, line)?))
 }
 
-/// The system that a line names behind a plan and a journal.
+/// The system that a line names after a plan and a journal.
 pub(crate) fn system(
     teller: &mut Teller<'_>,
     world: &World,

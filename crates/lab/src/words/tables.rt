@@ -20,7 +20,7 @@ use valid_table::{Entry, Journal, Obstacle, Table, TableFault, union};
 pub(crate) fn take(teller: &mut Teller<'_>, world: &mut World, line: &Line<'_>) -> Found {
     words! { teller, world, line;
         "Table::closure" (table = table 0, roots = paths 1) => table.closure(world.alloc, &roots);
-        "union" (left = before b"/", right = behind b"/") => union(world.alloc, &left, &right);
+        "union" (left = before b"/", right = after b"/") => union(world.alloc, &left, &right);
         "Plan::eq" (one = plans 0, two = plans 1) => (one == two,);
         "Derivation::eq" (one = drvs 0, two = drvs 1) => (one == two,);
         "same_entries" (one = journals 0, two = journals 1) => (one.entries() == two.entries(),);

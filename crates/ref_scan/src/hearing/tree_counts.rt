@@ -75,7 +75,7 @@ impl Allowance {
     {
         match event {
             Event::BeginEntry(_) => self.in_entry(),
-            Event::EndEntry => Some(self.behind_entry()),
+            Event::EndEntry => Some(self.after_entry()),
             Event::Piece(bytes) => self.beside_bytes(bytes.len()),
             Event::Link(target) => self.beside_bytes(target.len()),
             Event::BeginFolder | Event::EndFolder | Event::BeginFile(_, _) | Event::EndFile(_) => {
@@ -96,7 +96,7 @@ impl Allowance {
     }
 
     // What is left where an entry ended.
-    fn behind_entry(self) -> Allowance
+    fn after_entry(self) -> Allowance
         ensures { Some result ≡ returned (Some self) }
     {
         Allowance {

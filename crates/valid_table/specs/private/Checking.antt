@@ -47,8 +47,8 @@ pub record IsRightUpTo (known all : List Path) (some : List Line) (line : Line) 
 -- of the line after them, or that of the first wrong line.
 abbrev pub IsEntryCheck : (known all : List Path) → (some : List Line) → (first : ℕ)
     → Result ℕ TableFault → Type 0
-IsEntryCheck known all some first (Ok behind) = All (IsRight known all) some
-    × (behind ≡ first + length some)
+IsEntryCheck known all some first (Ok later) = All (IsRight known all) some
+    × (later ≡ first + length some)
 IsEntryCheck known all some first (Err (Twice n)) =
     (line : Line) × (index : ℕ) × IsRightUpTo known all some line index × RegistersKnown known line
     × (n ≡ first + index)
@@ -62,9 +62,9 @@ IsEntryCheck known all some first (Err other) = ⊥
 -- first line has the number `first`
 abbrev pub IsLineCheck : (all : List Path) → List Registration → (new first : ℕ)
     → Result ℕ TableFault → Type 0
-IsLineCheck all rs new first (Ok behind) =
+IsLineCheck all rs new first (Ok later) =
     (length rs ≤ new) × All (Contains all) (references_of rs)
-    × (behind ≡ first + length (flat_map output_lines rs))
+    × (later ≡ first + length (flat_map output_lines rs))
 IsLineCheck all rs new first (Err (Twice n)) =
     (new < length rs) × All (Contains all) (references_of (take new rs))
     × (n ≡ first + length (flat_map output_lines (take new rs)))

@@ -52,13 +52,13 @@ MayBeLine version dir Opened (Output path digest nar) =
 MayBeLine version dir position line = ⊥
 
 -- the position after a line
-abbrev pub behind : Position → Line → Position
-behind position First = Begun
-behind position (Added path digest nar) = Within None None
-behind position (Deriver path) = Opened
-behind position (Output path digest nar) = Within (Some path) None
-behind (Within output last) (Reference path) = Within output (Some path)
-behind position (Reference path) = position
+abbrev pub position_after : Position → Line → Position
+position_after position First = Begun
+position_after position (Added path digest nar) = Within None None
+position_after position (Deriver path) = Opened
+position_after position (Output path digest nar) = Within (Some path) None
+position_after (Within output last) (Reference path) = Within output (Some path)
+position_after position (Reference path) = position
 
 -- after a deriver the bytes go on with an output
 abbrev pub Ahead : Position → (rest : Bytes) → Type 0
@@ -70,7 +70,7 @@ Ahead position rest = Unit {0}
 abbrev pub LeadsTo : Version → Dir → (Position → Type 0) → Position → List Line → Type 0
 LeadsTo version dir Is from [] = Is from
 LeadsTo version dir Is from (line ∷ more) = MayBeLine version dir from line
-    × LeadsTo version dir Is (behind from line) more
+    × LeadsTo version dir Is (position_after from line) more
 
 -- From a position the bytes go on with a line that may stand there, and then with the rest.
 pub record GoesOnWith (version : Version) (dir : Dir) (from : Position) (bytes : Bytes)
@@ -78,7 +78,7 @@ pub record GoesOnWith (version : Version) (dir : Dir) (from : Position) (bytes :
     (rest : Bytes) : Type 0 where
   pub parts : bytes ≡ line_text version line ++ rest
   pub may : MayBeLine version dir from line
-  pub ahead : Ahead (behind from line) rest
+  pub ahead : Ahead (position_after from line) rest
 
 -- From a position the bytes go on with no line that may stand there.
 pub record IsStuck (version : Version) (dir : Dir) (bytes : Bytes) (position : Position)

@@ -1,10 +1,10 @@
 use Rattle.std.proofs.Common.{subst}
 use Rattle.memchr.specs.Find.{IsLastByte, is_byte}
-use Rattle.nix_names.proofs.PathTexts.{behind_last_slash, without_slash}
+use Rattle.nix_names.proofs.PathTexts.{after_last_slash, without_slash}
 use Rattle.nix_names.proofs.store_path.base_offset.Goals as goal
 
 pub returns-in-Some-clause-offset : goal.returns-in-Some-clause-offset
-returns-in-Some-clause-offset c = behind_last_slash _ _
+returns-in-Some-clause-offset c = after_last_slash _ _
     (subst (IsLastByte (is_byte 47) c.args.text.now) c.in-Some.is c.memrchr.ensures)
 
 pub returns-in-None-clause-offset : goal.returns-in-None-clause-offset

@@ -32,22 +32,22 @@ loop-index-preserved c =
 pub returns-in-Some-left : goal.returns-in-Some-left
 returns-in-Some-left c =
     let nodes = c.args.plan.now.nodes in
-    let behind = seeds_left _ _ _ _
+    let after = seeds_left _ _ _ _
     _ _ c.inputs-inputs.ensures.numbers c.loop-index-test.false
     c.loop-index.invariant in
     seeds_told nodes c.args.d c.args.seeds.now c.in-Some-left.rest _
     (subst (λ o. IfSome (slice_get nodes c.args.d)
     (λ (node : Node). IsRest c.args.seeds.now (seeds_of nodes node.drv) o)) c.in-Some-left.is
-    behind)
+    after)
     (nothing_told _ _ c.is_empty.ensures)
 
 pub returns-in-None-left : goal.returns-in-None-left
 returns-in-None-left c =
     let nodes = c.args.plan.now.nodes in
-    let behind = seeds_left _ _ _ _
+    let after = seeds_left _ _ _ _
     c.loop-index.index c.loop-index.left c.inputs-inputs.ensures.numbers c.loop-index-test.false
     c.loop-index.invariant in
     seeds_untold nodes c.args.d c.args.seeds.now
     (subst (λ o. IfSome (slice_get nodes c.args.d)
     (λ (node : Node). IsRest c.args.seeds.now (seeds_of nodes node.drv) o)) c.in-None-left.is
-    behind)
+    after)

@@ -1,5 +1,5 @@
 use Rattle.std.proofs.Common.{Err, ap}
-use Rattle.process_build.proofs.PastLimits.{handed, past_behind}
+use Rattle.process_build.proofs.PastLimits.{handed, past_after}
 use Rattle.process_build.proofs.Under.{joins_under, one_under}
 use Rattle.process_build.proofs.Walking.{at_above, emptied, whole_at}
 use Rattle.process_build.proofs.walk.tree_walk.end_folder.Goals as goal
@@ -19,6 +19,6 @@ returns-clause-position g c = λ profile start ahead at.
 
 pub returns-in_err-tell_event-2-clause-past : goal.returns-in_err-tell_event-2-clause-past
 returns-in_err-tell_event-2-clause-past g c = λ large.
-    past_behind _ g.met.H.Hear.joins _ _ _ _ _ c.in_ok-tell_event.ensures.told
+    past_after _ g.met.H.Hear.joins _ _ _ _ _ c.in_ok-tell_event.ensures.told
     (c.in_err-tell_event-2.ensures.past
     (ap Err (handed _ _ c.from_residual-in_err-tell_event-2.ensures.1 large)))

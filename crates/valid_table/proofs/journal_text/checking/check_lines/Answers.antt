@@ -1,5 +1,5 @@
 use Rattle.std.proofs.Common.{ap, arith, length, rules}
-use Rattle.valid_table.proofs.CheckedLines.{line_count_fits, line_count_more, open_here, right_behind, twice_here, unknown_within}
+use Rattle.valid_table.proofs.CheckedLines.{line_count_fits, line_count_more, open_here, right_after, twice_here, unknown_within}
 use Rattle.valid_table.proofs.EnteredPaths.{closed_more}
 use Rattle.valid_table.proofs.journal_text.checking.check_lines.Goals as goal
 
@@ -56,4 +56,4 @@ loop-index-preserved c =
     }
 
 pub returns : goal.returns
-returns c = search (rules, right_behind)
+returns c = search (rules, right_after)

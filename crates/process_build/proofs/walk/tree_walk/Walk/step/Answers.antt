@@ -1,6 +1,6 @@
 use Rattle.std.proofs.Common.{Err, ap, inr, subst}
 use Rattle.process_build.specs.Walks.{IsToldPast}
-use Rattle.process_build.proofs.PastLimits.{found_behind, handed, limits_behind, past_behind}
+use Rattle.process_build.proofs.PastLimits.{found_after, handed, limits_after, past_after}
 use Rattle.process_build.proofs.Under.{joins_under, one_under}
 use Rattle.process_build.proofs.Walking.{at_deeper, at_more, popped}
 use Rattle.process_build.proofs.walk.tree_walk.Walk.step.Goals as goal
@@ -25,14 +25,14 @@ returns-clause-position g c = λ start at.
 
 pub returns-in_err-inside-clause-past : goal.returns-in_err-inside-clause-past
 returns-in_err-inside-clause-past g c = λ large.
-    limits_behind _ g.met.H.Hear.joins _ _ _ _ _ _ c.in_ok-tell_event.ensures.told
+    limits_after _ g.met.H.Hear.joins _ _ _ _ _ _ c.in_ok-tell_event.ensures.told
     (c.in_err-inside.ensures.past
     (ap Err (handed _ _ c.from_residual-in_err-inside.ensures.1 large)))
 
 pub returns-in_err-tell_event-2-clause-past : goal.returns-in_err-tell_event-2-clause-past
 returns-in_err-tell_event-2-clause-past g c = λ large.
-    inr (past_behind _ g.met.H.Hear.joins _ _ _ _ _ c.in_ok-tell_event.ensures.told
-    (found_behind _ g.met.H.Hear.joins _ _ _ _ _ _ c.in_ok-inside.ensures.found
+    inr (past_after _ g.met.H.Hear.joins _ _ _ _ _ c.in_ok-tell_event.ensures.told
+    (found_after _ g.met.H.Hear.joins _ _ _ _ _ _ c.in_ok-inside.ensures.found
     (subst (λ limit. IsToldPast g.H.Hear.heard (g.L.Limit.keeps limit) c.begin_entry.new.hearer
     c.tell_event-2.new.hearer) c.in_ok-inside.ensures.limit (c.in_err-tell_event-2.ensures.past
     (ap Err (handed _ _ c.from_residual-in_err-tell_event-2.ensures.1 large))))))
