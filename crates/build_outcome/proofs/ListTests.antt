@@ -55,7 +55,7 @@ module _ (job : Job) (permitted : List (List ℕ)) (infos : List PathInfo)
       }
   check_fault registrations n check why fault = absurd fault
 
-  -- the same, where the output's path and the list are known
+  -- what the fault of a test tells, where the output's path and the list are known
   fault_at : (registrations : List Registration) (n : ℕ) (check : Check) (own : List ℕ)
       (list : List (List ℕ)) (why : Reason) → slice_get (outputs_of job) n ≡ Some own
       → list_of job n check ≡ Some list

@@ -262,7 +262,7 @@ module _ (job : Job) (infos : List PathInfo) (own : List ℕ) (keys : List (List
     );
   }
 
--- the same, by the paths of the outputs
+-- the roots among what was reached, by the paths of the outputs
 pub roots_among_told : (outputs : List (List ℕ)) (infos : List PathInfo) (keys : List (List ℕ))
     (links : List (Vec ℕ)) (start : ℕ) (marks : List Bool) (n : ℕ) (first : List ℕ)
     → AreEachOnce outputs keys → AreLinks outputs infos keys (length infos) links
@@ -284,7 +284,7 @@ roots_among_told outputs infos keys links start marks n first once are begun at 
     (subst (λ (l : List (List ℕ)). AreOutside l infos keys marks (length infos) out) is are_out)
     rises same rises' same'
 
--- the same for one job
+-- the roots that were told are those of this job
 pub roots_of_job : {E : Type 0} (job : Job) (outputs : List (List ℕ))
     (records infos : List PathInfo) (n : ℕ) (result : Result OutputRoots E)
     → outputs ≡ outputs_of job → records ≡ infos

@@ -351,7 +351,7 @@ unlisted job own list specifier named new some has adds is all =
     false≢true (sym is ∙ adds.any.1
     (All-contains (λ s. (path : List ℕ) × Specifies job own s path) list specifier all has))
 
--- the same where what a call adds is told
+-- what a call adds by a name is what the specifier adds
 pub named_told : {E : Type 0} (job : Job) (dir text : List ℕ) (old new : List (List ℕ))
     (result : Result Bool E) → TellsPath dir text None
     → IfOk result (AddsNamed job.outputs.items text old new)

@@ -61,7 +61,7 @@ pub masked_other : (names : List (List ℕ)) (entry : EnvEntry) → (Contains na
     → entry ≡ masked_entry names entry
 masked_other names entry none = search (rules, any_none)
 
--- the same by what was found
+-- an entry under a name has no value, by what was found
 pub masked_found : (names : List (List ℕ)) (entry : EnvEntry) (key : List ℕ) (found : Option ℕ)
     → IsIndexOfKey names key found → key ≡ entry.key → is_some found ≡ true
     → record { key = entry.key; value = [] } ≡ masked_entry names entry

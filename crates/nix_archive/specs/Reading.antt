@@ -25,7 +25,7 @@ pub record IsBegun (P : List Token → Bytes → Type 0) (read : Bytes) : Type 0
 abbrev pub IsRefused : (P : List Token → Bytes → Type 0) (read : Bytes) → Type 0
 IsRefused P read = (ts : List Token) (u : Bytes) → P ts (read ++ u) → ⊥
 
--- the same may follow
+-- what may follow by one may follow by the other
 pub record IsSame (P Q : List Token → Bytes → Type 0) : Type 0 where
   pub to : (ts : List Token) (u : Bytes) → P ts u → Q ts u
   pub from : (ts : List Token) (u : Bytes) → Q ts u → P ts u

@@ -83,7 +83,7 @@ items_at : {A : Type 0} (view : A → List ℕ) (items : List A) (i : ℕ) (d : 
 items_at view items i d below = ap (map view) (split_at items i d below)
     ∙ map-append view (take i items) (get_or items i d ∷ drop (suc i) items)
 
--- the same of the item at an index, seen as its text
+-- a fault at one item, after right ones, is the fault of all items
 pub fault_at : {A : Type 0} (view : A → List ℕ) (dir text : List ℕ) (items : List A) (i : ℕ) (d : A)
     (found : DrvFault) → i < length items → d ≡ get_or items i d → text ≡ view d
     → All (IsPathOf dir) (map view (take i items)) → IsStrayFault dir (text ∷ []) found

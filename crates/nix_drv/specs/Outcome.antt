@@ -38,7 +38,7 @@ abbrev pub IsWriting : Drv → Result (Vec ℕ Global) DrvFault → Type 0
 IsWriting drv (Ok text) = IsDrvText drv text.items
 IsWriting drv (Err fault) = fault ≡ NoMemory
 
--- the same derivation, unless memory was refused
+-- a copy of the derivation, unless memory was refused
 abbrev pub IsCopying : Drv → Result Drv DrvFault → Type 0
 IsCopying drv (Ok copy) = copy ≡ drv
 IsCopying drv (Err fault) = fault ≡ NoMemory

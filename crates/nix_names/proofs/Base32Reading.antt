@@ -35,7 +35,7 @@ digits_in_below text are =
     (digit_of_below (get_or text (length text - 1 - k) 0)
     (are (length text - 1 - k) 0 (omega arith))))
 
--- the same of a list from its end
+-- what holds of all of a list holds of all from its end
 pub All-reverse : (P : ℕ → Type 0) (xs : List ℕ) → All P xs → All P (reverse xs)
 All-reverse P xs all = search (rules, All-from_get_or, length-reverse, get_or-reverse)
 

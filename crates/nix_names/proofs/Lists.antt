@@ -115,7 +115,7 @@ module _ {X : Type 0} where
       ∷ drop (suc n) xs
   split_get xs n x is = search (rules, take-append-drop, drop_at)
 
-  -- the same of an element that was read
+  -- the parts round an element that was read
   pub parts_at : (xs : List X) (i : ℕ) (x : X) → i < length xs → x ≡ get_or xs i x → xs
       ≡ take i xs ++ x ∷ drop (i + 1) xs
   parts_at xs i x lt is = search (rules, take-append-drop, drop_more)

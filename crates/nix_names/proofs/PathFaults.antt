@@ -25,7 +25,8 @@ starts_with_slash [] (d ∷ dir) = refl
 starts_with_slash (t ∷ text) (d ∷ dir) =
     search (rules, nat_eq, and_assoc, starts_with_slash text dir)
 
--- the same, where the text begins with the folder
+-- a text that begins with a folder begins with it and a slash exactly if what follows begins with a
+-- slash
 pub starts_with_slash_after : (text dir rest : List ℕ) → starts_with nat_eq text dir ≡ true → rest
     ≡ drop (length dir) text → starts_with nat_eq rest (47 ∷ [])
     ≡ starts_with nat_eq text (dir ++ 47 ∷ [])

@@ -15,7 +15,7 @@ use std::alloc::{AllocError, Global};
 // The characters of the digits 0 to 31: no e, o, t or u.
 const ALPHABET: &[u8; 32] = b"0123456789abcdfghijklmnpqrsvwxyz";
 
-// The same characters as bits: bit c mod 32 of word c / 32 is set where c is one of them.
+// The characters of the digits as bits: bit c mod 32 of word c / 32 is set where c is one of them.
 const DIGIT_BITS: &[u32; 8] = &[0, 0x03ff_0000, 0, 0x07cf_7fde, 0, 0, 0, 0];
 
 /// The base-32 text of bytes: `ceil(8n / 5)` characters for n bytes.

@@ -112,7 +112,7 @@ impl StorePath {
         &text[base_offset(text)..]
     }
 
-    /// The same path once more, at its one text. Costs no allocation and no pass: it counts one
+    /// A copy of the path, which shares its text. Costs no allocation and no pass: it counts one
     /// more owner, so `AllocError` comes only where the count is full, at 2^63.
     pub fn copy(&self, _alloc: Global) -> Result<StorePath, AllocError>
         ensures same { IfOk result (λ path. path ≡ self.now) }

@@ -30,7 +30,8 @@ begun_by (Fail k n reason) d lease count below is = by (eqb k d) is
     by true is = absurd cc
     by false is = absurd cc
 
--- the same of the first of some events, by the phase that the others leave
+-- a derivation that the first of some events leaves begun is of the plan, by the phase that the
+-- others leave
 after : (e : Event) (es : List Event) (d lease count : ℕ) (p : Phase) → phase_of es d ≡ p
     → derivation_of e < count → ((n : ℕ) → phase_of es d ≡ Begun n → d < count)
     → later (phase_by e d) p ≡ Begun lease → d < count

@@ -38,7 +38,7 @@ abbrev pub needed_by : Result (Vec ℕ) Failure → FileBytes
 needed_by (Ok bytes) = Ok bytes.items
 needed_by (Err fault) = Err (file_fault_of fault)
 
--- the same of the journal file; where it isn't found it has no bytes
+-- what the journal file gave, by the system's answer; where it isn't found it has no bytes
 abbrev pub journal_by : Result (Vec ℕ) Failure → FileBytes
 journal_by (Ok bytes) = Ok bytes.items
 journal_by (Err failure.NotFound) = Ok []

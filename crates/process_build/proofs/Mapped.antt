@@ -28,7 +28,7 @@ mapped_after f g h old now more x ys i d low is_more had same =
     ∙ sym (ap (map g) (map_more h ys i d low)
     ∙ map-append g (map h (take i ys)) (h (get_or ys i d) ∷ [])))
 
--- the same without a second function
+-- one more item after others, without a second function
 pub mapped_next : {X Y Z : Type 0} (f : X → Z) (g : Y → Z) (old now more : List X)
     (x : X) (ys : List Y) (i : ℕ) (d : Y) → i < length ys → more ≡ now ++ x ∷ []
     → map f now ≡ map f old ++ map g (take i ys) → f x ≡ g (get_or ys i d)

@@ -36,7 +36,7 @@ abbrev pub text_bytes : Text → Bytes
 text_bytes (text.Lent lent) = lent.now
 text_bytes (text.Made made) = string_bytes made
 
--- the same of bytes that need not be a text
+-- the bytes of what need not be a text, whoever owns it
 abbrev pub raw_bytes : RawText → Bytes
 raw_bytes (raw.Lent lent) = lent.now
 raw_bytes (raw.Made made) = made.items

@@ -105,7 +105,7 @@ listed_push nodes marks n listed one distinct is at marked are = record {
     paths : listed_paths (listed ++ one ∷ []) ≡ listed_paths listed ++ one.path.now ∷ []
     paths = search (rules, map-append)
 
--- the same after keys
+-- one more derivation is listed, after keys
 pub keyed_new : (nodes : List Node) (marks : List Bool) (n : ℕ) (keyed more : List Keyed)
     (one : Keyed) → AreDistinct (paths_of nodes)
     → one.listed.number ≡ n → slice_get (paths_of nodes) n ≡ Some one.listed.path.now

@@ -69,7 +69,7 @@ abbrev pub by_all : Precondition → (twins : List News) → (by_inputs : State)
 by_all precondition twins by_inputs =
     by_validity precondition (by_twin_news twins (by_hindrance precondition by_inputs))
 
--- the same, by what is known of all that the derivation waits for
+-- the state of a derivation without an event, by what is known of all that it waits for
 abbrev pub by_heard : Precondition → Awaited → List News → State
 by_heard precondition awaited heard = by_all precondition (of_twins awaited heard)
     (by_news awaited.inputs (of_inputs awaited heard))

@@ -47,7 +47,7 @@ same_more f g xs ys n x y low low' is is' here before =
     ∙ sym (ap (map g) (take_more _ n y low' ∙ ap (λ z. take n ys ++ z ∷ []) (sym is'))
     ∙ map-append g (take n ys) (y ∷ []))
 
--- the same of outputs and of the paths beside them
+-- one more output, and the path beside it
 pub path_there : (made : List JobOutput) (paths : List (List ℕ)) (n : ℕ) (output : JobOutput)
     (path : List ℕ) → n < length made → n < length paths
     → output ≡ get_or made n output → path ≡ get_or paths n path

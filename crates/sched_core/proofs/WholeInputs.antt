@@ -168,7 +168,7 @@ inputs_more nodes d drv used numbers index number path paths told once is_drv ar
     ∙ ap (λ ps. flat_map (whole_input nodes) (take index node.drv.inputs) ++ ps)
     (append-nil (whole_input nodes there.0) ∙ one)
 
--- the same of an input of which not each output is named
+-- an input of which not each output is named
 pub inputs_still : (nodes : List Node) (d : ℕ) (drv used : Drv) (numbers : List ℕ)
     (index number : ℕ) (told : Bool)
     → AreDistinct (paths_of nodes) → slice_get (drvs_of nodes) d ≡ Some drv

@@ -27,7 +27,7 @@ pub(crate) fn whole_inputs_of(
     }
 }
 
-// The same under the profile `nix`.
+// Under `nix`, the inputs of a derivation of which it names each output.
 fn all_whole(alloc: Global, plan: &Plan, d: usize) -> Result<Vec<WholeInput>, AllocError>
     requires { d < length plan.now.nodes }
     ensures { IfOk result (λ whole. IfSome (slice_get plan.now.nodes d) (λ node.
@@ -86,7 +86,7 @@ pub(crate) fn has_whole_inputs(plan: &Plan, d: usize, whole: &[WholeInput]) -> b
     }
 }
 
-// The same under the profile `nix`.
+// Under `nix`, whether these are the inputs of which a derivation names each output.
 fn has_all_whole(plan: &Plan, d: usize, whole: &[WholeInput]) -> bool
     requires { d < length plan.now.nodes }
     ensures { IfSome (slice_get plan.now.nodes d) (λ node. IsTrue result

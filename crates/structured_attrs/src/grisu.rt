@@ -114,7 +114,7 @@ struct Scaled {
 }
 
 impl Scaled {
-    // The same number by a power that is so much less.
+    // The number by a power that is so much less.
     fn lowered(self, by: u32) -> Scaled {
         Scaled {
             count: self.count.wrapping_shl(by),
@@ -122,7 +122,7 @@ impl Scaled {
         }
     }
 
-    // The same number with the highest bit set.
+    // The number with the highest bit set.
     fn normal(self) -> Scaled {
         self.lowered(self.count.leading_zeros())
     }
@@ -184,7 +184,7 @@ impl Range {
         }
     }
 
-    // The same times a power of ten.
+    // The range times a power of ten.
     fn times(self, ten: Scaled) -> Range {
         Range {
             lower: self.lower.times(ten),

@@ -48,7 +48,7 @@ pub stops_back : (version : Version) (dir rest : List ℕ) (left : ℕ)
     → IsBackward version dir (StopsIn version dir rest left)
 stops_back version dir rest left from line more may h = search (rules, stop_after, append_assoc)
 
--- the same bytes stop with the same left
+-- equal bytes stop with as many left
 pub stops_in : (version : Version) (dir : List ℕ) (from : Position) (lines : List Line)
     (bytes rest : List ℕ) (left : ℕ)
     → bytes ≡ lines_text version lines ++ rest → StopsIn version dir rest left from (lines ++ [])

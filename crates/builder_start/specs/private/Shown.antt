@@ -22,7 +22,7 @@ shown_pair pair = (pair.name.now, pair.text.now)
 abbrev pub shown_output : OutputPath → Bytes × Path
 shown_output output = (string_bytes output.name, output.path)
 
--- the same of a job's output
+-- the name and the path of a job's output
 abbrev pub output_of : JobOutput → Bytes × Path
 output_of output = (output.name.items, output.path)
 

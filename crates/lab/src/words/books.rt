@@ -307,8 +307,8 @@ pub(crate) fn examined(
     call!(teller, "examine" => verdict_on(alloc, job, permitted, answer))
 }
 
-/// The same, where a job may refer to what is permitted to a lease: to nothing, where the lease
-/// isn't the book's.
+/// The verdict on an answer to a job that may refer to what is permitted to a lease: to nothing,
+/// where the lease isn't the book's.
 pub(crate) fn found(
     teller: &mut Teller<'_>,
     book: &Book<Counting<'_>>,

@@ -142,7 +142,7 @@ fn replaceable(asked: io::Result<Metadata>) -> Result<Option<Permissions>, Failu
     }
 }
 
-// The same where something lies there.
+// The permissions of what lies there, if it is a file; none of a link, a fault of anything else.
 fn replaceable_found(found: &Metadata) -> Result<Option<Permissions>, Failure>
     ensures { IsWritableOver found.now result }
 {

@@ -71,7 +71,7 @@ IsKindAt profile mode (Err reason) =
     (reason ≡ ReadFault) × ¬ (IsFile (type_in mode)) × ¬ (IsDir (type_in mode))
     × ¬ (IsSymlink (type_in mode) × (profile ≡ Nix))
 
--- the same, where the answer may also be that nothing lies there: here something does
+-- the kind of what lies at a path where something does, though the answer may be that nothing does
 abbrev pub IsKindOf : Profile → (mode : ℕ) → Result (Option FileKind) Reason → Type 0
 IsKindOf profile mode (Ok (Some part)) = IsKindAt profile mode (Ok part)
 IsKindOf profile mode (Ok None) = ⊥

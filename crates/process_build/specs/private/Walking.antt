@@ -33,7 +33,7 @@ IsFoundBy metadata (Ok Link) = IsSymlink (file_type metadata)
 IsFoundBy metadata (Err fault) = (fault ≡ Unreadable) × ¬ (IsFile (file_type metadata))
     × ¬ (IsDir (file_type metadata)) × ¬ (IsSymlink (file_type metadata))
 
--- the same, where the answer may also be that nothing lies there: here something does
+-- what was found at a path where something lies, though the answer may be that nothing does
 abbrev pub IsFoundAs : Metadata → Result (Option Found) WalkFault → Type 0
 IsFoundAs metadata (Ok (Some found)) = IsFoundBy metadata (Ok found)
 IsFoundAs metadata (Ok None) = ⊥

@@ -315,7 +315,8 @@ impl<R: Files + Logs + AllocGlobal, P: Processes> ProcessBuild<'_, R, P> {
         Ok(Preparation { setup, log })
     }
 
-    // The same. Where that fails, the folder is removed that was made under `nix`.
+    // What is made before anything is changed for a builder. Where that fails, the folder is
+    // removed that was made under `nix`.
     fn prepare_or_remove<'j>(
         &'j self,
         folder: &'j BuildFolder,

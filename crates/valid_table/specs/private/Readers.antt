@@ -54,7 +54,7 @@ pub record SoFarReferences (dir : Dir) (bytes : Bytes) (references : List Path) 
   pub of_dir : All (IsPathOf dir) references
   pub rising : IsRising references
 
--- The same, where the rest begins with no reference.
+-- The bytes are the lines of these references and the rest, which begins with no reference.
 pub record ReadsReferences (dir : Dir) (bytes : Bytes) (references : List Path) (rest : Bytes)
     : Type 0 where
   pub so_far : SoFarReferences dir bytes references rest
@@ -119,7 +119,8 @@ pub record SoFarOutputs (version : Version) (dir : Dir) (bytes : Bytes)
   pub rising : IsRising (paths_registered outputs)
   pub ended : (outputs ≡ []) ⊎ IsNoLine 82 rest
 
--- The same of at least one output, where the rest begins with neither an output nor a reference.
+-- The bytes are the lines of these outputs, at least one, and the rest, which begins with neither
+-- an output nor a reference.
 pub record HasOutputs (version : Version) (dir : Dir) (bytes : Bytes) (outputs : List Registration)
     (rest : Bytes) : Type 0 where
   pub so_far : SoFarOutputs version dir bytes outputs rest
