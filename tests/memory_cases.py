@@ -104,7 +104,7 @@ a line printed for another cause: fn p(err: &mut E, r: Result<u8, Y>) -> Status 
 a length that a type makes up: struct Wide; impl Wide { pub fn len(&self) -> usize { 1 << 62 } } fn
     p(v: &mut Vec<u8>, w: &Wide) -> R { v.reserve(w.len()) }
 the length of a range: fn p(v: &mut Vec<u8>) -> R { let all = 0..1 << 62; v.reserve(all.len()) }
-the length of a range behind a loop: fn p(v: &mut Vec<u8>, w: &[u8]) -> R { for x in w { step(x); }
+the length of a range after a loop: fn p(v: &mut Vec<u8>, w: &[u8]) -> R { for x in w { step(x); }
     let all = 0..w[0] << 62; v.reserve(all.len()) }
 the length of an array of nothing: fn p(v: &mut Vec<u8>) -> R { let all = [(); 4611686018427387904];
     v.reserve(all.len()) }
@@ -134,7 +134,7 @@ a text longer than its place: use arrayvec::ArrayString; impl Display for Q { fn
 code in an attribute: #[derive(Debug, Drop, Error)] pub enum Q { #[error("{}", return Err(fail()))]
     Other }
 a raw string of C's: fn p() -> u8 { let a = cr"\"; 7 }
-a value behind the comma of types: fn p(r: R) -> u8 { match r { Ok(_) => told::<u8, X>(X::NoMemory),
+a value after the comma of types: fn p(r: R) -> u8 { match r { Ok(_) => told::<u8, X>(X::NoMemory),
     Err(_) => 8 } }
 a closure that is an arm: fn p(r: R) -> F { match r { Ok(_) => |a, b| X::NoMemory, Err(_) => other }
     }

@@ -66,7 +66,7 @@ PATTERN = rf"(?<=[{{,}}] ){CASE}(?: \| {CASE})*(?= =>| if )"
 
 
 def text_of(source):
-    """The tokens of a source with blanks between them, each brace behind its depth. A string has
+    """The tokens of a source with blanks between them, each brace after its depth. A string has
     `!` where it tells of want of memory; `#` also stands for what isn't read."""
     words, depth = [], 0
     for token in TOKEN.finditer(source):

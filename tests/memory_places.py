@@ -56,7 +56,7 @@ nix_realise/src/cli/program.rt print_no_memory | print_bytes ( NO_MEMORY_LINE , 
 nix_realise/src/runs/summary.rt journal_bytes | map_err ( | _ | AllocError )
     # the only fault of the call is want of memory
 nix_realise/src/cli/program.rt report | Err ( _ ) => Err ( RunError :: NoMemory ) # the same
-nix_realise/src/runs/realise.rt keep
+nix_realise/src/runs/realise.rt write_unsettled
     | Err ( refused ) => JournalOutcome :: no_memory ( refused )
     # the only fault of the call is want of memory
 nix_realise/src/cli/process.rt run_process | Err ( _ ) => print_no_memory ( err )
@@ -71,7 +71,7 @@ store_run/src/run.rt run_workers
 store_run/src/refusal.rt - | impl From < AllocError > for RefusedCall # hands it on
 store_run/src/refusal.rt from | fault : BookFault :: NoMemory # the same
 store_run/src/kept_run.rt run_beside
-    | let _ = scope . spawn ( move || keep_on ( rt , alloc , locked , text , place ) )
+    | let _ = scope . spawn ( move || keep_on ( rt , alloc , locked , text , sink ) )
     # without its thread nothing is kept while the run goes on, and the run ends as ever
 nix_realise/src/words/run_trace.rt lease_at | return Err ( AllocError )
     # memory was refused when the times of a lease were noted
@@ -129,7 +129,7 @@ structured_attrs/src/writing.rt write_float | _ => Err ( AllocError ) ,
     # never reached, since the text is a numeral; no contract says so
 build_outcome/src/links.rt no_links | with_capacity ( alloc , count ) # a list for each output
 run_states/src/users.rt open
-    | vec ! [ in alloc ; Edge { user : 0 , place : 0 } ; pairs_in ( plan , twins ) ]
+    | vec ! [ in alloc ; Edge { user : 0 , index : 0 } ; pairs_in ( plan , twins ) ]
     # derivations with who waits for them
 valid_table/src/path_table/row_set.rt new | vec ! [ in alloc ; 0u64 ; count / 64 + 1 ]
     # a bit for each row

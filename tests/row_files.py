@@ -1,13 +1,13 @@
 """Reads files of rows: what is done in a store folder, and what has to come of it.
 
-A row begins with `== NAME`, and a comment with `#`, also behind a row's name. Each other line
+A row begins with `== NAME`, and a comment with `#`, also after a row's name. Each other line
 begins a step, whose texts stand below it: `|` begins a line of a text, and `+` a piece of a line.
 Before these marks stands the text's label, if the step has more than one text. A text of one line
-may stand behind its step, with its mark, and before that other steps, each with `; ` after it.
+may stand after its step, with its mark, and before that other steps, each with `; ` after it.
 Lines right below the name of a row are calls by `lab`.
 
-`=> ANSWER`, behind a run or a call, or below it, is what it prints, with `; ` between lines;
-`status N: FAULT` there is a run's fault. So the lines of a file may stand behind `=>`.
+`=> ANSWER`, after a run or a call, or below it, is what it prints, with `; ` between lines;
+`status N: FAULT` there is a run's fault. So the lines of a file may stand after `=>`.
 `built <a> <b>` is a line for each path. Where no status is given it is 2 if `check` tells of
 something bad, 1 if anything failed or is refused, and else 0. `$ check WORD..` is the program's
 subcommand over the store folder.
@@ -43,7 +43,7 @@ SEVERAL = re.compile(r"(\w+) (<\S+>(?: <\S+>)+)(: .*)?")
 BAD, UNREALISED = re.compile(r"^bad ", re.M), re.compile(r"^(failed|refused?) ", re.M)
 # What `plan` says in place of what `realise` does.
 PLANNED = {"built ": "build ", "reused ": "reuse ", "refused ": "refuse "}
-# The steps that have answers, the labels of these, and the lines that may have a list behind `=>`.
+# The steps that have answers, the labels of these, and the lines that may have a list after `=>`.
 RUNS, REPORTS = ("$", "await", "foretold"), ("by path", "out")
 LISTED = re.compile(r"(\$|await|foretold) |((holds|write)-journal|(ends|holds|has-lines) \S+) => ")
 SUBCOMMANDS = {"check", "add-text", "add-drv", "plan", "realise"}
@@ -109,7 +109,7 @@ class Step:
             raise Mistake("it is no part of a step")
 
     def answer(self, text):
-        """Adds what stands behind the sign of an answer; that of a run is read by `read_answer`."""
+        """Adds what stands after the sign of an answer; that of a run is read by `read_answer`."""
         if self.kind in RUNS:
             self.answers.append(text)
         else:

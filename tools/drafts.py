@@ -83,7 +83,7 @@ def draft(script, outputs, variables):
 
 
 def read(drv):
-    """The parts of the derivation at a path. Behind the first word its text is one that Python
+    """The parts of the derivation at a path. After the first word its text is one that Python
     reads, too."""
     with open(drv, encoding="utf-8", newline="") as file:
         return Derivation(*ast.literal_eval(file.read().removeprefix("Derive")))

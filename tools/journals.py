@@ -3,7 +3,7 @@
 import re
 from typing import NamedTuple
 
-# The first line of each version, and how many fields there are behind A and O.
+# The first line of each version, and how many fields there are after A and O.
 FIELDS = {"realiser-journal 1": 2, "realiser-journal 2": 2, "realiser-journal 3": 3}
 NAR = re.compile(r"-|[0-9a-f]{64}:[0-9]+")
 

@@ -1,4 +1,4 @@
-/* Starts programs by posix_spawn, so many at once, each in a folder of its own that is made before and removed behind it; what a
+/* Starts programs by posix_spawn, so many at once, each in a folder of its own that is made before and removed after it; what a
  * realiser can't do without. Usage: loop JOBS FILE. The file has words that end in a NUL: for each program its folder, how many
  * arguments and how many entries of an environment there are, those, and these. */
 #define _GNU_SOURCE

@@ -163,7 +163,7 @@ tree_is_one answer n a b at at' = search rules
 none_or_some : {X : Type 0} (o : Option X) (x : X) → o ≡ None → o ≡ Some x → ⊥
 none_or_some o x none some = search rules
 
--- the sum at the place after those so far
+-- the sum at the index after those so far
 sum_pushed : (job : Job) (answer : Answer) (sums : List (Option OutputSum)) (count : ℕ)
     (sum : Option OutputSum) → length sums ≡ count → IsSumAt job answer count sum → (tree : Tree)
     → tree_at answer count ≡ Some tree
@@ -175,7 +175,7 @@ sum_pushed job answer sums count (Some found) long is_sum tree at = (
       (get_pushed sums (Some found)),
 )
 
--- what is known of the sum at the place after those so far
+-- what is known of the sum at the index after those so far
 sum_is_of : (job : Job) (answer : Answer) (count : ℕ) (sum : Option OutputSum)
     → IsSumAt job answer count sum → (found : OutputSum) (tree : Tree) → sum ≡ Some found
     → tree_at answer count ≡ Some tree → IsOutputSum job.kind tree found
@@ -196,16 +196,16 @@ sums_more job answer sums more count sum before long is_sum is =
       each = λ n found tree here at. ⊎_elim
           (λ earlier. before.each n found tree earlier at)
           (λ h.
-          let place : n ≡ count = h.0 ∙ long in
+          let index : n ≡ count = h.0 ∙ long in
           sum_is_of job answer count sum is_sum found tree h.1
-          (subst (λ k. tree_at answer k ≡ Some tree) place at))
+          (subst (λ k. tree_at answer k ≡ Some tree) index at))
           (get_push_cases sums sum n (Some found) here);
       whole = λ needed n tree below at. ⊎_elim
-          (λ place.
+          (λ index.
           let pushed = sum_pushed job answer sums count sum long is_sum tree
-          (subst (λ k. tree_at answer k ≡ Some tree) place at) in (
+          (subst (λ k. tree_at answer k ≡ Some tree) index at) in (
             pushed.0,
-            subst (λ k. slice_get (sums ++ sum ∷ []) k ≡ Some (Some pushed.0)) (sym place)
+            subst (λ k. slice_get (sums ++ sum ∷ []) k ≡ Some (Some pushed.0)) (sym index)
                 pushed.1,
           ))
           (λ less.

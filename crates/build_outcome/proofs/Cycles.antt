@@ -57,10 +57,10 @@ module _ (paths : List (List ℕ)) (infos : List PathInfo) (links : List (Vec �
       → OutputRefersTo paths infos a next → (m : ℕ) × (slice_get have.keys m ≡ Some next)
       × IsLinked links n m
   linked_by n a next at (k, info, here, has, refers, among) =
-      let place = get_from_contains _ _ ((have.once.same next).1 among) in (
-        place.0,
-        place.1,
-        have.are.whole n place.0 a next at place.1
+      let index = get_from_contains _ _ ((have.once.same next).1 among) in (
+        index.0,
+        index.1,
+        have.are.whole n index.0 a next at index.1
             (k, info, slice_get_within infos k info has, here, has, refers),
       )
 
@@ -102,12 +102,12 @@ module _ (paths : List (List ℕ)) (infos : List PathInfo) (links : List (Vec �
       → ⊥
   grounded_is_acyclic all (a, b, there, back, apart, leads, leads') =
       let step = first_away a b _ apart leads in
-      let place = get_from_contains _ a
+      let index = get_from_contains _ a
       ((have.once.same a).1 (Contains-from_get _ _ a step.3.2)) in
       no_round _
-      (all place.0
-      (omega (arith, slice_get_within have.keys place.0 a place.1, have.are.places))) a b _
-      _ place.1 apart leads leads'
+      (all index.0
+      (omega (arith, slice_get_within have.keys index.0 a index.1, have.are.lengths))) a b _
+      _ index.1 apart leads leads'
 
   -- what a walk tells of the links, it tells of the outputs
   pub told : (cyclic : Bool) → TellsRound links cyclic → IsTrue cyclic ↔ IsCyclic paths infos

@@ -151,11 +151,11 @@ nothing_wrong profile kind tree method declared found is may form by same why fa
     none OutOfMemory wrong = absurd wrong
     none Killed wrong = absurd wrong
     none (BadMode output) wrong = absurd wrong
-    none (NotAllowed output place) wrong = absurd wrong
+    none (NotAllowed output index) wrong = absurd wrong
     none (BadSpecifier output) wrong = absurd wrong
     none BadAttributes wrong = absurd wrong
     none BadGraph wrong = absurd wrong
-    none (UnknownNar place) wrong = absurd wrong
+    none (UnknownNar index) wrong = absurd wrong
     none (PastMaxSize output) wrong = absurd wrong
     none (PastMaxClosureSize output) wrong = absurd wrong
 

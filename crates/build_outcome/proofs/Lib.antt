@@ -12,10 +12,10 @@ pub mod Knowns
 pub mod Linkages
 pub mod ListTests
 pub mod OneVerdict
-pub mod Places
+pub mod Indices
 pub mod PlainRecords
 pub mod Reaches
-pub mod RisingPlaces
+pub mod RisingIndices
 pub mod RootPaths
 pub mod SizeTests
 pub mod Sizes

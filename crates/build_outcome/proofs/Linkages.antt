@@ -1,4 +1,4 @@
--- The links among outputs, by the places of their paths.
+-- The links among outputs, by the indices of their paths.
 use Rattle.std.proofs.Common.{◌≡◌, ◌∙◌, ◌⊎◌, inl, inr, ⊎_elim, ℕ, ◌+◌, ◌<◌, ◌≤◌, Bool, true, false, cond, List, [], ◌∷◌, ◌++◌, length, take, get_or, nat_eq, position, is_some, Option, Some, None, MatchOption, refl, sym, ap, subst, arith, rules}
 use Rattle.std.specs.Prelude.{Contains}
 use Rattle.std.specs.Cmp.Lexicographic.{nat_list_eq_equiv, pointwise}
@@ -19,10 +19,10 @@ use Rattle.nix_names.proofs.RisingLists.{equal_from_eq, unequal_from_eq}
 use Rattle.valid_table.specs.PathInfos.{PathInfo}
 use Rattle.build_outcome.specs.private.Linking.{AddsLinks, AreEachOnce, AreLinks, HaveLinks, HaveNoLinks, MayLink}
 use Rattle.build_outcome.specs.private.Walking.{AreInner, IsLinked}
-use Rattle.build_outcome.proofs.Places.{set_cases, set_other, set_same}
+use Rattle.build_outcome.proofs.Indices.{set_cases, set_other, set_same}
 use Rattle.nix_names.proofs.Lists.{Contains-from_get, either_side, get_push_cases, same_element, taken_more}
 
--- ---- places of distinct paths
+-- ---- indices of distinct paths
 
 pub same_key : (keys : List (List ℕ)) → IsDistinct (pointwise nat_eq) keys
     → (i j : ℕ) (path : List ℕ) → slice_get keys i ≡ Some path → slice_get keys j ≡ Some path → i
@@ -43,13 +43,13 @@ same_key keys distinct i j path at at' =
         (get_or_from_slice_get _ a _ [] here
         ∙ sym (get_or_from_slice_get _ b _ [] there))
 
--- what a look-up answers is the place of the path, or that it is none of the keys
-pub place_found : (keys : List (List ℕ)) (path : List ℕ) (r : Option ℕ) → r
+-- what a look-up answers is the index of the path, or that it is none of the keys
+pub index_found : (keys : List (List ℕ)) (path : List ℕ) (r : Option ℕ) → r
     ≡ position (pointwise nat_eq path) keys → is_some r ≡ list_any (pointwise nat_eq path) keys
     → MatchOption r (Contains keys path → ⊥) (λ n. slice_get keys n ≡ Some path)
-place_found keys path None is found = λ has. false≢true
+index_found keys path None is found = λ has. false≢true
     (found ∙ list_any-from_Contains nat_list_eq_equiv _ _ has)
-place_found keys path (Some n) is found =
+index_found keys path (Some n) is found =
     let at = position-Some (pointwise nat_eq path) _ n [] (sym is) in
     slice_get-get_or _ n [] at.0 ∙ ap Some (sym (equal_from_eq _ _ at.1))
 
@@ -113,11 +113,11 @@ once_all outputs i keys all once = search (rules, take_all)
 pub adds_none : (keys : List (List ℕ)) (old : List ℕ) → AddsLinks keys [] old old
 adds_none keys old n = search rules
 
-pub adds_place : (keys references : List (List ℕ)) (path : List ℕ) (old before new : List ℕ)
+pub adds_index : (keys references : List (List ℕ)) (path : List ℕ) (old before new : List ℕ)
     (to : ℕ) → IsDistinct (pointwise nat_eq) keys → AddsLinks keys references old before
     → slice_get keys to ≡ Some path → new ≡ before ++ to ∷ []
     → AddsLinks keys (references ++ path ∷ []) old new
-adds_place keys references path old before new to distinct prior at is n = (
+adds_index keys references path old before new to distinct prior at is n = (
   λ has. ⊎_elim
       (λ earlier. ⊎_elim inl
       (λ h. inr (h.0, h.1, Contains-append_left _ _ _ h.2))
@@ -133,17 +133,17 @@ adds_place keys references path old before new to distinct prior at is n = (
       (λ earlier. Contains-append_left _ _ n ((prior n).1 (inl earlier)))
       (λ f. ⊎_elim
       (λ earlier. Contains-append_left _ _ n ((prior n).1 (inr (f.0, f.1, earlier))))
-      (λ e. let place : to ≡ n = same_key _ distinct _ n _ at
+      (λ e. let index : to ≡ n = same_key _ distinct _ n _ at
       (subst (λ (p : List ℕ). slice_get keys n ≡ Some p) (sym e) f.1)
-      in subst (Contains (before ++ to ∷ [])) place (Contains-push _ _))
+      in subst (Contains (before ++ to ∷ [])) index (Contains-push _ _))
       (Contains-push_cases _ _ _ f.2))
       h),
 )
 
-pub adds_no_place : (keys references : List (List ℕ)) (path : List ℕ) (old before : List ℕ)
+pub adds_no_index : (keys references : List (List ℕ)) (path : List ℕ) (old before : List ℕ)
     → AddsLinks keys references old before → (Contains keys path → ⊥)
     → AddsLinks keys (references ++ path ∷ []) old before
-adds_no_place keys references path old before prior none n = (
+adds_no_index keys references path old before prior none n = (
   λ has. ⊎_elim inl (λ h. inr (h.0, h.1, Contains-append_left _ _ _ h.2))
       ((prior n).0 has),
   λ h. ⊎_elim
@@ -164,7 +164,7 @@ pub links_none : (paths : List (List ℕ)) (infos : List PathInfo) (keys : List 
     (links : List (Vec ℕ)) → length links ≡ length keys → HaveNoLinks links
     → AreLinks paths infos keys 0 links
 links_none paths infos keys links count none = record {
-  places = count;
+  lengths = count;
   sound = λ from to linked. absurd (none from to linked);
   whole = λ from to a b at at' may. absurd (omega (arith, may.2));
 }
@@ -196,25 +196,25 @@ linked_set links i own new from to at more (old, has, leads) =
     ])
 
 pub links_more : (paths : List (List ℕ)) (infos : List PathInfo) (keys : List (List ℕ)) (count : ℕ)
-    (links after : List (Vec ℕ)) (path : List ℕ) (info : PathInfo) (place : ℕ) (own new : Vec ℕ)
+    (links after : List (Vec ℕ)) (path : List ℕ) (info : PathInfo) (index : ℕ) (own new : Vec ℕ)
     → AreEachOnce paths keys → AreLinks paths infos keys count links → slice_get paths count
-    ≡ Some path → slice_get infos count ≡ Some info → slice_get keys place ≡ Some path
-    → slice_get links place ≡ Some own → AddsLinks keys info.references own.items new.items → after
-    ≡ set links place new → AreLinks paths infos keys (count + 1) after
-links_more paths infos keys count links after path info place own new once was path_at info_at
+    ≡ Some path → slice_get infos count ≡ Some info → slice_get keys index ≡ Some path
+    → slice_get links index ≡ Some own → AddsLinks keys info.references own.items new.items → after
+    ≡ set links index new → AreLinks paths infos keys (count + 1) after
+links_more paths infos keys count links after path info index own new once was path_at info_at
     key_at own_at adds is =
     subst (AreLinks paths infos keys (count + 1)) (sym is) (record {
-      places = length-set links place new ∙ was.places;
+      lengths = length-set links index new ∙ was.lengths;
       sound = sound;
       whole = whole;
     })
   where
-    sound : (from to : ℕ) → IsLinked (set links place new) from to
+    sound : (from to : ℕ) → IsLinked (set links index new) from to
         → (a : List ℕ) × (b : List ℕ) × (slice_get keys from ≡ Some a)
         × (slice_get keys to ≡ Some b) × MayLink paths infos (count + 1) a b
     sound from to (own', at, has) = ⊎_elim
         (λ h. ⊎_elim
-        (λ earlier. old place to (own, own_at, earlier) from h.0)
+        (λ earlier. old index to (own, own_at, earlier) from h.0)
         (λ f. (
           path,
           f.0,
@@ -224,7 +224,7 @@ links_more paths infos keys count links after path info place own new once was p
         ))
         ((adds to).0 (subst (λ (v : Vec ℕ). Contains v.items to) h.1 has)))
         (λ h. old from to (own', h.1, has) from refl)
-        (set_cases links place from new own' at)
+        (set_cases links index from new own' at)
       where
         old : (from to : ℕ) → IsLinked links from to → (n : ℕ) → n ≡ from
             → (a : List ℕ) × (b : List ℕ) × (slice_get keys n ≡ Some a)
@@ -239,23 +239,23 @@ links_more paths infos keys count links after path info place own new once was p
             )
 
     whole : (from to : ℕ) (a b : List ℕ) → slice_get keys from ≡ Some a → slice_get keys to ≡ Some b
-        → MayLink paths infos (count + 1) a b → IsLinked (set links place new) from to
+        → MayLink paths infos (count + 1) a b → IsLinked (set links index new) from to
     whole from to a b at at' (n, info', below, here, has, refers) = ⊎_elim
         (λ e.
         let is_path : a ≡ path = same_element paths count a path
         (subst (λ k. slice_get paths k ≡ Some a) e here) path_at in
         let is_info : info' ≡ info = same_element infos count info' info
         (subst (λ k. slice_get infos k ≡ Some info') e has) info_at in
-        let is_place : from ≡ place = same_key keys once.distinct from place path
+        let is_index : from ≡ index = same_key keys once.distinct from index path
         (subst (λ (q : List ℕ). slice_get keys from ≡ Some q) is_path at) key_at in
         let there : Contains new.items to = (adds to).1
         (inr (b, at', subst (λ (i : PathInfo). Contains i.references b) is_info refers)) in (
           new,
-          subst (λ k. slice_get (set links place new) k ≡ Some new) (sym is_place)
-              (set_same links place own new own_at),
+          subst (λ k. slice_get (set links index new) k ≡ Some new) (sym is_index)
+              (set_same links index own new own_at),
           there,
         ))
-        (λ less. linked_set links place own new from to own_at
+        (λ less. linked_set links index own new from to own_at
         (λ k earlier. (adds k).1 (inl earlier))
         (was.whole from to a b at at' (n, info', omega arith, here, has, refers)))
         (eq-or-lt_of_le {n = n} {m = count} (omega arith))
@@ -280,11 +280,11 @@ pub links_inner : (paths : List (List ℕ)) (infos : List PathInfo) (links : Lis
     → HaveLinks paths infos links → AreInner links
 links_inner paths infos links have from to linked =
     let h = have.are.sound from to linked in omega
-    (arith, slice_get_within have.keys to h.1 h.3, have.are.places)
+    (arith, slice_get_within have.keys to h.1 h.3, have.are.lengths)
 
 pub links_inner_of : (paths : List (List ℕ)) (infos : List PathInfo) (keys : List (List ℕ))
     (count : ℕ) (links : List (Vec ℕ)) → AreEachOnce paths keys
     → AreLinks paths infos keys count links → AreInner links
 links_inner_of paths infos keys count links once are from to linked =
     let h = are.sound from to linked in omega
-    (arith, slice_get_within keys to h.1 h.3, are.places)
+    (arith, slice_get_within keys to h.1 h.3, are.lengths)

@@ -16,7 +16,7 @@ use Rattle.build_outcome.specs.declared.reason.Reason.{Reason}
 use Rattle.build_outcome.specs.declared.reason.Reason.TheVariants.{NotAllowed, BadSpecifier}
 use Rattle.build_outcome.specs.private.Listing.{AreListed}
 use Rattle.build_outcome.specs.private.Testing.{AreUsed, IsBarred, IsPassed, IsTesting}
-use Rattle.build_outcome.proofs.RisingPlaces.{first_alike}
+use Rattle.build_outcome.proofs.RisingIndices.{first_alike}
 use Rattle.build_outcome.proofs.TestLists.{all_none, all_one}
 
 module _ (job : Job) (permitted : List (List ℕ)) (infos : List PathInfo)
@@ -29,9 +29,9 @@ module _ (job : Job) (permitted : List (List ℕ)) (infos : List PathInfo)
   -- why an output doesn't pass a check with this list
   abbrev Told : List Registration → ℕ → Check → List ℕ → List (List ℕ) → Type 0
   Told registrations n check own list = (AreSpecifiers job own list → ⊥)
-      ⊎ (AreSpecifiers job own list × ((place : ℕ) × IsFirstPath permitted
+      ⊎ (AreSpecifiers job own list × ((index : ℕ) × IsFirstPath permitted
       (λ path. IsUsed registrations job infos check n own path
-      × Forbids job own check list path) place))
+      × Forbids job own check list path) index))
 
   record CheckFault (registrations : List Registration) (n : ℕ) (check : Check) : Type 0 where
     pub own : List ℕ
@@ -45,17 +45,17 @@ module _ (job : Job) (permitted : List (List ℕ)) (infos : List PathInfo)
       → CheckFault registrations n check
   check_fault registrations n check (BadSpecifier output) (is, (own, list, at, listed, not)) =
       record { own = own; list = list; at = at; listed = listed; told = inl not }
-  check_fault registrations n check (NotAllowed output place)
+  check_fault registrations n check (NotAllowed output index)
       (is, (own, list, at, listed, specifiers, first)) = record {
         own = own;
         list = list;
         at = at;
         listed = listed;
-        told = inr (specifiers, (place, first));
+        told = inr (specifiers, (index, first));
       }
   check_fault registrations n check why fault = absurd fault
 
-  -- the same, where the output's path and the list are known
+  -- what the fault of a test tells, where the output's path and the list are known
   fault_at : (registrations : List Registration) (n : ℕ) (check : Check) (own : List ℕ)
       (list : List (List ℕ)) (why : Reason) → slice_get (outputs_of job) n ≡ Some own
       → list_of job n check ≡ Some list
@@ -138,14 +138,15 @@ module _ (job : Job) (permitted : List (List ℕ)) (infos : List PathInfo)
       none first.is.0 barred.0 barred.1)
       (fault_at registrations n check own list why at asked fault))
 
-  pub one_barred : (n place : ℕ) (check : Check) (own : List ℕ) (left_out : Option (List ℕ))
+  pub one_barred : (n index : ℕ) (check : Check) (own : List ℕ) (left_out : Option (List ℕ))
       (list named used : List (List ℕ)) → slice_get (outputs_of job) n ≡ Some own → list_of job n check ≡ Some list
       → AreListed job own list named → CountsAllBut own left_out
       → ((registrations : List Registration) → HaveClosures registrations job infos closures
       → AreUsed registrations job infos check n own used)
-      → IsFirstPath permitted (λ path. Contains used path × IsBarred named check left_out path) place
-      → IsTesting job permitted infos closures (Of n check ∷ []) (Err (NotAllowed n place))
-  one_barred n place check own left_out list named used at asked listed counts are first =
+      → IsFirstPath permitted (λ path. Contains used path × IsBarred named check left_out path)
+      index
+      → IsTesting job permitted infos closures (Of n check ∷ []) (Err (NotAllowed n index))
+  one_barred n index check own left_out list named used at asked listed counts are first =
       inr (
         Of n check,
         record {
@@ -164,7 +165,7 @@ module _ (job : Job) (permitted : List (List ℕ)) (infos : List PathInfo)
               first_alike permitted
                   (λ path. Contains used path × IsBarred named check left_out path)
                   (λ path. IsUsed registrations job infos check n own path
-                  × Forbids job own check list path) place
+                  × Forbids job own check list path) index
                   (barred_is registrations n check own left_out list named used listed
                   (are registrations have) counts) first,
             ),

@@ -35,7 +35,7 @@ one_number : (Holds : ℕ → Type 0) (count n m : ℕ) → IsFirstNumber Holds 
     → IsFirstNumber Holds count m → n ≡ m
 one_number Holds count = search (rules, one_first)
 
--- lists are one where they are as long and have the same at each place
+-- lists are one where they are as long and have the same at each index
 same_list : {X : Type 0} (xs ys : List X) → length xs ≡ length ys
     → ((n : ℕ) (x y : X) → slice_get xs n ≡ Some x → slice_get ys n ≡ Some y → x ≡ y) → xs ≡ ys
 same_list [] [] long same = refl
@@ -146,11 +146,11 @@ module _ (job : Job) (permitted : List (List ℕ)) (answer : Answer) where
   outcome_of (Err OutputCycle) (taken, (infos, records, round)) = cyclic infos taken records round
   outcome_of (Err NoStart) none = absurd none
   outcome_of (Err OutOfMemory) none = absurd none
-  outcome_of (Err (NotAllowed output place)) none = absurd none
+  outcome_of (Err (NotAllowed output index)) none = absurd none
   outcome_of (Err (BadSpecifier output)) none = absurd none
   outcome_of (Err BadAttributes) none = absurd none
   outcome_of (Err BadGraph) none = absurd none
-  outcome_of (Err (UnknownNar place)) none = absurd none
+  outcome_of (Err (UnknownNar index)) none = absurd none
   outcome_of (Err (PastMaxSize output)) none = absurd none
   outcome_of (Err (PastMaxClosureSize output)) none = absurd none
 
@@ -180,10 +180,10 @@ module _ (job : Job) (permitted : List (List ℕ)) (answer : Answer) where
 
   one_fault : (a b : Reason) → IsFirstFault job answer a → IsFirstFault job answer b → a ≡ b
   one_fault a b (n, first, (tree, at, fault)) (m, first', (tree', at', fault')) =
-      let place : n ≡ m = one_number (λ k. (why : Reason) × IsFaulty job answer why k)
+      let index : n ≡ m = one_number (λ k. (why : Reason) × IsFaulty job answer why k)
       _ n m first first' in
       let same : tree ≡ tree' = one_tree answer m tree tree'
-      (subst (λ k. tree_at answer k ≡ Some tree) place at) at' in
+      (subst (λ k. tree_at answer k ≡ Some tree) index at) at' in
       one_tree_fault _ _ _ a b
       (tree_fault_cases _ _ _ a
       (subst (λ (t : Tree). IsTreeFault job.profile job.kind t a) same fault))

@@ -33,8 +33,8 @@ pub plain_records_are_flat : PlainRecordsAreFlat
 plain_records_are_flat job permitted answer infos (taken, records, acyclic) plain apart =
     All-from_contains
     (λ (info : PathInfo). (info.nar ≡ None) × IsFlat info.digest) infos (λ info has.
-    let place = get_from_contains infos info has in
-    let at = records.each place.0 info place.1 in (
+    let index = get_from_contains infos info has in
+    let at = records.each index.0 info index.1 in (
       subst (λ (p : Profile). IsRecordNar p at.0 info.nar) plain at.2.nar,
       flat_of job.kind at.0 info.digest apart
           (subst (λ (p : Profile). IsRecordDigest p job.kind at.0 info.digest) plain at.2.digest),

@@ -11,7 +11,7 @@ use Rattle.std.proofs.lemmas.List.Sums.{sum_by-set}
 use Rattle.std.proofs.lemmas.Option.{get_or_from_slice_get, slice_get_within}
 use Rattle.build_outcome.specs.private.Reaching.{AreReached, IsMarked, IsReaching, MarksAll, pending}
 use Rattle.build_outcome.specs.private.Walking.{AreInner, Goes, IsLinked, goes_nowhere, goes_on}
-use Rattle.build_outcome.proofs.Places.{set_cases, set_other, set_same}
+use Rattle.build_outcome.proofs.Indices.{set_cases, set_other, set_same}
 use Rattle.nix_names.proofs.Lists.{All-from_contains, Contains-cons_cases, Contains-first, Contains-nothing, either_side, element_at, get_source, same_element}
 
 -- ---- marks

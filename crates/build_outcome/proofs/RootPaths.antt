@@ -25,15 +25,15 @@ use Rattle.nix_names.proofs.Lists.{Contains-from_get, Contains-nothing, same_ele
 
 -- ---- the outputs that are met
 
--- what the mark at a path's place tells
-pub met_told : (keys : List (List ℕ)) (marks : List Bool) (path : List ℕ) (place : ℕ)
-    (value : Bool) → IsDistinct (pointwise nat_eq) keys → slice_get keys place ≡ Some path
-    → slice_get marks place ≡ Some value → IsTrue value ↔ IsMetPath keys marks path
-met_told keys marks path place value distinct at here = (
-  λ is. (place, at, here ∙ ap Some is),
+-- what the mark at a path's index tells
+pub met_told : (keys : List (List ℕ)) (marks : List Bool) (path : List ℕ) (index : ℕ)
+    (value : Bool) → IsDistinct (pointwise nat_eq) keys → slice_get keys index ≡ Some path
+    → slice_get marks index ≡ Some value → IsTrue value ↔ IsMetPath keys marks path
+met_told keys marks path index value distinct at here = (
+  λ is. (index, at, here ∙ ap Some is),
   λ h.
-      let same : h.0 ≡ place = same_key keys distinct h.0 place path h.1 at in
-      let marked : slice_get marks place ≡ Some true =
+      let same : h.0 ≡ index = same_key keys distinct h.0 index path h.1 at in
+      let marked : slice_get marks index ≡ Some true =
       subst (λ k. slice_get marks k ≡ Some true) same h.2 in
       let clash : Some value ≡ Some true = sym here ∙ marked in cc,
 )
@@ -216,8 +216,8 @@ module _ (job : Job) (infos : List PathInfo) (own : List ℕ) (keys : List (List
 
   met_leads : (path : List ℕ) → IsMetPath keys marks path → LeadsAmong job infos own path
   unfolding have
-  met_leads path (place, at, marked) =
-      goes_leads (outputs_of job) infos links have start place ((reached.each place).0 marked)
+  met_leads path (index, at, marked) =
+      goes_leads (outputs_of job) infos links have start index ((reached.each index).0 marked)
       own path begun at
 
   leads_met : (path : List ℕ) → LeadsAmong job infos own path → IsMetPath keys marks path
@@ -262,7 +262,7 @@ module _ (job : Job) (infos : List PathInfo) (own : List ℕ) (keys : List (List
     );
   }
 
--- the same, by the paths of the outputs
+-- the roots among what was reached, by the paths of the outputs
 pub roots_among_told : (outputs : List (List ℕ)) (infos : List PathInfo) (keys : List (List ℕ))
     (links : List (Vec ℕ)) (start : ℕ) (marks : List Bool) (n : ℕ) (first : List ℕ)
     → AreEachOnce outputs keys → AreLinks outputs infos keys (length infos) links
@@ -284,7 +284,7 @@ roots_among_told outputs infos keys links start marks n first once are begun at 
     (subst (λ (l : List (List ℕ)). AreOutside l infos keys marks (length infos) out) is are_out)
     rises same rises' same'
 
--- the same for one job
+-- the roots that were told are those of this job
 pub roots_of_job : {E : Type 0} (job : Job) (outputs : List (List ℕ))
     (records infos : List PathInfo) (n : ℕ) (result : Result OutputRoots E)
     → outputs ≡ outputs_of job → records ≡ infos

@@ -17,7 +17,7 @@ use Rattle.build_outcome.specs.declared.job.JobOutput.{JobOutput}
 use Rattle.build_outcome.specs.declared.reason.Reason.{Reason}
 use Rattle.build_outcome.specs.declared.reason.Reason.TheVariants.{PastMaxClosureSize, PastMaxSize, UnknownNar}
 use Rattle.build_outcome.specs.private.Testing.{IsPassed, IsTesting}
-use Rattle.build_outcome.proofs.RisingPlaces.{first_alike}
+use Rattle.build_outcome.proofs.RisingIndices.{first_alike}
 use Rattle.build_outcome.proofs.Sizes.{known, same_nars, same_sizes}
 use Rattle.build_outcome.proofs.TestLists.{all_none, all_one}
 
@@ -98,7 +98,7 @@ module _ (job : Job) (permitted : List (List ℕ)) (infos : List PathInfo)
       → ClosureFault registrations n
   closure_fault registrations n (PastMaxClosureSize output) (same, (own, limit, at, is, past)) =
       record { own = own; limit = limit; at = at; is = is; told = inr past }
-  closure_fault registrations n (UnknownNar place) (own, limit, at, is, first) =
+  closure_fault registrations n (UnknownNar index) (own, limit, at, is, first) =
       record { own = own; limit = limit; at = at; is = is; told = inl (first.is.0, first.is.2) }
   closure_fault registrations n why fault = absurd fault
 
@@ -197,11 +197,11 @@ module _ (job : Job) (permitted : List (List ℕ)) (infos : List PathInfo)
                 (subst (λ l. l < size_of_all (with_outputs registrations job infos) all) limit_same
                 past)))
 
-    pub closure_unmeasured : (place : ℕ)
+    pub closure_unmeasured : (index : ℕ)
         → IsFirstPath permitted (λ path. Contains closure.paths.items path
-        × (nar_at (known job infos ++ closure.records.items) path ≡ None)) place
-        → IsTesting job permitted infos closures (OfClosureSize n ∷ []) (Err (UnknownNar place))
-    closure_unmeasured place first = inr (
+        × (nar_at (known job infos ++ closure.records.items) path ≡ None)) index
+        → IsTesting job permitted infos closures (OfClosureSize n ∷ []) (Err (UnknownNar index))
+    closure_unmeasured index first = inr (
       OfClosureSize n,
       record {
         before = [];
@@ -216,7 +216,7 @@ module _ (job : Job) (permitted : List (List ℕ)) (infos : List PathInfo)
           first_alike permitted
               (λ path. Contains closure.paths.items path
               × (nar_at (known job infos ++ closure.records.items) path ≡ None))
-              (IsUnmeasured registrations job infos own) place
+              (IsUnmeasured registrations job infos own) index
               (unmeasured_alike registrations have) first,
         );
       },

@@ -265,10 +265,10 @@ module _ (job : Job) (infos : List PathInfo) where
   nar_first one other path r is =
       nar_either known one path (Some r) is ∙ sym (nar_either known other path (Some r) is)
 
-  nar_behind : (one other : List Registration) (path : List ℕ)
+  nar_after : (one other : List Registration) (path : List ℕ)
       → record_at one path ≡ record_at other path
       → nar_at (known ++ one) path ≡ nar_at (known ++ other) path
-  nar_behind one other path same =
+  nar_after one other path same =
       nar_either known one path (record_at known path) refl
       ∙ ap (λ (o : Option Registration). option_and_then nar_of (option_or (record_at known path) o))
       same
@@ -284,7 +284,7 @@ nar_of_output one other job infos path count own =
 pub nar_of_other : (one other : List Registration) (job : Job) (infos : List PathInfo)
     (path : List ℕ) → record_at one path ≡ record_at other path
     → nar_at (with_outputs one job infos) path ≡ nar_at (with_outputs other job infos) path
-nar_of_other one other job infos path same = nar_behind job infos one other path same
+nar_of_other one other job infos path same = nar_after job infos one other path same
 
 pub same_nars : (registrations : List Registration) (job : Job) (infos : List PathInfo)
     (paths : List (List ℕ)) (records : List Registration)
@@ -303,15 +303,15 @@ same_nars registrations job infos paths records count are path has =
         let there = output_known job infos path count own in none-some there.0 (sym e ∙ there.1) in
         let from = Contains-from_map (λ (r : Registration). r.path) records path
         (are.each path has apart) in
-        let place = get_from_contains records from.0 from.1 in
+        let index = get_from_contains records from.0 from.1 in
         let here : record_at records path ≡ Some from.0 =
         subst (λ (p : List ℕ). record_at records p ≡ Some from.0) from.2
-        (record_of_rising records place.0 from.0 are.rising place.1) in
+        (record_of_rising records index.0 from.0 are.rising index.1) in
         let there : record_at registrations path ≡ Some from.0 =
         subst (λ (p : List ℕ). record_at registrations p ≡ Some from.0) from.2
         (All-contains (λ (r : Registration). record_at registrations r.path ≡ Some r) records
         from.0 are.known from.1) in
-        nar_behind job infos records registrations path (here ∙ sym there)
+        nar_after job infos records registrations path (here ∙ sym there)
 
 pub same_sizes : (one other : List Registration) (paths : List (List ℕ))
     → ((path : List ℕ) → Contains paths path → nar_at one path ≡ nar_at other path)

@@ -11,7 +11,7 @@ use Rattle.nix_names.specs.declared.fault.NameFault.{NameFault}
 use Rattle.std.proofs.lemmas.Option.{slice_get-get_or}
 use Rattle.nix_names.proofs.Lists.{All-from_contains, Contains-from_get, Contains-map, Contains-nothing}
 use Rattle.nix_names.proofs.PathFaults.{no_fault_of_path}
-use Rattle.nix_names.proofs.PathTexts.{base_of_path, behind_last_slash, hash_part_is, name_is, parts_from_text}
+use Rattle.nix_names.proofs.PathTexts.{base_of_path, after_last_slash, hash_part_is, name_is, parts_from_text}
 use Rattle.build_outcome.specs.Checks.{AreSpecifiers, IsPathBeside, Specifies}
 use Rattle.build_outcome.specs.declared.job.Job.{Job}
 use Rattle.build_outcome.specs.declared.job.JobOutput.{JobOutput}
@@ -20,12 +20,12 @@ use Rattle.build_outcome.specs.private.Listing.{AddsNamed, AddsSpecified, AreLis
 -- ---- a slash at the end
 
 -- the base name of a text that ends in a slash is empty
-base_behind : (front : List ℕ) → base_of (front ++ 47 ∷ []) ≡ []
-base_behind front =
+base_after : (front : List ℕ) → base_of (front ++ 47 ∷ []) ≡ []
+base_after front =
     let long : length (front ++ 47 ∷ []) ≡ length front + 1 = length-append front (47 ∷ []) in
     let at : get_or (front ++ 47 ∷ []) (length front) 0
     ≡ 47 = get_or_at front 47 [] 0 (length front) refl in
-    sym (behind_last_slash (front ++ 47 ∷ []) (length front) (
+    sym (after_last_slash (front ++ 47 ∷ []) (length front) (
       record {
         low = omega arith;
         high = omega (arith, long);
@@ -44,11 +44,11 @@ base_behind front =
     nothing_left (x ∷ xs) e = absurd (omega arith)
 
 -- a path doesn't end in a slash
-no_slash_behind : (dir path front : List ℕ) → IsPathOf dir path → path ≡ front ++ 47 ∷ [] → ⊥
-no_slash_behind dir path front is ends =
+no_slash_after : (dir path front : List ℕ) → IsPathOf dir path → path ≡ front ++ 47 ∷ [] → ⊥
+no_slash_after dir path front is ends =
     let base : is.hash ++ 45 ∷ is.name ≡ [] =
     sym (base_of_path dir is.hash is.name is.is_hash is.named) ∙ ap base_of (sym is.parts)
-    ∙ ap base_of ends ∙ base_behind front in
+    ∙ ap base_of ends ∙ base_after front in
     let none : length (is.hash ++ 45 ∷ is.name) ≡ 0 = ap (λ (l : List ℕ). length l) base in
     omega (arith, none, length-append is.hash (45 ∷ is.name))
 
@@ -57,7 +57,7 @@ told_front : (dir text front path : List ℕ) → IsWithoutSlash text front → 
     → (text ≡ path) ⊎ (text ≡ path ++ 47 ∷ []) → path ≡ front
 told_front dir text front path told is text_is = ⊎_elim
     (λ cut. ⊎_elim
-    (λ same. absurd (no_slash_behind dir path front is (sym same ∙ cut)))
+    (λ same. absurd (no_slash_after dir path front is (sym same ∙ cut)))
     (λ slashed. append_cancel_right path front (47 ∷ []) (sym slashed ∙ cut))
     text_is)
     (λ whole. ⊎_elim
@@ -97,10 +97,10 @@ folder_front path is hash name hash_is name_is' =
     ap (λ (l : List ℕ). length l) p.parts in
     let dir_long = length-append is.dir (47 ∷ p.hash ++ (45 ∷ p.name)) in
     let base_long = length-append p.hash (45 ∷ p.name) in
-    let place : length path - (length hash + 1 + length name) - 1 ≡ length is.dir =
+    let index : length path - (length hash + 1 + length name) - 1 ≡ length is.dir =
     omega (arith, hash_long, name_long, long, dir_long, base_long) in (
       omega (arith, hash_long, name_long, long, dir_long, base_long),
-      ap (λ n. take n path) place ∙ ap (take (length is.dir)) p.parts
+      ap (λ n. take n path) index ∙ ap (take (length is.dir)) p.parts
           ∙ take_at is.dir (47 ∷ p.hash ++ (45 ∷ p.name)) (length is.dir) refl,
     )
 
@@ -134,10 +134,10 @@ one_told : (dir text a b : List ℕ) → IsPathOf dir a → IsPathOf dir b
 one_told dir text a b is is' told told' = ⊎_elim
     (λ same. ⊎_elim
     (λ same'. sym same ∙ same')
-    (λ slashed'. absurd (no_slash_behind dir a b is (sym same ∙ slashed')))
+    (λ slashed'. absurd (no_slash_after dir a b is (sym same ∙ slashed')))
     told')
     (λ slashed. ⊎_elim
-    (λ same'. absurd (no_slash_behind dir b a is' (sym same' ∙ slashed)))
+    (λ same'. absurd (no_slash_after dir b a is' (sym same' ∙ slashed)))
     (λ slashed'. append_cancel_right a b (47 ∷ []) (sym slashed ∙ slashed'))
     told')
     told
@@ -351,7 +351,7 @@ unlisted job own list specifier named new some has adds is all =
     false≢true (sym is ∙ adds.any.1
     (All-contains (λ s. (path : List ℕ) × Specifies job own s path) list specifier all has))
 
--- the same where what a call adds is told
+-- what a call adds by a name is what the specifier adds
 pub named_told : {E : Type 0} (job : Job) (dir text : List ℕ) (old new : List (List ℕ))
     (result : Result Bool E) → TellsPath dir text None
     → IfOk result (AddsNamed job.outputs.items text old new)

@@ -16,7 +16,7 @@ use Rattle.build_outcome.specs.declared.job.Job.{Job}
 use Rattle.build_outcome.specs.declared.reason.Reason.{Reason}
 use Rattle.build_outcome.specs.declared.reason.Reason.TheVariants.{NotAllowed, BadAttributes, BadSpecifier, PastMaxClosureSize, PastMaxSize, UnknownNar}
 use Rattle.build_outcome.proofs.OneVerdict.{has_one_verdict}
-use Rattle.build_outcome.proofs.RisingPlaces.{first_alike}
+use Rattle.build_outcome.proofs.RisingIndices.{first_alike}
 use Rattle.build_outcome.proofs.Sizes.{nar_of_other, nar_of_output, same_sizes}
 
 -- ---- one fault of a test
@@ -25,47 +25,47 @@ module _ (registrations : List Registration) (job : Job) (permitted : List (List
     (infos : List PathInfo) where
   -- Why a test isn't passed, by its cases.
   data Fault : Test → Reason → Type 0 where
-    refers : (n place : ℕ)
-        → IsTestFault registrations job permitted infos (OfFixed n) (NotAllowed n place)
-        → Fault (OfFixed n) (NotAllowed n place)
+    refers : (n index : ℕ)
+        → IsTestFault registrations job permitted infos (OfFixed n) (NotAllowed n index)
+        → Fault (OfFixed n) (NotAllowed n index)
     stray : (n : ℕ) (check : Check)
         → IsTestFault registrations job permitted infos (Of n check) (BadSpecifier n)
         → Fault (Of n check) (BadSpecifier n)
-    barred : (n : ℕ) (check : Check) (place : ℕ)
-        → IsTestFault registrations job permitted infos (Of n check) (NotAllowed n place)
-        → Fault (Of n check) (NotAllowed n place)
+    barred : (n : ℕ) (check : Check) (index : ℕ)
+        → IsTestFault registrations job permitted infos (Of n check) (NotAllowed n index)
+        → Fault (Of n check) (NotAllowed n index)
     unread : Fault OfAttributes BadAttributes
     large : (n : ℕ) → Fault (OfSize n) (PastMaxSize n)
     wide : (n : ℕ)
         → IsTestFault registrations job permitted infos (OfClosureSize n) (PastMaxClosureSize n)
         → Fault (OfClosureSize n) (PastMaxClosureSize n)
-    unmeasured : (n place : ℕ)
-        → IsTestFault registrations job permitted infos (OfClosureSize n) (UnknownNar place)
-        → Fault (OfClosureSize n) (UnknownNar place)
+    unmeasured : (n index : ℕ)
+        → IsTestFault registrations job permitted infos (OfClosureSize n) (UnknownNar index)
+        → Fault (OfClosureSize n) (UnknownNar index)
 
   fault_cases : (test : Test) (why : Reason)
       → IsTestFault registrations job permitted infos test why → Fault test why
-  fault_cases (OfFixed n) (NotAllowed output place) fault =
-      subst (λ k. Fault (OfFixed n) (NotAllowed k place)) (sym fault.0)
-      (refers n place (refl, fault.1, fault.2))
+  fault_cases (OfFixed n) (NotAllowed output index) fault =
+      subst (λ k. Fault (OfFixed n) (NotAllowed k index)) (sym fault.0)
+      (refers n index (refl, fault.1, fault.2))
   fault_cases (Of n check) (BadSpecifier output) fault =
       subst (λ k. Fault (Of n check) (BadSpecifier k)) (sym fault.0)
       (stray n check (refl, fault.1))
-  fault_cases (Of n check) (NotAllowed output place) fault =
-      subst (λ k. Fault (Of n check) (NotAllowed k place)) (sym fault.0)
-      (barred n check place (refl, fault.1))
+  fault_cases (Of n check) (NotAllowed output index) fault =
+      subst (λ k. Fault (Of n check) (NotAllowed k index)) (sym fault.0)
+      (barred n check index (refl, fault.1))
   fault_cases OfAttributes BadAttributes fault = unread
   fault_cases (OfSize n) (PastMaxSize output) fault =
       subst (λ k. Fault (OfSize n) (PastMaxSize k)) (sym fault.0) (large n)
   fault_cases (OfClosureSize n) (PastMaxClosureSize output) fault =
       subst (λ k. Fault (OfClosureSize n) (PastMaxClosureSize k)) (sym fault.0)
       (wide n (refl, fault.1))
-  fault_cases (OfClosureSize n) (UnknownNar place) fault = unmeasured n place fault
+  fault_cases (OfClosureSize n) (UnknownNar index) fault = unmeasured n index fault
   fault_cases test why fault = absurd fault
 
-  one_place : (Holds : List ℕ → Type 0) (a b : ℕ) → IsFirstPath permitted Holds a
+  one_index : (Holds : List ℕ → Type 0) (a b : ℕ) → IsFirstPath permitted Holds a
       → IsFirstPath permitted Holds b → a ≡ b
-  one_place Holds a b first first' =
+  one_index Holds a b first first' =
       one_first (λ n. ((p : List ℕ) × (slice_get permitted n ≡ Some p) × Holds p) → ⊥)
       (λ n. (p : List ℕ) × (slice_get permitted n ≡ Some p) × Holds p)
       (λ n not is. not is) (range_with_len 0 (length permitted)) a b first first'
@@ -74,70 +74,71 @@ module _ (registrations : List Registration) (job : Job) (permitted : List (List
       → list_of job n check ≡ Some b → a ≡ b
   same_list n check a b is is' = same_Some a b (sym is ∙ is')
 
-  clash : (n : ℕ) (check : Check) (place : ℕ)
+  clash : (n : ℕ) (check : Check) (index : ℕ)
       → IsTestFault registrations job permitted infos (Of n check) (BadSpecifier n)
-      → IsTestFault registrations job permitted infos (Of n check) (NotAllowed n place) → ⊥
-  clash n check place (e, (own, list, at, listed, not)) (e', (own', list', at', listed', all, first))
+      → IsTestFault registrations job permitted infos (Of n check) (NotAllowed n index) → ⊥
+  clash n check index (e, (own, list, at, listed, not))
+      (e', (own', list', at', listed', all, first))
       =
       let owns : own' ≡ own = same_element (outputs_of job) n own' own at' at in
       let lists : list' ≡ list = same_list n check list' list listed' listed in
       not (subst (λ (o : List ℕ). AreSpecifiers job o list) owns
       (subst (λ (l : List (List ℕ)). AreSpecifiers job own' l) lists all))
 
-  one_barred : (n : ℕ) (check : Check) (place place' : ℕ)
-      → IsTestFault registrations job permitted infos (Of n check) (NotAllowed n place)
-      → IsTestFault registrations job permitted infos (Of n check) (NotAllowed n place')
-      → place ≡ place'
-  one_barred n check place place' (e, (own, list, at, listed, all, first))
+  one_barred : (n : ℕ) (check : Check) (index index' : ℕ)
+      → IsTestFault registrations job permitted infos (Of n check) (NotAllowed n index)
+      → IsTestFault registrations job permitted infos (Of n check) (NotAllowed n index')
+      → index ≡ index'
+  one_barred n check index index' (e, (own, list, at, listed, all, first))
       (e', (own', list', at', listed', all', first')) =
       let owns : own' ≡ own = same_element (outputs_of job) n own' own at' at in
       let lists : list' ≡ list = same_list n check list' list listed' listed in
-      one_place (λ path. IsUsed registrations job infos check n own path
-      × Forbids job own check list path) place place' first
+      one_index (λ path. IsUsed registrations job infos check n own path
+      × Forbids job own check list path) index index' first
       (subst (λ (o : List ℕ). IsFirstPath permitted
       (λ path. IsUsed registrations job infos check n o path × Forbids job o check list path)
-      place') owns
+      index') owns
       (subst (λ (l : List (List ℕ)). IsFirstPath permitted
       (λ path. IsUsed registrations job infos check n own' path × Forbids job own' check l path)
-      place') lists first'))
+      index') lists first'))
 
   -- a closure isn't past its limit where some path isn't measured
-  closure_clash : (n place : ℕ)
+  closure_clash : (n index : ℕ)
       → IsTestFault registrations job permitted infos (OfClosureSize n) (PastMaxClosureSize n)
-      → IsTestFault registrations job permitted infos (OfClosureSize n) (UnknownNar place) → ⊥
-  closure_clash n place (e, (own, limit, at, is, past)) (own', limit', at', is', first) =
+      → IsTestFault registrations job permitted infos (OfClosureSize n) (UnknownNar index) → ⊥
+  closure_clash n index (e, (own, limit, at, is, past)) (own', limit', at', is', first) =
       past.2 first.is.0
       (subst (λ (o : List ℕ). IsUnmeasured registrations job infos o first.is.0)
       (same_element (outputs_of job) n own' own at' at) first.is.2)
 
-  one_unmeasured : (n place place' : ℕ)
-      → IsTestFault registrations job permitted infos (OfClosureSize n) (UnknownNar place)
-      → IsTestFault registrations job permitted infos (OfClosureSize n) (UnknownNar place')
-      → place ≡ place'
-  one_unmeasured n place place' (own, limit, at, is, first) (own', limit', at', is', first') =
-      one_place (IsUnmeasured registrations job infos own) place place' first
-      (subst (λ (o : List ℕ). IsFirstPath permitted (IsUnmeasured registrations job infos o) place')
+  one_unmeasured : (n index index' : ℕ)
+      → IsTestFault registrations job permitted infos (OfClosureSize n) (UnknownNar index)
+      → IsTestFault registrations job permitted infos (OfClosureSize n) (UnknownNar index')
+      → index ≡ index'
+  one_unmeasured n index index' (own, limit, at, is, first) (own', limit', at', is', first') =
+      one_index (IsUnmeasured registrations job infos own) index index' first
+      (subst (λ (o : List ℕ). IsFirstPath permitted (IsUnmeasured registrations job infos o) index')
       (same_element (outputs_of job) n own' own at' at) first')
 
   one_fault : (test : Test) (a b : Reason) → Fault test a → Fault test b → a ≡ b
   one_fault _ _ _ unread unread = refl
   one_fault _ _ _ (large n) (large _) = refl
   one_fault _ _ _ (wide n fault) (wide _ fault') = refl
-  one_fault _ _ _ (wide n fault) (unmeasured _ place fault') =
-      absurd (closure_clash n place fault fault')
-  one_fault _ _ _ (unmeasured n place fault) (wide _ fault') =
-      absurd (closure_clash n place fault' fault)
-  one_fault _ _ _ (unmeasured n place fault) (unmeasured _ place' fault') =
-      ap UnknownNar (one_unmeasured n place place' fault fault')
-  one_fault _ _ _ (refers n place fault) (refers _ place' fault') =
-      ap (NotAllowed n) (one_place _ place place' fault.2 fault'.2)
+  one_fault _ _ _ (wide n fault) (unmeasured _ index fault') =
+      absurd (closure_clash n index fault fault')
+  one_fault _ _ _ (unmeasured n index fault) (wide _ fault') =
+      absurd (closure_clash n index fault' fault)
+  one_fault _ _ _ (unmeasured n index fault) (unmeasured _ index' fault') =
+      ap UnknownNar (one_unmeasured n index index' fault fault')
+  one_fault _ _ _ (refers n index fault) (refers _ index' fault') =
+      ap (NotAllowed n) (one_index _ index index' fault.2 fault'.2)
   one_fault _ _ _ (stray n check fault) (stray _ _ fault') = refl
-  one_fault _ _ _ (stray n check fault) (barred _ _ place fault') =
-      absurd (clash n check place fault fault')
-  one_fault _ _ _ (barred n check place fault) (stray _ _ fault') =
-      absurd (clash n check place fault' fault)
-  one_fault _ _ _ (barred n check place fault) (barred _ _ place' fault') =
-      ap (NotAllowed n) (one_barred n check place place' fault fault')
+  one_fault _ _ _ (stray n check fault) (barred _ _ index fault') =
+      absurd (clash n check index fault fault')
+  one_fault _ _ _ (barred n check index fault) (stray _ _ fault') =
+      absurd (clash n check index fault' fault)
+  one_fault _ _ _ (barred n check index fault) (barred _ _ index' fault') =
+      ap (NotAllowed n) (one_barred n check index index' fault fault')
 
   abbrev Failing : Test → Type 0
   Failing test = (why : Reason) × IsTestFault registrations job permitted infos test why
@@ -295,24 +296,24 @@ module _ (registrations others : List Registration) (job : Job) (permitted : Lis
       → IsTestFault registrations job permitted infos test why
       → IsTestFault others job permitted infos test why
   fault_carried OfAttributes BadAttributes fault = fault
-  fault_carried (OfFixed n) (NotAllowed output place) fault = fault
+  fault_carried (OfFixed n) (NotAllowed output index) fault = fault
   fault_carried (OfSize n) (PastMaxSize output) fault = fault
   fault_carried (OfClosureSize n) (PastMaxClosureSize output) (e, (own, limit, at, is, past)) =
       (e, (own, limit, at, is, past_carried own limit past))
-  fault_carried (OfClosureSize n) (UnknownNar place) (own, limit, at, is, first) = (
+  fault_carried (OfClosureSize n) (UnknownNar index) (own, limit, at, is, first) = (
     own,
     limit,
     at,
     is,
     first_alike permitted (IsUnmeasured registrations job infos own)
-        (IsUnmeasured others job infos own) place
+        (IsUnmeasured others job infos own) index
         (λ path. (
           unmeasured_carried registrations others job permitted infos alike refer count own path,
           unmeasured_carried others registrations job permitted infos back refer count own path,
         )) first,
   )
   fault_carried (Of n check) (BadSpecifier output) fault = fault
-  fault_carried (Of n check) (NotAllowed output place) (e, (own, list, at, listed, all, first)) = (
+  fault_carried (Of n check) (NotAllowed output index) (e, (own, list, at, listed, all, first)) = (
     e,
     (
       own,
@@ -322,7 +323,7 @@ module _ (registrations others : List Registration) (job : Job) (permitted : Lis
       all,
       first_alike permitted
           (λ path. IsUsed registrations job infos check n own path × Forbids job own check list path)
-          (λ path. IsUsed others job infos check n own path × Forbids job own check list path) place
+          (λ path. IsUsed others job infos check n own path × Forbids job own check list path) index
           (λ path. (
             λ h. (
               used_carried registrations others job permitted infos alike refer count check n own path

@@ -17,18 +17,18 @@ use Rattle.build_outcome.specs.declared.job.Job.{Job}
 use Rattle.build_outcome.specs.declared.reason.Reason.{Reason}
 use Rattle.build_outcome.specs.declared.reason.Reason.TheVariants.{BadAttributes, NotAllowed, OutOfMemory}
 use Rattle.build_outcome.specs.private.Testing.{IsFailed, IsPassed, IsTesting, lists_at}
-use Rattle.build_outcome.proofs.RisingPlaces.{first_alike}
+use Rattle.build_outcome.proofs.RisingIndices.{first_alike}
 use Rattle.build_outcome.proofs.TestLists.{all_none, all_one, checks_more, checks_parts, fixed_more, fixed_parts}
 
 module _ (job : Job) (permitted : List (List ℕ)) (infos : List PathInfo)
     (closures : List OutputClosure) where
   -- ---- tests one after the other
 
-  pub failed_behind : (before middle after : List Test) (why : Reason)
+  pub failed_after : (before middle after : List Test) (why : Reason)
       → All (IsPassed job permitted infos closures) before
       → IsTesting job permitted infos closures middle (Err why)
       → IsTesting job permitted infos closures (before ++ (middle ++ after)) (Err why)
-  failed_behind before middle after why passed told = ⊎_elim inl
+  failed_after before middle after why passed told = ⊎_elim inl
       (λ h. inr (
         h.0,
         first_within (IsPassed job permitted infos closures)
@@ -40,8 +40,8 @@ module _ (job : Job) (permitted : List (List ℕ)) (infos : List PathInfo)
 
   fixed_fault : (registrations : List Registration) (n : ℕ) (why : Reason)
       → IsTestFault registrations job permitted infos (OfFixed n) why
-      → IsFixedJob job × ((place : ℕ) × IsFirstPath permitted (RefersAt infos n) place)
-  fixed_fault registrations n (NotAllowed output place) fault = (fault.1, (place, fault.2))
+      → IsFixedJob job × ((index : ℕ) × IsFirstPath permitted (RefersAt infos n) index)
+  fixed_fault registrations n (NotAllowed output index) fault = (fault.1, (index, fault.2))
   fixed_fault registrations n why fault = absurd fault
 
   pub not_fixed : (count : ℕ) → (IsFixedJob job → ⊥)
@@ -73,13 +73,13 @@ module _ (job : Job) (permitted : List (List ℕ)) (infos : List PathInfo)
       none first.is.0 (subst (λ (i : PathInfo). Contains i.references first.is.0)
       (same_element infos n refers.0 info refers.1 at) refers.2))))
 
-  pub fixed_failed : (count n place : ℕ) (info : PathInfo)
+  pub fixed_failed : (count n index : ℕ) (info : PathInfo)
       → All (IsPassed job permitted infos closures) (map OfFixed (range_with_len 0 n))
       → n < count → IsFixedJob job → slice_get infos n ≡ Some info
-      → IsFirstPath permitted (λ path. Contains info.references path) place
+      → IsFirstPath permitted (λ path. Contains info.references path) index
       → IsTesting job permitted infos closures (map OfFixed (range_with_len 0 count))
-      (Err (NotAllowed n place))
-  fixed_failed count n place info before low fixed at first = inr (
+      (Err (NotAllowed n index))
+  fixed_failed count n index info before low fixed at first = inr (
     OfFixed n,
     record {
       before = map OfFixed (range_with_len 0 n);
@@ -89,7 +89,7 @@ module _ (job : Job) (permitted : List (List ℕ)) (infos : List PathInfo)
       is = λ registrations have. (
         refl,
         fixed,
-        first_alike permitted (λ path. Contains info.references path) (RefersAt infos n) place
+        first_alike permitted (λ path. Contains info.references path) (RefersAt infos n) index
             (λ path. (
               λ has. (info, at, has),
               λ h. subst (λ (i : PathInfo). Contains i.references path)
@@ -122,7 +122,7 @@ module _ (job : Job) (permitted : List (List ℕ)) (infos : List PathInfo)
   checks_failed count n why low before told =
       subst (λ (l : List Test). IsTesting job permitted infos closures l (Err why))
       (sym (checks_parts count n low))
-      (failed_behind (flat_map checks_at (range_with_len 0 n)) (checks_at n)
+      (failed_after (flat_map checks_at (range_with_len 0 n)) (checks_at n)
       (flat_map checks_at (range_with_len (n + 1) (count - n - 1))) why before told)
 
   -- ---- the checks of one output that have lists
@@ -134,13 +134,13 @@ module _ (job : Job) (permitted : List (List ℕ)) (infos : List PathInfo)
   last_told before test (Ok done) passed told =
       All-append (IsPassed job permitted infos closures) before (test ∷ []) passed told
   last_told before test (Err why) passed told =
-      failed_behind before (test ∷ []) [] why passed told
+      failed_after before (test ∷ []) [] why passed told
 
   pub first_failed : (n : ℕ) (why : Reason)
       → IsTesting job permitted infos closures (Of n AllowedReferences ∷ []) (Err why)
       → IsTesting job permitted infos closures (lists_at n) (Err why)
   first_failed n why told =
-      failed_behind [] (Of n AllowedReferences ∷ [])
+      failed_after [] (Of n AllowedReferences ∷ [])
       (Of n AllowedRequisites ∷ Of n DisallowedReferences ∷ Of n DisallowedRequisites ∷ []) why
       (all_none (IsPassed job permitted infos closures)) told
 
@@ -149,7 +149,7 @@ module _ (job : Job) (permitted : List (List ℕ)) (infos : List PathInfo)
       → IsTesting job permitted infos closures (Of n AllowedRequisites ∷ []) (Err why)
       → IsTesting job permitted infos closures (lists_at n) (Err why)
   second_failed n why first told =
-      failed_behind (Of n AllowedReferences ∷ []) (Of n AllowedRequisites ∷ [])
+      failed_after (Of n AllowedReferences ∷ []) (Of n AllowedRequisites ∷ [])
       (Of n DisallowedReferences ∷ Of n DisallowedRequisites ∷ []) why first told
 
   pub two_passed : (n : ℕ)
@@ -167,7 +167,7 @@ module _ (job : Job) (permitted : List (List ℕ)) (infos : List PathInfo)
       → IsTesting job permitted infos closures (Of n DisallowedReferences ∷ []) (Err why)
       → IsTesting job permitted infos closures (lists_at n) (Err why)
   third_failed n why first second told =
-      failed_behind (Of n AllowedReferences ∷ Of n AllowedRequisites ∷ [])
+      failed_after (Of n AllowedReferences ∷ Of n AllowedRequisites ∷ [])
       (Of n DisallowedReferences ∷ []) (Of n DisallowedRequisites ∷ []) why
       (two_passed n first second) told
 
@@ -191,7 +191,7 @@ module _ (job : Job) (permitted : List (List ℕ)) (infos : List PathInfo)
       → IsTesting job permitted infos closures (OfSize n ∷ []) (Err why)
       → IsTesting job permitted infos closures (checks_at n) (Err why)
   size_failed n why told =
-      failed_behind [] (OfSize n ∷ []) (OfClosureSize n ∷ lists_at n) why
+      failed_after [] (OfSize n ∷ []) (OfClosureSize n ∷ lists_at n) why
       (all_none (IsPassed job permitted infos closures)) told
 
   pub closure_size_failed : (n : ℕ) (why : Reason)
@@ -199,7 +199,7 @@ module _ (job : Job) (permitted : List (List ℕ)) (infos : List PathInfo)
       → IsTesting job permitted infos closures (OfClosureSize n ∷ []) (Err why)
       → IsTesting job permitted infos closures (checks_at n) (Err why)
   closure_size_failed n why first told =
-      failed_behind (OfSize n ∷ []) (OfClosureSize n ∷ []) (lists_at n) why first told
+      failed_after (OfSize n ∷ []) (OfClosureSize n ∷ []) (lists_at n) why first told
 
   pub output_told : (n : ℕ) (result : Result (Unit {0}) Reason)
       → All (IsPassed job permitted infos closures) (OfSize n ∷ [])
@@ -212,7 +212,7 @@ module _ (job : Job) (permitted : List (List ℕ)) (infos : List PathInfo)
       (All-append (IsPassed job permitted infos closures) (OfSize n ∷ [])
       (OfClosureSize n ∷ []) first second) told
   output_told n (Err why) first second told =
-      failed_behind (OfSize n ∷ OfClosureSize n ∷ []) (lists_at n) [] why
+      failed_after (OfSize n ∷ OfClosureSize n ∷ []) (lists_at n) [] why
       (All-append (IsPassed job permitted infos closures) (OfSize n ∷ [])
       (OfClosureSize n ∷ []) first second) told
 
@@ -289,7 +289,7 @@ module _ (job : Job) (permitted : List (List ℕ)) (infos : List PathInfo)
       first_told why
       (subst (λ (l : List Test). IsTesting job permitted infos closures l (Err why))
       (sym (nix_tests nix))
-      (failed_behind (OfAttributes ∷ []) fixed_tests asked_tests why (attributes_passed can) told))
+      (failed_after (OfAttributes ∷ []) fixed_tests asked_tests why (attributes_passed can) told))
 
   checks_told : (why : Reason) → job.profile ≡ Nix → CanReadChecks job
       → All (IsPassed job permitted infos closures) fixed_tests
@@ -298,7 +298,7 @@ module _ (job : Job) (permitted : List (List ℕ)) (infos : List PathInfo)
       first_told why
       (subst (λ (l : List Test). IsTesting job permitted infos closures l (Err why))
       (ap (λ l. OfAttributes ∷ fixed_tests ++ l) (append-nil asked_tests) ∙ sym (nix_tests nix))
-      (failed_behind (OfAttributes ∷ fixed_tests) asked_tests [] why
+      (failed_after (OfAttributes ∷ fixed_tests) asked_tests [] why
       (All-append (IsPassed job permitted infos closures) (OfAttributes ∷ []) fixed_tests
       (attributes_passed can) fixed) told))
 

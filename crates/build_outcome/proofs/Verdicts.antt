@@ -84,8 +84,8 @@ records_more job permitted answer infos more count tree info before at is_record
       records = λ n other here. ⊎_elim
           (λ earlier. before.records n other earlier)
           (λ h.
-          let place : n ≡ count = h.0 ∙ before.as_many in
-          subst (λ k. IsRecordAt job permitted answer k other) (sym place)
+          let index : n ≡ count = h.0 ∙ before.as_many in
+          subst (λ k. IsRecordAt job permitted answer k other) (sym index)
           (tree, at, subst (IsRecordOf job permitted tree) h.1 is_record))
           (get_push_cases _ _ n _ here);
     })
@@ -127,11 +127,11 @@ tree_fault_cases profile Addressed tree ReadFault fault = absurd fault
 tree_fault_cases profile Addressed tree OutOfMemory fault = absurd fault
 tree_fault_cases profile Addressed tree Killed fault = absurd fault
 tree_fault_cases profile Addressed tree (BadMode n) fault = absurd fault
-tree_fault_cases profile Addressed tree (NotAllowed output place) fault = absurd fault
+tree_fault_cases profile Addressed tree (NotAllowed output index) fault = absurd fault
 tree_fault_cases profile Addressed tree (BadSpecifier output) fault = absurd fault
 tree_fault_cases profile Addressed tree BadAttributes fault = absurd fault
 tree_fault_cases profile Addressed tree BadGraph fault = absurd fault
-tree_fault_cases profile Addressed tree (UnknownNar place) fault = absurd fault
+tree_fault_cases profile Addressed tree (UnknownNar index) fault = absurd fault
 tree_fault_cases profile Addressed tree (PastMaxSize output) fault = absurd fault
 tree_fault_cases profile Addressed tree (PastMaxClosureSize output) fault = absurd fault
 tree_fault_cases profile (Fixed method declared) tree (ExitStatus n) fault = absurd fault
@@ -142,11 +142,11 @@ tree_fault_cases profile (Fixed method declared) tree ReadFault fault = absurd f
 tree_fault_cases profile (Fixed method declared) tree OutOfMemory fault = absurd fault
 tree_fault_cases profile (Fixed method declared) tree Killed fault = absurd fault
 tree_fault_cases profile (Fixed method declared) tree (BadMode n) fault = absurd fault
-tree_fault_cases profile (Fixed method declared) tree (NotAllowed output place) fault = absurd fault
+tree_fault_cases profile (Fixed method declared) tree (NotAllowed output index) fault = absurd fault
 tree_fault_cases profile (Fixed method declared) tree (BadSpecifier output) fault = absurd fault
 tree_fault_cases profile (Fixed method declared) tree BadAttributes fault = absurd fault
 tree_fault_cases profile (Fixed method declared) tree BadGraph fault = absurd fault
-tree_fault_cases profile (Fixed method declared) tree (UnknownNar place) fault = absurd fault
+tree_fault_cases profile (Fixed method declared) tree (UnknownNar index) fault = absurd fault
 tree_fault_cases profile (Fixed method declared) tree (PastMaxSize output) fault = absurd fault
 tree_fault_cases profile (Fixed method declared) tree (PastMaxClosureSize output) fault = absurd fault
 

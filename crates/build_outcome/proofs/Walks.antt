@@ -15,7 +15,7 @@ use Rattle.build_outcome.specs.declared.walk.Mark.TheVariants.{New, Open, Closed
 use Rattle.build_outcome.specs.declared.walk.WalkNode.{WalkNode}
 use Rattle.build_outcome.specs.declared.walk.WalkStep.TheVariants.{Enter, Leave, Pass, Return}
 use Rattle.build_outcome.specs.private.Walking.{AreInner, Goes, HaveRound, IsAfter, IsGrounded, IsLinked, IsMet, IsNextLink, IsWalkStep, IsWalk, KeepsMet, fresh, goes_nowhere, goes_on, grounded, mark_weight, weight}
-use Rattle.build_outcome.proofs.Places.{set_cases}
+use Rattle.build_outcome.proofs.Indices.{set_cases}
 use Rattle.nix_names.proofs.Lists.{Contains-first, Contains-from_get, element_at, get_from_contains, get_grows, get_push_cases, get_pushed, same_element}
 
 -- the last link that is left is a link
@@ -28,8 +28,8 @@ left_grounded : (links : List (Vec ℕ)) (nodes : List WalkNode) (top : ℕ) (no
     → IsAfter links nodes → slice_get nodes top ≡ Some node → node.left ≡ 0 → IsGrounded links top
 left_grounded links nodes top node after at none =
     grounded top (λ to linked apart.
-    let place = get_from_contains _ _ linked.2 in
-    after.passed top node linked.0 place.0 to at linked.1 (omega arith) place.1 apart)
+    let index = get_from_contains _ _ linked.2 in
+    after.passed top node linked.0 index.0 to at linked.1 (omega arith) index.1 apart)
 
 after_leave : (links : List (Vec ℕ)) (before after : List WalkNode) (top : ℕ) → IsAfter links before
     → IsWalkStep links before after top Leave → IsAfter links after
@@ -92,8 +92,8 @@ walk_enter links before after rest top to was (node, other, next, mark_new, is) 
           (λ front'. was.chain k from goal front front')
           (λ h.
           let here : slice_get trail (length rest) ≡ Some top = get_pushed rest top in
-          let place : k ≡ length rest = omega (arith, h.0, pushed rest top) in
-          let from_is : from ≡ top = same_element trail k from top front (rw place here) in
+          let index : k ≡ length rest = omega (arith, h.0, pushed rest top) in
+          let from_is : from ≡ top = same_element trail k from top front (rw index here) in
           rw (from_is, ← h.1) (next_linked links before top to node other next))
           (get_push_cases trail to (suc k) goal at'))
           (λ h. let below = slice_get_within (trail ++ to ∷ []) (suc k) goal at'

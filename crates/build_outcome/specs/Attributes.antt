@@ -14,7 +14,7 @@ abbrev pub value_at : (key : Name) → Job → Option Bytes
 value_at key job = option_map (λ (e : EnvEntry). e.value)
     (find (λ (e : EnvEntry). same_bytes e.key key) (map entry_of job.env.items))
 
--- the same under a profile: none under `plain`
+-- the value for a key under a profile: none under `plain`
 abbrev pub value_under : Profile → (key : Name) → Job → Option Bytes
 value_under Plain key job = None
 value_under Nix key job = value_at key job

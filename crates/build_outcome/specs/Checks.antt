@@ -1,5 +1,5 @@
--- *Checks*: to which paths a derivation of the profile `nix` lets its outputs refer, and how large it
--- lets them be (Nix manual, "allowedReferences", "allowedRequisites", "disallowedReferences",
+-- *Checks*: to which paths a derivation of the profile `nix` lets its outputs refer, and how large
+-- it lets them be (Nix manual, "allowedReferences", "allowedRequisites", "disallowedReferences",
 -- "disallowedRequisites", "outputChecks"; Nix 2.8, `local-derivation-goal.cc`: `checkOutputs`).
 use Rattle.std.specs.Prelude.{◌≡◌, ◌≢◌, ◌⊎◌, ◌↔◌, ◌++◌, ◌<◌, ℕ, Option, Some, None, List, [], ◌∷◌, All, Contains, IsUtf8, Result, Ok, Err, codes, find, flat_map, length, map, option_and_then, option_map, slice_get, zip}
 use Rattle.std.specs.List.{AllZip, range_with_len, sum_by}
@@ -83,8 +83,8 @@ key_of DisallowedRequisites = codes "disallowedRequisites"
 abbrev pub joined : {A : Type 0} → Option (Option A) → Option A
 joined found = option_and_then (λ inner. inner) found
 
--- the specifiers of a check: by the text of the structured attributes, where a job has such, those of
--- the output with this number; or else the tokens of the entry
+-- the specifiers of a check: by the text of the structured attributes, where a job has such, those
+-- of the output with this number; or else the tokens of the entry
 abbrev pub list_under : Option Bytes → Job → ℕ → Check → Option (List Bytes)
 list_under None job n check = option_map tokens (value_at (key_of check) job)
 list_under (Some text) job n check =
@@ -154,8 +154,8 @@ RefersOutside job infos own path = (n : ℕ) × (last : Path) × LeadsAmong job 
     × (slice_get (outputs_of job) n ≡ Some last) × RefersAt infos n path
     × (Contains (outputs_of job) path → ⊥)
 
--- Where the closure of an output begins, in rising order: the outputs to which it leads, among which
--- it is itself, and the paths that are no outputs and to which one of those refers.
+-- Where the closure of an output begins, in rising order: the outputs to which it leads, among
+-- which it is itself, and the paths that are no outputs and to which one of those refers.
 pub record AreRootsOf (job : Job) (infos : List PathInfo) (own : Path)
     (inside outside : List Path) : Type 0 where
   pub inside_rises : IsRising inside
@@ -284,9 +284,9 @@ tests_under Nix count = OfAttributes ∷ map OfFixed (range_with_len 0 count)
 
 -- the permitted path with this number has a property, and none before it
 abbrev pub IsFirstPath : (permitted : List Path) → (Holds : Path → Type 0) → ℕ → Type 0
-IsFirstPath permitted Holds place = IsFirstNumber
+IsFirstPath permitted Holds index = IsFirstNumber
     (λ n. (path : Path) × (slice_get permitted n ≡ Some path) × Holds path)
-    (length permitted) place
+    (length permitted) index
 
 -- a job's output is fixed
 abbrev pub IsFixedJob : Job → Type 0
@@ -317,26 +317,26 @@ IsClosurePast registrations job infos own limit = (all : List Path)
 abbrev pub IsTestFault : List Registration → Job → (permitted : List Path) → List PathInfo → Test
     → Reason → Type 0
 IsTestFault registrations job permitted infos OfAttributes BadAttributes = CanReadChecks job → ⊥
-IsTestFault registrations job permitted infos (OfFixed n) (NotAllowed output place) = (output ≡ n)
-    × IsFixedJob job × IsFirstPath permitted (RefersAt infos n) place
+IsTestFault registrations job permitted infos (OfFixed n) (NotAllowed output index) = (output ≡ n)
+    × IsFixedJob job × IsFirstPath permitted (RefersAt infos n) index
 IsTestFault registrations job permitted infos (OfSize n) (PastMaxSize output) = (output ≡ n)
     × ((limit : ℕ) × (size_limit job n ≡ Some limit) × IsPast infos n limit)
 IsTestFault registrations job permitted infos (OfClosureSize n) (PastMaxClosureSize output) =
     (output ≡ n)
     × ((own : Path) × (limit : ℕ) × (slice_get (outputs_of job) n ≡ Some own)
     × (closure_limit job n ≡ Some limit) × IsClosurePast registrations job infos own limit)
-IsTestFault registrations job permitted infos (OfClosureSize n) (UnknownNar place) =
+IsTestFault registrations job permitted infos (OfClosureSize n) (UnknownNar index) =
     (own : Path) × (limit : ℕ) × (slice_get (outputs_of job) n ≡ Some own)
     × (closure_limit job n ≡ Some limit)
-    × IsFirstPath permitted (IsUnmeasured registrations job infos own) place
+    × IsFirstPath permitted (IsUnmeasured registrations job infos own) index
 IsTestFault registrations job permitted infos (Of n check) (BadSpecifier output) = (output ≡ n)
     × ((own : Path) × (list : List Bytes) × (slice_get (outputs_of job) n ≡ Some own)
     × (list_of job n check ≡ Some list) × (AreSpecifiers job own list → ⊥))
-IsTestFault registrations job permitted infos (Of n check) (NotAllowed output place) = (output ≡ n)
+IsTestFault registrations job permitted infos (Of n check) (NotAllowed output index) = (output ≡ n)
     × ((own : Path) × (list : List Bytes) × (slice_get (outputs_of job) n ≡ Some own)
     × (list_of job n check ≡ Some list) × AreSpecifiers job own list
     × IsFirstPath permitted (λ path. IsUsed registrations job infos check n own path
-    × Forbids job own check list path) place)
+    × Forbids job own check list path) index)
 IsTestFault registrations job permitted infos test reason = ⊥
 
 -- the tests of a job's outputs
@@ -355,8 +355,8 @@ IsFirstTestFault registrations job permitted infos reason = (test : Test)
     × IsFirstWhere (λ t. (why : Reason) × IsTestFault registrations job permitted infos t why)
     (tests_of job) test × IsTestFault registrations job permitted infos test reason
 
--- *Verdict* with the tests, by the paths that are valid: the records of the outputs, which pass each
--- test; or the first reason why there are none
+-- *Verdict* with the tests, by the paths that are valid: the records of the outputs, which pass
+-- each test; or the first reason why there are none
 abbrev pub IsTestedVerdict : List Registration → Job → (permitted : List Path) → Answer
     → Result (List PathInfo) Reason → Type 0
 IsTestedVerdict registrations job permitted answer (Ok infos) =

@@ -115,7 +115,7 @@ IsHeardAs job permitted (Some left) (Some kept) =
     IsHeardOutput job permitted left.tree left.others_may_write kept
 IsHeardAs job permitted left kept = ⊥
 
--- the same of the outputs, in order
+-- what is kept of what lies at the outputs, in order
 abbrev pub AreHeard : Job → (permitted : List Path) → List (Option LeftArchive)
     → List (Option Kept) → Type 0
 AreHeard job permitted lefts kept = AllZip (IsHeardAs job permitted) lefts kept

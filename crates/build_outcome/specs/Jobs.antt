@@ -59,7 +59,7 @@ abbrev pub whole_inputs_of : Profile → List Node → Drv → List (Path × Lis
 whole_inputs_of Plain nodes drv = []
 whole_inputs_of Nix nodes drv = flat_map (whole_input nodes) drv.inputs
 
--- the same of a job's whole input
+-- the derivation and the outputs' paths of a job's whole input
 abbrev pub shown_whole : WholeInput → Path × List Path
 shown_whole whole = (whole.drv, whole.outputs.items)
 

@@ -186,7 +186,7 @@ impl Known<'_> {
     }
 }
 
-// The same paths once more.
+// A copy of the paths.
 fn copies(alloc: Global, paths: &[StorePath]) -> Result<Vec<StorePath>, AllocError>
     ensures { IfOk result (λ copies. copies.items ≡ paths.now) }
 {

@@ -9,7 +9,7 @@ use nix_names::StorePath;
 use std::alloc::{AllocError, Global};
 use valid_table::Record;
 
-// For each different one of the outputs' paths, the places of those that its outputs refer to.
+// For each different one of the outputs' paths, the indices of those that its outputs refer to.
 pub(crate) fn links_among(
     alloc: Global,
     outputs: &[StorePath],
@@ -22,7 +22,7 @@ pub(crate) fn links_among(
     links_by(alloc, &paths, outputs, records)
 }
 
-// For each of the paths, the places of those that its outputs refer to.
+// For each of the paths, the indices of those that its outputs refer to.
 pub(crate) fn links_by(
     alloc: Global,
     paths: &IndexSet<StorePath>,
@@ -54,7 +54,7 @@ fn fill_links(
         links.new.items) }
 {
     for (n, record) in records.iter().enumerate() {
-        if let Some(from) = place_of(paths, &outputs[n]) {
+        if let Some(from) = index_of(paths, &outputs[n]) {
             add_links(paths, record.references(), &mut links[from])?;
         }
     }
@@ -88,15 +88,15 @@ fn no_links(alloc: Global, count: usize) -> Result<Vec<Vec<usize>>, AllocError>
     Ok(links)
 }
 
-// The place of a path among these, if it is one of them.
-pub(crate) fn place_of(paths: &IndexSet<StorePath>, path: &StorePath) -> Option<usize>
+// The index of a path among these, if it is one of them.
+pub(crate) fn index_of(paths: &IndexSet<StorePath>, path: &StorePath) -> Option<usize>
     ensures { MatchOption result (Contains paths.now.keys path.now → ⊥)
         (λ n. slice_get paths.now.keys n ≡ Some path.now) }
 {
     paths.get_index_of(path)
 }
 
-// Adds the places of those of the references that are among the paths.
+// Adds the indices of those of the references that are among the paths.
 fn add_links(
     paths: &IndexSet<StorePath>,
     references: &[StorePath],
@@ -106,7 +106,7 @@ fn add_links(
     ensures { OnOk result (AddsLinks paths.now.keys references.now own.old.items own.new.items) }
 {
     for reference in references {
-        if let Some(to) = place_of(paths, reference) {
+        if let Some(to) = index_of(paths, reference) {
             own.push(to)?;
         }
     }

@@ -63,8 +63,8 @@ pub fn examine(
 
 /// The verdict of `examine` on a job whose builder ended with this exit status, none where a signal
 /// ended it. `outputs` has what was kept of what lies at each output's path, in the job's order,
-/// none where nothing does. Reads and hashes nothing; takes memory as `examine` does for the records
-/// and for the references among the outputs.
+/// none where nothing does. Reads and hashes nothing; takes memory as `examine` does for the
+/// records and for the references among the outputs.
 pub fn examine_heard(
     alloc: Global,
     job: &Job,

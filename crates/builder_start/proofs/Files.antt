@@ -51,13 +51,13 @@ pub one_more : (rows : List Registration) (whole : List WholeInput) (pairs : Lis
     (graph : List Registration) (old new : List PreparedFile) → i < length pairs
     → pair ≡ get_or pairs i pair → FilesSoFar rows whole pairs i old → IsGoodPair rows whole (shown_pair pair)
     → ((root : List ℕ) × (root_of rows pair.text.now ≡ Some root) × IsGraph rows whole (root ∷ []) graph)
-    → (behind : List Pair) → behind ≡ drop (i + 1) pairs
+    → (after : List Pair) → after ≡ drop (i + 1) pairs
     → IsAdded (list_any (λ (other : List ℕ × List ℕ). same_bytes other.0 pair.name.now)
-    (map shown_pair behind)) pair graph old new
+    (map shown_pair after)) pair graph old new
     → FilesSoFar rows whole pairs (i + 1) new
-one_more rows whole pairs i pair graph old new within at sofar is_good is_graph behind is added =
+one_more rows whole pairs i pair graph old new within at sofar is_good is_graph after is added =
     step (list_any (λ (other : List ℕ × List ℕ). same_bytes other.0 pair.name.now)
-    (map shown_pair behind)) refl added
+    (map shown_pair after)) refl added
   where
     P : Type 0
     P = List ℕ × List ℕ
@@ -69,7 +69,7 @@ one_more rows whole pairs i pair graph old new within at sofar is_good is_graph 
         (All-push (IsGoodPair rows whole) (map shown_pair (take i pairs)) (shown_pair pair) sofar.good is_good)
 
     rest : List P
-    rest = map shown_pair behind
+    rest = map shown_pair after
 
     parts : last_pairs (map shown_pair pairs) ≡ sofar.kept ++ last_pairs (shown_pair pair ∷ rest)
     parts = sofar.parts
@@ -77,9 +77,9 @@ one_more rows whole pairs i pair graph old new within at sofar is_good is_graph 
         (drop_more pairs i pair within ∙ ap (λ (p : Pair). p ∷ drop (i + 1) pairs) (sym at)
         ∙ ap (λ (ps : List Pair). pair ∷ ps) (sym is))
 
-    behind_is : (kept : List P) → last_pairs (map shown_pair pairs) ≡ kept ++ last_pairs rest
+    after_is : (kept : List P) → last_pairs (map shown_pair pairs) ≡ kept ++ last_pairs rest
         → last_pairs (map shown_pair pairs) ≡ kept ++ last_pairs (map shown_pair (drop (i + 1) pairs))
-    behind_is kept e = e ∙ ap (λ (ps : List Pair). kept ++ last_pairs (map shown_pair ps)) is
+    after_is kept e = e ∙ ap (λ (ps : List Pair). kept ++ last_pairs (map shown_pair ps)) is
 
     step : (named : Bool)
         → list_any (λ (other : P). same_bytes other.0 pair.name.now) rest ≡ named
@@ -87,7 +87,7 @@ one_more rows whole pairs i pair graph old new within at sofar is_good is_graph 
     step true is_named same = record {
       good = good;
       kept = sofar.kept;
-      parts = behind_is sofar.kept (parts
+      parts = after_is sofar.kept (parts
           ∙ ap (λ b. sofar.kept ++ (if b then last_pairs rest else shown_pair pair ∷ last_pairs rest)) is_named);
       each = subst (AllZip (IsFileOf rows whole) sofar.kept) (sym same) sofar.each;
     }
@@ -103,7 +103,7 @@ one_more rows whole pairs i pair graph old new within at sofar is_good is_graph 
         record {
           good = good;
           kept = sofar.kept ++ shown_pair pair ∷ [];
-          parts = behind_is (sofar.kept ++ shown_pair pair ∷ []) (parts
+          parts = after_is (sofar.kept ++ shown_pair pair ∷ []) (parts
               ∙ ap (λ b. sofar.kept ++ (if b then last_pairs rest else shown_pair pair ∷ last_pairs rest)) is_named
               ∙ sym (append_assoc sofar.kept (shown_pair pair ∷ []) (last_pairs rest)));
           each = subst (AllZip (IsFileOf rows whole) (sofar.kept ++ shown_pair pair ∷ [])) (sym more.1)

@@ -14,7 +14,7 @@ use Rattle.valid_table.proofs.Following.{one_info}
 use Rattle.build_outcome.specs.Verdicts.{outputs_of}
 use Rattle.build_outcome.specs.declared.job.Job.{Job}
 use Rattle.build_outcome.specs.declared.job.WholeInput.{WholeInput}
-use Rattle.build_outcome.proofs.RisingPlaces.{first_alike, first_used}
+use Rattle.build_outcome.proofs.RisingIndices.{first_alike, first_used}
 use Rattle.builder_start.specs.Graphs.{IsGraph, IsInGraph, MayBeGraph}
 use Rattle.builder_start.specs.Structured.{AreGoodRequests, AreNamable, IsFirstWithoutNar, LacksNar, texts_asked}
 use Rattle.builder_start.proofs.Finds.{find_first, find_none}
@@ -139,12 +139,13 @@ front_get (y ∷ xs) ys (suc k) x low is = front_get xs ys k x (omega arith) is
 -- the first record of the graph that lacks its archive is of the first such path
 pub first_lacks : (rows : List Registration) (job : Job) (roots : List (List ℕ))
     (graph : List Registration)
-    (asked : List (List ℕ × List (List ℕ))) (row : Registration) (place : ℕ)
+    (asked : List (List ℕ × List (List ℕ))) (row : Registration) (index : ℕ)
     → IsRising (paths_registered rows) → roots ≡ texts_asked asked → IsGraph rows job.whole_inputs.items roots graph
     → find (λ (r : Registration). is_none r.info.nar) graph ≡ Some row
-    → ((paths : List (List ℕ)) × AreNamable rows job paths × (slice_get paths place ≡ Some row.path))
-    → IsFirstWithoutNar rows job asked place
-first_lacks rows job roots graph asked row place rising same is found named =
+    → ((paths : List (List ℕ)) × AreNamable rows job paths
+    × (slice_get paths index ≡ Some row.path))
+    → IsFirstWithoutNar rows job asked index
+first_lacks rows job roots graph asked row index rising same is found named =
     let first = find_first (λ (r : Registration). is_none r.info.nar) graph row found in
     let has : Contains graph row =
     subst (λ rs. Contains rs row) (sym first.parts)
@@ -155,12 +156,12 @@ first_lacks rows job roots graph asked row place rising same is found named =
       named.0,
       named.1,
       first_alike named.0 (λ p. Contains (paths_registered graph) p × Lacks graph p)
-          (LacksNar rows job.whole_inputs.items asked) place
+          (LacksNar rows job.whole_inputs.items asked) index
           (λ p. (
             lacks_to rows job.whole_inputs.items roots graph asked same is p,
             lacks_from rows job.whole_inputs.items roots graph asked rising same is p,
           ))
-          (first_used named.0 (paths_registered graph) (Lacks graph) (length first.before) place
+          (first_used named.0 (paths_registered graph) (Lacks graph) (length first.before) index
           row.path named.1.rising is.paths.rising here named.2
           (row, has, refl, none_is row.info.nar first.is)
           (earlier first.before first.after first.parts first.others)),

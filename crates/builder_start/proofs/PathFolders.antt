@@ -15,7 +15,7 @@ folder_is_of dir path is =
     let long : length path ≡ length (path_text dir is.hash is.name) =
     ap (λ (l : List ℕ). length l) is.parts in
     let whole = length-append dir (47 ∷ is.hash ++ (45 ∷ is.name)) in
-    let place : length path - length (base_of path) - 1 ≡ length dir =
+    let index : length path - length (base_of path) - 1 ≡ length dir =
     omega (arith, base_long, long, whole) in
-    ap (λ n. take n path) place ∙ ap (take (length dir)) is.parts
+    ap (λ n. take n path) index ∙ ap (take (length dir)) is.parts
     ∙ take_at dir (47 ∷ is.hash ++ (45 ∷ is.name)) (length dir) refl

@@ -75,16 +75,17 @@ texts_made rows job text given before after texts is good outputs graphs json sh
 pub untold : (rows : List Registration) (job : Job) (text : List ℕ) (given : Given)
     (reason : Reason) (is : IsGiven job text given)
     → IsWhy BadGraph (AreGoodRequests rows job.whole_inputs.items (map shown_request given.requests.items) → ⊥) reason
-    ⊎ ((place : ℕ) × (reason ≡ UnknownNar place)
+    ⊎ ((index : ℕ) × (reason ≡ UnknownNar index)
     × AreGoodRequests rows job.whole_inputs.items (map shown_request given.requests.items)
-    × IsFirstWithoutNar rows job (map shown_request given.requests.items) place)
+    × IsFirstWithoutNar rows job (map shown_request given.requests.items) index)
     → IsUntold rows job text reason
 untold rows job text given reason is why =
     inr (
       is.taken,
       subst
           (λ asked. IsWhy BadGraph (AreGoodRequests rows job.whole_inputs.items asked → ⊥) reason
-          ⊎ ((place : ℕ) × (reason ≡ UnknownNar place) × AreGoodRequests rows job.whole_inputs.items asked
-          × IsFirstWithoutNar rows job asked place))
+          ⊎ ((index : ℕ) × (reason ≡ UnknownNar index)
+          × AreGoodRequests rows job.whole_inputs.items asked
+          × IsFirstWithoutNar rows job asked index))
           is.requests why,
     )

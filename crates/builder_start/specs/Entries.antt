@@ -13,13 +13,14 @@ use Rattle.builder_start.specs.Graphs.{IsGraph, MayBeGraph}
 
 -- ---- what is asked for
 
--- the pairs of a name and a text that tokens are, one after the other; none where their number is odd
+-- the pairs of a name and a text that tokens are, one after the other; none where their number is
+-- odd
 abbrev pub pairs_of : List Bytes → Option (List (Name × Bytes))
 pairs_of [] = Some []
 pairs_of (name ∷ []) = None
 pairs_of (name ∷ text ∷ rest) = option_map (λ pairs. (name, text) ∷ pairs) (pairs_of rest)
 
--- the pairs without those behind which a pair with the same name comes
+-- the pairs without those after which a pair with the same name comes
 abbrev pub last_pairs : List (Name × Bytes) → List (Name × Bytes)
 last_pairs [] = []
 last_pairs (pair ∷ rest) =
@@ -48,7 +49,7 @@ abbrev pub is_cut : Bytes → Bool
 is_cut [] = true
 is_cut (b ∷ bs) = b == 47
 
--- whether a text is a path, or that path with a slash and more behind it
+-- whether a text is a path, or that path with a slash and more after it
 abbrev pub is_within : Path → (text : Bytes) → Bool
 is_within path text = starts_with nat_eq text path && is_cut (drop (length path) text)
 

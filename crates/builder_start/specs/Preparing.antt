@@ -30,7 +30,7 @@ IsUnprepared rows job BadGraph =
     × AskForBadGraphs rows job.whole_inputs.items (tokens_or_none (graphs_of job)))
     ⊎ ((text : Bytes) × (json_of job ≡ Some text) × (taken : AreAttributes job text)
     × (AreGoodRequests rows job.whole_inputs.items taken.asked → ⊥))
-IsUnprepared rows job (UnknownNar place) = (text : Bytes) × (json_of job ≡ Some text)
+IsUnprepared rows job (UnknownNar index) = (text : Bytes) × (json_of job ≡ Some text)
     × (taken : AreAttributes job text) × AreGoodRequests rows job.whole_inputs.items taken.asked
-    × IsFirstWithoutNar rows job taken.asked place
+    × IsFirstWithoutNar rows job taken.asked index
 IsUnprepared rows job reason = ⊥

@@ -78,15 +78,15 @@ LacksNar rows whole asked path = (row : Registration) × Contains rows row × (r
     × (row.info.nar ≡ None) × IsInGraph rows whole (texts_asked asked) path
 
 -- the paths of some records and of a job's outputs, in rising order, in which a path is named by
--- its place
+-- its index
 abbrev pub AreNamable : List Registration → Job → List Path → Type 0
 AreNamable rows job paths = IsUnion (paths_registered rows) (outputs_of job) paths
 
--- the place is that of the least path without an archive
+-- the index is that of the least path without an archive
 abbrev pub IsFirstWithoutNar : List Registration → Job → (asked : List (Bytes × List Bytes))
-    → (place : ℕ) → Type 0
-IsFirstWithoutNar rows job asked place = (paths : List Path) × AreNamable rows job paths
-    × IsFirstPath paths (LacksNar rows job.whole_inputs.items asked) place
+    → (index : ℕ) → Type 0
+IsFirstWithoutNar rows job asked index = (paths : List Path) × AreNamable rows job paths
+    × IsFirstPath paths (LacksNar rows job.whole_inputs.items asked) index
 
 -- ---- graphs as JSON
 

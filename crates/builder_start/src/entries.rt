@@ -81,20 +81,20 @@ fn files_of(
     Ok(files)
 }
 
-// Adds the file of a pair, where no pair behind it has its name.
+// Adds the file of a pair, where no pair after it has its name.
 fn add_last(
     alloc: Global,
     pair: &Pair<'_>,
-    behind: &[Pair<'_>],
+    after: &[Pair<'_>],
     graph: &[Registration],
     files: &mut Vec<PreparedFile>,
 ) -> Result<(), AllocError>
     requires { IsTrue (is_file_name pair.now.name.now) }
     ensures { OnOk result (IsAdded
-        (list_any (λ other. same_bytes other.0 pair.now.name.now) (map shown_pair behind.now))
+        (list_any (λ other. same_bytes other.0 pair.now.name.now) (map shown_pair after.now))
         pair.now graph.now files.old.items files.new.items) }
 {
-    if is_named(behind, pair.name) {
+    if is_named(after, pair.name) {
         return Ok(());
     }
     files.push(file_of(alloc, pair.name, graph)?)?;

@@ -26,8 +26,8 @@ use valid_table::Registration;
 /// pairs, a name that is none of a file's, a text that is none of the paths (nor below one, where
 /// attributes are entries), a closure with a derivation's file that is not that of a whole input of
 /// the job, or one with the file of a whole input of which an output has no record; else
-/// `UnknownNar` with the least path whose archive is asked for and not known, by its place among the
-/// paths of the records and of the job's outputs. `OutOfMemory` where memory is refused.
+/// `UnknownNar` with the least path whose archive is asked for and not known, by its index among
+/// the paths of the records and of the job's outputs. `OutOfMemory` where memory is refused.
 ///
 /// A graph is the closure of the paths that are asked for and of the outputs of the whole inputs
 /// whose files that closure has.

@@ -31,16 +31,16 @@ pub(crate) fn check_requests(
     ensures bad { IfErr result (λ reason. IsWhy BadGraph
         (AreGoodRequests rows.now job.now.whole_inputs.items (map shown_request requests.now) → ⊥)
         reason
-        ⊎ ((place : ℕ) × (reason ≡ UnknownNar place)
+        ⊎ ((index : ℕ) × (reason ≡ UnknownNar index)
         × AreGoodRequests rows.now job.now.whole_inputs.items (map shown_request requests.now)
-        × IsFirstWithoutNar rows.now job.now (map shown_request requests.now) place)) }
+        × IsFirstWithoutNar rows.now job.now (map shown_request requests.now) index)) }
 {
     // The call tells that the paths of the records rise, so each path has one record.
     let _ = rows.as_slice();
     let roots = roots_of(alloc, rows, requests)?;
     let graph = graph_from(alloc, rows, &job.whole_inputs, &roots)?;
     match graph.iter().find(|row| row.info.nar().is_none()) {
-        Some(row) => Err(Reason::UnknownNar(place_of(alloc, job, rows, &row.path)?)),
+        Some(row) => Err(Reason::UnknownNar(index_of(alloc, job, rows, &row.path)?)),
         None => Ok(()),
     }
 }
@@ -82,15 +82,15 @@ pub(crate) fn paths_of(
     Ok(paths)
 }
 
-// The place of a path among the paths of the records and of a job's outputs, in rising order.
-fn place_of(alloc: Global, job: &Job, rows: &Rows, path: &StorePath) -> Result<usize, AllocError>
+// The index of a path among the paths of the records and of a job's outputs, in rising order.
+fn index_of(alloc: Global, job: &Job, rows: &Rows, path: &StorePath) -> Result<usize, AllocError>
     requires { IsValid rows.now path.now }
-    ensures { IfOk result (λ place. (paths : List Path) × AreNamable rows.now job.now paths
-        × (slice_get paths place ≡ Some path.now)) }
+    ensures { IfOk result (λ index. (paths : List Path) × AreNamable rows.now job.now paths
+        × (slice_get paths index ≡ Some path.now)) }
 {
     let paths = namable(alloc, job, rows)?;
     match paths.binary_search(path) {
-        Ok(place) => Ok(place),
+        Ok(index) => Ok(index),
         Err(_) => unreachable!(),
     }
 }

@@ -148,7 +148,7 @@ fn copy_rows(alloc: Global, rows: &[Registration]) -> Result<Vec<Registration>, 
     Ok(copied)
 }
 
-// Whether a text is a path, or that path with a slash and more behind it.
+// Whether a text is a path, or that path with a slash and more after it.
 fn is_within(path: &[u8], text: &[u8]) -> bool
     ensures { result ≡ is_within path.now text.now }
 {

@@ -30,9 +30,9 @@ module _ (word : List ℕ) (r : Option (Bor (List ℕ) × Bor (List ℕ)))
       }
 
   pub unparted : r ≡ None → HasProgram word → ⊥
-  unparted is (place, inside, there) =
+  unparted is (index, inside, there) =
       let none = rw is at (split_once_first 61 word r split (omega arith)) in
-      grind (arith, nat_tests, fails_before_first (λ b. b == 61) word place 61 (omega arith))
+      grind (arith, nat_tests, fails_before_first (λ b. b == 61) word index 61 (omega arith))
 
 -- The words gave these builders their programs, but for twins among them.
 pub record AreRead (words : List (List ℕ)) (builtins : List Builtin) : Type 0 where

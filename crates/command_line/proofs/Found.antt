@@ -247,7 +247,7 @@ plain_sub : (s : Shape) → IsSubcommand s.name ⊎ ((s.name ≡ codes "help") �
     → list_all (is_other (codes "cores")) s.rules ≡ true → IsSub s
 plain_sub s own jobs cores = (own, others_read _ _ s.rules jobs, others_read _ _ s.rules cores)
 
--- a subcommand with both, each behind so many other arguments
+-- a subcommand with both, each after so many other arguments
 numbers_sub : (s : Shape) → IsSubcommand s.name ⊎ ((s.name ≡ codes "help") × (s.aliases ≡ []))
     → (j k : ℕ) → list_all (is_other (codes "jobs")) (take j s.rules) ≡ true
     → Each (IsRead (codes "jobs") (Signed (pos 1) (pos 64))) (drop j s.rules)

@@ -21,14 +21,14 @@ IsRunFault rows kind =
     ⊎ (((profile : Profile) × NamesProfile (profile_in rows) profile)
     × IsBuiltinFault (words_in (codes "builtin") rows) kind)
 
--- the same of the subcommand with this name and these words and options
+-- the wrong word of the subcommand with this name and these words and options
 abbrev pub IsWordFaultBy : (name : Name) → List Row → ErrorKind → Type 0
 IsWordFaultBy name rows kind =
     (((name ≡ codes "add-text") ⊎ (name ≡ codes "add-drv"))
     × IsProfileFault (profile_in rows) kind)
     ⊎ (((name ≡ codes "plan") ⊎ (name ≡ codes "realise")) × IsRunFault rows kind)
 
--- the same of the subcommand that was found, if there is one
+-- the wrong word of the subcommand that was found, if there is one
 abbrev pub IsWordFaultIn : Option (Name × List Row) → ErrorKind → Type 0
 IsWordFaultIn None kind = ⊥
 IsWordFaultIn (Some (name, rows)) kind = IsWordFaultBy name rows kind

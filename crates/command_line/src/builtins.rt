@@ -47,8 +47,8 @@ fn twin_in<'a>(builtins: &[Builtin<'a>]) -> Option<&'a str>
     ensures { MatchOption result (AreApart (map (λ b. b.name.now) builtins.now))
         (λ _. ¬ AreApart (map (λ b. b.name.now) builtins.now)) }
 {
-    for (place, builtin) in builtins.iter().enumerate() {
-        if is_named(&builtins[..place], builtin.name) {
+    for (index, builtin) in builtins.iter().enumerate() {
+        if is_named(&builtins[..index], builtin.name) {
             return Some(builtin.name);
         }
     }

@@ -1,4 +1,4 @@
--- The parts of the check of outputs, one behind the other.
+-- The parts of the check of outputs, one after the other.
 use Rattle.std.proofs.Common.{◌≡◌, ◌+◌, ◌<◌, ℕ, zero, suc, Bool, true, false, List, [], ◌∷◌, ◌++◌, add-one, append-nil, append_assoc, get_or, length, take, drop, map, Some, inl, inr, sym, ap, subst, ◌∙◌, arith, rules}
 use Rattle.std.specs.Prelude.{All, Contains, IfOk, Result, Ok, Err}
 use Rattle.std.specs.List.{slice_get}
@@ -164,22 +164,22 @@ module _ (in_draft : Bool) (dir name : List ℕ) (kind : Kind) (drv : Drv) (hash
   abbrev Expected : Output → List ℕ → Type 0
   Expected = IsExpected dir name kind drv hashes
 
-  -- the expected path of an output at a place is the one beside it
-  at_place : (k : ℕ) (o : Output) → slice_get drv.outputs k ≡ Some o → (path : List ℕ)
+  -- the expected path of an output at an index is the one beside it
+  at_index : (k : ℕ) (o : Output) → slice_get drv.outputs k ≡ Some o → (path : List ℕ)
       × (slice_get paths k ≡ Some path) × Expected o path
-  at_place k o at = search (rules, beside)
+  at_index k o at = search (rules, beside)
 
   pub paths_fit : FitBefore (PathFits in_draft) drv.outputs paths (length drv.outputs)
       → PathsFit (FitsExpected in_draft) Expected drv
   paths_fit fit k d below =
       let at = slice_get-get_or _ k d below in
-      let found = at_place k _ at in
+      let found = at_index k _ at in
       (found.0, found.2, fit k (get_or drv.outputs k d) found.0 below at found.1)
 
   no_other : (k : ℕ) (o : Output) → slice_get drv.outputs k ≡ Some o
       → FitBefore (EntriesFit in_draft drv.env) drv.outputs paths (k + 1)
       → HasOtherEntry (FitsExpected in_draft) Expected drv o → ⊥
-  no_other k o at fit (entry, path, has, key, is, misfit) = search (rules, at_place, one_path)
+  no_other k o at fit (entry, path, has, key, is, misfit) = search (rules, at_index, one_path)
 
   pub entries_fit : FitBefore (EntriesFit in_draft drv.env) drv.outputs paths (length drv.outputs)
       → All (λ o. HasOtherEntry (FitsExpected in_draft) Expected drv o → ⊥) drv.outputs
@@ -191,25 +191,25 @@ module _ (in_draft : Bool) (dir name : List ℕ) (kind : Kind) (drv : Drv) (hash
       × (FitsExpected in_draft p.path q → ⊥))
       drv.outputs o × Expected o path
   first_mismatch o path pair =
-      let found = at_place _ o pair.is_output in
+      let found = at_index _ o pair.is_output in
       let one : found.0 ≡ path = same_Some found.0 path (sym found.1 ∙ pair.is_path) in
       let here : Expected o path = subst (λ (q : List ℕ). Expected o q) one found.2 in (
         record {
-          before = take pair.place drv.outputs;
-          after = drop (suc pair.place) drv.outputs;
+          before = take pair.index drv.outputs;
+          after = drop (suc pair.index) drv.outputs;
           parts = split_get _ _ o pair.is_output;
           is = (path, here, pair.wrong);
           others = λ k d below (q, is, misfit).
               let at = slice_get-take _ _ k
               _
               (slice_get-get_or _ k d below) in
-              let beside_it = at_place k _ at.1 in
+              let beside_it = at_index k _ at.1 in
               let same : q ≡ beside_it.0 = one_path _ _ _ _ _
               _ q _ is beside_it.2 in
               misfit (subst
-              (λ (r : List ℕ). FitsExpected in_draft (get_or (take pair.place drv.outputs) k d).path
+              (λ (r : List ℕ). FitsExpected in_draft (get_or (take pair.index drv.outputs) k d).path
               r) (sym same)
-              (pair.before k (get_or (take pair.place drv.outputs) k d) beside_it.0 at.0 at.1
+              (pair.before k (get_or (take pair.index drv.outputs) k d) beside_it.0 at.0 at.1
               beside_it.1));
         },
         here,
@@ -220,12 +220,12 @@ module _ (in_draft : Bool) (dir name : List ℕ) (kind : Kind) (drv : Drv) (hash
       drv.outputs paths o path
       → IsFirstWhere (HasOtherEntry (FitsExpected in_draft) Expected drv) drv.outputs o
   first_other o path pair =
-      let found = at_place _ o pair.is_output in
+      let found = at_index _ o pair.is_output in
       let one : found.0 ≡ path = same_Some found.0 path (sym found.1 ∙ pair.is_path) in
       let here : Expected o path = subst (λ (q : List ℕ). Expected o q) one found.2 in
       record {
-        before = take pair.place drv.outputs;
-        after = drop (suc pair.place) drv.outputs;
+        before = take pair.index drv.outputs;
+        after = drop (suc pair.index) drv.outputs;
         parts = split_get _ _ o pair.is_output;
         is = (pair.wrong.0, path, pair.wrong.1, pair.wrong.2, here, pair.wrong.3);
         others = λ k d below.
@@ -332,9 +332,9 @@ use_fault_at inputs drvs i x d fault at_x at_d before here =
 
 -- ---- entries under a name
 
-places_one : (keys : List (List ℕ)) (i j : ℕ) (key : List ℕ) → IsRising keys → slice_get keys i
+indices_one : (keys : List (List ℕ)) (i j : ℕ) (key : List ℕ) → IsRising keys → slice_get keys i
     ≡ Some key → slice_get keys j ≡ Some key → i < j → ⊥
-places_one keys i j key rises at_i at_j before =
+indices_one keys i j key rises at_i at_j before =
     let less : slice_cmp nat_cmp (get_or keys i []) (get_or keys j [])
     ≡ Less = Less-from_sorted (slice_cmp nat_cmp) _ i j [] (sorted_from_rising _ rises)
     before (slice_get_within keys j key at_j) in
@@ -353,31 +353,31 @@ one_entry env i j a b rises at_a at_b same =
     let key_b : slice_get keys j ≡ Some a.key = slice_get-map (λ (e : EnvEntry). e.key) env j
     ∙ ap (option_map (λ (e : EnvEntry). e.key)) at_b ∙ ap (λ (k : List ℕ). Some k) (sym same) in
     elim (cases_lt i j) [
-      | inl before ↦ absurd (places_one _ i j _ rises key_a key_b before)
+      | inl before ↦ absurd (indices_one _ i j _ rises key_a key_b before)
       | inr not_before ↦ elim (cases_lt j i) [
-        | inl behind ↦ absurd (places_one _ j i _ rises key_b key_a behind)
-        | inr not_behind ↦
-            let place : i ≡ j = omega arith in
-            same_Some a b (sym at_a ∙ ap (λ (n : ℕ). slice_get env n) place ∙ at_b)
+        | inl later ↦ absurd (indices_one _ j i _ rises key_b key_a later)
+        | inr not_after ↦
+            let index : i ≡ j = omega arith in
+            same_Some a b (sym at_a ∙ ap (λ (n : ℕ). slice_get env n) index ∙ at_b)
       ]
     ]
 
 pub entry_answer : (in_draft : Bool) (env : List EnvEntry) (name path : List ℕ) (answer : Bool)
-    (place : ℕ) (entry : EnvEntry) → IsRising (map (λ (e : EnvEntry). e.key) env)
-    → slice_get (map (λ (e : EnvEntry). e.key) env) place ≡ Some name → slice_get env place
+    (index : ℕ) (entry : EnvEntry) → IsRising (map (λ (e : EnvEntry). e.key) env)
+    → slice_get (map (λ (e : EnvEntry). e.key) env) index ≡ Some name → slice_get env index
     ≡ Some entry → MatchBool answer (FitsExpected in_draft entry.value path)
     (FitsExpected in_draft entry.value path → ⊥)
     → MatchBool answer (HasMisfit in_draft env name path → ⊥) (HasMisfit in_draft env name path)
-entry_answer in_draft env name path true place entry rises at_key at fits =
+entry_answer in_draft env name path true index entry rises at_key at fits =
     λ (other, has, key, misfit).
     let found = get_from_contains _ _ has in
     let here : Some entry.key ≡ Some name = sym
-    (slice_get-map (λ (e : EnvEntry). e.key) env place
+    (slice_get-map (λ (e : EnvEntry). e.key) env index
     ∙ ap (option_map (λ (e : EnvEntry). e.key)) at) ∙ at_key in
     let same : other ≡ entry = one_entry _ _ _ _ _ rises found.1 at
     (key ∙ sym (same_Some entry.key name here)) in
     misfit (subst (λ (e : EnvEntry). FitsExpected in_draft e.value path) (sym same) fits)
-entry_answer in_draft env name path false place entry rises at_key at fits =
+entry_answer in_draft env name path false index entry rises at_key at fits =
     search (rules, slice_get-map, Contains-from_get, same_Some)
 
 -- outputs that fit, seen otherwise

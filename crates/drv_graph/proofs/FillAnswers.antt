@@ -19,10 +19,10 @@ use Rattle.nix_drv.specs.declared.derivation.Parts.{Parts}
 use Rattle.nix_drv.specs.declared.fault.DrvFault.{DrvFault}
 use Rattle.nix_drv.specs.declared.fault.DrvFault.TheVariants.{NoMemory as NoSpace, Syntax, Order, TooLong, TextPathMismatch, NotADrvName, NotSorted, BadReference}
 use Rattle.drv_graph.specs.Filling.{AreInStore, IsFilledText, IsFilling, MayFill, file_name}
-use Rattle.drv_graph.specs.private.FillSteps.{AreDraftPaths, AreUsed, IsFillRefused, IsFilledBehind, IsStrayRefused, IsTarget, IsTextPath, IsTextRefused}
+use Rattle.drv_graph.specs.private.FillSteps.{AreDraftPaths, AreUsed, IsFillRefused, IsFilledAfter, IsStrayRefused, IsTarget, IsTextPath, IsTextRefused}
 use Rattle.drv_graph.specs.Loading.{IsLoading}
 use Rattle.drv_graph.specs.Nodes.{AreHashes, Node, inputs_of}
-use Rattle.drv_graph.specs.private.Placing.{IsPlaced}
+use Rattle.drv_graph.specs.private.Insertion.{IsInserted}
 use Rattle.drv_graph.specs.PlanNodes.{AreKept, nodes_of}
 use Rattle.drv_graph.specs.Plans.{AreDrvsOf, AreNumbers, Graph, IsPlan, each_once}
 use Rattle.drv_graph.specs.private.UsedInputs.{drvs_of_uses, hashes_of}
@@ -45,8 +45,8 @@ pub stray_draft : (dir : List ℕ) (paths : List (List ℕ)) (fault : DrvFault) 
     → IsStrayFault dir paths fault → IsStrayRefused dir paths (Draft (Text fault))
 stray_draft dir paths (BadReference text) some stray = inr (text, refl, stray)
 stray_draft dir paths NoSpace some stray = absurd (some refl)
-stray_draft dir paths (Syntax place) some stray = absurd stray
-stray_draft dir paths (Order place) some stray = absurd stray
+stray_draft dir paths (Syntax index) some stray = absurd stray
+stray_draft dir paths (Order index) some stray = absurd stray
 stray_draft dir paths TooLong some stray = absurd stray
 stray_draft dir paths (TextPathMismatch path) some stray = absurd stray
 stray_draft dir paths NotADrvName some stray = absurd stray
@@ -114,21 +114,21 @@ pub paths_long : {profile : Profile} (dir name : List ℕ) (draft : Drv) (used :
 paths_long dir name draft used hashes paths given (kind, right, expected) same =
     search (rules, AllZip-long)
 
-pub filled_behind : {profile : Profile} (dir name : List ℕ) (nodes : List Node)
+pub filled_after : {profile : Profile} (dir name : List ℕ) (nodes : List Node)
     (draft filled : Drv) (used : List Drv)
     (hashes paths given : List (List ℕ)) → AreUsed nodes draft used hashes
     → AreDraftPaths profile dir name draft used hashes paths → given ≡ paths
-    → IsPlaced given draft filled
-    → IsFilledBehind profile dir name nodes draft filled
-filled_behind dir name nodes draft filled used hashes paths given behind (kind, right, expected)
+    → IsInserted given draft filled
+    → IsFilledAfter profile dir name nodes draft filled
+filled_after dir name nodes draft filled used hashes paths given basis (kind, right, expected)
     same is = record {
       used = used;
       hashes = hashes;
-      behind = behind;
+      basis = basis;
       kind = kind;
       right = right;
       filled_is = filled_right _ _ _ _ _ _ expected _ _ right
-          (subst (λ (ps : List (List ℕ)). IsPlaced ps draft filled) same is);
+          (subst (λ (ps : List (List ℕ)). IsInserted ps draft filled) same is);
     }
 
 -- ---- all of it
@@ -145,9 +145,9 @@ module _ (dir : List ℕ) (gives : List ℕ → Answer → Type 0) (name : List 
 
     module _ {profile : Profile} (graph : Graph)
         (loaded : IsPlan dir gives (inputs_of draft) graph × (graph.profile ≡ profile)) where
-      abbrev behind : (used : List Drv) (hashes : List (List ℕ))
+      abbrev basis : (used : List Drv) (hashes : List (List ℕ))
           → AreUsed graph.nodes draft used hashes → MayFill profile dir gives name draft
-      behind used hashes are = record {
+      basis used hashes are = record {
         graph = graph;
         is_plan = loaded.0;
         is_under = loaded.1;
@@ -164,7 +164,7 @@ module _ (dir : List ℕ) (gives : List ℕ → Answer → Type 0) (name : List 
       refused_as fault (inr (used, hashes, are, inr (of, is, some, check))) =
           rw is (
             is_target.names,
-            (none_stray _ _ is_target.in_store, some, (behind used hashes are, check)),
+            (none_stray _ _ is_target.in_store, some, (basis used hashes are, check)),
           )
 
       pub fill_refused : (fault : GraphFault)
@@ -175,14 +175,14 @@ module _ (dir : List ℕ) (gives : List ℕ → Answer → Type 0) (name : List 
           (subst (λ p. IsFillRefused p dir name graph.nodes draft fault) loaded.1 refused)
 
       module _ (filled : Drv)
-          (by_plan : IsFilledBehind graph.profile dir name graph.nodes draft filled) where
-        is_filled : IsFilledBehind profile dir name graph.nodes draft filled
-        is_filled = subst (λ p. IsFilledBehind p dir name graph.nodes draft filled) loaded.1 by_plan
+          (by_plan : IsFilledAfter graph.profile dir name graph.nodes draft filled) where
+        is_filled : IsFilledAfter profile dir name graph.nodes draft filled
+        is_filled = subst (λ p. IsFilledAfter p dir name graph.nodes draft filled) loaded.1 by_plan
 
         abbrev filled_text : (bytes : List ℕ) → IsDrvText filled bytes
             → IsFilledText profile dir gives name draft filled bytes
         filled_text bytes is_text = record {
-          behind = behind is_filled.used is_filled.hashes is_filled.behind;
+          basis = basis is_filled.used is_filled.hashes is_filled.basis;
           kind = is_filled.kind;
           right = is_filled.right;
           filled_is = is_filled.filled_is;

@@ -61,19 +61,19 @@ module _ {X : Type 0} (p : X → Bool) where
       ≡ (if not b then 1 + position_or_len p xs else 0)
   at x xs b is = search (rules, not)
 
-  -- one element more in front of lists that have it at one place
-  behind : (z : X) (xs ys : List X) (b : Bool) → p z ≡ b
+  -- one element more in front of lists that have it at one index
+  after : (z : X) (xs ys : List X) (b : Bool) → p z ≡ b
       → (b ≡ false → position_or_len p xs ≡ position_or_len p ys)
       → position_or_len p (z ∷ xs) ≡ position_or_len p (z ∷ ys)
-  behind z xs ys true is same = search (rules, at)
-  behind z xs ys false is same = search (rules, at)
+  after z xs ys true is same = search (rules, at)
+  after z xs ys false is same = search (rules, at)
 
   -- it stays the first as the list grows
   pub position_grows : (xs ys : List X) (x : X) → Contains xs x → p x ≡ true
       → position_or_len p (xs ++ ys) ≡ position_or_len p xs
   position_grows [] ys x has passes = absurd (Contains-nothing x has)
   position_grows (z ∷ xs) ys x has passes =
-      behind z _ _ _ refl
+      after z _ _ _ refl
       (λ fails. position_grows xs ys x
       (⊎_elim (λ same. absurd (false≢true (sym fails ∙ ap p same ∙ passes))) (λ later. later)
       (Contains-cons_cases z _ x has)) passes)
@@ -82,7 +82,7 @@ module _ {X : Type 0} (p : X → Bool) where
   pub position_push : (xs : List X) (x : X) → p x ≡ true → position_or_len p (xs ++ x ∷ [])
       ≡ position_or_len p xs
   position_push [] x passes = at x [] true passes
-  position_push (z ∷ xs) x passes = search (rules, behind, position_push xs x passes)
+  position_push (z ∷ xs) x passes = search (rules, after, position_push xs x passes)
 
 -- ---- the first twin, by the owners of outputs
 

@@ -17,7 +17,7 @@ use Rattle.drv_graph.specs.Twins.{are_twins_at, first_twin_of}
 use Rattle.drv_graph.specs.declared.plans.node.PlanNode.{PlanNode}
 use Rattle.drv_graph.proofs.FirstTwins.{first_within}
 use Rattle.drv_graph.proofs.Numbers.{number_grows}
-use Rattle.drv_graph.proofs.PathLists.{same_place}
+use Rattle.drv_graph.proofs.PathLists.{same_index}
 use Rattle.drv_graph.proofs.Roots.{number_source}
 use Rattle.nix_names.proofs.Lists.{All-from_contains, Contains-cons_cases, Contains-from_get, Contains-map, Contains-nothing, get_from_contains, get_mapped}
 use Rattle.drv_graph.specs.declared.profile.Profile.{Profile}
@@ -101,15 +101,15 @@ smaller graph d node ns sound at numbers n has =
     let before : Contains (paths_of (take d graph.nodes)) its.0 =
     drvs_paths _ _ _ lawful.right.are_used
     _ its.1 in
-    let place = get_from_contains _ _ before in
-    let there : slice_get (paths_of graph.nodes) place.0 ≡ Some its.0 =
-    subst (λ l. slice_get (paths_of l) place.0 ≡ Some its.0) (sym parts)
-    (number_grows (take d graph.nodes) (node ∷ drop (suc d) graph.nodes) place.0 _ place.1)
+    let index = get_from_contains _ _ before in
+    let there : slice_get (paths_of graph.nodes) index.0 ≡ Some its.0 =
+    subst (λ l. slice_get (paths_of l) index.0 ≡ Some its.0) (sym parts)
+    (number_grows (take d graph.nodes) (node ∷ drop (suc d) graph.nodes) index.0 _ index.1)
     in
-    let same : n ≡ place.0 = same_place _ n _ _ sound.distinct its.2
+    let same : n ≡ index.0 = same_index _ n _ _ sound.distinct its.2
     there in
-    let low : place.0 < length (paths_of (take d graph.nodes)) =
-    slice_get_within (paths_of (take d graph.nodes)) place.0 its.0 place.1 in
+    let low : index.0 < length (paths_of (take d graph.nodes)) =
+    slice_get_within (paths_of (take d graph.nodes)) index.0 its.0 index.1 in
     omega (
       arith,
       same,

@@ -8,7 +8,7 @@ use Rattle.std.proofs.lemmas.List.Elements.{All-contains, All-push}
 use Rattle.std.proofs.lemmas.Simd.{map-map}
 use Rattle.nix_drv.specs.Derivation.{Drv, Output}
 use Rattle.nix_drv.specs.Parts.{bytes_of, drv_of, input_of, output_of, path_of}
-use Rattle.nix_drv.specs.Places.{output_names}
+use Rattle.nix_drv.specs.Indices.{output_names}
 use Rattle.nix_drv.specs.declared.derivation.Input.{Input as InputStruct}
 use Rattle.nix_drv.specs.declared.derivation.Output.{Output as OutputStruct}
 use Rattle.nix_drv.specs.declared.derivation.Parts.{Parts}
@@ -126,11 +126,11 @@ apart_drv : (kept : List PlanNode) (drv : Drv) (owners : List ℕ → Option ℕ
     → (ShareOutput earlier.drv drv → ⊥) ⊎ AreTwins earlier.drv drv
 apart_drv kept drv owners right earlier has =
     let source = Contains-from_map node_of _ _ has in
-    let place = get_from_contains _ _ source.1 in
+    let index = get_from_contains _ _ source.1 in
     let drvs : source.0.drv ≡ earlier.drv = ap (λ (n : Node). n.drv) source.2 in
     let left = outputs_of kept in
-    let its : slice_get left place.0 ≡ Some (output_paths_of earlier.drv) =
-    get_mapped (λ (k : PlanNode). output_paths_of k.drv) kept place.0 _ place.1
+    let its : slice_get left index.0 ≡ Some (output_paths_of earlier.drv) =
+    get_mapped (λ (k : PlanNode). output_paths_of k.drv) kept index.0 _ index.1
     ∙ ap (λ (d : Drv). Some (output_paths_of d)) drvs in
     ⊎_elim
     (λ none. inl (λ shared. none shared.0.path
@@ -138,9 +138,9 @@ apart_drv kept drv owners right earlier has =
     (subst (Contains (output_paths_of drv)) (sym shared.4)
     (Contains-map (λ (o : Output). o.path) _ _ shared.3))))
     inr
-    (apart_or_same owners (left ++ output_paths_of drv ∷ []) place.0 (length left)
+    (apart_or_same owners (left ++ output_paths_of drv ∷ []) index.0 (length left)
     (output_paths_of earlier.drv) (output_paths_of drv) right
-    (get_grows left (output_paths_of drv ∷ []) place.0 (output_paths_of earlier.drv) its)
+    (get_grows left (output_paths_of drv ∷ []) index.0 (output_paths_of earlier.drv) its)
     (get_pushed left _))
 
 -- what is kept is right with one derivation more

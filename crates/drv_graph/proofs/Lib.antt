@@ -31,6 +31,6 @@ pub mod Loaded
 pub mod Kept
 pub mod Going
 pub mod Copies
-pub mod EmptyPlaces
+pub mod InsertedPaths
 pub mod FilledDrafts
 pub mod FillAnswers

@@ -1,4 +1,4 @@
--- All that some roots reach: what was left behind the first roots, and the plan behind all of them.
+-- All that some roots reach: what was left after the first roots, and the plan after all of them.
 use Rattle.std.proofs.Common.{◌≡◌, ℕ, ◌+◌, ◌≤◌, List, [], ◌∷◌, ◌++◌, length, take, refl, sym, subst, nat_eq, None, rules}
 use Rattle.std.specs.Prelude.{All, Contains}
 use Rattle.std.specs.Cmp.Lexicographic.{pointwise}
@@ -122,13 +122,13 @@ loading_more dir G H roots done found after numbers next root number same some v
 -- after all roots
 pub loading_ends : {profile : Profile} (dir : List ℕ) (gives : List ℕ → Answer → Type 0)
     (roots : List (List ℕ))
-    (place : ℕ) (found : WalkState) (numbers : List ℕ) → length roots ≤ place
-    → IsReachedSome profile dir gives roots (take place roots) found numbers
+    (index : ℕ) (found : WalkState) (numbers : List ℕ) → length roots ≤ index
+    → IsReachedSome profile dir gives roots (take index roots) found numbers
     → IsReachedAll profile dir gives roots found numbers
-loading_ends {profile} dir gives roots place found numbers all some =
+loading_ends {profile} dir gives roots index found numbers all some =
     let whole : IsReachedSome profile dir gives roots roots found numbers =
     subst (λ l. IsReachedSome profile dir gives roots l found numbers)
-    (take_all place roots all) some
+    (take_all index roots all) some
     in
     record {
       walked = whole.walked;

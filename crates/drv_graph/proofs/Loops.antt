@@ -66,7 +66,7 @@ pub written_all : {A C : Type 0} (view : A → C) (f : C → C) (old now : List 
 written_all {A} {C} view f old now i past is =
     search (rules, length-map, take_all, drop_all, append-nil)
 
--- ---- elements and their places
+-- ---- elements and their indices
 
 pub slice_get-take : {A : Type 0} (xs : List A) (n k : ℕ) (x : A) → slice_get (take n xs) k ≡ Some x
     → (k < n) × (slice_get xs k ≡ Some x)
@@ -97,7 +97,7 @@ zipped_from_map {A} {B} R f xs ys is each = subst (λ (zs : List B). AllZip R xs
 
 -- ---- a list that is gone over
 
--- the view of the element at a place
+-- the view of the element at an index
 pub seen_at : {A B : Type 0} (view : A → B) (items : List A) (i : ℕ) (d : A) → i < length items → d
     ≡ get_or items i d → slice_get (map view items) i ≡ Some (view d)
 seen_at view items i d below at = search (rules, slice_get-map, slice_get_read)
@@ -107,7 +107,7 @@ pub seen_twice : {A B C : Type 0} (outer : B → C) (view : A → B) (items : Li
     → slice_get (map outer (map view items)) i ≡ Some (outer (view d))
 seen_twice outer view items i d below at = search (rules, slice_get-map, seen_at)
 
--- a list that is built is the front of another, up to a place
+-- a list that is built is the front of another, up to an index
 pub took_more : {B : Type 0} (xs : List B) (i : ℕ) (x : B) (built pushed : List B) → slice_get xs i
     ≡ Some x → built ≡ take i xs → pushed ≡ built ++ x ∷ [] → pushed ≡ take (i + 1) xs
 took_more {B} xs i x built pushed at before is =
@@ -120,7 +120,7 @@ pub took_all : {B : Type 0} (xs built : List B) (i : ℕ) → length xs ≤ i �
     ≡ xs
 took_all xs built i past is = is ∙ take_all i xs past
 
--- what holds of each element up to a place
+-- what holds of each element up to an index
 pub all_took_more : {B : Type 0} (P : B → Type 0) (xs : List B) (i : ℕ) (x : B) → slice_get xs i
     ≡ Some x → All P (take i xs) → P x → All P (take (i + 1) xs)
 all_took_more {B} P xs i x at before here =

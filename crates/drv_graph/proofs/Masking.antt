@@ -20,17 +20,17 @@ use Rattle.nix_drv.specs.declared.derivation.Parts.{Parts}
 use Rattle.drv_graph.specs.private.Uniting.{masked_output}
 use Rattle.std.specs.Vec.{with_items}
 use Rattle.std.proofs.lemmas.List.{with_items_is}
-use Rattle.nix_drv.specs.Places.{IsPlaceOfKey}
+use Rattle.nix_drv.specs.Indices.{IsIndexOfKey}
 use Rattle.drv_graph.specs.Modulo.{IsModuloText, IsUnited, masked, masked_entry, names_of, replaced, with_inputs}
 use Rattle.nix_names.proofs.Lists.{Contains-first, Contains-later}
 
 -- ---- entries under names
 
-any_here : (key : List ℕ) (names : List (List ℕ)) (place : ℕ) → slice_get names place ≡ Some key
+any_here : (key : List ℕ) (names : List (List ℕ)) (index : ℕ) → slice_get names index ≡ Some key
     → list_any (same_bytes key) names ≡ true
-any_here key [] place e = absurd cc
+any_here key [] index e = absurd cc
 any_here key (x ∷ xs) zero e = search rules
-any_here key (x ∷ xs) (suc place) e = later (same_bytes key x) (any_here key xs place e)
+any_here key (x ∷ xs) (suc index) e = later (same_bytes key x) (any_here key xs index e)
   where
     later : (b : Bool) → list_any (same_bytes key) xs ≡ true → (b || list_any (same_bytes key) xs)
         ≡ true
@@ -52,27 +52,27 @@ any_none key (x ∷ xs) none =
     ∙ any_none key xs (λ has. none (Contains-later x xs key has))
 
 -- an entry under a name has no value
-pub masked_under : (names : List (List ℕ)) (entry : EnvEntry) (place : ℕ) → slice_get names place
+pub masked_under : (names : List (List ℕ)) (entry : EnvEntry) (index : ℕ) → slice_get names index
     ≡ Some entry.key → record { key = entry.key; value = [] } ≡ masked_entry names entry
-masked_under names entry place at = search (rules, any_here)
+masked_under names entry index at = search (rules, any_here)
 
 -- another is as it was
 pub masked_other : (names : List (List ℕ)) (entry : EnvEntry) → (Contains names entry.key → ⊥)
     → entry ≡ masked_entry names entry
 masked_other names entry none = search (rules, any_none)
 
--- the same by what was found
+-- an entry under a name has no value, by what was found
 pub masked_found : (names : List (List ℕ)) (entry : EnvEntry) (key : List ℕ) (found : Option ℕ)
-    → IsPlaceOfKey names key found → key ≡ entry.key → is_some found ≡ true
+    → IsIndexOfKey names key found → key ≡ entry.key → is_some found ≡ true
     → record { key = entry.key; value = [] } ≡ masked_entry names entry
-masked_found names entry key None place same is = absurd (false≢true is)
-masked_found names entry key (Some place) at same is = search (rules, masked_under)
+masked_found names entry key None index same is = absurd (false≢true is)
+masked_found names entry key (Some index) at same is = search (rules, masked_under)
 
 pub masked_missing : (names : List (List ℕ)) (entry : EnvEntry) (key : List ℕ) (found : Option ℕ)
-    → IsPlaceOfKey names key found → key ≡ entry.key → is_some found ≡ false
+    → IsIndexOfKey names key found → key ≡ entry.key → is_some found ≡ false
     → entry ≡ masked_entry names entry
 masked_missing names entry key None none same is = search (rules, masked_other)
-masked_missing names entry key (Some place) at same is = absurd (false≢true (sym is))
+masked_missing names entry key (Some index) at same is = absurd (false≢true (sym is))
 
 -- ---- inputs with hashes
 

@@ -14,7 +14,7 @@ use Rattle.nix_names.proofs.PathDigests.{hash_part_of_fold}
 use Rattle.nix_names.proofs.PathTexts.{name_of_path}
 use Rattle.nix_names.proofs.RisingLists.{equal_from_eq, first_below, not_below_itself, rising_later}
 use Rattle.nix_drv.specs.Derivation.{Drv, Output}
-use Rattle.nix_drv.specs.Places.{output_names}
+use Rattle.nix_drv.specs.Indices.{output_names}
 use Rattle.nix_drv.specs.Sources.{Answer}
 use Rattle.drv_graph.specs.Expected.{IsExpected, path_name}
 use Rattle.drv_graph.specs.Kinds.{HasKind}

@@ -1,4 +1,4 @@
--- Lists of paths, and of what has paths: what they contain, and at which places.
+-- Lists of paths, and of what has paths: what they contain, and at which indices.
 use Rattle.std.proofs.Common.{◌≡◌, ◌∙◌, ℕ, ◌<◌, ◌≤◌, Bool, true, false, List, [], ◌∷◌, ◌++◌, length, take, get_or, refl, sym, ap, subst, inl, inr, ⊎_elim, nat_eq, arith, Some, rules}
 use Rattle.std.specs.Prelude.{◌⊎◌, Contains, slice_get}
 use Rattle.std.specs.Cmp.Lexicographic.{pointwise, nat_list_eq_equiv}
@@ -49,10 +49,10 @@ pub distinct_push : (paths : List (List ℕ)) (path : List ℕ) → AreDistinct 
     → (Contains paths path → ⊥) → AreDistinct (paths ++ path ∷ [])
 distinct_push paths path once new = search (rules, IsDistinct-push, unknown)
 
--- a path stands at one place
-pub same_place : (paths : List (List ℕ)) (i j : ℕ) (path : List ℕ) → AreDistinct paths
+-- a path stands at one index
+pub same_index : (paths : List (List ℕ)) (i j : ℕ) (path : List ℕ) → AreDistinct paths
     → slice_get paths i ≡ Some path → slice_get paths j ≡ Some path → i ≡ j
-same_place paths i j path once at_i at_j = by (either_side i j)
+same_index paths i j path once at_i at_j = by (either_side i j)
   where
     apart : (a b : ℕ) → a < b → slice_get paths a ≡ Some path → slice_get paths b ≡ Some path → ⊥
     apart a b below at_a at_b =
@@ -98,10 +98,10 @@ as_long xs ys once once' same =
     let down = no_more_than _ _ once' (λ q is. (same q).1 is) in
     omega (arith, up, down)
 
--- a path that stands at a place stands at none before it
+-- a path that stands at an index stands at none before it
 pub not_before : (paths : List (List ℕ)) (i : ℕ) (path : List ℕ) → AreDistinct paths
     → slice_get paths i ≡ Some path → Contains (take i paths) path → ⊥
 not_before paths i path once at has =
     let before = get_from_contains _ _ has in
     let there = slice_get-take _ i _ _ before.1 in
-    omega (arith, there.0, same_place _ _ i _ once there.1 at)
+    omega (arith, there.0, same_index _ _ i _ once there.1 at)

@@ -6,8 +6,8 @@ use Rattle.std.proofs.lemmas.Option.{same_Some}
 use Rattle.drv_graph.specs.Loading.{AreDistinct}
 use Rattle.drv_graph.specs.Nodes.{Node, inputs_of, paths_of}
 use Rattle.drv_graph.specs.Plans.{AreLeft, IsReachedBy, LeadsBy, Uses}
-use Rattle.drv_graph.specs.Plans.AreLeft.{none_left, passed_over, left_behind_inputs}
-use Rattle.drv_graph.proofs.PathLists.{same_place}
+use Rattle.drv_graph.specs.Plans.AreLeft.{none_left, passed_over, left_after_inputs}
+use Rattle.drv_graph.proofs.PathLists.{same_index}
 use Rattle.nix_names.proofs.Lists.{Contains-cons_cases, Contains-first, Contains-later, Contains-nothing, Contains-push_cases, get_from_contains, get_mapped}
 
 -- paths left in two runs are left in one
@@ -17,9 +17,9 @@ pub left_append : {nodes : List Node} {before paths middle : List (List ℕ)}
 left_append more after (none_left b) rest = rest
 left_append more after (passed_over path b paths middle has first) rest =
     passed_over path b (paths ++ more) after has (left_append _ _ first rest)
-left_append more after (left_behind_inputs node b inputs paths middle is_node new under apart first)
+left_append more after (left_after_inputs node b inputs paths middle is_node new under apart first)
     rest =
-    left_behind_inputs node b inputs (paths ++ more) after is_node new under apart
+    left_after_inputs node b inputs (paths ++ more) after is_node new under apart
     (left_append _ _ first rest)
 
 -- a path that was left before is passed over
@@ -27,7 +27,7 @@ pub left_later : {nodes : List Node} {before after : List (List ℕ)} (path : Li
     (paths : List (List ℕ)) → AreLeft nodes before (path ∷ paths) after → Contains before path
     → AreLeft nodes before paths after
 left_later path paths (passed_over p b ps a has rest) there = rest
-left_later path paths (left_behind_inputs node b inputs ps a is_node new under apart rest) there =
+left_later path paths (left_after_inputs node b inputs ps a is_node new under apart rest) there =
     absurd (new there)
 
 -- what was left stays
@@ -36,7 +36,7 @@ pub left_keeps : {nodes : List Node} {before paths after : List (List ℕ)}
     → Contains after path
 left_keeps (none_left b) path has = has
 left_keeps (passed_over p b ps a there rest) path has = left_keeps rest _ has
-left_keeps (left_behind_inputs node b inputs ps a is_node new under apart rest) path has =
+left_keeps (left_after_inputs node b inputs ps a is_node new under apart rest) path has =
     left_keeps rest _ (Contains-append_left _ _ _ (left_keeps under _ has))
 
 -- what was asked for is left
@@ -46,7 +46,7 @@ left_has (none_left b) path has = absurd (Contains-nothing _ has)
 left_has (passed_over p b ps a there rest) path has =
     ⊎_elim (λ same. left_keeps rest _ (subst (Contains b) same there))
     (λ later. left_has rest _ later) (Contains-cons_cases p _ _ has)
-left_has (left_behind_inputs node b inputs ps a is_node new under apart rest) path has =
+left_has (left_after_inputs node b inputs ps a is_node new under apart rest) path has =
     ⊎_elim (λ same.
     left_keeps rest _
     (subst (Contains (inputs ++ node.path ∷ [])) same (Contains-push _ _)))
@@ -77,7 +77,7 @@ pub left_closed : {nodes : List Node} {before paths after : List (List ℕ)}
     → AreLeft nodes before paths after → AreClosed nodes before → AreClosed nodes after
 left_closed (none_left b) closed = closed
 left_closed (passed_over p b ps a there rest) closed = left_closed rest closed
-left_closed {nodes = nodes} (left_behind_inputs node b inputs ps a is_node new under apart rest)
+left_closed {nodes = nodes} (left_after_inputs node b inputs ps a is_node new under apart rest)
     closed =
     left_closed rest (closed_push _ _ _ is_node (left_has under) (left_closed under closed))
 
@@ -95,7 +95,7 @@ pub left_all :
 left_all P on (none_left b) old asked path has = old path has
 left_all P on (passed_over p b ps a there rest) old asked path has =
     left_all P on rest old (λ q is. asked q (Contains-later p _ q is)) _ has
-left_all P on (left_behind_inputs node b inputs ps a is_node new under apart rest) old asked path
+left_all P on (left_after_inputs node b inputs ps a is_node new under apart rest) old asked path
     has =
     let own : P node.path = asked node.path (Contains-first _ _) in
     let earlier : (q : List ℕ) → Contains inputs q
@@ -115,8 +115,8 @@ same_node nodes a b once has_a has_b same =
     ≡ Some b.path = get_mapped (λ (n : Node). n.path) nodes at_a.0 a at_a.1 ∙ ap Some same in
     let path_b : slice_get (paths_of nodes) at_b.0
     ≡ Some b.path = get_mapped (λ (n : Node). n.path) nodes at_b.0 b at_b.1 in
-    let place = same_place _ _ _ _ once path_a path_b in
-    same_Some a b (sym at_a.1 ∙ ap (λ n. slice_get nodes n) place ∙ at_b.1)
+    let index = same_index _ _ _ _ once path_a path_b in
+    same_Some a b (sym at_a.1 ∙ ap (λ n. slice_get nodes n) index ∙ at_b.1)
 
 -- one more step
 pub leads_more : (Step : List ℕ → List ℕ → Type 0) (from to next : List ℕ) (steps : List (List ℕ))

@@ -1,4 +1,4 @@
--- The roots of a plan, each at its first place, and their numbers.
+-- The roots of a plan, each where it first stands, and their numbers.
 use Rattle.std.proofs.Common.{◌≡◌, ◌∙◌, ℕ, Bool, true, false, not, cond, List, [], ◌∷◌, ◌++◌, filter, refl, sym, ap, subst, inl, inr, ⊎_elim, nat_eq, Some, rules}
 use Rattle.std.specs.Prelude.{◌⊎◌, Contains, slice_get}
 use Rattle.std.specs.List.{list_any}
@@ -14,7 +14,7 @@ use Rattle.drv_graph.specs.Loading.{AreDistinct}
 use Rattle.drv_graph.specs.Nodes.{Node, paths_of}
 use Rattle.drv_graph.specs.Plans.{AreNumbers, each_once}
 use Rattle.drv_graph.proofs.Numbers.{first_number, later_numbers, numbers_push}
-use Rattle.drv_graph.proofs.PathLists.{other_path, path_cases, same_place}
+use Rattle.drv_graph.proofs.PathLists.{other_path, path_cases, same_index}
 use Rattle.nix_names.proofs.Lists.{Contains-cons_cases, Contains-first, Contains-later, Contains-nothing}
 
 module _ {X : Type 0} (test : X → Bool) where
@@ -134,7 +134,7 @@ roots_more nodes ns roots root n distinct right is =
     by false e (inl old) =
         let its = number_of_path _ _ _ _ right (once_has _ _ old.0)
         in
-        let one : its.0 ≡ n = same_place _ _ n _ distinct its.2 is in
+        let one : its.0 ≡ n = same_index _ _ n _ distinct its.2 is in
         absurd (false≢true
         (sym e ∙ list_any-from_Contains nat_eq_equiv n _ (subst (Contains ns) one its.1)))
     by false e (inr new) = search (rules, numbers_push)

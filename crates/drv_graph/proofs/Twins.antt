@@ -28,7 +28,7 @@ get_taken (y ∷ ys) zero k x low at = absurd (omega (arith, low))
 get_taken (y ∷ ys) (suc n) zero x low at = at
 get_taken (y ∷ ys) (suc n) (suc k) x low at = get_taken _ n k x (omega (arith, low)) at
 
--- a derivation at a place is lawful after those before it
+-- a derivation at an index is lawful after those before it
 lawful_at : {profile : Profile} (dir : List ℕ) (nodes : List Node) (n : ℕ) (node : Node)
     → AreLawful profile dir nodes
     → slice_get nodes n ≡ Some node → IsLawful profile dir (take n nodes) node

@@ -265,7 +265,7 @@ meeting_fault {profile} dir gives roots root start found visits path fault has_r
     by Name at = absurd at
 
 -- what the check of the innermost open derivation may answer after what was left
-checked_behind :
+checked_after :
     {profile : Profile} (dir : List ℕ) (gives : List ℕ → Answer → Type 0) (roots : List (List ℕ))
     (root : List ℕ)
     (start : List Node) (found : WalkState) (visit : Visit) (visits : List Visit)
@@ -273,7 +273,7 @@ checked_behind :
     IsWalk profile dir gives roots root start found (visit ∷ visits) →
     MayAnswer profile dir (nodes_of found.nodes.items) (visited visit) answer →
     MayCheck profile dir gives visit.path answer
-checked_behind dir gives roots root start found visit visits answer walk check =
+checked_after dir gives roots root start found visit visits answer walk check =
     search (rules, length-map)
 
 -- a fault of the innermost open derivation is true
@@ -285,7 +285,7 @@ pub leaving_fault :
     IsWalk profile dir gives roots root start found (visit ∷ visits) →
     IsLeavingFault profile dir found.nodes.items visit fault →
     IsLoading profile dir gives roots (Err fault)
-unfolding checked_behind
+unfolding checked_after
 leaving_fault dir gives roots root start found visit visits NoMemory walk at = tt
 leaving_fault {profile} dir gives roots root start found visit visits
     (At p (Outputs outputs)) walk at =
@@ -293,7 +293,7 @@ leaving_fault {profile} dir gives roots root start found visit visits
       walk.pending.0.reached,
       (
         at.1,
-        checked_behind _ gives _ _ _ _ _ _ _ walk at.2,
+        checked_after _ gives _ _ _ _ _ _ _ walk at.2,
       ),
     )
 leaving_fault {profile} dir gives roots root start found visit visits (At p OutputClash) walk at =
@@ -309,7 +309,7 @@ leaving_fault {profile} dir gives roots root start found visit visits (At p Outp
       walk.pending.0.reached,
       record {
         kind = at.1.0;
-        checked = checked_behind _ gives _ _ _ _ _ _ _ walk
+        checked = checked_after _ gives _ _ _ _ _ _ _ walk
             at.1.1;
         earlier = other;
         is_earlier = at.2.1;

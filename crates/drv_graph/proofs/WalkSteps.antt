@@ -258,6 +258,6 @@ reverse_one [] visits visit none is = ap reverse is
 reverse_one (v ∷ vs) visits visit none is = absurd (omega (arith, none))
 
 -- a root that was read
-pub root_read : (roots : List (List ℕ)) (place : ℕ) (root other : List ℕ) → place < length roots
-    → root ≡ get_or roots place root → slice_get roots place ≡ Some other → root ≡ other
-root_read roots place root other lt is at = search (rules, same_Some, slice_get_read)
+pub root_read : (roots : List (List ℕ)) (index : ℕ) (root other : List ℕ) → index < length roots
+    → root ≡ get_or roots index root → slice_get roots index ≡ Some other → root ≡ other
+root_read roots index root other lt is at = search (rules, same_Some, slice_get_read)

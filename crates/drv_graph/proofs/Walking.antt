@@ -7,7 +7,7 @@ use Rattle.indexmap.specs.IndexMap.{keys}
 use Rattle.nix_drv.specs.Sources.{Answer}
 use Rattle.drv_graph.specs.Nodes.{Node, inputs_of, paths_of}
 use Rattle.drv_graph.specs.Plans.{AreLeft, AreNumbers, IsReachedBy, MayBeAt, MayUse}
-use Rattle.drv_graph.specs.Plans.AreLeft.{passed_over, left_behind_inputs}
+use Rattle.drv_graph.specs.Plans.AreLeft.{passed_over, left_after_inputs}
 use Rattle.drv_graph.specs.PlanNodes.{nodes_of}
 use Rattle.drv_graph.specs.private.Walks.{Advances, AreMarks, IsWalkSoFar, IsVisit, IsWalked, LeavesNone, Opens, marked, pending_of, visited}
 use Rattle.drv_graph.specs.declared.walks.walk_state.WalkState.{WalkState}
@@ -78,7 +78,7 @@ remains_wanted nodes root [] child now after inputs wanted has new under apart r
     rest in
     let later = left_later _ [] at_root (Contains-push _ _) in
     subst (λ r. AreLeft nodes now (r ∷ []) after) wanted
-    (left_behind_inputs (visited child) now inputs [] after has new under apart later)
+    (left_after_inputs (visited child) now inputs [] after has new under apart later)
 remains_wanted nodes root (v ∷ vs) child now after inputs wanted has new under apart
     (own, left, free, rest) =
     let parts = drop_at (inputs_of v.drv) (length v.numbers.items) _ wanted in
@@ -88,7 +88,7 @@ remains_wanted nodes root (v ∷ vs) child now after inputs wanted has new under
     (Contains-push _ _) in (
       own,
       subst (λ ps. AreLeft nodes now ps own) (sym parts)
-          (left_behind_inputs (visited child) now inputs rest_of own has new under apart later),
+          (left_after_inputs (visited child) now inputs rest_of own has new under apart later),
       free,
       rest,
     )

@@ -14,14 +14,14 @@ use Rattle.drv_graph.specs.declared.profile.Profile.TheVariants.{Plain, Nix}
 abbrev pub same_node : Node → Node → Bool
 same_node a b = pointwise nat_eq a.path b.path && same_drv a.drv b.drv
 
--- a profile's place among the profiles
-abbrev pub place_of : Profile → ℕ
-place_of Plain = 0
-place_of Nix = 1
+-- a profile's index among the profiles
+abbrev pub index_of : Profile → ℕ
+index_of Plain = 0
+index_of Nix = 1
 
 -- whether two profiles are the same
 abbrev pub same_profile : Profile → Profile → Bool
-same_profile a b = nat_eq (place_of a) (place_of b)
+same_profile a b = nat_eq (index_of a) (index_of b)
 
 -- whether two plans have the same profile, the same roots and the same nodes, in the same order
 abbrev pub same_graph : Graph → Graph → Bool
@@ -40,7 +40,7 @@ same_node_laws = and_equiv (on_equiv (λ (n : Node). n.path) nat_list_eq_equiv)
 -- `same_graph` is an equivalence
 pub same_graph_laws : IsEquivalence same_graph
 same_graph_laws =
-    and_equiv (on_equiv (λ (g : Graph). place_of g.profile) nat_eq_equiv)
+    and_equiv (on_equiv (λ (g : Graph). index_of g.profile) nat_eq_equiv)
     (and_equiv (on_equiv (λ (g : Graph). g.roots) nat_list_eq_equiv)
     (on_equiv (λ (g : Graph). g.nodes) (lists_equiv same_node_laws)))
 

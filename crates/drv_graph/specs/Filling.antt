@@ -1,6 +1,6 @@
--- What `fill_outputs_as` answers: a draft in which each empty output path is replaced by the expected
--- path (Nix manual, "Store Derivation"; keeping values that are right already is this product's
--- own).
+-- What `fill_outputs_as` answers: a draft in which each empty output path is replaced by the
+-- expected path (Nix manual, "Store Derivation"; keeping values that are right already is this
+-- product's own).
 use Rattle.std.specs.Prelude.{◌≡◌, ◌≢◌, ◌<◌, ◌≤◌, ◌++◌, List, length, codes, Contains, IsTrue, Result, Ok, Err}
 use Rattle.std.specs.List.{AllZip}
 use Rattle.nix_names.specs.Bytes.{Bytes, Dir, Path, Name, Hash}
@@ -42,7 +42,7 @@ pub record IsFilledEntry (outputs : List Output) (draft filled : EnvEntry) : Typ
       → (filled.value ≡ output.path) × IsThePathOrEmpty draft.value output.path
   pub other : (Contains (names_of outputs) draft.key → ⊥) → filled.value ≡ draft.value
 
--- A draft with its outputs' expected paths in its empty places, and nothing else changed.
+-- A draft with its outputs' expected paths where it has none, and nothing else changed.
 pub record IsFilled (Expected : Output → Path → Type 0) (draft filled : Drv) : Type 0 where
   pub outputs : AllZip (IsFilledOutput Expected) draft.outputs filled.outputs
   pub inputs : filled.inputs ≡ draft.inputs
@@ -60,8 +60,8 @@ file_name name = name ++ codes ".drv"
 abbrev pub AreNames : Name → Type 0
 AreNames name = IsTrue (is_name name) × IsTrue (is_name (file_name name))
 
--- A plan of a draft's inputs under a profile, by answers that the source may give, and the derivations and the
--- modulo hashes of these inputs.
+-- A plan of a draft's inputs under a profile, by answers that the source may give, and the
+-- derivations and the modulo hashes of these inputs.
 pub record MayFill (profile : Profile) (dir : Dir) (gives : Path → Answer → Type 0) (name : Name)
     (draft : Drv)
     : Type 0 where
@@ -77,11 +77,11 @@ pub record MayFill (profile : Profile) (dir : Dir) (gives : Path → Answer → 
 pub record IsFilledText (profile : Profile) (dir : Dir) (gives : Path → Answer → Type 0)
     (name : Name)
     (draft filled : Drv) (bytes : Bytes) : Type 0 where
-  pub behind : MayFill profile dir gives name draft
+  pub basis : MayFill profile dir gives name draft
   pub kind : Kind
-  pub right : IsOutputsCheck IsThePathOrEmpty profile dir name draft behind.used behind.hashes
+  pub right : IsOutputsCheck IsThePathOrEmpty profile dir name draft basis.used basis.hashes
       (Ok kind)
-  pub filled_is : IsFilled (IsExpected dir name kind draft behind.hashes) draft filled
+  pub filled_is : IsFilled (IsExpected dir name kind draft basis.hashes) draft filled
   pub is_text : IsDrvText filled bytes
 
 -- a draft's references are all paths of the folder
@@ -99,8 +99,8 @@ IsTrueOfDraft profile dir gives name draft (Text TooLong) = AreInStore dir draft
     × (max_len < length bytes))
 IsTrueOfDraft profile dir gives name draft (Outputs fault) =
     AreInStore dir draft × (fault ≢ NoRoom)
-    × ((behind : MayFill profile dir gives name draft)
-    × IsOutputsCheck IsThePathOrEmpty profile dir name draft behind.used behind.hashes (Err fault))
+    × ((basis : MayFill profile dir gives name draft)
+    × IsOutputsCheck IsThePathOrEmpty profile dir name draft basis.used basis.hashes (Err fault))
 IsTrueOfDraft profile dir gives name draft fault = ⊥
 
 -- What filling a draft under a name answers: the filled derivation with the path of its text, or

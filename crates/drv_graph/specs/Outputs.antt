@@ -67,10 +67,10 @@ HasOtherEntry Fits Expected drv output =
     × Expected output path × (Fits entry.value path → ⊥)
 
 -- What the check of a derivation's outputs answers, by its name, its inputs' derivations and their
--- hashes. The first of these that holds: mixed outputs; a method or a hash that isn't known, or that
--- the profile doesn't take; a name that is no name of a store path; the first use of an output that
--- isn't there; the first output with a path that doesn't fit the expected one; the first output
--- with such an entry. Want of memory may come in place of any but the first.
+-- hashes. The first of these that holds: mixed outputs; a method or a hash that isn't known, or
+-- that the profile doesn't take; a name that is no name of a store path; the first use of an output
+-- that isn't there; the first output with a path that doesn't fit the expected one; the first
+-- output with such an entry. Want of memory may come in place of any but the first.
 abbrev pub IsOutputsCheck : (Fits : Bytes → Path → Type 0) → (profile : Profile) → (dir : Dir)
     → (name : Name) → Drv → (used : List Drv) → (hashes : List Hash) → Result Kind OutputFault
     → Type 0

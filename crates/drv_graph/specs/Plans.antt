@@ -14,7 +14,7 @@ use Rattle.drv_graph.specs.declared.fault.OutputFault.{OutputFault}
 use Rattle.drv_graph.specs.declared.profile.Profile.{Profile}
 
 -- A plan as contracts see it: the profile under which it was loaded, its nodes in plan order, and
--- the numbers of its roots. A node's number is its place, counted from 0.
+-- the numbers of its roots. A node's number is its index, counted from 0.
 pub record Graph : Type 0 where
   pub profile : Profile
   pub nodes : List Node
@@ -63,7 +63,7 @@ pub data AreLeft (nodes : List Node) : (before paths after : List Path) → Type
   passed_over : (path : Path) (before paths after : List Path)
       → Contains before path → AreLeft nodes before paths after
       → AreLeft nodes before (path ∷ paths) after
-  left_behind_inputs : (node : Node) (before inputs paths after : List Path)
+  left_after_inputs : (node : Node) (before inputs paths after : List Path)
       → Contains nodes node → (Contains before node.path → ⊥)
       → AreLeft nodes before (inputs_of node.drv) inputs → (Contains inputs node.path → ⊥)
       → AreLeft nodes (inputs ++ node.path ∷ []) paths after
@@ -114,7 +114,7 @@ AreLawful profile dir nodes = (before after : List Node) (node : Node)
     → nodes ≡ before ++ node ∷ after
     → IsLawful profile dir before node
 
--- the paths of a list, each once, at its first place
+-- the paths of a list, each once, where it first stands
 abbrev pub each_once : List Path → List Path
 each_once [] = []
 each_once (x ∷ xs) = x ∷ filter (λ y. not (same_bytes x y)) (each_once xs)

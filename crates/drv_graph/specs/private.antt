@@ -3,7 +3,7 @@ pub mod Checking
 pub mod ExpectedPaths
 pub mod FillSteps
 pub mod Owners
-pub mod Placing
+pub mod Insertion
 pub mod Uniting
 pub mod UsedInputs
 pub mod Walks

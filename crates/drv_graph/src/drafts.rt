@@ -3,7 +3,7 @@
 //! | Module | What is in it |
 //! |---|---|
 //! | `fill` | drafts, filled with the expected paths |
-//! | `places` | paths put into a draft's empty places |
+//! | `insertion` | paths put into a draft where it has none |
 
 pub(crate) mod fill;
-pub(crate) mod places;
+pub(crate) mod insertion;

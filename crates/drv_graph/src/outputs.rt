@@ -3,7 +3,7 @@
 //! | Module | What is in it |
 //! |---|---|
 //! | `kind` | a derivation's kind |
-//! | `modulo` | the texts behind modulo hashes |
+//! | `modulo` | the texts of which modulo hashes are taken |
 //! | `expected_paths` | the paths that outputs must have |
 //! | `values` | whether the paths in a text are the expected ones |
 //! | `output_checks` | what is wrong with a derivation's outputs |

@@ -20,8 +20,8 @@ may_refer_by_permitted entries job other permitted answer (Ok infos) are
 may_refer_by_permitted entries job other permitted answer (Ok infos) are
     (inr (taken, records, acyclic)) =
     λ info path has refers.
-    let place = get_from_contains infos info has in
-    let is_record = records.each place.0 info place.1 in
+    let index = get_from_contains infos info has in
+    let is_record = records.each index.0 info index.1 in
     (are.each path).0 ((is_record.2.found.each path).0 refers).0
 
 -- Records that were found where nothing was permitted refer to nothing.
@@ -32,8 +32,8 @@ may_refer_by_none entries job other answer (Err reason) examined = tt
 may_refer_by_none entries job other answer (Ok infos) (inl (refused, taken)) = absurd cc
 may_refer_by_none entries job other answer (Ok infos) (inr (taken, records, acyclic)) =
     λ info path has refers.
-    let place = get_from_contains infos info has in
-    let is_record = records.each place.0 info place.1 in
+    let index = get_from_contains infos info has in
+    let is_record = records.each index.0 info index.1 in
     absurd (Contains-nothing path ((is_record.2.found.each path).0 refers).0)
 
 -- What holds of records holds of them under a condition.

@@ -53,7 +53,7 @@ impl Give for Vec<u8> {
         if line.name.is_empty() {
             teller.text(&self);
         }
-        world.texts.keep(line.name, self)
+        world.texts.put(line.name, self)
     }
 }
 
@@ -68,7 +68,7 @@ impl Give for Lines {
         } else {
             teller.say(format_args!("{} bytes", self.0.len()));
         }
-        world.texts.keep(line.name, self.0)
+        world.texts.put(line.name, self.0)
     }
 }
 
@@ -86,7 +86,7 @@ impl Give for StorePath {
     fn give(self, teller: &mut Teller<'_>, world: &mut World, line: &Line<'_>) -> Taken {
         teller.say(self.as_str());
         let text = self.text().to_vec(world.alloc)?;
-        world.texts.keep(line.name, text)
+        world.texts.put(line.name, text)
     }
 }
 
@@ -94,7 +94,7 @@ impl Give for Vec<StorePath> {
     fn give(self, teller: &mut Teller<'_>, world: &mut World, line: &Line<'_>) -> Taken {
         if !line.name.is_empty() {
             teller.say(format_args!("{} paths", self.len()));
-            return world.lists.keep(line.name, self);
+            return world.lists.put(line.name, self);
         }
         let mut text = Vec::new(world.alloc);
         for path in &self {
@@ -108,7 +108,7 @@ impl Give for Vec<StorePath> {
 
 impl Give for Tree {
     fn give(self, _teller: &mut Teller<'_>, world: &mut World, line: &Line<'_>) -> Taken {
-        world.trees.keep(line.name, self)
+        world.trees.put(line.name, self)
     }
 }
 
@@ -117,7 +117,7 @@ impl Give for Derivation {
         if line.name.is_empty() {
             teller.say("a derivation");
         }
-        world.drvs.keep(line.name, self)
+        world.drvs.put(line.name, self)
     }
 }
 
@@ -130,7 +130,7 @@ impl Give for Plan {
             ""
         };
         teller.say(format_args!("{} derivations{under}", self.len()));
-        world.plans.keep(line.name, self)
+        world.plans.put(line.name, self)
     }
 }
 
@@ -138,7 +138,7 @@ impl Give for Journal {
     fn give(self, teller: &mut Teller<'_>, world: &mut World, line: &Line<'_>) -> Taken {
         let count = call!(teller, "Journal::entries" => self.entries()).len();
         teller.say(format_args!("{count} entries"));
-        world.journals.keep(line.name, self)
+        world.journals.put(line.name, self)
     }
 }
 
@@ -202,6 +202,6 @@ impl Give for Appended {
         }
         teller.answered(answer)?;
         teller.text(&text);
-        world.texts.keep(line.name, text)
+        world.texts.put(line.name, text)
     }
 }

@@ -36,8 +36,8 @@ impl<'a> Line<'a> {
 
     /// The arguments before a mark, and those after it.
     pub(crate) fn divided(&self, mark: &[u8]) -> (&[&'a [u8]], &[&'a [u8]]) {
-        let place = self.words.iter().position(|word| *word == mark);
-        let (before, rest) = self.words.split_at(place.unwrap_or(self.words.len()));
+        let index = self.words.iter().position(|word| *word == mark);
+        let (before, rest) = self.words.split_at(index.unwrap_or(self.words.len()));
         (before, rest.get(1..).unwrap_or(rest))
     }
 
@@ -63,8 +63,8 @@ pub(crate) fn pieces(alloc: Global, word: &[u8], mark: u8) -> Result<Vec<&[u8]>,
 
 /// A word up to its first mark, and what stands after that; all of it where it has no mark.
 pub(crate) fn halves(word: &[u8], mark: u8) -> (&[u8], &[u8]) {
-    let place = word.iter().position(|byte| *byte == mark);
-    let (head, rest) = word.split_at(place.unwrap_or(word.len()));
+    let index = word.iter().position(|byte| *byte == mark);
+    let (head, rest) = word.split_at(index.unwrap_or(word.len()));
     (head, rest.get(1..).unwrap_or(rest))
 }
 

@@ -29,7 +29,7 @@ impl<T: Drop> From<AllocFailed<T>> for Stop {
 /// What the taking of a line answers.
 pub(crate) type Taken = Result<(), Stop>;
 
-/// The same of a line that may be another module's: whether its call was found.
+/// What the taking of a line answers that may be another module's: whether its call was found.
 pub(crate) type Found = Result<bool, Stop>;
 
 // Makes a call between the two lines that say where it begins and ends, and gives its answer.

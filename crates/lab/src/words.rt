@@ -35,7 +35,7 @@ macro_rules! argument {
     ($t:ident $w:ident $line:ident job $n:literal) => { made_job($w, b"", $line.argument($n))? };
     ($t:ident $w:ident $line:ident reached $n:literal) => { reached($w, $line)? };
     ($t:ident $w:ident $line:ident before $mark:literal) => { rising($w, $line.divided($mark).0)? };
-    ($t:ident $w:ident $line:ident behind $mark:literal) => { rising($w, $line.divided($mark).1)? };
+    ($t:ident $w:ident $line:ident after $mark:literal) => { rising($w, $line.divided($mark).1)? };
     ($t:ident $w:ident $line:ident $shelf:ident $n:literal) => {
         $w.$shelf.get($line.argument($n))?
     };
@@ -60,7 +60,7 @@ macro_rules! given {
 }
 
 // Takes a line, if its word is one of these: `WORD as NAME (ARGUMENTS) if ALLOWED => CALL => TELL`
-// is a word that makes one call, `keep WORD (ARGUMENTS) => VALUE` one that only keeps a value, and
+// is a word that makes one call, `put WORD (ARGUMENTS) => VALUE` one that only keeps a value, and
 // `do WORD => TAKEN` any other one.
 macro_rules! words {
     (
@@ -69,7 +69,7 @@ macro_rules! words {
             $(($($argument:pat = $kind:ident $n:literal),*))?
             $(if $allowed:expr)?
             => $call:expr $(=> $tell:ident)?;)*
-        $(keep $kept:literal $(($($own:pat = $own_kind:ident $own_n:literal),*))? => $value:expr;)*
+        $(put $kept:literal $(($($own:pat = $own_kind:ident $own_n:literal),*))? => $value:expr;)*
         $(do $($other:literal)|+ => $taken:expr;)*
     ) => {{
         let taken = match $line.call {

@@ -106,37 +106,37 @@ impl<T: Drop> Shelf<T> {
     }
 
     // Where the value that `$NAME` stands for is kept; past the end where none is.
-    fn place(&self, word: &[u8]) -> usize {
-        let place = match word.strip_prefix(b"$") {
+    fn index(&self, word: &[u8]) -> usize {
+        let index = match word.strip_prefix(b"$") {
             Some(name) => self.kept.iter().position(|kept| kept.0.as_slice() == name),
             None => None,
         };
-        place.unwrap_or(self.kept.len())
+        index.unwrap_or(self.kept.len())
     }
 
     /// The value that `$NAME` stands for.
     pub(crate) fn get(&self, word: &[u8]) -> Result<&T, Stop> {
-        let kept = self.kept.get(self.place(word));
+        let kept = self.kept.get(self.index(word));
         Ok(&kept.ok_or(NOTHING)?.1)
     }
 
     /// The value that `$NAME` stands for, to be changed.
     pub(crate) fn get_mut(&mut self, word: &[u8]) -> Result<&mut T, Stop> {
-        let place = self.place(word);
-        Ok(&mut self.kept.get_mut(place).ok_or(NOTHING)?.1)
+        let index = self.index(word);
+        Ok(&mut self.kept.get_mut(index).ok_or(NOTHING)?.1)
     }
 
     /// Takes out the value that `$NAME` stands for.
     pub(crate) fn take(&mut self, word: &[u8]) -> Result<T, Stop> {
-        let place = self.place(word);
-        if place < self.kept.len() {
-            return Ok(self.kept.swap_remove(place).1);
+        let index = self.index(word);
+        if index < self.kept.len() {
+            return Ok(self.kept.swap_remove(index).1);
         }
         Err(NOTHING)
     }
 
     /// Keeps a value under a name, in place of what was kept there; under no name not at all.
-    pub(crate) fn keep(&mut self, name: &[u8], value: T) -> Taken {
+    pub(crate) fn put(&mut self, name: &[u8], value: T) -> Taken {
         if !name.is_empty() {
             self.kept.retain(|kept| kept.0.as_slice() != name);
             let name = name.to_vec(*self.kept.allocator())?;

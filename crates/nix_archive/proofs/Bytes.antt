@@ -94,15 +94,15 @@ short_passed (x ∷ xs) (suc n) h lt =
     ]
 
 -- and after bytes of which one is lower
-pub low_passed : (before : Bytes) (place size : ℕ) → AreBytes before → place < size
-    → slice_index before place < 255 → place < length before → IsPassed before size
-low_passed before place zero h lt low le = absurd (omega (arith, lt))
-low_passed [] place (suc n) h lt low le = refl
+pub low_passed : (before : Bytes) (offset size : ℕ) → AreBytes before → offset < size
+    → slice_index before offset < 255 → offset < length before → IsPassed before size
+low_passed before offset zero h lt low le = absurd (omega (arith, lt))
+low_passed [] offset (suc n) h lt low le = refl
 low_passed (x ∷ xs) zero (suc n) h lt low le = lower_after x 255 xs (replicate n 255) low
-low_passed (x ∷ xs) (suc place) (suc n) h lt low le =
+low_passed (x ∷ xs) (suc offset) (suc n) h lt low le =
     elim (highest x (h 0)) [
       | inl e ↦ first_same x xs (replicate n 255) e
-          (low_passed xs place n (others x xs h) (omega (arith, lt)) low (omega (arith, le)))
+          (low_passed xs offset n (others x xs h) (omega (arith, lt)) low (omega (arith, le)))
       | inr l ↦ lower_after x 255 xs (replicate n 255) l
     ]
 
@@ -175,7 +175,7 @@ longer_free seen before [] byte e le more =
 longer_free seen before (x ∷ xs) byte e le more =
     absurd (omega (arith, ap length e, length-append seen (x ∷ xs), le))
 
--- the byte of the name before at the place of the next one
+-- the byte of the name before at the offset of the next one
 pub next_is : (seen before rest : Bytes) → before ≡ seen ++ rest → length seen < length before
     → (more : Bytes) × (before ≡ seen ++ slice_index before (length seen) ∷ more)
 next_is seen before [] e lt = absurd (omega (arith, ap length e, length-append {A = ℕ} seen [], lt))

@@ -132,7 +132,7 @@ all_high zero i lt = absurd (omega (arith, lt))
 all_high (suc n) zero lt = refl
 all_high (suc n) (suc i) lt = all_high n i (omega (arith, lt))
 
--- the byte at a place after those seen
+-- the byte at an offset after those seen
 high_at : (seen : Bytes) (n i : ℕ) → i < n
     → slice_index (seen ++ replicate n 255) (length seen + i) ≡ 255
 high_at seen n i lt = get_or-append-add seen (replicate n 255) i 0 ∙ all_high n i lt

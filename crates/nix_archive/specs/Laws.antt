@@ -56,11 +56,11 @@ ReadingsBegin {S} heard = (r s : ArchiveReader) (before after : S) (read : Bytes
 -- a fault names the first byte with which no archive goes on, also where pieces were read before
 abbrev pub FaultsComeFirst : {S : Type 0} (heard : S → List Token → S → Type 0) → Type 0
 FaultsComeFirst {S} heard = (r s t : ArchiveReader) (before between after : S) (read piece : Bytes)
-    (place : ℕ) → IsSame (reader_rest r) IsArchive
+    (offset : ℕ) → IsSame (reader_rest r) IsArchive
     → IsStep heard before between (reader_rest r) (reader_rest s) read
-    → IsFed heard between after (reader_rest s) (reader_rest t) piece (Err (BadNar place))
-    → IsBegun IsArchive (read ++ take place piece)
-    × IsRefused IsArchive (read ++ take (place + 1) piece)
+    → IsFed heard between after (reader_rest s) (reader_rest t) piece (Err (BadNar offset))
+    → IsBegun IsArchive (read ++ take offset piece)
+    × IsRefused IsArchive (read ++ take (offset + 1) piece)
 
 -- What is summed at a tree's tokens, after the string with which each archive begins, is the
 -- tree's archive.

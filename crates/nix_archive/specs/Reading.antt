@@ -25,7 +25,7 @@ pub record IsBegun (P : List Token → Bytes → Type 0) (read : Bytes) : Type 0
 abbrev pub IsRefused : (P : List Token → Bytes → Type 0) (read : Bytes) → Type 0
 IsRefused P read = (ts : List Token) (u : Bytes) → P ts (read ++ u) → ⊥
 
--- the same may follow
+-- what may follow by one may follow by the other
 pub record IsSame (P Q : List Token → Bytes → Type 0) : Type 0 where
   pub to : (ts : List Token) (u : Bytes) → P ts u → Q ts u
   pub from : (ts : List Token) (u : Bytes) → Q ts u → P ts u
@@ -37,11 +37,11 @@ pub record IsArchive (ts : List Token) (u : Bytes) : Type 0 where
   pub said : ts ≡ tokens_of tree
   pub read : u ≡ nar tree
 
--- What is answered for a piece of an archive: it was read; or the place of the first byte with
+-- What is answered for a piece of an archive: it was read; or the offset of the first byte with
 -- which nothing follows; or memory was refused.
 abbrev pub IsFed : {S : Type 0} (heard : S → List Token → S → Type 0) (before after : S)
     (P Q : List Token → Bytes → Type 0) (piece : Bytes) → Result (Unit {0}) ArchiveFault → Type 0
 IsFed heard before after P Q piece (Ok done) = IsStep heard before after P Q piece
-IsFed heard before after P Q piece (Err (BadNar place)) = (place < length piece)
-    × IsBegun P (take place piece) × IsRefused P (take (place + 1) piece)
+IsFed heard before after P Q piece (Err (BadNar offset)) = (offset < length piece)
+    × IsBegun P (take offset piece) × IsRefused P (take (offset + 1) piece)
 IsFed heard before after P Q piece (Err NoMemory) = Unit {0}

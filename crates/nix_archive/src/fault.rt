@@ -7,7 +7,7 @@ use thiserror::Error;
 /// Why a reading gave up.
 #[derive(Clone, Copy, Debug, PartialEq, Eq, Error)]
 pub enum ArchiveFault {
-    /// No archive goes on with the bytes up to and with the one at this place.
+    /// No archive goes on with the bytes up to and with the one at this offset.
     #[error("no archive goes on with byte {0}")]
     BadNar(usize),
     /// Memory was refused.

@@ -26,10 +26,10 @@ impl ArchiveReader {
         }
     }
 
-    /// Reads the next piece of an archive, and hears what is in it. `BadNar(place)` tells the first
-    /// byte with which no archive goes on; the place counts from the piece's first byte. After a
-    /// fault nothing is known of the reader and of the hearer. Reading takes time linear in the
-    /// bytes, whatever they are, and memory as they come: a length alone takes none.
+    /// Reads the next piece of an archive, and hears what is in it. `BadNar(offset)` tells the
+    /// first byte with which no archive goes on; the offset counts from the piece's first byte.
+    /// After a fault nothing is known of the reader and of the hearer. Reading takes time linear in
+    /// the bytes, whatever they are, and memory as they come: a length alone takes none.
     pub fn feed<H: Hear>(&mut self, piece: &[u8], hearer: &mut H) -> Result<(), ArchiveFault>
         ensures { IsFed H.heard hearer.old hearer.new (reader_rest self.old) (reader_rest self.new)
             piece.now result }

@@ -23,7 +23,7 @@ pub fn readings_are_written_again<H: Hear>()
 {}
 
 /// What readings in a row have read begins some archive. A fault after them names the first byte
-/// with which none goes on, by its place in the piece.
+/// with which none goes on, by its offset in the piece.
 pub fn faults_come_first<H: Hear>()
     ensures begun { ReadingsBegin H.heard }
     ensures first { FaultsComeFirst H.heard }

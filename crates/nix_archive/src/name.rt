@@ -1,4 +1,5 @@
-//! The names of entries. Each byte is looked at twice at most, in its own name and in the one after.
+//! The names of entries. Each byte is looked at twice at most, in its own name and in the one
+//! after.
 ghost use Rattle.std.specs.Prelude.{◌≡◌, ◌∷◌, ◌++◌, [], ℕ, IfOk, length};
 ghost use Rattle.nix_archive.specs.Trees.{AreBytes};
 ghost use Rattle.nix_archive.specs.Rests.{mode_rest, reader_rest};

@@ -54,10 +54,10 @@ pub reads_back : ReadsBack
 reads_back drv text (Ok d) is within reading =
     inl (ap (λ (x : Drv). Ok x) (one_drv d _ _ reading.1.is_text is.is_text))
 reads_back drv text (Err NoMemory) is within reading = inr refl
-reads_back drv text (Err (Syntax place)) is within reading = search rules
-reads_back drv text (Err (Order place)) is within reading =
+reads_back drv text (Err (Syntax offset)) is within reading = search rules
+reads_back drv text (Err (Order offset)) is within reading =
     let same : reading.1.0 ≡ drv = one_drv _ _ _ reading.1.1 is.is_text in
-    absurd (is.in_order place
+    absurd (is.in_order offset
     (subst (λ (d : Drv). IsViolation _ 0 (drv_value d) _) same
     reading.1.2.is_violation))
 reads_back drv text (Err TooLong) is within reading = absurd (omega arith)

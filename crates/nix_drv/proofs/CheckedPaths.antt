@@ -37,25 +37,25 @@ stray_alone dir text spelled same stray = record {
 }
 
 -- the first stray text after good ones
-pub stray_behind : (dir text : List ℕ) (before after : List (List ℕ)) (spelled : List ℕ)
+pub stray_after : (dir text : List ℕ) (before after : List (List ℕ)) (spelled : List ℕ)
     → All (IsPathOf dir) before → IsFirstStray dir (text ∷ []) spelled
     → IsFirstStray dir (before ++ text ∷ after) spelled
-stray_behind dir text before after spelled good stray =
+stray_after dir text before after spelled good stray =
     first_within (IsPathOf dir) (λ t. IsPathOf dir t → ⊥) _ _ _ _ good stray
 
 -- what is wrong with one text is what is wrong with all, where those before it are good
-pub fault_behind : (dir text : List ℕ) (before after : List (List ℕ)) (found : DrvFault)
+pub fault_after : (dir text : List ℕ) (before after : List (List ℕ)) (found : DrvFault)
     → All (IsPathOf dir) before → IsStrayFault dir (text ∷ []) found
     → IsStrayFault dir (before ++ text ∷ after) found
-fault_behind dir text before after (fault.BadReference spelled) good stray =
-    search (rules, stray_behind)
-fault_behind dir text before after fault.NoMemory good stray = tt
-fault_behind dir text before after (fault.Syntax place) good stray = stray
-fault_behind dir text before after (fault.Order place) good stray = stray
-fault_behind dir text before after fault.TooLong good stray = stray
-fault_behind dir text before after (fault.TextPathMismatch expected) good stray = stray
-fault_behind dir text before after fault.NotADrvName good stray = stray
-fault_behind dir text before after fault.NotSorted good stray = stray
+fault_after dir text before after (fault.BadReference spelled) good stray =
+    search (rules, stray_after)
+fault_after dir text before after fault.NoMemory good stray = tt
+fault_after dir text before after (fault.Syntax index) good stray = stray
+fault_after dir text before after (fault.Order index) good stray = stray
+fault_after dir text before after fault.TooLong good stray = stray
+fault_after dir text before after (fault.TextPathMismatch expected) good stray = stray
+fault_after dir text before after fault.NotADrvName good stray = stray
+fault_after dir text before after fault.NotSorted good stray = stray
 
 -- the first stray text of a list, with more lists round it
 stray_within : (dir : List ℕ) (before texts after : List (List ℕ)) (spelled : List ℕ)
@@ -70,8 +70,8 @@ pub fault_within : (dir : List ℕ) (before texts after : List (List ℕ)) (foun
 fault_within dir before texts after (fault.BadReference spelled) good stray =
     search (rules, stray_within)
 fault_within dir before texts after fault.NoMemory good stray = tt
-fault_within dir before texts after (fault.Syntax place) good stray = stray
-fault_within dir before texts after (fault.Order place) good stray = stray
+fault_within dir before texts after (fault.Syntax index) good stray = stray
+fault_within dir before texts after (fault.Order index) good stray = stray
 fault_within dir before texts after fault.TooLong good stray = stray
 fault_within dir before texts after (fault.TextPathMismatch expected) good stray = stray
 fault_within dir before texts after fault.NotADrvName good stray = stray
@@ -83,7 +83,7 @@ items_at : {A : Type 0} (view : A → List ℕ) (items : List A) (i : ℕ) (d : 
 items_at view items i d below = ap (map view) (split_at items i d below)
     ∙ map-append view (take i items) (get_or items i d ∷ drop (suc i) items)
 
--- the same of the item at a place, seen as its text
+-- a fault at one item, after right ones, is the fault of all items
 pub fault_at : {A : Type 0} (view : A → List ℕ) (dir text : List ℕ) (items : List A) (i : ℕ) (d : A)
     (found : DrvFault) → i < length items → d ≡ get_or items i d → text ≡ view d
     → All (IsPathOf dir) (map view (take i items)) → IsStrayFault dir (text ∷ []) found
@@ -94,7 +94,7 @@ fault_at {A} view dir text items i d found below at same good stray =
     ∙ ap (λ (t : List ℕ). map view (take i items) ++ t ∷ map view (drop (suc i) items))
     (ap view (sym at) ∙ sym same) in
     subst (λ (all : List (List ℕ)). IsStrayFault dir all found) (sym whole)
-    (fault_behind _ _ _ _ _ good
+    (fault_after _ _ _ _ _ good
     stray)
 
 -- one more item

@@ -54,13 +54,14 @@ pub ordered : (p : Parts) (end : ℕ) → pass derivation_form 0 (parts_value p)
     → InOrder derivation_form (drv_value (drv_of p))
 ordered p end e = pass_in_order _ _ _ (rw (parts_value_is p) at e)
 
-pub disordered : (p : Parts) (place : ℕ) → pass derivation_form 0 (parts_value p) ≡ Err place
-    → pass derivation_form 0 (drv_value (drv_of p)) ≡ Err place
-disordered p place e = rw (parts_value_is p) at e
+pub disordered : (p : Parts) (offset : ℕ) → pass derivation_form 0 (parts_value p) ≡ Err offset
+    → pass derivation_form 0 (drv_value (drv_of p)) ≡ Err offset
+disordered p offset e = rw (parts_value_is p) at e
 
-pub not_in_order : (parts : Drv) (place : ℕ) → pass derivation_form 0 (drv_value parts) ≡ Err place
+pub not_in_order : (parts : Drv) (offset : ℕ) → pass derivation_form 0 (drv_value parts)
+    ≡ Err offset
     → InOrder derivation_form (drv_value parts) → ⊥
-not_in_order parts place = search (rules, pass_out_of_order)
+not_in_order parts offset = search (rules, pass_out_of_order)
 
 whole_text : (p : Parts) (s rest : List ℕ) → read derivation_form s ≡ Ok (parts_value p, rest)
     → length rest ≡ 0 → IsLooseText (drv_of p) s
@@ -75,11 +76,11 @@ read_in_order drv p s rest e none is in_order =
     (record { is_text = whole_text p s _ e none; in_order = in_order })
 
 -- bytes that were read whole, and whose parts are not
-pub read_first : (p : Parts) (s rest : List ℕ) (place : ℕ) → read derivation_form s
+pub read_first : (p : Parts) (s rest : List ℕ) (offset : ℕ) → read derivation_form s
     ≡ Ok (parts_value p, rest) → length rest ≡ 0 → length s ≤ 4194304
-    → pass derivation_form 0 (drv_value (drv_of p)) ≡ Err place
-    → (drv : Drv) × IsLooseText drv s × IsFirstViolation derivation_form (drv_value drv) place
-read_first p s rest place e none within passes =
+    → pass derivation_form 0 (drv_value (drv_of p)) ≡ Err offset
+    → (drv : Drv) × IsLooseText drv s × IsFirstViolation derivation_form (drv_value drv) offset
+read_first p s rest offset e none within passes =
     let is : IsLooseText (drv_of p) s = whole_text p s _ e none in
     let small : length (text _ (drv_value (drv_of p)))
     < 2 ^ 64 = omega (arith, ap length is) in

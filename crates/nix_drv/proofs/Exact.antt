@@ -6,7 +6,7 @@ use Rattle.nix_drv.specs.Grammar.{Grammar, Fixed, Str, Then, Many, Value, text, 
 use Rattle.nix_drv.specs.private.Reading.{bytes_at, list_at, read, left_of}
 use Rattle.nix_drv.proofs.Steps.{StopsAt, Told}
 use Rattle.nix_drv.proofs.Strings.{bytes_text}
-use Rattle.nix_drv.proofs.Readers.{IsReader, reader_shrinks, fixed_reader, bytes_reader, behind_reader, both_reader}
+use Rattle.nix_drv.proofs.Readers.{IsReader, reader_shrinks, fixed_reader, bytes_reader, after_reader, both_reader}
 use Rattle.nix_drv.proofs.Elements.{elements_text}
 use Rattle.nix_drv.proofs.Lists.{RefusesBracket, list_reader}
 
@@ -23,10 +23,10 @@ refuses_bracket (Many order g) clear s = refl
 pub reader : (g : Grammar) → IsClear g → IsReader (text g) (IsTextPrefix g) (read g)
 unfolding read text IsTextPrefix
 reader (Fixed bytes) clear = fixed_reader _
-reader Str clear = behind_reader _ bytes_text IsPrefixOfBytes (bytes_at _) bytes_reader
+reader Str clear = after_reader _ bytes_text IsPrefixOfBytes (bytes_at _) bytes_reader
 reader (Then a b) clear = search (rules, both_reader, reader a clear.0, reader b clear.1)
 reader (Many order g) clear =
-    behind_reader _ (elements_text (text g)) (IsPrefixOfElements (text g) (IsTextPrefix g))
+    after_reader _ (elements_text (text g)) (IsPrefixOfElements (text g) (IsTextPrefix g))
     (list_at (read g))
     (list_reader (text g) (IsTextPrefix g) (read g) (reader g clear.0) (refuses_bracket g clear.1))
 

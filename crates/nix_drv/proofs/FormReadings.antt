@@ -6,7 +6,7 @@ use Rattle.std.specs.Prelude.{codes}
 use Rattle.nix_drv.specs.Derivation.{comma, entry_form, input_form, build_form}
 use Rattle.nix_drv.specs.Grammar.{ListOrder, Rising, Free, Grammar, Value, Fixed, Str, Then, Many}
 use Rattle.nix_drv.specs.private.Reading.{◌>>=◌, fixed_at, read}
-use Rattle.nix_drv.specs.private.Behind.{string_behind, strings_behind, list_behind}
+use Rattle.nix_drv.specs.private.AfterBytes.{string_after, strings_after, list_after}
 use Rattle.nix_drv.specs.private.ParseFaults.{Fails}
 
 -- a value that was read, after others
@@ -42,14 +42,14 @@ after_fixed (Ok x) first second = after_first _ second
 after_fixed (Err left) first second = refl
 
 string_then : (bytes : List ℕ) (b : Grammar) (s : List ℕ) → read (Then (Fixed bytes) (Then Str b)) s
-    ≡ then_of (string_behind bytes s) (read b)
-unfolding read string_behind
+    ≡ then_of (string_after bytes s) (read b)
+unfolding read string_after
 string_then bytes b s = search (rules, after_fixed)
 
 list_then : (bytes : List ℕ) (order : ListOrder) (g b : Grammar) (s : List ℕ)
     → read (Then (Fixed bytes) (Then (Many order g) b)) s
-    ≡ then_of (list_behind bytes (read g) s) (read b)
-unfolding read list_behind
+    ≡ then_of (list_after bytes (read g) s) (read b)
+unfolding read list_after
 list_then bytes order g b s = search (rules, after_fixed)
 
 fails_on : {X Y : Type 0} (stop : ParseFault) (r : Result X ℕ) (f : X → Result Y ℕ) → Fails stop r
@@ -72,33 +72,33 @@ fixed_read bytes s rest e = e
 -- ---- a string and what follows it
 
 pub string_fails : (stop : ParseFault) (bytes : List ℕ) (b : Grammar) (s : List ℕ)
-    → Fails stop (string_behind bytes s) → Fails stop (read (Then (Fixed bytes) (Then Str b)) s)
+    → Fails stop (string_after bytes s) → Fails stop (read (Then (Fixed bytes) (Then Str b)) s)
 string_fails stop bytes b s fails = search (rules, string_then, fails_on, with_two)
 
 pub string_later : (stop : ParseFault) (bytes : List ℕ) (b : Grammar) (s v rest : List ℕ)
-    → string_behind bytes s ≡ Ok (v, rest) → Fails stop (read b rest)
+    → string_after bytes s ≡ Ok (v, rest) → Fails stop (read b rest)
     → Fails stop (read (Then (Fixed bytes) (Then Str b)) s)
 string_later stop bytes b s v rest e fails = search (rules, string_then, fails_on, with_two)
 
 pub string_read : (bytes : List ℕ) (b : Grammar) (s v rest : List ℕ) (w : Value b) (end : List ℕ)
-    → string_behind bytes s ≡ Ok (v, rest) → read b rest ≡ Ok (w, end)
+    → string_after bytes s ≡ Ok (v, rest) → read b rest ≡ Ok (w, end)
     → read (Then (Fixed bytes) (Then Str b)) s ≡ Ok ((tt, (v, w)), end)
 string_read bytes b s v rest w end e more = rw (string_then _ b s, e, more) refl
 
 -- ---- a list and what follows it
 
 pub list_fails : (stop : ParseFault) (bytes : List ℕ) (order : ListOrder) (g b : Grammar)
-    (s : List ℕ) → Fails stop (list_behind bytes (read g) s)
+    (s : List ℕ) → Fails stop (list_after bytes (read g) s)
     → Fails stop (read (Then (Fixed bytes) (Then (Many order g) b)) s)
 list_fails stop bytes order g b s fails = search (rules, list_then, fails_on, with_two)
 
 pub list_later : (stop : ParseFault) (bytes : List ℕ) (order : ListOrder) (g b : Grammar)
-    (s : List ℕ) (v : List (Value g)) (rest : List ℕ) → list_behind bytes (read g) s ≡ Ok (v, rest)
+    (s : List ℕ) (v : List (Value g)) (rest : List ℕ) → list_after bytes (read g) s ≡ Ok (v, rest)
     → Fails stop (read b rest) → Fails stop (read (Then (Fixed bytes) (Then (Many order g) b)) s)
 list_later stop bytes order g b s v rest e fails = search (rules, list_then, fails_on, with_two)
 
 pub list_read : (bytes : List ℕ) (order : ListOrder) (g b : Grammar) (s : List ℕ)
-    (v : List (Value g)) (rest : List ℕ) (w : Value b) (end : List ℕ) → list_behind bytes (read g) s
+    (v : List (Value g)) (rest : List ℕ) (w : Value b) (end : List ℕ) → list_after bytes (read g) s
     ≡ Ok (v, rest) → read b rest ≡ Ok (w, end) → read (Then (Fixed bytes) (Then (Many order g) b)) s
     ≡ Ok ((tt, (v, w)), end)
 list_read bytes order g b s v rest w end e more = search (rules, list_then)
@@ -109,7 +109,7 @@ abbrev TwoStrings : List ℕ → Grammar → Grammar
 TwoStrings bytes b = Then (Fixed bytes) (Then Str (Then (Fixed (44 ∷ [])) (Then Str b)))
 
 abbrev second_of : List ℕ × List ℕ → Result ((List ℕ × List ℕ) × List ℕ) ℕ
-second_of x = string_behind (44 ∷ []) x.1 >>= with_one x.0
+second_of x = string_after (44 ∷ []) x.1 >>= with_one x.0
 
 -- the two that were read, and what follows them
 abbrev strings_with : (b : Grammar) → (List ℕ × List ℕ) × List ℕ
@@ -135,22 +135,22 @@ after_strings b (Ok y) = search (rules, string_then, after_string)
 after_strings b (Err left) = refl
 
 strings_then : (bytes : List ℕ) (b : Grammar) (s : List ℕ) → read (TwoStrings bytes b) s
-    ≡ (strings_behind bytes s >>= strings_with b)
-unfolding strings_behind
+    ≡ (strings_after bytes s >>= strings_with b)
+unfolding strings_after
 strings_then bytes b s = search (rules, string_then, after_strings)
 
 pub strings_fails : (stop : ParseFault) (bytes : List ℕ) (b : Grammar) (s : List ℕ)
-    → Fails stop (strings_behind bytes s) → Fails stop
+    → Fails stop (strings_after bytes s) → Fails stop
     (read (Then (Fixed bytes) (Then Str (Then (Fixed (44 ∷ [])) (Then Str b)))) s)
 strings_fails stop bytes b s fails = search (rules, strings_then, fails_on, strings_with)
 
 pub strings_later : (stop : ParseFault) (bytes : List ℕ) (b : Grammar) (s v u rest : List ℕ)
-    → strings_behind bytes s ≡ Ok ((v, u), rest) → Fails stop (read b rest)
+    → strings_after bytes s ≡ Ok ((v, u), rest) → Fails stop (read b rest)
     → Fails stop (read (Then (Fixed bytes) (Then Str (Then (Fixed (44 ∷ [])) (Then Str b)))) s)
 strings_later stop bytes b s v u rest e fails = search (rules, strings_then, fails_on)
 
 pub strings_read : (bytes : List ℕ) (b : Grammar) (s v u rest : List ℕ) (w : Value b) (end : List ℕ)
-    → strings_behind bytes s ≡ Ok ((v, u), rest) → read b rest ≡ Ok (w, end)
+    → strings_after bytes s ≡ Ok ((v, u), rest) → read b rest ≡ Ok (w, end)
     → read (Then (Fixed bytes) (Then Str (Then (Fixed (44 ∷ [])) (Then Str b)))) s
     ≡ Ok ((tt, (v, (tt, (u, w)))), end)
 strings_read bytes b s v u rest w end e more = rw (strings_then _ b s, e, more) refl

@@ -17,9 +17,9 @@ added_last (Ok x) old new last whole same e = e ∙ same
 added_last (Err x) old new last whole same e = tt
 
 -- a mark and then a text
-pub behind_mark : (old marked new mark t : List ℕ) → marked ≡ old ++ mark → new ≡ marked ++ t → new
+pub after_mark : (old marked new mark t : List ℕ) → marked ≡ old ++ mark → new ≡ marked ++ t → new
     ≡ old ++ (mark ++ t)
-behind_mark old marked new mark t marked_is new_is = rw (new_is, marked_is) (simp append_assoc)
+after_mark old marked new mark t marked_is new_is = rw (new_is, marked_is) (simp append_assoc)
 
 -- two strings
 pub strings_written : (old first new mark a b : List ℕ) → first ≡ old ++ (mark ++ string_text a)

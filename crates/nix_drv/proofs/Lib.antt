@@ -25,5 +25,5 @@ pub mod CheckedTexts
 pub mod OwnPathLaws
 pub mod Prefixes
 pub mod OneAnswer
-pub mod Places
+pub mod Indices
 pub mod Searches

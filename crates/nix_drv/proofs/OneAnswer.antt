@@ -17,9 +17,9 @@ use Rattle.nix_drv.proofs.OwnPathLaws.{one_own_path}
 
 -- ---- reading
 
-one_place : (g : Grammar) (input : List ℕ) (p q : ℕ) → IsLongestPrefix g input p
+one_offset : (g : Grammar) (input : List ℕ) (p q : ℕ) → IsLongestPrefix g input p
     → IsLongestPrefix g input q → p ≡ q
-one_place g input p q one other = search rules
+one_offset g input p q one other = search rules
 
 one_violation : (d e : Drv) (p q : ℕ) → d ≡ e → IsFirstViolation derivation_form (drv_value d) p
     → IsFirstViolation derivation_form (drv_value e) q → p ≡ q
@@ -56,7 +56,7 @@ one_reading input (Err TooLong) (Err (Syntax q)) is also a b = search rules
 one_reading input (Err TooLong) (Err (Order q)) is also a b = search rules
 one_reading input (Err (Syntax p)) (Ok e) is also a b = absurd (is.1 e also.1.is_text)
 one_reading input (Err (Syntax p)) (Err TooLong) is also a b = search rules
-one_reading input (Err (Syntax p)) (Err (Syntax q)) is also a b = search (rules, one_place)
+one_reading input (Err (Syntax p)) (Err (Syntax q)) is also a b = search (rules, one_offset)
 one_reading input (Err (Syntax p)) (Err (Order q)) is also a b = absurd (is.1 also.1.0 also.1.1)
 one_reading input (Err (Order p)) (Ok e) is also a b = search (rules, no_violation, one_drv)
 one_reading input (Err (Order p)) (Err TooLong) is also a b = search rules
@@ -79,8 +79,8 @@ no_stray dir = search (rules, no_first)
 says_itself : (a : Result Drv DrvFault) → SaysSame a a
 says_itself (Ok drv) = refl
 says_itself (Err NoMemory) = refl
-says_itself (Err (Syntax place)) = refl
-says_itself (Err (Order place)) = refl
+says_itself (Err (Syntax offset)) = refl
+says_itself (Err (Order offset)) = refl
 says_itself (Err TooLong) = refl
 says_itself (Err (TextPathMismatch own)) = refl
 says_itself (Err NotADrvName) = refl
@@ -124,17 +124,17 @@ settle dir path bytes (Ok drv) is a = inr (record {
 settle dir path bytes (Err NotADrvName) is a = inl (refl, is)
 settle dir path bytes (Err TooLong) is a = inr
     (record { read = Err TooLong; named = is.0; is_reading = is.1; no_want = a; follows = refl })
-settle dir path bytes (Err (Syntax place)) is a =
+settle dir path bytes (Err (Syntax offset)) is a =
     inr (record {
-      read = Err (Syntax place);
+      read = Err (Syntax offset);
       named = is.0;
       is_reading = is.1;
       no_want = a;
       follows = refl;
     })
-settle dir path bytes (Err (Order place)) is a =
+settle dir path bytes (Err (Order offset)) is a =
     inr (record {
-      read = Err (Order place);
+      read = Err (Order offset);
       named = is.0;
       is_reading = is.1;
       no_want = a;

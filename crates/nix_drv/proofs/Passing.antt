@@ -5,17 +5,17 @@ use Rattle.std.proofs.lemmas.Bool.{cond_both}
 use Rattle.nix_drv.specs.Grammar.{ListOrder, Grammar, Fixed, Str, Then, Many, Value, text, separated, each_with_comma}
 use Rattle.nix_drv.specs.Order.{key, IsViolationAmong, IsViolation, InOrder, IsFirstViolation}
 use Rattle.nix_drv.specs.private.Reading.{◌>>=◌}
-use Rattle.nix_drv.specs.private.Passing.{behind, pass_among, pass_list, pass}
+use Rattle.nix_drv.specs.private.Passing.{offset_after, pass_among, pass_list, pass}
 
--- the place as the machine has it
+-- the offset as the machine has it
 abbrev pub capped : ℕ → ℕ
-capped place = min place (2 ^ 64 - 1)
+capped offset = min offset (2 ^ 64 - 1)
 
--- there is no such place up to the end, or the least one is answered
+-- there is no such offset up to the end, or the least one is answered
 abbrev pub Passes : (ℕ → Type 0) → ℕ → Result ℕ ℕ → Type 0
 Passes P end (Ok q) = (q ≡ capped end) × ((r : ℕ) → P r → ⊥)
-Passes P end (Err q) = (place : ℕ) × P place × ((other : ℕ) → P other → place ≤ other)
-    × (q ≡ capped place)
+Passes P end (Err q) = (offset : ℕ) × P offset × ((other : ℕ) → P other → offset ≤ other)
+    × (q ≡ capped offset)
 
 same_passes : (P Q : ℕ → Type 0) (end : ℕ) (x : Result ℕ ℕ) → ((r : ℕ) → P r → Q r)
     → ((r : ℕ) → Q r → P r) → Passes P end x → Passes Q end x
@@ -107,7 +107,7 @@ violation_below (Then a b) p v r (inr at) =
     search (rules, length-append, violation_below b _ _ r at)
 violation_below (Many order g) p vs r at = search (rules, list_below, violation_below g)
 
--- ---- the least place
+-- ---- the least offset
 
 -- what is known of going over one element
 record PassesEach {A : Type 0} (text_of : A → List ℕ) (Within : ℕ → A → ℕ → Type 0)
@@ -126,9 +126,10 @@ among_passes {A} order key_of text_of Within one each before p (v ∷ vs) =
     let mid = p + length (text_of v) in
     let Later : ℕ → Type 0 = IsViolationAmong order key_of text_of Within (Some (key_of v))
     (mid + 1) vs in
-    let next : ℕ → Result ℕ ℕ = λ q. pass_among order key_of one (Some (key_of v)) (behind q 1) vs
+    let next : ℕ → Result ℕ ℕ =
+    λ q. pass_among order key_of one (Some (key_of v)) (offset_after q 1) vs
     in
-    let after : behind (capped mid) 1 ≡ capped (mid + 1) = omega arith in
+    let after : offset_after (capped mid) 1 ≡ capped (mid + 1) = omega arith in
     let end : ℕ = p + length (each_with_comma text_of (v ∷ vs)) in
     let is_end : mid + 1 + length (each_with_comma text_of vs)
     ≡ end = omega (arith, length-append (text_of v) (44 ∷ each_with_comma text_of vs)) in
@@ -173,7 +174,7 @@ list_passes order key_of text_of Within one each p (v ∷ vs) =
     let is_end : p + 1 + length (each_with_comma text_of (v ∷ vs)) ≡ p
     + length (91 ∷ separated text_of (v ∷ vs) ++ 93 ∷ []) =
     omega (arith, brackets_around text_of v vs) in
-    let after : behind (capped p) 1 ≡ capped (p + 1) = omega arith in
+    let after : offset_after (capped p) 1 ≡ capped (p + 1) = omega arith in
     subst (λ (e : ℕ). Passes (IsViolationAmong order key_of text_of Within None (p + 1) (v ∷ vs)) e
     (pass_list order key_of one (capped p) (v ∷ vs))) is_end
     (subst (λ (q : ℕ). Passes (IsViolationAmong order key_of text_of Within None (p + 1) (v ∷ vs))
@@ -181,7 +182,7 @@ list_passes order key_of text_of Within one each p (v ∷ vs) =
     (pass_among order key_of one None q (v ∷ vs))) (sym after)
     (among_passes order key_of text_of Within one each None (p + 1) (v ∷ vs)))
 
--- going over a value answers the least place of a violation, or the place after the text where
+-- going over a value answers the least offset of a violation, or the offset after the text where
 -- there is none
 pub pass-exact : (g : Grammar) (p : ℕ) (v : Value g)
     → Passes (IsViolation g p v) (p + length (text g v)) (pass g (capped p) v)
@@ -216,11 +217,11 @@ pub pass_out_of_order : (g : Grammar) (v : Value g) (q : ℕ) → pass g 0 v ≡
 pass_out_of_order g v q e none = let h : Passes (IsViolation g 0 v) (0 + length (text g v))
     (Err q) = from_start g v _ e in none h.0 h.1
 
-pub pass_first : (g : Grammar) (v : Value g) (place : ℕ) → length (text g v) < 2 ^ 64 → pass g 0 v
-    ≡ Err place → IsFirstViolation g v place
-pass_first g v place small e =
-    let h : Passes (IsViolation g 0 v) (0 + length (text g v)) (Err place) =
+pub pass_first : (g : Grammar) (v : Value g) (offset : ℕ) → length (text g v) < 2 ^ 64 → pass g 0 v
+    ≡ Err offset → IsFirstViolation g v offset
+pass_first g v offset small e =
+    let h : Passes (IsViolation g 0 v) (0 + length (text g v)) (Err offset) =
     from_start g v _ e in
     let within : h.0 ≤ 0 + length (text g v) = violation_below g 0 v _ h.1 in
-    let is : h.0 ≡ place = omega (arith, h.3) in
+    let is : h.0 ≡ offset = omega (arith, h.3) in
     subst (IsFirstViolation g v) is (record { is_violation = h.1; least = h.2 })

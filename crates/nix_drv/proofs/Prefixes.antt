@@ -52,19 +52,19 @@ begins_bytes (b ∷ v) more rest e =
     ]
 
 -- after the text of an element stands a comma, and a beginning of the others
-begins_behind : {A : Type 0} (text_of : A → List ℕ) (IsPrefixOf : List ℕ → Type 0) (v w : A)
-    (vs : List A) (behind rest : List ℕ) → 44 ∷ separated text_of (w ∷ vs) ++ 93 ∷ [] ≡ behind
+begins_after : {A : Type 0} (text_of : A → List ℕ) (IsPrefixOf : List ℕ → Type 0) (v w : A)
+    (vs : List A) (after rest : List ℕ) → 44 ∷ separated text_of (w ∷ vs) ++ 93 ∷ [] ≡ after
     ++ rest
     → ((more later : List ℕ) → separated text_of (w ∷ vs) ++ 93 ∷ [] ≡ more ++ later
-    → PrefixOfSome text_of IsPrefixOf more) → PrefixOfSome text_of IsPrefixOf (text_of v ++ behind)
-begins_behind text_of IsPrefixOf v w vs [] rest e others = inr (v, [], [], refl, (93 ∷ [], refl))
-begins_behind {A} text_of IsPrefixOf v w vs (c ∷ behind) rest e others =
+    → PrefixOfSome text_of IsPrefixOf more) → PrefixOfSome text_of IsPrefixOf (text_of v ++ after)
+begins_after text_of IsPrefixOf v w vs [] rest e others = inr (v, [], [], refl, (93 ∷ [], refl))
+begins_after {A} text_of IsPrefixOf v w vs (c ∷ after) rest e others =
     let comma : 44 ≡ c = cc in
-    let tail : separated text_of (w ∷ vs) ++ 93 ∷ [] ≡ behind ++ rest = cc in
-    let here : (t : List ℕ) → behind ≡ t → text_of v ++ c ∷ behind ≡ text_of v ++ 44
+    let tail : separated text_of (w ∷ vs) ++ 93 ∷ [] ≡ after ++ rest = cc in
+    let here : (t : List ℕ) → after ≡ t → text_of v ++ c ∷ after ≡ text_of v ++ 44
     ∷ t = λ t is. ap (λ (s : List ℕ). text_of v ++ c ∷ s) is
     ∙ ap (λ (k : ℕ). text_of v ++ k ∷ t) (sym comma) in
-    elim (others behind rest tail) [
+    elim (others after rest tail) [
       | inl at ↦ inl (
         v ∷ at.0,
         at.1,
@@ -95,7 +95,7 @@ begins_some {A} text_of IsPrefixOf one v (w ∷ vs) more rest e =
       | inl at ↦ inl ([], more, refl, one v more at)
       | inr at ↦
           let some : PrefixOfSome text_of IsPrefixOf (text_of v ++ at.0) =
-          begins_behind text_of IsPrefixOf v w _ _ _ at.2.1
+          begins_after text_of IsPrefixOf v w _ _ _ at.2.1
           (λ t later is. begins_some text_of IsPrefixOf one w vs t later is) in
           rw at.1 some
     ]

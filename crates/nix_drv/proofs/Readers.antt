@@ -43,17 +43,17 @@ bytes_reader = record {
 
 -- ---- after one byte
 
-abbrev pub PrefixBehind : ℕ → (List ℕ → Type 0) → List ℕ → Type 0
-PrefixBehind b IsPrefixOf prefix = Begins prefix (b ∷ [])
+abbrev pub PrefixAfter : ℕ → (List ℕ → Type 0) → List ℕ → Type 0
+PrefixAfter b IsPrefixOf prefix = Begins prefix (b ∷ [])
     ⊎ ((more : List ℕ) × (prefix ≡ b ∷ more) × IsPrefixOf more)
 
-abbrev pub read_behind : {A : Type 0} → ℕ → (List ℕ → Result (A × List ℕ) ℕ) → List ℕ
+abbrev pub read_after : {A : Type 0} → ℕ → (List ℕ → Result (A × List ℕ) ℕ) → List ℕ
     → Result (A × List ℕ) ℕ
-read_behind b reading s = fixed_at (b ∷ []) s >>= λ x. reading x.1
+read_after b reading s = fixed_at (b ∷ []) s >>= λ x. reading x.1
 
 second_told : {A : Type 0} (b : ℕ) (text_of : A → List ℕ) (IsPrefixOf : List ℕ → Type 0)
     (s t : List ℕ) (r : Result (A × List ℕ) ℕ) → s ≡ b ∷ t → Told text_of IsPrefixOf t r
-    → Told (λ v. b ∷ text_of v) (PrefixBehind b IsPrefixOf) s r
+    → Told (λ v. b ∷ text_of v) (PrefixAfter b IsPrefixOf) s r
 second_told b text_of IsPrefixOf s t (Ok x) e told = e ∙ ap (λ (u : List ℕ). b ∷ u) told
 second_told b text_of IsPrefixOf s t (Err left) e told = record {
   prefix = b ∷ told.prefix;
@@ -63,20 +63,20 @@ second_told b text_of IsPrefixOf s t (Err left) e told = record {
   is_left = told.is_left;
 }
 
-behind_told : {A : Type 0} (b : ℕ) (text_of : A → List ℕ) (IsPrefixOf : List ℕ → Type 0)
+after_told : {A : Type 0} (b : ℕ) (text_of : A → List ℕ) (IsPrefixOf : List ℕ → Type 0)
     (reading : List ℕ → Result (A × List ℕ) ℕ)
     → ((t : List ℕ) → Told text_of IsPrefixOf t (reading t))
     → (s : List ℕ) (first : Result (Unit {0} × List ℕ) ℕ)
     → Told (λ _. b ∷ []) (λ prefix. Begins prefix (b ∷ [])) s first
-    → Told (λ v. b ∷ text_of v) (PrefixBehind b IsPrefixOf) s (first >>= λ x. reading x.1)
-behind_told b text_of IsPrefixOf reading h s (Ok x) told = search (rules, second_told, told)
-behind_told b text_of IsPrefixOf reading h s (Err left) told = search rules
+    → Told (λ v. b ∷ text_of v) (PrefixAfter b IsPrefixOf) s (first >>= λ x. reading x.1)
+after_told b text_of IsPrefixOf reading h s (Ok x) told = search (rules, second_told, told)
+after_told b text_of IsPrefixOf reading h s (Err left) told = search rules
 
-pub behind_reader : {A : Type 0} (b : ℕ) (text_of : A → List ℕ) (IsPrefixOf : List ℕ → Type 0)
+pub after_reader : {A : Type 0} (b : ℕ) (text_of : A → List ℕ) (IsPrefixOf : List ℕ → Type 0)
     (reading : List ℕ → Result (A × List ℕ) ℕ) → IsReader text_of IsPrefixOf reading
-    → IsReader (λ v. b ∷ text_of v) (PrefixBehind b IsPrefixOf) (read_behind b reading)
-behind_reader b text_of IsPrefixOf reading r = record {
-  told = λ s. behind_told b text_of IsPrefixOf reading r.told s _
+    → IsReader (λ v. b ∷ text_of v) (PrefixAfter b IsPrefixOf) (read_after b reading)
+after_reader b text_of IsPrefixOf reading r = record {
+  told = λ s. after_told b text_of IsPrefixOf reading r.told s _
       (fixed-told (b ∷ []) s);
   again = λ v rest. rw (fixed-again (b ∷ []) (text_of v ++ rest)) (r.again v rest);
   longest = λ prefix rest at. elim at [

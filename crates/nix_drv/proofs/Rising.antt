@@ -8,33 +8,33 @@ use Rattle.nix_drv.specs.Grammar.{ListOrder, Rising, Free, Grammar, Fixed, Str, 
 use Rattle.nix_drv.specs.Order.{key, breaks, IsViolationAmong, IsViolation, InOrder, MayBeKeys, Each, KeysRise}
 
 -- the keys with the one before them, if there is one
-abbrev behind : Option (List ℕ) → List (List ℕ) → List (List ℕ)
-behind None ks = ks
-behind (Some before) ks = before ∷ ks
+abbrev after : Option (List ℕ) → List (List ℕ) → List (List ℕ)
+after None ks = ks
+after (Some before) ks = before ∷ ks
 
 not_both : (b : Bool) → b ≡ true → not b ≡ true → ⊥
 not_both b is isnt = search rules
 
 stands_more : (order : ListOrder) (before : Option (List ℕ)) (k : List ℕ) (ks : List (List ℕ))
     → (breaks order before k ≡ true → ⊥) → MayBeKeys order (k ∷ ks)
-    → MayBeKeys order (behind before (k ∷ ks))
+    → MayBeKeys order (after before (k ∷ ks))
 stands_more Free before k ks none h = tt
 stands_more Rising None k ks none h = h
 stands_more Rising (Some a) k ks none h = search (rules, below_from_lt, cases_Bool)
 
 breaks_none : (order : ListOrder) (before : Option (List ℕ)) (k : List ℕ) (ks : List (List ℕ))
-    → MayBeKeys order (behind before (k ∷ ks)) → breaks order before k ≡ true → ⊥
+    → MayBeKeys order (after before (k ∷ ks)) → breaks order before k ≡ true → ⊥
 breaks_none Free before k ks h e = search rules
 breaks_none Rising None k ks h e = search rules
 breaks_none Rising (Some a) k ks h e = not_both _ (ap is_lt h.0) e
 
-stands_last : (order : ListOrder) (before : Option (List ℕ)) → MayBeKeys order (behind before [])
+stands_last : (order : ListOrder) (before : Option (List ℕ)) → MayBeKeys order (after before [])
 stands_last Free before = tt
 stands_last Rising None = tt
 stands_last Rising (Some a) = tt
 
 stands_later : (order : ListOrder) (before : Option (List ℕ)) (k : List ℕ) (ks : List (List ℕ))
-    → MayBeKeys order (behind before (k ∷ ks)) → MayBeKeys order (k ∷ ks)
+    → MayBeKeys order (after before (k ∷ ks)) → MayBeKeys order (k ∷ ks)
 stands_later Free before k ks h = tt
 stands_later Rising None k ks h = h
 stands_later Rising (Some a) k ks h = h.1
@@ -44,7 +44,7 @@ among_rises : {A : Type 0} (order : ListOrder) (key_of text_of : A → List ℕ)
     → ((p : ℕ) (v : A) → ((r : ℕ) → Within p v r → ⊥) → Rises v)
     → (before : Option (List ℕ)) (p : ℕ) (vs : List A)
     → ((r : ℕ) → IsViolationAmong order key_of text_of Within before p vs r → ⊥)
-    → MayBeKeys order (behind before (map key_of vs)) × Each Rises vs
+    → MayBeKeys order (after before (map key_of vs)) × Each Rises vs
 among_rises order key_of text_of Within Rises one before p [] none = (stands_last _ _, tt)
 among_rises order key_of text_of Within Rises one before p (v ∷ vs) none =
     let later = among_rises order key_of text_of Within Rises one (Some (key_of v))
@@ -57,7 +57,7 @@ rises_among : {A : Type 0} (order : ListOrder) (key_of text_of : A → List ℕ)
     (Within : ℕ → A → ℕ → Type 0) (Rises : A → Type 0)
     → ((p : ℕ) (v : A) → Rises v → (r : ℕ) → Within p v r → ⊥)
     → (before : Option (List ℕ)) (p : ℕ) (vs : List A)
-    → MayBeKeys order (behind before (map key_of vs)) → Each Rises vs → (r : ℕ)
+    → MayBeKeys order (after before (map key_of vs)) → Each Rises vs → (r : ℕ)
     → IsViolationAmong order key_of text_of Within before p vs r → ⊥
 rises_among order key_of text_of Within Rises one before p [] stands each r at = at
 rises_among order key_of text_of Within Rises one before p (v ∷ vs) stands each r (inl at) =

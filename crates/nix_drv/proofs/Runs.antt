@@ -89,9 +89,9 @@ byte_none items s rest total so_far e = search (rules, bytes_open, following, ap
 
 -- ---- where a run ends
 
--- the first place at which a test passes, or the end
-pub first_within : (test : ℕ → Bool) (s : List ℕ) (n : ℕ) (place : Option ℕ) → place
-    ≡ position test s → n ≡ unwrap_or place (length s) → n ≤ length s
+-- the first offset at which a test passes, or the end
+pub first_within : (test : ℕ → Bool) (s : List ℕ) (n : ℕ) (offset : Option ℕ) → offset
+    ≡ position test s → n ≡ unwrap_or offset (length s) → n ≤ length s
 first_within test s n None e is = omega arith
 first_within test s n (Some i) e is = search (rules, position-Some)
 
@@ -99,14 +99,14 @@ none_within : (test : ℕ → Bool) (s : List ℕ) → position test s ≡ None 
     → test (get_or s k 0) ≡ false
 none_within test s e k lt = search (rules, common_steps, fails_before_first)
 
-pub none_before : (test : ℕ → Bool) (s : List ℕ) (n : ℕ) (place : Option ℕ) → place
-    ≡ position test s → n ≡ unwrap_or place (length s) → (k : ℕ) → k < n → test (get_or s k 0)
+pub none_before : (test : ℕ → Bool) (s : List ℕ) (n : ℕ) (offset : Option ℕ) → offset
+    ≡ position test s → n ≡ unwrap_or offset (length s) → (k : ℕ) → k < n → test (get_or s k 0)
     ≡ false
 none_before test s n None e is k lt = none_within test s (sym e) k (omega arith)
 none_before test s n (Some i) e is k lt = let at = position-Some test s i 0 (sym e)
     in at.2 k (omega arith)
 
-pub passes_there : (test : ℕ → Bool) (s : List ℕ) (n : ℕ) (place : Option ℕ) → place
-    ≡ position test s → n ≡ unwrap_or place (length s) → n < length s → test (get_or s n 0) ≡ true
+pub passes_there : (test : ℕ → Bool) (s : List ℕ) (n : ℕ) (offset : Option ℕ) → offset
+    ≡ position test s → n ≡ unwrap_or offset (length s) → n < length s → test (get_or s n 0) ≡ true
 passes_there test s n None e is lt = absurd (omega arith)
 passes_there test s n (Some i) e is lt = search (rules, position-Some)

@@ -5,7 +5,7 @@ use Rattle.std.specs.List.{flat_map}
 use Rattle.std.proofs.lemmas.List.{append-nil, length-append, nil_from_length, take_all}
 use Rattle.std.proofs.lemmas.List.Sums.{sum_by-cons}
 use Rattle.nix_drv.specs.Strings.{spelled, spelling, is_plain, letter, string_text}
-use Rattle.nix_drv.specs.private.Passing.{behind}
+use Rattle.nix_drv.specs.private.Passing.{offset_after}
 use Rattle.nix_drv.proofs.Strings.{spelling-plain}
 use Rattle.nix_drv.proofs.FormTexts.{added_last}
 use Rattle.nix_drv.proofs.Runs.{is_plain-true}
@@ -47,16 +47,17 @@ length-spellings (b ∷ v) =
       sum_by-cons (λ (x : ℕ). cond (is_some (letter x)) 1 0) b v,
     )
 
-pub string_end : (place escapes first second last : ℕ) (v : List ℕ) → escapes
+pub string_end : (offset escapes first second last : ℕ) (v : List ℕ) → escapes
     ≡ count_by (λ b. is_some (letter b)) v
-    → first ≡ behind place (length v) → second ≡ behind first escapes → last ≡ behind second 2
-    → last ≡ behind place (length (string_text v))
-string_end place escapes first second last v e one two three =
+    → first ≡ offset_after offset (length v) → second ≡ offset_after first escapes → last
+    ≡ offset_after second 2
+    → last ≡ offset_after offset (length (string_text v))
+string_end offset escapes first second last v e one two three =
     search (rules, length-spellings, length-append)
 
-rest_behind : (s : List ℕ) → 1 ≤ length s → get_or s 0 0 ∷ take (length s - 1) (drop 1 s) ≡ s
-rest_behind [] long = absurd (omega arith)
-rest_behind (b ∷ s) long = search (rules, take_all)
+rest_after : (s : List ℕ) → 1 ≤ length s → get_or s 0 0 ∷ take (length s - 1) (drop 1 s) ≡ s
+rest_after [] long = absurd (omega arith)
+rest_after (b ∷ s) long = search (rules, take_all)
 
 -- a run and the byte after it
 run_spelled : (part rest run special : List ℕ) (n byte : ℕ) (total : List ℕ) → n ≤ length rest
@@ -66,7 +67,7 @@ run_spelled : (part rest run special : List ℕ) (n byte : ℕ) (total : List �
     → (part ++ run ++ spelling byte) ++ flat_map spelling
     (take (length special - 1) (drop 1 special)) ≡ total
 run_spelled part rest run special n byte total fits plain so_far run_is special_is long byte_is =
-    search (rules, rest_behind, append_assoc, spelled_run)
+    search (rules, rest_after, append_assoc, spelled_run)
 
 -- the last run, with nothing after it
 last_spelled : (part rest run special : List ℕ) (n : ℕ) (total : List ℕ) → n ≤ length rest

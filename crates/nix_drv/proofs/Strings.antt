@@ -96,9 +96,9 @@ stops_here : (s : List ℕ) (left : ℕ) → length s ≡ left → StopsAt IsPre
 stops_here s left e = search rules
 
 -- a backslash can still become an escape, and what follows it cannot
-stops_behind : (s : List ℕ) (left : ℕ) → length s ≡ left → StopsAt IsPrefixOfBytes (92 ∷ s) left
+stops_after : (s : List ℕ) (left : ℕ) → length s ≡ left → StopsAt IsPrefixOfBytes (92 ∷ s) left
 unfolding spelling
-stops_behind s left e = record {
+stops_after s left e = record {
   prefix = 92 ∷ [];
   rest = s;
   parts = refl;
@@ -114,7 +114,7 @@ lead false = []
 pub bytes-told : (escaped : Bool) (s : List ℕ)
     → Told bytes_text IsPrefixOfBytes (lead escaped ++ s) (bytes_at escaped s)
 unfolding spelling bytes_at
-bytes-told true [] = stops_behind [] 0 refl
+bytes-told true [] = stops_after [] 0 refl
 bytes-told false [] = stops_here [] 0 refl
 bytes-told true (b ∷ s) =
     search (
@@ -123,7 +123,7 @@ bytes-told true (b ∷ s) =
       bytes_text,
       told_before,
       bytes_at-refused,
-      stops_behind,
+      stops_after,
       bytes-told false s,
     )
 bytes-told false (b ∷ s) =

@@ -38,8 +38,9 @@ abbrev pub IsCheck : (dir : Dir) (path : Path) (bytes : Bytes) → Result Drv Dr
 IsCheck dir path bytes (Ok drv) = IsFoundAt dir path bytes drv path
 IsCheck dir path bytes (Err NotADrvName) = IsDrvPath path → ⊥
 IsCheck dir path bytes (Err TooLong) = IsDrvPath path × IsReading bytes (Err TooLong)
-IsCheck dir path bytes (Err (Syntax place)) = IsDrvPath path × IsReading bytes (Err (Syntax place))
-IsCheck dir path bytes (Err (Order place)) = IsDrvPath path × IsReading bytes (Err (Order place))
+IsCheck dir path bytes (Err (Syntax offset)) =
+    IsDrvPath path × IsReading bytes (Err (Syntax offset))
+IsCheck dir path bytes (Err (Order offset)) = IsDrvPath path × IsReading bytes (Err (Order offset))
 IsCheck dir path bytes (Err (BadReference text)) = (drv : Drv) × IsReadAt path bytes drv
     × IsFirstStray dir (referenced_paths drv) text.items
 IsCheck dir path bytes (Err (TextPathMismatch expected)) = (drv : Drv)

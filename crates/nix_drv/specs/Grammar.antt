@@ -80,14 +80,14 @@ IsTextPrefix (Many order g) prefix = Begins prefix (91 ∷ [])
     ⊎ ((more : Bytes) × (prefix ≡ 91 ∷ more) × IsPrefixOfElements (text g) (IsTextPrefix g) more)
 
 -- The longest beginning of the input that is a prefix has this length.
-pub record IsLongestPrefix (g : Grammar) (input : Bytes) (place : ℕ) : Type 0 where
+pub record IsLongestPrefix (g : Grammar) (input : Bytes) (offset : ℕ) : Type 0 where
   pub prefix : Bytes
   pub rest : Bytes
   pub parts : input ≡ prefix ++ rest
   pub is_prefix : IsTextPrefix g prefix
-  pub is_place : length prefix ≡ place
+  pub is_offset : length prefix ≡ offset
   pub longest : (other more : Bytes) → IsTextPrefix g other → input ≡ other ++ more → length other
-      ≤ place
+      ≤ offset
 
 -- the byte with which each text of the grammar begins; none where its first part is no bytes
 abbrev pub first_byte : Grammar → Option ℕ

@@ -9,7 +9,7 @@ pub mod Order
 pub mod Outcome
 pub mod OwnPath
 pub mod Parts
-pub mod Places
+pub mod Indices
 pub mod References
 pub mod Sources
 pub mod Strings

@@ -32,36 +32,37 @@ breaks Free before k = false
 breaks Rising None k = false
 breaks Rising (Some before) k = not (is_less before k)
 
--- The place is that of a violation among some elements of a list: of one that breaks the order, or
+-- The offset is that of a violation among some elements of a list: of one that breaks the order, or
 -- of a violation within one. The text of the first of them begins at p, and the element before it,
 -- if there is one, has the key `before`.
 abbrev pub IsViolationAmong : {A : Type 0} → ListOrder → (key_of text_of : A → Bytes)
-    → (ℕ → A → ℕ → Type 0) → (before : Option Bytes) → (p : ℕ) → List A → (place : ℕ) → Type 0
-IsViolationAmong order key_of text_of Within before p [] place = ⊥
-IsViolationAmong order key_of text_of Within before p (v ∷ vs) place =
-    ((breaks order before (key_of v) ≡ true) × (place ≡ p))
-    ⊎ Within p v place
+    → (ℕ → A → ℕ → Type 0) → (before : Option Bytes) → (p : ℕ) → List A → (offset : ℕ) → Type 0
+IsViolationAmong order key_of text_of Within before p [] offset = ⊥
+IsViolationAmong order key_of text_of Within before p (v ∷ vs) offset =
+    ((breaks order before (key_of v) ≡ true) × (offset ≡ p))
+    ⊎ Within p v offset
     ⊎ IsViolationAmong order key_of text_of Within (Some (key_of v)) (p + length (text_of v) + 1) vs
-    place
+    offset
 
--- The place is that of a violation in the text of a value, which begins at p: of an element that
+-- The offset is that of a violation in the text of a value, which begins at p: of an element that
 -- breaks the order of its list.
-unfoldable pub IsViolation : (g : Grammar) → (p : ℕ) → Value g → (place : ℕ) → Type 0
-IsViolation (Fixed bytes) p v place = ⊥
-IsViolation Str p v place = ⊥
-IsViolation (Then a b) p v place = IsViolation a p v.0 place
-    ⊎ IsViolation b (p + length (text a v.0)) v.1 place
-IsViolation (Many order g) p vs place = IsViolationAmong order (key g) (text g) (IsViolation g) None
-    (p + 1) vs place
+unfoldable pub IsViolation : (g : Grammar) → (p : ℕ) → Value g → (offset : ℕ) → Type 0
+IsViolation (Fixed bytes) p v offset = ⊥
+IsViolation Str p v offset = ⊥
+IsViolation (Then a b) p v offset = IsViolation a p v.0 offset
+    ⊎ IsViolation b (p + length (text a v.0)) v.1 offset
+IsViolation (Many order g) p vs offset =
+    IsViolationAmong order (key g) (text g) (IsViolation g) None
+    (p + 1) vs offset
 
 -- the value keeps the order rules
 abbrev pub InOrder : (g : Grammar) → Value g → Type 0
-InOrder g v = (place : ℕ) → IsViolation g 0 v place → ⊥
+InOrder g v = (offset : ℕ) → IsViolation g 0 v offset → ⊥
 
--- The place is that of the first violation in the text of a value.
-pub record IsFirstViolation (g : Grammar) (v : Value g) (place : ℕ) : Type 0 where
-  pub is_violation : IsViolation g 0 v place
-  pub least : (other : ℕ) → IsViolation g 0 v other → place ≤ other
+-- The offset is that of the first violation in the text of a value.
+pub record IsFirstViolation (g : Grammar) (v : Value g) (offset : ℕ) : Type 0 where
+  pub is_violation : IsViolation g 0 v offset
+  pub least : (other : ℕ) → IsViolation g 0 v other → offset ≤ other
 
 -- the keys of a list's elements rise, where the list must rise
 abbrev pub MayBeKeys : ListOrder → List Bytes → Type 0

@@ -16,14 +16,15 @@ max_len = 4194304
 -- are within the limit. Else it is one of these faults: the bytes are too many; they are no text of
 -- the language, even without its order rules, and the longest beginning that more bytes can
 -- complete to a text has this length; they are a text that breaks an order rule, and the first
--- element that does so is at this place; or memory was refused.
+-- element that does so is at this offset; or memory was refused.
 abbrev pub IsReading : Bytes → Result Drv DrvFault → Type 0
 IsReading input (Ok drv) = (length input ≤ max_len) × IsDrvText drv input
 IsReading input (Err TooLong) = max_len < length input
-IsReading input (Err (Syntax place)) = (length input ≤ max_len)
-    × ((drv : Drv) → ¬ IsLooseText drv input) × IsLongestPrefix derivation_form input place
-IsReading input (Err (Order place)) = (length input ≤ max_len)
-    × ((drv : Drv) × IsLooseText drv input × IsFirstViolation derivation_form (drv_value drv) place)
+IsReading input (Err (Syntax offset)) = (length input ≤ max_len)
+    × ((drv : Drv) → ¬ IsLooseText drv input) × IsLongestPrefix derivation_form input offset
+IsReading input (Err (Order offset)) = (length input ≤ max_len)
+    × ((drv : Drv) × IsLooseText drv input × IsFirstViolation derivation_form (drv_value drv)
+    offset)
 IsReading input (Err NoMemory) = length input ≤ max_len
 IsReading input (Err other) = ⊥
 
@@ -37,7 +38,7 @@ abbrev pub IsWriting : Drv → Result (Vec ℕ Global) DrvFault → Type 0
 IsWriting drv (Ok text) = IsDrvText drv text.items
 IsWriting drv (Err fault) = fault ≡ NoMemory
 
--- the same derivation, unless memory was refused
+-- a copy of the derivation, unless memory was refused
 abbrev pub IsCopying : Drv → Result Drv DrvFault → Type 0
 IsCopying drv (Ok copy) = copy ≡ drv
 IsCopying drv (Err fault) = fault ≡ NoMemory
@@ -50,8 +51,8 @@ ReadsBack = (drv : Drv) (text : Bytes) (answer : Result Drv DrvFault) → IsDrvT
 -- a fault's number in the table of faults
 abbrev pub number_of : DrvFault → ℕ
 number_of NoMemory = 9
-number_of (Syntax place) = 10
-number_of (Order place) = 11
+number_of (Syntax offset) = 10
+number_of (Order offset) = 11
 number_of TooLong = 12
 number_of (TextPathMismatch expected) = 13
 number_of NotADrvName = 14

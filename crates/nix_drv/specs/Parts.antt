@@ -67,7 +67,7 @@ parts_build p = (
   ),
 )
 
--- the same of the structure that holds just these
+-- the system, the builder, the arguments and the environment of the structure that holds just these
 abbrev pub build_of : BuildParts → Value build_form
 build_of b = (
   b.system.items,

@@ -18,7 +18,7 @@ source_number_of Device = 18
 abbrev pub Answer : Type 0
 Answer = Result Bytes SourceFault
 
--- the same answers may be given for each path before and after
+-- which answers may be given is the same for each path before and after
 abbrev pub GivesSame : (before after : Path → Answer → Type 0) → Type 0
 GivesSame before after = (path : Path) (answer : Answer)
     → (before path answer ↔ after path answer)

@@ -1,5 +1,5 @@
 -- What only private contracts and proofs cite.
-pub mod Behind
+pub mod AfterBytes
 pub mod Listings
 pub mod Ordering
 pub mod Passing

@@ -10,7 +10,7 @@ ghost use Rattle.nix_drv.specs.Derivation.{IsLooseText, derivation_form, drv_val
 ghost use Rattle.nix_drv.specs.Parts.{bytes_of, output_of, input_of, entry_of, drv_of};
 ghost use Rattle.nix_drv.specs.private.Ordering.{IsOrdering};
 ghost use Rattle.nix_drv.specs.Outcome.{IsCopying, IsMaking};
-ghost use Rattle.nix_drv.specs.Places.{IsPlaceOfKey, env_keys, output_names};
+ghost use Rattle.nix_drv.specs.Indices.{IsIndexOfKey, env_keys, output_names};
 
 use crate::fault::DrvFault;
 use crate::forms::{copy_parts, pass_parts, write_parts};
@@ -113,14 +113,14 @@ impl Model for Derivation {
 }
 
 impl Derivation {
-    // The derivation of the parts, or the place in their text of the first element that breaks the
+    // The derivation of the parts, or the offset in their text of the first element that breaks the
     // order of its list.
     pub(crate) fn in_order(parts: Parts) -> Result<Derivation, usize>
         ensures { IsOrdering (drv_of parts) result }
     {
         match pass_parts(&parts) {
             Ok(_) => Ok(Derivation { parts }),
-            Err(place) => Err(place),
+            Err(offset) => Err(offset),
         }
     }
 
@@ -219,17 +219,17 @@ impl Derivation {
         &self.parts.env
     }
 
-    /// The place of the output with this name among the outputs, if there is one. Takes no memory,
+    /// The index of the output with this name among the outputs, if there is one. Takes no memory,
     /// and compares some log2(n) names, where n is the number of outputs.
-    pub fn output_place(&self, name: &[u8]) -> Option<usize>
-        ensures found { IsPlaceOfKey (output_names self.now) name.now result }
+    pub fn output_index(&self, name: &[u8]) -> Option<usize>
+        ensures found { IsIndexOfKey (output_names self.now) name.now result }
         ensures rising { IsRising (output_names self.now) }
     {
         let by_name = |output: &Output| -> Ordering
             ensures { result ≡ slice_cmp nat_cmp output.now.name.items name.entry.now }
         { output.name.as_slice().cmp(&name) };
         match self.parts.outputs.binary_search_by(by_name) {
-            Ok(place) => Some(place),
+            Ok(index) => Some(index),
             Err(_) => None,
         }
     }
@@ -251,17 +251,17 @@ impl Derivation {
         }
     }
 
-    /// The place of the entry with this key in the environment, if there is one. Takes no memory,
+    /// The index of the entry with this key in the environment, if there is one. Takes no memory,
     /// and compares some log2(n) keys, where n is the number of entries.
-    pub fn env_place(&self, key: &[u8]) -> Option<usize>
-        ensures found { IsPlaceOfKey (env_keys self.now) key.now result }
+    pub fn env_index(&self, key: &[u8]) -> Option<usize>
+        ensures found { IsIndexOfKey (env_keys self.now) key.now result }
         ensures rising { IsRising (env_keys self.now) }
     {
         let by_key = |entry: &EnvEntry| -> Ordering
             ensures { result ≡ slice_cmp nat_cmp entry.now.key.items key.entry.now }
         { entry.key.as_slice().cmp(&key) };
         match self.parts.env.binary_search_by(by_key) {
-            Ok(place) => Some(place),
+            Ok(index) => Some(index),
             Err(_) => None,
         }
     }

@@ -28,10 +28,10 @@ pub(crate) trait Element {
     fn read(alloc: Global, bytes: &[u8]) -> Result<(Self, &[u8]), ParseFault>
         ensures { Gives (λ x. (value x.0, x.1.now)) result (read_of form bytes.now) };
 
-    // The place after the element's text, which begins at this place, or the place of the first
+    // The offset after the element's text, which begins at this offset, or the offset of the first
     // element within it that breaks the order of its list.
-    fn pass(&self, place: usize) -> Result<usize, usize>
-        ensures { result ≡ pass_of form place (value self.now) };
+    fn pass(&self, offset: usize) -> Result<usize, usize>
+        ensures { result ≡ pass_of form offset (value self.now) };
 
     // Adds the element's text.
     fn write(&self, out: &mut Vec<u8>) -> Result<(), AllocError>
@@ -80,7 +80,7 @@ pub(crate) fn read_list<T: Element + Drop>(
 {
     let rest = fixed_of(bytes, b"[")?;
     match rest {
-        [b']', behind @ ..] => Ok((Vec::new(alloc), behind)),
+        [b']', tail @ ..] => Ok((Vec::new(alloc), tail)),
         _ => read_elements(alloc, rest),
     }
 }
@@ -100,8 +100,8 @@ fn read_elements<T: Element + Drop>(
         let (item, after) = T::read(alloc, rest)?;
         items.push(item)?;
         match next_of(after)? {
-            (Next::Comma, behind) => rest = behind,
-            (Next::End, behind) => return Ok((items, behind)),
+            (Next::Comma, tail) => rest = tail,
+            (Next::End, tail) => return Ok((items, tail)),
         }
     }
 }
@@ -117,20 +117,20 @@ fn breaks(order: KeyOrder, before: Option<&[u8]>, key: &[u8]) -> bool
     }
 }
 
-// The place after the list's text, which begins at this place, or the place of the first element
-// that breaks the order of its list. A place above `usize::MAX` counts as `usize::MAX`.
+// The offset after the list's text, which begins at this offset, or the offset of the first element
+// that breaks the order of its list. An offset above `usize::MAX` counts as `usize::MAX`.
 #[tactic(auto, unfolding(crate::specs::private::Passing::pass))]
 pub(crate) fn pass_list<T: Element>(
     order: KeyOrder,
     items: &[T],
-    place: usize,
+    offset: usize,
 ) -> Result<usize, usize>
-    ensures { result ≡ pass_of (Many (order_of order) T.form) place (map T.value items.now) }
+    ensures { result ≡ pass_of (Many (order_of order) T.form) offset (map T.value items.now) }
 {
     if items.is_empty() {
-        return Ok(place.saturating_add(2));
+        return Ok(offset.saturating_add(2));
     }
-    let mut at = place.saturating_add(1);
+    let mut at = offset.saturating_add(1);
     let mut before: Option<&[u8]> = None;
     'items: for item in items {
         let key = item.key();

@@ -31,8 +31,8 @@ pub(crate) fn unescape(letter: u8) -> Option<u8>
     }
 }
 
-// The place of the first byte that has an escape, if there is one.
-fn escape_place(bytes: &[u8]) -> Option<usize>
+// The offset of the first byte that has an escape, if there is one.
+fn escape_offset(bytes: &[u8]) -> Option<usize>
     ensures { result ≡ position (λ b. is_some (letter b)) bytes.now }
 {
     bytes.iter().position(|byte| letter_of(*byte).is_some())
@@ -45,5 +45,5 @@ pub(crate) fn plain_len(bytes: &[u8]) -> usize
     ensures plain { (k : ℕ) → k < result → is_plain (slice_index bytes.now k) ≡ true }
     ensures ends { result < length bytes.now → is_plain (slice_index bytes.now result) ≡ false }
 {
-    escape_place(bytes).unwrap_or(bytes.len())
+    escape_offset(bytes).unwrap_or(bytes.len())
 }

@@ -12,12 +12,12 @@ pub enum DrvFault {
     /// Memory was refused.
     #[error("memory was refused")]
     NoMemory,
-    /// The bytes are no text of the language. The place is the length of their longest beginning
+    /// The bytes are no text of the language. The offset is the length of their longest beginning
     /// that more bytes can complete to a text.
     #[error("the text is no derivation from byte {0} on")]
     Syntax(usize),
-    /// The element at the place isn't greater than the one before it, but its list must rise. It is
-    /// the first such element of the text.
+    /// The element at the offset isn't greater than the one before it, but its list must rise. It
+    /// is the first such element of the text.
     #[error("the element at byte {0} is out of order")]
     Order(usize),
     /// The text is longer than 4,194,304 bytes.

@@ -6,7 +6,7 @@ ghost use Rattle.nix_drv.specs.Grammar.{Str, Then, text};
 ghost use Rattle.nix_drv.specs.Derivation.{drv_value, output_form, output_value, input_form, input_value, entry_form, entry_value, build_form, derivation_form, comma};
 ghost use Rattle.nix_drv.specs.private.Reading.{read as read_of};
 ghost use Rattle.nix_drv.specs.private.Passing.{pass as pass_of};
-ghost use Rattle.nix_drv.specs.private.Behind.{string_behind, strings_behind, list_behind};
+ghost use Rattle.nix_drv.specs.private.AfterBytes.{string_after, strings_after, list_after};
 ghost use Rattle.nix_drv.specs.private.Listings.{list_text};
 ghost use Rattle.nix_drv.specs.private.ParseFaults.{Gives};
 ghost use Rattle.nix_drv.specs.Strings.{string_text};
@@ -20,27 +20,27 @@ use crate::writing::{pass_str, write_string};
 use std::alloc::{AllocError, Global};
 
 // The string after the wanted bytes, and the bytes after it.
-#[tactic(auto, unfolding(crate::specs::private::Behind::string_behind))]
+#[tactic(auto, unfolding(crate::specs::private::AfterBytes::string_after))]
 fn read_str<'a>(
     alloc: Global,
     wanted: &[u8],
     bytes: &'a [u8],
 ) -> Result<(Vec<u8>, &'a [u8]), ParseFault>
-    ensures { Gives (λ x. (x.0.items, x.1.now)) result (string_behind wanted.now bytes.now) }
+    ensures { Gives (λ x. (x.0.items, x.1.now)) result (string_after wanted.now bytes.now) }
 {
     let rest = fixed_of(bytes, wanted)?;
     str_of(alloc, rest)
 }
 
 // Two strings, with a comma between them, after the wanted bytes, and the bytes after them.
-#[tactic(auto, unfolding(crate::specs::private::Behind::strings_behind))]
+#[tactic(auto, unfolding(crate::specs::private::AfterBytes::strings_after))]
 fn read_strs<'a>(
     alloc: Global,
     wanted: &[u8],
     bytes: &'a [u8],
 ) -> Result<((Vec<u8>, Vec<u8>), &'a [u8]), ParseFault>
     ensures { Gives
-        (λ x. ((x.0.0.items, x.0.1.items), x.1.now)) result (strings_behind wanted.now bytes.now) }
+        (λ x. ((x.0.0.items, x.0.1.items), x.1.now)) result (strings_after wanted.now bytes.now) }
 {
     let (first, rest) = read_str(alloc, wanted, bytes)?;
     let (second, rest) = read_str(alloc, b",", rest)?;
@@ -48,7 +48,7 @@ fn read_strs<'a>(
 }
 
 // The list after the wanted bytes, and the bytes after it.
-#[tactic(auto, unfolding(crate::specs::private::Behind::list_behind))]
+#[tactic(auto, unfolding(crate::specs::private::AfterBytes::list_after))]
 fn read_items<'a, T: Element + Drop>(
     alloc: Global,
     wanted: &[u8],
@@ -56,14 +56,14 @@ fn read_items<'a, T: Element + Drop>(
 ) -> Result<(Vec<T>, &'a [u8]), ParseFault>
     ensures { Gives
         (λ x. (map T.value x.0.items, x.1.now)) result
-        (list_behind wanted.now (read_of T.form) bytes.now) }
+        (list_after wanted.now (read_of T.form) bytes.now) }
 {
     let rest = fixed_of(bytes, wanted)?;
     read_list(alloc, rest)
 }
 
 // Adds the mark and the string's text.
-fn write_str_behind(mark: &[u8], bytes: &[u8], out: &mut Vec<u8>) -> Result<(), AllocError>
+fn write_str_after(mark: &[u8], bytes: &[u8], out: &mut Vec<u8>) -> Result<(), AllocError>
     ensures { OnOk result
         (out.new.items ≡ out.old.items ++ (mark.now ++ string_text bytes.now)) }
 {
@@ -72,7 +72,7 @@ fn write_str_behind(mark: &[u8], bytes: &[u8], out: &mut Vec<u8>) -> Result<(), 
 }
 
 // Adds the mark and the texts of both strings, with a comma between them.
-fn write_strs_behind(
+fn write_strs_after(
     mark: &[u8],
     first: &[u8],
     second: &[u8],
@@ -82,12 +82,12 @@ fn write_strs_behind(
         (out.new.items
         ≡ out.old.items ++ (mark.now ++ string_text first.now ++ 44 ∷ string_text second.now)) }
 {
-    write_str_behind(mark, first, out)?;
-    write_str_behind(b",", second, out)
+    write_str_after(mark, first, out)?;
+    write_str_after(b",", second, out)
 }
 
 // Adds the mark and the list's text.
-fn write_list_behind<T: Element>(
+fn write_list_after<T: Element>(
     mark: &[u8],
     items: &[T],
     out: &mut Vec<u8>,
@@ -114,8 +114,8 @@ impl Element for Vec<u8> {
     }
 
     #[tactic(auto, unfolding(crate::specs::private::Passing::pass))]
-    fn pass(&self, place: usize) -> Result<usize, usize> {
-        Ok(pass_str(self, place))
+    fn pass(&self, offset: usize) -> Result<usize, usize> {
+        Ok(pass_str(self, offset))
     }
 
     #[tactic(auto, unfolding(crate::specs::Grammar::text))]
@@ -146,15 +146,15 @@ impl Element for EnvEntry {
     }
 
     #[tactic(auto, unfolding(crate::specs::private::Passing::pass))]
-    fn pass(&self, place: usize) -> Result<usize, usize> {
-        let at = pass_str(&self.key, place.saturating_add(1));
+    fn pass(&self, offset: usize) -> Result<usize, usize> {
+        let at = pass_str(&self.key, offset.saturating_add(1));
         let at = pass_str(&self.value, at.saturating_add(1));
         Ok(at.saturating_add(1))
     }
 
     #[tactic(auto, unfolding(crate::specs::Grammar::text))]
     fn write(&self, out: &mut Vec<u8>) -> Result<(), AllocError> {
-        write_strs_behind(b"(", &self.key, &self.value, out)?;
+        write_strs_after(b"(", &self.key, &self.value, out)?;
         out.extend_from_slice(b")")
     }
 
@@ -185,16 +185,16 @@ impl Element for Input {
     }
 
     #[tactic(auto, unfolding(crate::specs::private::Passing::pass))]
-    fn pass(&self, place: usize) -> Result<usize, usize> {
-        let at = pass_str(&self.path, place.saturating_add(1));
+    fn pass(&self, offset: usize) -> Result<usize, usize> {
+        let at = pass_str(&self.path, offset.saturating_add(1));
         let at = pass_list(KeyOrder::Rising, &self.names, at.saturating_add(1))?;
         Ok(at.saturating_add(1))
     }
 
     #[tactic(auto, unfolding(crate::specs::Grammar::text))]
     fn write(&self, out: &mut Vec<u8>) -> Result<(), AllocError> {
-        write_str_behind(b"(", &self.path, out)?;
-        write_list_behind(b",", &self.names, out)?;
+        write_str_after(b"(", &self.path, out)?;
+        write_list_after(b",", &self.names, out)?;
         out.extend_from_slice(b")")
     }
 
@@ -233,8 +233,8 @@ impl Element for Output {
     }
 
     #[tactic(auto, unfolding(crate::specs::private::Passing::pass))]
-    fn pass(&self, place: usize) -> Result<usize, usize> {
-        let at = pass_str(&self.name, place.saturating_add(1));
+    fn pass(&self, offset: usize) -> Result<usize, usize> {
+        let at = pass_str(&self.name, offset.saturating_add(1));
         let at = pass_str(&self.path, at.saturating_add(1));
         let at = pass_str(&self.algo, at.saturating_add(1));
         let at = pass_str(&self.hash, at.saturating_add(1));
@@ -243,8 +243,8 @@ impl Element for Output {
 
     #[tactic(auto, unfolding(crate::specs::Grammar::text))]
     fn write(&self, out: &mut Vec<u8>) -> Result<(), AllocError> {
-        write_strs_behind(b"(", &self.name, &self.path, out)?;
-        write_strs_behind(b",", &self.algo, &self.hash, out)?;
+        write_strs_after(b"(", &self.name, &self.path, out)?;
+        write_strs_after(b",", &self.algo, &self.hash, out)?;
         out.extend_from_slice(b")")
     }
 
@@ -307,20 +307,20 @@ pub(crate) fn read_parts(alloc: Global, bytes: &[u8]) -> Result<(Parts, &[u8]), 
     Ok((parts, rest))
 }
 
-// The place after the text of the system, builder, arguments and environment, which begins at this
-// place, or the place in it of the first element that breaks the order of its list.
+// The offset after the text of the system, builder, arguments and environment, which begins at this
+// offset, or the offset in it of the first element that breaks the order of its list.
 #[tactic(auto, unfolding(crate::specs::private::Passing::pass))]
-fn pass_build(parts: &Parts, place: usize) -> Result<usize, usize>
-    ensures { result ≡ pass_of build_form place (parts_build parts.now) }
+fn pass_build(parts: &Parts, offset: usize) -> Result<usize, usize>
+    ensures { result ≡ pass_of build_form offset (parts_build parts.now) }
 {
-    let at = pass_str(&parts.system, place);
+    let at = pass_str(&parts.system, offset);
     let at = pass_str(&parts.builder, at.saturating_add(1));
     let at = pass_list(KeyOrder::Free, &parts.args, at.saturating_add(1))?;
     let at = pass_list(KeyOrder::Rising, &parts.env, at.saturating_add(1))?;
     Ok(at.saturating_add(1))
 }
 
-// The place after the parts' text, or the place in it of the first element that breaks the order
+// The offset after the parts' text, or the offset in it of the first element that breaks the order
 // of its list.
 #[tactic(auto, unfolding(crate::specs::private::Passing::pass))]
 pub(crate) fn pass_parts(parts: &Parts) -> Result<usize, usize>
@@ -337,9 +337,9 @@ fn write_build(parts: &Parts, out: &mut Vec<u8>) -> Result<(), AllocError>
     ensures { OnOk result
         (out.new.items ≡ out.old.items ++ 44 ∷ text build_form (parts_build parts.now)) }
 {
-    write_strs_behind(b",", &parts.system, &parts.builder, out)?;
-    write_list_behind(b",", &parts.args, out)?;
-    write_list_behind(b",", &parts.env, out)?;
+    write_strs_after(b",", &parts.system, &parts.builder, out)?;
+    write_list_after(b",", &parts.args, out)?;
+    write_list_after(b",", &parts.env, out)?;
     out.extend_from_slice(b")")
 }
 
@@ -355,9 +355,9 @@ pub(crate) fn write_parts(
         ++ text derivation_form
         (drv_value (record (drv_of parts.now) { inputs = map input_of inputs.now }))) }
 {
-    write_list_behind(b"Derive(", &parts.outputs, out)?;
-    write_list_behind(b",", inputs, out)?;
-    write_list_behind(b",", &parts.sources, out)?;
+    write_list_after(b"Derive(", &parts.outputs, out)?;
+    write_list_after(b",", inputs, out)?;
+    write_list_after(b",", &parts.sources, out)?;
     write_build(parts, out)
 }
 

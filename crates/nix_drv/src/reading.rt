@@ -104,7 +104,7 @@ pub fn read(alloc: Global, input: &[u8]) -> Result<Derivation, DrvFault>
             if rest.is_empty() {
                 match Derivation::in_order(parts) {
                     Ok(derivation) => Ok(derivation),
-                    Err(place) => Err(DrvFault::Order(place)),
+                    Err(offset) => Err(DrvFault::Order(offset)),
                 }
             } else {
                 Err(DrvFault::Syntax(input.len() - rest.len()))

@@ -2,7 +2,7 @@
 
 ghost use Rattle.std.specs.Prelude.{◌≡◌, ◌++◌, OnOk, is_some, length, count_by};
 ghost use Rattle.nix_drv.specs.Strings.{spelling, string_text, letter};
-ghost use Rattle.nix_drv.specs.private.Passing.{behind};
+ghost use Rattle.nix_drv.specs.private.Passing.{offset_after};
 ghost use Rattle.nix_drv.specs.Outcome.{IsWriting};
 
 use crate::derivation::Derivation;
@@ -30,11 +30,11 @@ pub fn write_string(out: &mut Vec<u8>, bytes: &[u8]) -> Result<(), AllocError>
     'runs: loop {
         let (run, special) = rest.split_at(plain_len(rest));
         out.extend_from_slice(run)?;
-        let [byte, behind @ ..] = special else {
+        let [byte, after @ ..] = special else {
             break;
         };
         write_byte(out, *byte)?;
-        rest = behind;
+        rest = after;
     }
     out.extend_from_slice(b"\"")
 }
@@ -49,12 +49,12 @@ fn escapes_in(bytes: &[u8]) -> usize
         .count()
 }
 
-// The place after the string's text, which begins at this place. A place above `usize::MAX` counts
-// as `usize::MAX`.
-pub(crate) fn pass_str(bytes: &[u8], place: usize) -> usize
-    ensures { result ≡ behind place (length (string_text bytes.now)) }
+// The offset after the string's text, which begins at this offset. An offset above `usize::MAX`
+// counts as `usize::MAX`.
+pub(crate) fn pass_str(bytes: &[u8], offset: usize) -> usize
+    ensures { result ≡ offset_after offset (length (string_text bytes.now)) }
 {
-    place
+    offset
         .saturating_add(bytes.len())
         .saturating_add(escapes_in(bytes))
         .saturating_add(2)

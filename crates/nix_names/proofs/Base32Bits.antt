@@ -33,12 +33,12 @@ bits_in_two low high more (suc (suc (suc (suc (suc (suc (suc zero))))))) h = ome
 bits_in_two low high more (suc (suc (suc (suc (suc (suc (suc (suc s)))))))) h = absurd (omega arith)
 
 -- a digit of bytes' number: five bits of two of the bytes
-pub digit_of_bytes : (bytes : List ℕ) (place at s : ℕ) → All (λ b. b < 256) bytes → 8 * at + s
-    ≡ 5 * place → s < 8 → number 256 bytes / 32 ^ place % 32
+pub digit_of_bytes : (bytes : List ℕ) (index at s : ℕ) → All (λ b. b < 256) bytes → 8 * at + s
+    ≡ 5 * index → s < 8 → number 256 bytes / 32 ^ index % 32
     ≡ (get_or bytes (at + 1) 0 * 256 + get_or bytes at 0) / 2 ^ s % 32
-digit_of_bytes bytes place at s below e h =
-    let wide : 32 ^ place ≡ 256 ^ at * 2 ^ s =
-    pow_of_pow 5 place ∙ ap (λ x. 2 ^ x) (sym e) ∙ pow-add 2 (8 * at) s
+digit_of_bytes bytes index at s below e h =
+    let wide : 32 ^ index ≡ 256 ^ at * 2 ^ s =
+    pow_of_pow 5 index ∙ ap (λ x. 2 ^ x) (sym e) ∙ pow-add 2 (8 * at) s
     ∙ ap (λ x. x * 2 ^ s) (sym (pow_of_pow 8 at)) in
     rw (
       wide,
@@ -72,26 +72,26 @@ bits_in_three low middle high more (suc (suc (suc (suc zero)))) h = omega arith
 bits_in_three low middle high more (suc (suc (suc (suc (suc s))))) h = absurd (omega arith)
 
 -- a byte of digits' number: eight bits of three of the digits
-pub byte_of_digits : (ds : List ℕ) (at place s : ℕ) → All (λ d. d < 32) ds → 5 * place + s ≡ 8 * at
+pub byte_of_digits : (ds : List ℕ) (at index s : ℕ) → All (λ d. d < 32) ds → 5 * index + s ≡ 8 * at
     → s < 5 → number 32 ds / 256 ^ at % 256
-    ≡ (get_or ds (place + 2) 0 * 1024 + get_or ds (place + 1) 0 * 32 + get_or ds place 0) / 2 ^ s %
+    ≡ (get_or ds (index + 2) 0 * 1024 + get_or ds (index + 1) 0 * 32 + get_or ds index 0) / 2 ^ s %
     256
-byte_of_digits ds at place s below e h =
-    let wide : 256 ^ at ≡ 32 ^ place * 2 ^ s =
-    pow_of_pow 8 at ∙ ap (λ x. 2 ^ x) (sym e) ∙ pow-add 2 (5 * place) s
-    ∙ ap (λ x. x * 2 ^ s) (sym (pow_of_pow 5 place)) in
-    let next : place + 1 + 1 ≡ place + 2 = omega arith in
+byte_of_digits ds at index s below e h =
+    let wide : 256 ^ at ≡ 32 ^ index * 2 ^ s =
+    pow_of_pow 8 at ∙ ap (λ x. 2 ^ x) (sym e) ∙ pow-add 2 (5 * index) s
+    ∙ ap (λ x. x * 2 ^ s) (sym (pow_of_pow 5 index)) in
+    let next : index + 1 + 1 ≡ index + 2 = omega arith in
     rw (
       wide,
-      ← div-div-eq-div-mul (number 32 ds) (32 ^ place) (2 ^ s),
-      number_div 32 ds place below,
-      number_drop 32 ds place,
-      number_drop 32 ds (place + 1),
+      ← div-div-eq-div-mul (number 32 ds) (32 ^ index) (2 ^ s),
+      number_div 32 ds index below,
+      number_drop 32 ds index,
+      number_drop 32 ds (index + 1),
       next,
-      number_drop 32 ds (place + 2),
+      number_drop 32 ds (index + 2),
     )
-    (bits_in_three (get_or ds place 0) (get_or ds (place + 1) 0) (get_or ds (place + 2) 0)
-    (number 32 (drop (place + 2 + 1) ds)) s h)
+    (bits_in_three (get_or ds index 0) (get_or ds (index + 1) 0) (get_or ds (index + 2) 0)
+    (number 32 (drop (index + 2 + 1) ds)) s h)
 
 -- no bit of the digits is spare where the byte after the bytes is 0
 pub spare_bits : (ds : List ℕ) (n : ℕ) → All (λ d. d < 32) ds → length ds ≡ text_len n

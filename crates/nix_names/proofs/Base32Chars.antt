@@ -25,7 +25,7 @@ digit_of_digit_char d h = eqb-true (digit_of (digit_char d)) d
 pub is_digit_digit_char : (d : ℕ) → d < 32 → is_digit (digit_char d) ≡ true
 is_digit_digit_char d h = each_digit (λ x. is_digit (digit_char x)) refl d h
 
--- one element, and the place of the first that passes
+-- one element, and the index of the first that passes
 first_after : (b : Bool) (any : Bool) (first len : ℕ) → (any ≡ true → first < len) → (b || any)
     ≡ true → cond (not b) (1 + first) 0 < suc len
 first_after true any first len rest some = omega arith
@@ -41,14 +41,14 @@ pub digit_of_below : (c : ℕ) → is_digit c ≡ true → digit_of c < 32
 unfolding digit_of
 digit_of_below c is = first_of_any (λ a. a == c) alphabet is
 
--- the character at the place where a character is found
-char_at_place : (c : ℕ) → digit_of c < 32 → digit_char (digit_of c) ≡ c
+-- the character at the index where a character is found
+char_at_index : (c : ℕ) → digit_of c < 32 → digit_char (digit_of c) ≡ c
 unfolding digit_of
-char_at_place c below = eqb-true (digit_char (digit_of c)) c
+char_at_index c below = eqb-true (digit_char (digit_of c)) c
     (passes_at_first (λ a. a == c) alphabet 0 below)
 
 pub digit_char_digit_of : (c : ℕ) → is_digit c ≡ true → digit_char (digit_of c) ≡ c
-digit_char_digit_of c is = char_at_place c (digit_of_below c is)
+digit_char_digit_of c is = char_at_index c (digit_of_below c is)
 
 -- a truth as a bit
 abbrev bit : Bool → ℕ

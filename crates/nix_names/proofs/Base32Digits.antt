@@ -17,7 +17,7 @@ digit_of_number base d n h =
     let e : d + base * n ≡ n * base + d = omega arith in
     rw e (mod-mul-add n base d h)
 
--- the number of the digits from a place on
+-- the number of the digits from an index on
 pub number_div : (base : ℕ) (ds : List ℕ) (i : ℕ) → All (λ d. d < base) ds
     → number base ds / base ^ i ≡ number base (drop i ds)
 number_div base ds zero below = rw (pow-zero base) (div-one (number base ds))
@@ -57,7 +57,7 @@ digits_of_below base zero n some = All-nil (λ d. d < base)
 digits_of_below base (suc k) n some =
     search (rules, All-cons, mod_below, digits_of_below base k (n / base) some)
 
--- the digit at a place
+-- the digit at an index
 pub digits_of_at : (base k n i : ℕ) → i < k → get_or (digits_of base k n) i 0 ≡ n / base ^ i % base
 digits_of_at base zero n i h = omega arith
 digits_of_at base (suc k) n zero h = rw (pow-zero base, div-one n)

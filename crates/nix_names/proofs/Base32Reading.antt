@@ -21,10 +21,10 @@ digits_in text = reverse (map digit_of text)
 pub length_digits_in : (text : List ℕ) → length (digits_in text) ≡ length text
 length_digits_in text = length-reverse (map digit_of text) ∙ length-map text digit_of
 
--- the digit at a place from the end
-pub digit_in : (text : List ℕ) (place : ℕ) → place < length text → get_or (digits_in text) place 0
-    ≡ digit_of (get_or text (length text - 1 - place) 0)
-digit_in text place h = search (rules, get_or-reverse, length-map, get_or-map)
+-- the digit at an index from the end
+pub digit_in : (text : List ℕ) (index : ℕ) → index < length text → get_or (digits_in text) index 0
+    ≡ digit_of (get_or text (length text - 1 - index) 0)
+digit_in text index h = search (rules, get_or-reverse, length-map, get_or-map)
 
 pub digits_in_below : (text : List ℕ) → AllPass is_digit text → All (λ d. d < 32) (digits_in text)
 digits_in_below text are =
@@ -35,13 +35,13 @@ digits_in_below text are =
     (digit_of_below (get_or text (length text - 1 - k) 0)
     (are (length text - 1 - k) 0 (omega arith))))
 
--- the same of a list from its end
+-- what holds of all of a list holds of all from its end
 pub All-reverse : (P : ℕ → Type 0) (xs : List ℕ) → All P xs → All P (reverse xs)
 All-reverse P xs all = search (rules, All-from_get_or, length-reverse, get_or-reverse)
 
-cond_none : (b : Bool) (place : ℕ) → cond b (Some place) None ≡ None → b ≡ false
-cond_none true place none = cc
-cond_none false place none = refl
+cond_none : (b : Bool) (index : ℕ) → cond b (Some index) None ≡ None → b ≡ false
+cond_none true index none = cc
+cond_none false index none = refl
 
 -- a list in which no element fails
 pub pass_where_none_fails : (p : ℕ → Bool) (xs : List ℕ) → position (λ x. not (p x)) xs ≡ None
@@ -70,7 +70,7 @@ fault_parts : (same : Bool) (bad : Option ℕ) (value limit : ℕ)
     → (if not same then Some BadLength else digits_fault bad value limit) ≡ None → (same ≡ true)
     × (bad ≡ None) × (nat_lt value limit ≡ true)
 fault_parts false bad value limit none = cc
-fault_parts true (Some place) value limit none = cc
+fault_parts true (Some index) value limit none = cc
 fault_parts true None value limit none = (refl, refl, small_where_none (nat_lt value limit) none)
   where
     small_where_none : (b : Bool) → (if b then None else Some Overflow) ≡ None → b ≡ true

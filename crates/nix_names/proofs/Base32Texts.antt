@@ -11,7 +11,7 @@ pub length_base32 : (bytes : List ℕ) → length (base32 bytes) ≡ text_len (l
 unfolding base32
 length_base32 bytes = search (rules, length-map, length-reverse, length_digits_of)
 
--- the character at a place
+-- the character at an index
 base32_at : (bytes : List ℕ) (i : ℕ) → i < text_len (length bytes) → get_or (base32 bytes) i 0
     ≡ digit_char (number 256 bytes / 32 ^ (text_len (length bytes) - 1 - i) % 32)
 unfolding base32

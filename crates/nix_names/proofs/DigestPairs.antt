@@ -26,7 +26,7 @@ pub twice_as_long : (n : ℕ) (digits bytes : List ℕ) → length digits ≡ 2 
     → digits ≡ encode_lower bytes → length bytes ≡ n
 twice_as_long n digits bytes long same = search (rules, length-encode_with)
 
--- bytes are read up to a place
+-- bytes are read up to an index
 abbrev pub ReadUpTo : ℕ → List ℕ → List ℕ → Type 0
 ReadUpTo i digits read = (bytes : List ℕ) → All (λ b. b < 256) bytes
     → digits ≡ encode_lower bytes → (k : ℕ) → k < i → get_or read k 0 ≡ get_or bytes k 0

@@ -18,7 +18,7 @@ use Rattle.nix_names.specs.declared.digest.Digest.TheVariants.{Md5 as OfMd5, Sha
 abbrev pub AreBytes : ℕ → List ℕ → Type 0
 AreBytes n bytes = (length bytes ≡ n) × All (λ byte. byte < 256) bytes
 
--- bytes are bytes at every place
+-- bytes are bytes at every index
 pub bytes_everywhere : (xs : List ℕ) → All (λ b. b < 256) xs → IsBytes xs
 bytes_everywhere xs each i = search (rules, cases_lt, get_or_past)
 

@@ -8,7 +8,7 @@ use Rattle.nix_names.proofs.Lists.{Contains-middle, split_get}
 use Rattle.std.proofs.lemmas.List.FromFn.{get_or-range_with_len, length-range_with_len}
 
 module _ {X : Type 0} (Other Kind : X → Type 0) where
-  -- the element at a place after others
+  -- the element at an index after others
   pub first_at : (list : List X) (n : ℕ) (x : X) → slice_get list n ≡ Some x
       → All Other (take n list) → Kind x → IsFirst Other Kind list x
   first_at list n x at others is = search (rules, split_get)
@@ -38,14 +38,14 @@ module _ {X : Type 0} (Other Kind : X → Type 0) where
     no_first list x first all = apart x
         (All-contains Other list x all (first_contained list x first)) first.is
 
-    one_of_parts : (before other after behind : List X) (x y : X) → before ++ x ∷ after ≡ other
-        ++ y ∷ behind → All Other before → All Other other → Kind x → Kind y → x ≡ y
-    one_of_parts [] [] after behind x y e all all' is is' = cc
-    one_of_parts [] (z ∷ other) after behind x y e all all' is is' = search (rules, All-head)
-    one_of_parts (z ∷ before) [] after behind x y e all all' is is' = search (rules, All-head)
-    one_of_parts (z ∷ before) (w ∷ other) after behind x y e all all' is is' =
-        let tail : before ++ x ∷ after ≡ other ++ y ∷ behind = cc in
-        one_of_parts before other after behind x y tail (All-tail Other z before all)
+    one_of_parts : (before other after later : List X) (x y : X) → before ++ x ∷ after ≡ other
+        ++ y ∷ later → All Other before → All Other other → Kind x → Kind y → x ≡ y
+    one_of_parts [] [] after later x y e all all' is is' = cc
+    one_of_parts [] (z ∷ other) after later x y e all all' is is' = search (rules, All-head)
+    one_of_parts (z ∷ before) [] after later x y e all all' is is' = search (rules, All-head)
+    one_of_parts (z ∷ before) (w ∷ other) after later x y e all all' is is' =
+        let tail : before ++ x ∷ after ≡ other ++ y ∷ later = cc in
+        one_of_parts before other after later x y tail (All-tail Other z before all)
         (All-tail Other w other all') is is'
 
     -- there is one first element
@@ -55,7 +55,7 @@ module _ {X : Type 0} (Other Kind : X → Type 0) where
 
 -- ---- numbers
 
--- the number at a place of numbers in order
+-- the number at an index of numbers in order
 number_at : (from count n : ℕ) → n < count → slice_get (range_with_len from count) n
     ≡ Some (from + n)
 number_at from zero n below = absurd (omega arith)
@@ -63,7 +63,7 @@ number_at from (suc count) zero below = ap Some (omega arith)
 number_at from (suc count) (suc n) below = number_at (from + 1) count n (omega arith)
     ∙ ap Some (omega arith)
 
--- what holds of the numbers before a place
+-- what holds of the numbers before an index
 all_numbers : (P : ℕ → Type 0) (from count n : ℕ)
     → ((m : ℕ) → from + m < from + n → P (from + m)) → All P (take n (range_with_len from count))
 all_numbers P from zero zero each k d below = absurd (omega arith)

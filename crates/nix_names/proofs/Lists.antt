@@ -1,4 +1,4 @@
--- Lists: what they contain, what stands at their places, and their parts.
+-- Lists: what they contain, what stands at their indices, and their parts.
 use Rattle.std.proofs.Common.{◌≡◌, ◌∙◌, ℕ, ◌+◌, ◌<◌, zero, suc, List, [], ◌∷◌, ◌++◌, length, take, drop, get_or, map, refl, sym, ap, inl, inr, ⊎_elim, arith, Some, rules}
 use Rattle.std.specs.Prelude.{◌⊎◌, All, Contains, slice_get}
 use Rattle.std.proofs.lemmas.List.{drop_more, take-append-drop, take_more}
@@ -57,9 +57,9 @@ module _ {X : Type 0} where
   All-left P xs ys all = All-from_contains P xs
       (λ x has. All-contains P (xs ++ ys) x all (Contains-append_left xs ys x has))
 
-  -- ---- places
+  -- ---- indices
 
-  -- what stands at a place is a member, and a member stands at one
+  -- what stands at an index is a member, and a member stands at one
   pub Contains-from_get : (xs : List X) (n : ℕ) (x : X) → slice_get xs n ≡ Some x → Contains xs x
   Contains-from_get xs n x is = (n, slice_get_within xs n x is, get_or_from_slice_get xs n x x is)
 
@@ -67,12 +67,12 @@ module _ {X : Type 0} where
       × (slice_get xs n ≡ Some x)
   get_from_contains xs x (n, lt, is) = (n, slice_get-get_or xs n x lt ∙ ap Some is)
 
-  -- one place has one element
+  -- one index has one element
   pub same_element : (xs : List X) (n : ℕ) (x y : X) → slice_get xs n ≡ Some x → slice_get xs n
       ≡ Some y → x ≡ y
   same_element xs n x y at at' = same_Some x y (sym at ∙ at')
 
-  -- there is an element at each place within
+  -- there is an element at each index within
   pub element_at : (xs : List X) (n : ℕ) → n < length xs → (x : X) × (slice_get xs n ≡ Some x)
   element_at [] n low = absurd (omega arith)
   element_at (x ∷ xs) zero low = (x, refl)
@@ -97,7 +97,7 @@ module _ {X : Type 0} where
   get_push_cases (z ∷ xs) y zero x is = inl is
   get_push_cases (z ∷ xs) y (suc n) x is = search (rules, get_push_cases xs y n x is)
 
-  -- ---- parts round a place
+  -- ---- parts round an index
 
   pub drop_at : (xs : List X) (n : ℕ) (x : X) → slice_get xs n ≡ Some x → drop n xs ≡ x
       ∷ drop (suc n) xs
@@ -115,7 +115,7 @@ module _ {X : Type 0} where
       ∷ drop (suc n) xs
   split_get xs n x is = search (rules, take-append-drop, drop_at)
 
-  -- the same of an element that was read
+  -- the parts round an element that was read
   pub parts_at : (xs : List X) (i : ℕ) (x : X) → i < length xs → x ≡ get_or xs i x → xs
       ≡ take i xs ++ x ∷ drop (i + 1) xs
   parts_at xs i x lt is = search (rules, take-append-drop, drop_more)

@@ -25,12 +25,13 @@ starts_with_slash [] (d ∷ dir) = refl
 starts_with_slash (t ∷ text) (d ∷ dir) =
     search (rules, nat_eq, and_assoc, starts_with_slash text dir)
 
--- the same, where the text begins with the folder
-pub starts_with_slash_behind : (text dir rest : List ℕ) → starts_with nat_eq text dir ≡ true → rest
+-- a text that begins with a folder begins with it and a slash exactly if what follows begins with a
+-- slash
+pub starts_with_slash_after : (text dir rest : List ℕ) → starts_with nat_eq text dir ≡ true → rest
     ≡ drop (length dir) text → starts_with nat_eq rest (47 ∷ [])
     ≡ starts_with nat_eq text (dir ++ 47 ∷ [])
-starts_with_slash_behind text dir rest begins behind =
-    rw (starts_with_slash text dir, begins, behind) refl
+starts_with_slash_after text dir rest begins after =
+    rw (starts_with_slash text dir, begins, after) refl
 
 -- whether a base name begins with a hash part and a dash
 abbrev pub begins_with_hash : List ℕ → Bool
@@ -53,10 +54,10 @@ passed true f rest h = (refl, h)
 passed false f rest h = cc
 
 -- what a base name's fault is, where it begins with a hash part and a dash
-pub fault_behind_hash : (base name : List ℕ) → begins_with_hash base ≡ true → name ≡ drop 33 base
+pub fault_after_hash : (base name : List ℕ) → begins_with_hash base ≡ true → name ≡ drop 33 base
     → base_fault base ≡ (if not (is_name name) then Some BadName else None)
 unfolding base_fault
-fault_behind_hash base name begins rest = rw (begins, rest) refl
+fault_after_hash base name begins rest = rw (begins, rest) refl
 
 -- a text that does not begin with the folder and a slash is not in the store
 pub fault_outside : (dir text : List ℕ) → starts_with nat_eq text (dir ++ 47 ∷ []) ≡ false
@@ -85,9 +86,9 @@ path_text_parts : (dir hash name : List ℕ) → (dir ++ 47 ∷ []) ++ (hash ++ 
 path_text_parts dir hash name = append_assoc dir (47 ∷ []) (hash ++ 45 ∷ name)
 
 -- what a text that begins with a folder and a slash is
-behind_slash : (dir text : List ℕ) → starts_with nat_eq text (dir ++ 47 ∷ []) ≡ true → text
+after_slash : (dir text : List ℕ) → starts_with nat_eq text (dir ++ 47 ∷ []) ≡ true → text
     ≡ (dir ++ 47 ∷ []) ++ drop (length dir + 1) text
-behind_slash dir text begins = search (rules, starts_is, Decides-eqb, length-append)
+after_slash dir text begins = search (rules, starts_is, Decides-eqb, length-append)
 
 -- a text with nothing wrong is a path of the folder
 pub path_of_no_fault : (dir text : List ℕ) → path_fault dir text ≡ None → IsPathOf dir text
@@ -102,7 +103,7 @@ path_of_no_fault dir text none =
       name = drop 33 base;
       is_hash = (and_parts _ _ begins.0).0;
       named = named.0;
-      parts = behind_slash dir text in_dir.0 ∙ ap (λ rest. (dir ++ 47 ∷ []) ++ rest)
+      parts = after_slash dir text in_dir.0 ∙ ap (λ rest. (dir ++ 47 ∷ []) ++ rest)
           (base_parts base begins.0) ∙ path_text_parts dir (take 32 base) (drop 33 base);
     }
 
@@ -118,7 +119,7 @@ no_fault_of_parts hash name is_hash named =
     let begins : begins_with_hash base ≡ true =
     and_from _ _ (ap is_hash_part front ∙ is_hash)
     (ap (λ b. starts_with nat_eq b (45 ∷ [])) dash) in
-    fault_behind_hash base name begins (sym rest)
+    fault_after_hash base name begins (sym rest)
     ∙ ap (λ b. if not b then Some BadName else None) named
 
 -- nothing is wrong with a path of the folder

@@ -11,16 +11,16 @@ use Rattle.nix_names.specs.Names.{IsStoreDir, is_name}
 use Rattle.nix_names.specs.StorePaths.{IsPathOf, IsStorePath, base_of, hash_part_of, is_hash_part, name_of, path_text}
 use Rattle.nix_names.proofs.PathBytes.{no_slash_in_name, no_slash_in_digit, all_no_slash}
 
--- what stands after the place n, where the element before n is the last that passes
+-- what stands after the offset n, where the element before n is the last that passes
 after_last_from : (p : ℕ → Bool) (xs : List ℕ) (n : ℕ) → n ≤ length xs
     → ((k : ℕ) → n ≤ k → k < length xs → not (p (get_or xs k 0)) ≡ true)
     → not (p (get_or xs (n - 1) 0)) ≡ false → after_last p xs ≡ drop n xs
 after_last_from p xs n within from before = search (rules, not, suffix_len_is)
 
 -- an element after the front and one more
-behind : (front back : List ℕ) (x k : ℕ) → length front + 1 ≤ k → get_or (front ++ x ∷ back) k 0
+after : (front back : List ℕ) (x k : ℕ) → length front + 1 ≤ k → get_or (front ++ x ∷ back) k 0
     ≡ get_or back (k - (length front + 1)) 0
-behind front back x k low = search (rules, get_or-append_right)
+after front back x k low = search (rules, get_or-append_right)
 
 -- the front and one more element, and what is left without them
 front_more : (front back : List ℕ) (x : ℕ) → length (front ++ x ∷ back) ≡ length front + 1
@@ -41,7 +41,7 @@ after_last_at p front back x passes others =
     let at : get_or (front ++ x ∷ back) (n - 1) 0
     ≡ x = get_or_at front x back 0 (n - 1) (omega arith) in
     after_last_from p (front ++ x ∷ back) n (omega arith)
-    (λ k low high. rw (behind front back x k low) (others (k - n) 0 (omega arith)))
+    (λ k low high. rw (after front back x k low) (others (k - n) 0 (omega arith)))
     (rw at (not_from_true (p x) passes)) ∙ drop_front_more front back x
 
 -- a hash part has 32 bytes
@@ -166,9 +166,9 @@ unmet true none = absurd (none refl)
 unmet false none = refl
 
 -- the base name begins after the last slash
-pub behind_last_slash : (text : List ℕ) (slash : ℕ) → IsLastByte (is_byte 47) text (Some slash)
+pub after_last_slash : (text : List ℕ) (slash : ℕ) → IsLastByte (is_byte 47) text (Some slash)
     → drop (slash + 1) text ≡ base_of text
-behind_last_slash text slash last = search (rules, after_last_from, unmet, not_from_true)
+after_last_slash text slash last = search (rules, after_last_from, unmet, not_from_true)
 
 -- where there is no slash, all is the base name
 pub without_slash : (text : List ℕ) → IsLastByte (is_byte 47) text None → drop 0 text ≡ base_of text
@@ -176,8 +176,8 @@ without_slash text none =
     let len : suffix_len (λ b. not (b == 47)) text
     ≡ length text - 0 = suffix_len_is (λ b. not (b == 47)) text 0 0 (omega arith)
     (λ k low high. unmet _ (none k low high)) (λ positive. absurd (omega arith)) in
-    let place : length text - suffix_len (λ b. not (b == 47)) text ≡ 0 = omega arith in
-    sym (ap (λ k. drop k text) place)
+    let offset : length text - suffix_len (λ b. not (b == 47)) text ≡ 0 = omega arith in
+    sym (ap (λ k. drop k text) offset)
 
 -- one text is the path of one folder, hash part and name only
 pub parts_from_text : (dir hash name other part title : List ℕ) → is_hash_part hash ≡ true

@@ -54,10 +54,10 @@ digit_of c = position_or_len (λ a. a == c) alphabet
 abbrev pub text_number : Bytes → ℕ
 text_number text = number 32 (reverse (map digit_of text))
 
--- what is wrong first with digits' first bad place, their number and the number that is too large,
+-- what is wrong first with digits' first bad offset, their number and the number that is too large,
 -- if anything
 abbrev pub digits_fault : Option ℕ → ℕ → ℕ → Option NameFault
-digits_fault (Some place) value limit = Some (BadChar place)
+digits_fault (Some offset) value limit = Some (BadChar offset)
 digits_fault None value limit = if nat_lt value limit then None else Some Overflow
 
 -- what is wrong first with a text as the text of n bytes, if anything: its length, its first

@@ -55,7 +55,7 @@ IsDigest digest = IsOfSize (algorithm_of digest) (bytes_of digest)
 abbrev pub digits_of : Digest → Bytes
 digits_of digest = encode_lower (bytes_of digest)
 
--- the same with its algorithm's name and a colon before it
+-- a digest in lower-case hexadecimal digits, with its algorithm's name and a colon before it
 abbrev pub text_of : Digest → Bytes
 text_of digest = name_of (algorithm_of digest) ++ 58 ∷ digits_of digest
 

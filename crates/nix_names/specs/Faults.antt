@@ -6,7 +6,7 @@ use Rattle.nix_names.specs.declared.fault.NameFault.TheVariants.{BadLength, BadC
 -- a fault's number
 abbrev pub number_of : NameFault → ℕ
 number_of BadLength = 1
-number_of (BadChar place) = 2
+number_of (BadChar offset) = 2
 number_of Overflow = 3
 number_of NotInStore = 4
 number_of BadHashPart = 5

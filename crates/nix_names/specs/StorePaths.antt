@@ -19,7 +19,7 @@ unfoldable pub fingerprint : (kind : Bytes) → (inner : Hash) → Dir → Name 
 fingerprint kind inner dir name =
     kind ++ codes ":sha256:" ++ encode_lower inner ++ codes ":" ++ dir ++ codes ":" ++ name
 
--- the XOR of those bytes of a list, beginning at place i, whose place leaves j when divided by 20
+-- the XOR of those bytes of a list, beginning at index i, whose index leaves j when divided by 20
 abbrev pub folded_at : ℕ → ℕ → Hash → ℕ
 folded_at j i [] = 0
 folded_at j i (b ∷ bs) = bit_xor (if i % 20 == j then b else 0) (folded_at j (i + 1) bs)

@@ -15,7 +15,7 @@ use std::alloc::{AllocError, Global};
 // The characters of the digits 0 to 31: no e, o, t or u.
 const ALPHABET: &[u8; 32] = b"0123456789abcdfghijklmnpqrsvwxyz";
 
-// The same characters as bits: bit c mod 32 of word c / 32 is set where c is one of them.
+// The characters of the digits as bits: bit c mod 32 of word c / 32 is set where c is one of them.
 const DIGIT_BITS: &[u32; 8] = &[0, 0x03ff_0000, 0, 0x07cf_7fde, 0, 0, 0, 0];
 
 /// The base-32 text of bytes: `ceil(8n / 5)` characters for n bytes.
@@ -52,7 +52,7 @@ pub(crate) fn base32_text(alloc: Global, bytes: &[u8]) -> Result<Vec<u8>, AllocE
 /// The `n` bytes that a base-32 text stands for.
 ///
 /// Fails with the first of these that holds: `BadLength` where the text has not `ceil(8n / 5)`
-/// bytes, `BadChar` with the place of the first byte that is no digit, counted from 0, and
+/// bytes, `BadChar` with the offset of the first byte that is no digit, counted from 0, and
 /// `Overflow` where a bit that the `n` bytes leave spare is set. So each list of bytes has one
 /// text. `NoMemory` comes only where no other fault does. Costs one allocation of `n` bytes, and a
 /// few steps for each character.
@@ -74,8 +74,8 @@ fn fault_of(text: &[u8], n: usize) -> Option<NameFault>
     if n > text.len() || text_len(n) != text.len() {
         return Some(NameFault::BadLength);
     }
-    if let Some(place) = first_bad(text) {
-        return Some(NameFault::BadChar(place));
+    if let Some(offset) = first_bad(text) {
+        return Some(NameFault::BadChar(offset));
     }
     // The spare bits are the low ones of one byte more.
     let spare = byte_of(text, n);
@@ -85,7 +85,7 @@ fn fault_of(text: &[u8], n: usize) -> Option<NameFault>
     None
 }
 
-// The place of the first character that is no digit.
+// The offset of the first character that is no digit.
 fn first_bad(text: &[u8]) -> Option<usize>
     ensures { result ≡ position (λ c. not (is_digit c)) text.now }
 {
@@ -122,12 +122,12 @@ fn digit_char(digit: u8) -> u8
     ALPHABET[digit as usize]
 }
 
-// The digit at `place`, counted from the least significant; eight digits are five bytes.
-fn digit_at(bytes: &[u8], place: usize) -> u8
-    ensures { result ≡ number 256 bytes.now / 32 ^ place % 32 }
+// The digit at `index`, counted from the least significant; eight digits are five bytes.
+fn digit_at(bytes: &[u8], index: usize) -> u8
+    ensures { result ≡ number 256 bytes.now / 32 ^ index % 32 }
 {
-    let bit = place % 8 * 5;
-    let at = place / 8 * 5 + bit / 8;
+    let bit = index % 8 * 5;
+    let at = index / 8 * 5 + bit / 8;
     let pair = u16::from(byte_at(bytes, at + 1)) * 256 + u16::from(byte_at(bytes, at));
     ((pair >> (bit % 8)) % 32) as u8
 }
@@ -146,19 +146,19 @@ fn byte_of(text: &[u8], at: usize) -> u8
     ensures { result ≡ text_number text.now / 256 ^ at % 256 }
 {
     let bit = at % 5 * 8;
-    let place = at / 5 * 8 + bit / 5;
-    let low = u32::from(digit_from_end(text, place));
-    let middle = u32::from(digit_from_end(text, place + 1));
-    let high = u32::from(digit_from_end(text, place + 2));
+    let index = at / 5 * 8 + bit / 5;
+    let low = u32::from(digit_from_end(text, index));
+    let middle = u32::from(digit_from_end(text, index + 1));
+    let high = u32::from(digit_from_end(text, index + 2));
     (((high * 1024 + middle * 32 + low) >> (bit % 5)) % 256) as u8
 }
 
-// The digit at `place`, counted from a text's end, or 0 before its first.
-fn digit_from_end(text: &[u8], place: usize) -> u8
-    ensures { result ≡ slice_index (reverse (map digit_of text.now)) place }
+// The digit at `index`, counted from a text's end, or 0 before its first.
+fn digit_from_end(text: &[u8], index: usize) -> u8
+    ensures { result ≡ slice_index (reverse (map digit_of text.now)) index }
 {
-    if place < text.len() {
-        digit_of(text[text.len() - 1 - place])
+    if index < text.len() {
+        digit_of(text[text.len() - 1 - index])
     } else {
         0
     }

@@ -11,7 +11,7 @@ pub enum NameFault {
     /// A base-32 text whose length is wrong for the number of bytes.
     #[error("the text's length is wrong for the number of bytes")]
     BadLength,
-    /// The place, counted from 0, of the first byte that is no base-32 digit.
+    /// The offset, counted from 0, of the first byte that is no base-32 digit.
     #[error("byte {0} is no base-32 digit")]
     BadChar(usize),
     /// A base-32 text whose number is too large for the number of bytes.

@@ -109,10 +109,10 @@ impl StorePath {
         ensures is_path { IsStorePath self.now }
     {
         let text = self.text();
-        &text[base_place(text)..]
+        &text[base_offset(text)..]
     }
 
-    /// The same path once more, at its one text. Costs no allocation and no pass: it counts one
+    /// A copy of the path, which shares its text. Costs no allocation and no pass: it counts one
     /// more owner, so `AllocError` comes only where the count is full, at 2^63.
     pub fn copy(&self, _alloc: Global) -> Result<StorePath, AllocError>
         ensures same { IfOk result (λ path. path ≡ self.now) }
@@ -210,7 +210,7 @@ fn key_of(text: &[u8]) -> u64
     requires { IsStorePath text.now }
     ensures { result ≡ key_of text.now }
 {
-    match text[base_place(text)..].first_chunk::<8>() {
+    match text[base_offset(text)..].first_chunk::<8>() {
         Some(first) => u64::from_be_bytes(*first),
         None => unreachable!(),
     }
@@ -260,9 +260,9 @@ fn add_reserved(bytes: &[u8], text: &mut Vec<u8>)
 }
 
 // Where the base name begins, after the last slash.
-fn base_place(text: &[u8]) -> usize
+fn base_offset(text: &[u8]) -> usize
     ensures within { result ≤ length text.now }
-    ensures place { drop result text.now ≡ base_of text.now }
+    ensures offset { drop result text.now ≡ base_of text.now }
 {
     match memrchr(b'/', text) {
         Some(slash) => slash + 1,

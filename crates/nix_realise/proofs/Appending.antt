@@ -11,7 +11,7 @@ appends_both (Some a) (Some b) None xs ys first second = absurd second
 appends_both (Some a) (Some b) (Some c) xs ys first second =
     second ∙ ap (λ (l : List ℕ). l ++ ys) first ∙ append_assoc a xs ys
 
--- the same where the second step may fail
+-- two steps append both texts, where the second may fail
 pub appends_last : (T E : Type 0) (r : Result T E) (before mid after : Option (List ℕ))
     (xs ys : List ℕ)
     → Appends before mid xs → OnOk r (Appends mid after ys)

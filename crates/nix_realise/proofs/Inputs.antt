@@ -11,7 +11,7 @@ use Rattle.nix_archive.specs.declared.reader.ArchiveReader.{ArchiveReader}
 use Rattle.nix_archive.proofs.Opens.{begun_by, open_reader}
 use Rattle.nix_archive.proofs.Rests.{step_from, steps}
 use Rattle.nix_archive.proofs.Wholes.{same_back}
-use Rattle.nix_realise.specs.ArchiveEndings.{IsNar, IsStray, IsStrayPlace}
+use Rattle.nix_realise.specs.ArchiveEndings.{IsNar, IsStray, IsStrayOffset}
 use Rattle.nix_realise.specs.private.Inputs.{IsNoInput, IsSoFar, IsTreeRead, IsUnfed}
 use Rattle.nix_realise.specs.declared.archives.input.InputFault.TheVariants.{NoMemory, Stray, Unreadable}
 use Rattle.nix_realise.specs.declared.archives.input.InputFault.{InputFault}
@@ -59,12 +59,12 @@ module _ {S : Type 0} (heard : S → List Token → S → Type 0)
 
   -- a piece more is read
   pub fed_more : (s m t : S) (reader next : ArchiveReader) (old held left : Option (List ℕ))
-      (place end : ℕ) (piece : List ℕ)
-      → IsSoFar heard s m reader old held place
+      (offset end : ℕ) (piece : List ℕ)
+      → IsSoFar heard s m reader old held offset
       → IsStep heard m t (reader_rest reader) (reader_rest next) piece
-      → Consumes held left piece → end ≡ place + length piece
+      → Consumes held left piece → end ≡ offset + length piece
       → IsSoFar heard s t next old left end
-  fed_more s m t reader next old held left place end piece far step read counts = record {
+  fed_more s m t reader next old held left offset end piece far step read counts = record {
     first = far.first;
     fresh = far.fresh;
     text = far.text ++ piece;
@@ -75,10 +75,10 @@ module _ {S : Type 0} (heard : S → List Token → S → Type 0)
   }
 
   -- an archive was read
-  pub whole : (s t : S) (reader : ArchiveReader) (old held : Option (List ℕ)) (place : ℕ)
-      → IsSoFar heard s t reader old held place → reader_rest reader [] [] → IsAtEnd held
+  pub whole : (s t : S) (reader : ArchiveReader) (old held : Option (List ℕ)) (offset : ℕ)
+      → IsSoFar heard s t reader old held offset → reader_rest reader [] [] → IsAtEnd held
       → IsTreeRead heard s t old held
-  whole s t reader old held place far done ended =
+  whole s t reader old held offset far done ended =
       let step = far.step in
       let p = far.fresh.to (step.said ++ []) (far.text ++ []) (step.sound [] [] done) in
       let archive : far.text ≡ nar p.tree = sym (append-nil far.text) ∙ p.read in record {
@@ -90,22 +90,22 @@ module _ {S : Type 0} (heard : S → List Token → S → Type 0)
       }
 
   -- what was read begins an archive
-  begins : (s t : S) (reader : ArchiveReader) (old held : Option (List ℕ)) (place : ℕ)
-      (far : IsSoFar heard s t reader old held place) → IsBegun IsArchive far.text
-  begins s t reader old held place far =
+  begins : (s t : S) (reader : ArchiveReader) (old held : Option (List ℕ)) (offset : ℕ)
+      (far : IsSoFar heard s t reader old held offset) → IsBegun IsArchive far.text
+  begins s t reader old held offset far =
       begun_by heard s t IsArchive (reader_rest reader) far.text
       (step_from heard (same_back far.fresh) far.step) (open_reader reader)
 
   -- the text ends, and no archive does there
-  pub stray_end : (s t : S) (reader : ArchiveReader) (old held : Option (List ℕ)) (place : ℕ)
-      → IsSoFar heard s t reader old held place → (reader_rest reader [] [] → ⊥) → IsAtEnd held
-      → IsStray old held place
-  stray_end s t reader old held place far more ended = (
+  pub stray_end : (s t : S) (reader : ArchiveReader) (old held : Option (List ℕ)) (offset : ℕ)
+      → IsSoFar heard s t reader old held offset → (reader_rest reader [] [] → ⊥) → IsAtEnd held
+      → IsStray old held offset
+  stray_end s t reader old held offset far more ended = (
     far.text,
     far.read,
     inr (
       sym far.counted,
-      begins s t reader old held place far,
+      begins s t reader old held offset far,
       λ archive.
           let given : IsArchive (tokens_of archive.tree) (far.text ++ []) = record {
             tree = archive.tree;
@@ -122,11 +122,11 @@ module _ {S : Type 0} (heard : S → List Token → S → Type 0)
 
   -- a byte of a piece can't stand there
   pub stray_in : (s t : S) (reader : ArchiveReader) (old held left : Option (List ℕ))
-      (place stray : ℕ) (piece : List ℕ)
-      → IsSoFar heard s t reader old held place
-      → IsUnfed (reader_rest reader) piece place (Stray stray) → Consumes held left piece
+      (offset stray : ℕ) (piece : List ℕ)
+      → IsSoFar heard s t reader old held offset
+      → IsUnfed (reader_rest reader) piece offset (Stray stray) → Consumes held left piece
       → IsStray old left stray
-  stray_in s t reader old held left place stray piece far (at, is, inside, begun, refused) read =
+  stray_in s t reader old held left offset stray piece far (at, is, inside, begun, refused) read =
       let step = far.step in
       let where_is : stray ≡ length far.text + at = is ∙ ap (λ n. n + at) (sym far.counted) in
       let front : take stray (far.text ++ piece) ≡ far.text ++ take at piece =
@@ -156,11 +156,11 @@ module _ {S : Type 0} (heard : S → List Token → S → Type 0)
         λ same. absurd (omega (arith, same, where_is, inside, long)),
       )
 
-  -- nothing is left at a place where nothing more was read
-  at_end : (s t : S) (reader : ArchiveReader) (old held left : Option (List ℕ)) (place : ℕ)
-      → IsSoFar heard s t reader old held place → Consumes held left []
-      → IsSoFar heard s t reader old left place
-  at_end s t reader old held left place far none = record {
+  -- nothing is left at an offset where nothing more was read
+  at_end : (s t : S) (reader : ArchiveReader) (old held left : Option (List ℕ)) (offset : ℕ)
+      → IsSoFar heard s t reader old held offset → Consumes held left []
+      → IsSoFar heard s t reader old left offset
+  at_end s t reader old held left offset far none = record {
     first = far.first;
     fresh = far.fresh;
     text = far.text;
@@ -171,36 +171,38 @@ module _ {S : Type 0} (heard : S → List Token → S → Type 0)
   }
 
   -- what is answered at the end of a text
-  pub ended_stray : (s t : S) (reader : ArchiveReader) (old held left : Option (List ℕ)) (place : ℕ)
+  pub ended_stray : (s t : S) (reader : ArchiveReader) (old held left : Option (List ℕ))
+      (offset : ℕ)
       (answer : Result (Unit {0}) InputFault)
-      → IsSoFar heard s t reader old held place → Consumes held left [] → IsAtEnd left
+      → IsSoFar heard s t reader old held offset → Consumes held left [] → IsAtEnd left
       → MatchResult answer (λ _. reader_rest reader [] [])
-      (λ fault. (fault ≡ Stray place) × (reader_rest reader [] [] → ⊥))
+      (λ fault. (fault ≡ Stray offset) × (reader_rest reader [] [] → ⊥))
       → IfErr answer (IsNoInput old left)
-  ended_stray s t reader old held left place (Ok done) far none ended answered = tt
-  ended_stray s t reader old held left place (Err fault) far none ended answered =
+  ended_stray s t reader old held left offset (Ok done) far none ended answered = tt
+  ended_stray s t reader old held left offset (Err fault) far none ended answered =
       rw answered.0
-      (stray_end s t reader old left place (at_end s t reader old held left place far none)
+      (stray_end s t reader old left offset (at_end s t reader old held left offset far none)
       answered.1 ended)
 
-  pub ended_whole : (s t : S) (reader : ArchiveReader) (old held left : Option (List ℕ)) (place : ℕ)
+  pub ended_whole : (s t : S) (reader : ArchiveReader) (old held left : Option (List ℕ))
+      (offset : ℕ)
       (answer : Result (Unit {0}) InputFault)
-      → IsSoFar heard s t reader old held place → Consumes held left [] → IsAtEnd left
+      → IsSoFar heard s t reader old held offset → Consumes held left [] → IsAtEnd left
       → MatchResult answer (λ _. reader_rest reader [] [])
-      (λ fault. (fault ≡ Stray place) × (reader_rest reader [] [] → ⊥))
+      (λ fault. (fault ≡ Stray offset) × (reader_rest reader [] [] → ⊥))
       → OnOk answer (IsTreeRead heard s t old left)
-  ended_whole s t reader old held left place (Ok done) far none ended answered =
-      whole s t reader old left place (at_end s t reader old held left place far none) answered
+  ended_whole s t reader old held left offset (Ok done) far none ended answered =
+      whole s t reader old left offset (at_end s t reader old held left offset far none) answered
       ended
-  ended_whole s t reader old held left place (Err fault) far none ended answered = tt
+  ended_whole s t reader old held left offset (Err fault) far none ended answered = tt
 
   -- why a piece was not read
-  pub unfed : (s t : S) (reader : ArchiveReader) (old held left : Option (List ℕ)) (place : ℕ)
+  pub unfed : (s t : S) (reader : ArchiveReader) (old held left : Option (List ℕ)) (offset : ℕ)
       (piece : List ℕ) (fault : InputFault)
-      → IsSoFar heard s t reader old held place
-      → IsUnfed (reader_rest reader) piece place fault → Consumes held left piece
+      → IsSoFar heard s t reader old held offset
+      → IsUnfed (reader_rest reader) piece offset fault → Consumes held left piece
       → IsNoInput old left fault
-  unfed s t reader old held left place piece (Stray stray) far why read =
-      stray_in s t reader old held left place stray piece far why read
-  unfed s t reader old held left place piece Unreadable far why read = tt
-  unfed s t reader old held left place piece NoMemory far why read = tt
+  unfed s t reader old held left offset piece (Stray stray) far why read =
+      stray_in s t reader old held left offset stray piece far why read
+  unfed s t reader old held left offset piece Unreadable far why read = tt
+  unfed s t reader old held left offset piece NoMemory far why read = tt

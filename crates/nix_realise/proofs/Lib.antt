@@ -3,7 +3,7 @@ pub mod Appending
 pub mod AskedPaths
 pub mod CauseLines
 pub mod Endings
-pub mod EventPlaces
+pub mod EventDerivations
 pub mod HeardArchives
 pub mod Inputs
 pub mod Journals

@@ -18,7 +18,7 @@ none_in (b ∷ bs) after p e = cc
 one_in : (before after : List (List ℕ)) (x p : List ℕ) → x ∷ [] ≡ before ++ p ∷ after → x ≡ p
 one_in [] after x p e = cc
 one_in (b ∷ bs) after x p e =
-    let behind : [] ≡ bs ++ p ∷ after = cc in absurd (none_in bs after p behind)
+    let later : [] ≡ bs ++ p ∷ after = cc in absurd (none_in bs after p later)
 
 -- an entry of one new path without references is refused for want of memory alone, which changes
 -- nothing

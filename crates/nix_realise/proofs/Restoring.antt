@@ -9,6 +9,6 @@ use Rattle.nix_realise.specs.declared.archives.input.InputFault.TheVariants.{NoM
 
 pub stop_ends : (request : RestoreRequest) (old new : Option (List ℕ)) (fault : InputFault)
     → IsNoInput old new fault → RestoreEndsBy request old new (Err (input_stop request.path fault))
-stop_ends request old new (Stray place) h = (refl, h)
+stop_ends request old new (Stray offset) h = (refl, h)
 stop_ends request old new Unreadable h = tt
 stop_ends request old new NoMemory h = tt

@@ -49,7 +49,7 @@ unwritten_text request book before after journal_fault.TooLong same long = (same
 unwritten_text request book before after (journal_fault.File unwritten) same short =
     file_refused request book before after unwritten.failure same short
 
--- the same by the bytes that were to be written
+-- the journal of a book is not written, by the bytes that were to be
 pub book_unwritten : (request : RealiseRequest) (book : Ledger) (before after : Option (List ℕ))
     (bytes : List ℕ) (fault : UnwrittenJournal) (stop : RunError)
     → IsUnwrittenJournal bytes fault → stop ≡ unwritten_stop fault

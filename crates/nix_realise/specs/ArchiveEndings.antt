@@ -25,8 +25,8 @@ pub record IsNar (bytes : Bytes) : Type 0 where
   pub archivable : IsArchivable tree
   pub is_of : bytes ≡ nar tree
 
--- How `dump` ends: a whole archive is printed. Where it is stopped while the path is read, a part of
--- one may be.
+-- How `dump` ends: a whole archive is printed. Where it is stopped while the path is read, a part
+-- of one may be.
 abbrev pub DumpEnds : DumpRequest → (before after : Option Bytes) → Result Status RunError → Type 0
 DumpEnds request before after (Ok status) =
     (status ≡ Done) × ((archive : Bytes) × IsNar archive × Appends before after archive)
@@ -56,20 +56,20 @@ HashEnds request before after (Err NoMemory) = after ≡ before
 HashEnds request before after (Err Unwritable) = Unit {0}
 HashEnds request before after (Err stop) = ⊥
 
--- The place of the first byte of a text with which no archive goes on; or the text's length, where
+-- The offset of the first byte of a text with which no archive goes on; or the text's length, where
 -- the text ends, and an archive goes on with more bytes but not with none.
-abbrev pub IsStrayPlace : (text : Bytes) → (place : ℕ) → Type 0
-IsStrayPlace text place =
-    ((place < length text) × IsBegun IsArchive (take place text)
-    × IsRefused IsArchive (take (place + 1) text))
-    ⊎ ((place ≡ length text) × IsBegun IsArchive text × ¬ (IsNar text))
+abbrev pub IsStrayOffset : (text : Bytes) → (offset : ℕ) → Type 0
+IsStrayOffset text offset =
+    ((offset < length text) × IsBegun IsArchive (take offset text)
+    × IsRefused IsArchive (take (offset + 1) text))
+    ⊎ ((offset ≡ length text) × IsBegun IsArchive text × ¬ (IsNar text))
 
--- Why what a reader gives is no archive: by the bytes that it gave, of which none is left where they
--- only begin one.
-abbrev pub IsStray : (before after : Option Bytes) → (place : ℕ) → Type 0
-IsStray before after place =
-    (text : Bytes) × Consumes before after text × IsStrayPlace text place
-    × (place ≡ length text → IsAtEnd after)
+-- Why what a reader gives is no archive: by the bytes that it gave, of which none is left where
+-- they only begin one.
+abbrev pub IsStray : (before after : Option Bytes) → (offset : ℕ) → Type 0
+IsStray before after offset =
+    (text : Bytes) × Consumes before after text × IsStrayOffset text offset
+    × (offset ≡ length text → IsAtEnd after)
 
 -- An archive was read, and nothing is left.
 abbrev pub IsWholeInput : (before after : Option Bytes) → Type 0
@@ -81,8 +81,8 @@ IsWholeInput before after =
 abbrev pub RestoreEndsBy : RestoreRequest → (before after : Option Bytes) → Result Status RunError
     → Type 0
 RestoreEndsBy request before after (Ok status) = (status ≡ Done) × IsWholeInput before after
-RestoreEndsBy request before after (Err (BadArchive blamed place)) =
-    (blamed ≡ request.path) × IsStray before after place
+RestoreEndsBy request before after (Err (BadArchive blamed offset)) =
+    (blamed ≡ request.path) × IsStray before after offset
 RestoreEndsBy request before after (Err (NotRestored blamed)) =
     (blamed ≡ request.path) × IsWholeInput before after
 RestoreEndsBy request before after (Err InputUnreadable) = Unit {0}

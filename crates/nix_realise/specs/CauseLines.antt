@@ -45,7 +45,7 @@ cause_of Plain drv =
     if is_builtin drv then drv.builder else first_left_out (codes "r:sha256") drv.env
 cause_of Nix drv = drv.builder
 
--- the same of the derivation that has a number, if there is one
+-- why the derivation that has a number is `Unsupported`, if there is one
 abbrev pub cause_if : Profile → Option Drv → Bytes
 cause_if profile (Some drv) = cause_of profile drv
 cause_if profile None = []

@@ -12,10 +12,10 @@ use Rattle.store_run.specs.declared.fault.RunFault.TheVariants as run
 use Rattle.valid_table.specs.declared.fault.TableFault.{TableFault}
 use Rattle.valid_table.specs.declared.fault.TableFault.TheVariants as table
 
--- the words of a fault of a name; places are counted from 0
+-- the words of a fault of a name; offsets are counted from 0
 abbrev pub name_fault_words : NameFault → Bytes
 name_fault_words name.BadLength = codes "BadLength"
-name_fault_words (name.BadChar place) = with_value (codes "BadChar") (decimal place)
+name_fault_words (name.BadChar offset) = with_value (codes "BadChar") (decimal offset)
 name_fault_words name.Overflow = codes "Overflow"
 name_fault_words name.NotInStore = codes "NotInStore"
 name_fault_words name.BadHashPart = codes "BadHashPart"
@@ -26,8 +26,8 @@ name_fault_words name.NoMemory = codes "NoMemory"
 -- the words of a fault of a derivation; a text is spelled as in a derivation's own text
 abbrev pub drv_fault_words : DrvFault → Bytes
 drv_fault_words drv.NoMemory = codes "NoMemory"
-drv_fault_words (drv.Syntax place) = with_value (codes "Syntax") (decimal place)
-drv_fault_words (drv.Order place) = with_value (codes "Order") (decimal place)
+drv_fault_words (drv.Syntax offset) = with_value (codes "Syntax") (decimal offset)
+drv_fault_words (drv.Order offset) = with_value (codes "Order") (decimal offset)
 drv_fault_words drv.TooLong = codes "TooLong"
 drv_fault_words (drv.TextPathMismatch path) = with_value (codes "TextPathMismatch") path
 drv_fault_words drv.NotADrvName = codes "NotADrvName"

@@ -38,7 +38,7 @@ abbrev pub needed_by : Result (Vec ℕ) Failure → FileBytes
 needed_by (Ok bytes) = Ok bytes.items
 needed_by (Err fault) = Err (file_fault_of fault)
 
--- the same of the journal file; where it isn't found it has no bytes
+-- what the journal file gave, by the system's answer; where it isn't found it has no bytes
 abbrev pub journal_by : Result (Vec ℕ) Failure → FileBytes
 journal_by (Ok bytes) = Ok bytes.items
 journal_by (Err failure.NotFound) = Ok []
@@ -59,16 +59,16 @@ IsReadFrom path most given =
 
 -- What lies in the place of a file that will be written: a regular file, with its permissions, or a
 -- link, without any. Nothing else can be written over.
-abbrev pub IsWritablePlace : Metadata → Result (Option Permissions) Failure → Type 0
-IsWritablePlace found (Ok (Some mode)) =
+abbrev pub IsWritableOver : Metadata → Result (Option Permissions) Failure → Type 0
+IsWritableOver found (Ok (Some mode)) =
     IsFile (file_type found) × (permissions_mode mode ≡ metadata_mode found)
-IsWritablePlace found (Ok None) = IsSymlink (file_type found)
-IsWritablePlace found (Err fault) =
+IsWritableOver found (Ok None) = IsSymlink (file_type found)
+IsWritableOver found (Err fault) =
     (fault ≡ failure.Other) × ¬ (IsFile (file_type found)) × ¬ (IsSymlink (file_type found))
 
 -- What lies there by an error of the system: nothing, exactly where the error is that nothing is
 -- found. Every other error is a failure.
-abbrev pub IsNoPlace : Error → Result (Option Permissions) Failure → Type 0
-IsNoPlace error (Ok (Some mode)) = ⊥
-IsNoPlace error (Ok None) = IsNotFound error
-IsNoPlace error (Err fault) = ¬ (IsNotFound error) × IsFailure error fault
+abbrev pub IsNothingThere : Error → Result (Option Permissions) Failure → Type 0
+IsNothingThere error (Ok (Some mode)) = ⊥
+IsNothingThere error (Ok None) = IsNotFound error
+IsNothingThere error (Err fault) = ¬ (IsNotFound error) × IsFailure error fault

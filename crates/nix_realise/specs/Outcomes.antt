@@ -16,7 +16,7 @@ quietly (Err stop) = Err stop
 abbrev pub EndsQuietly : (Result Status RunError → Type 0) → Result Outcome RunError → Type 0
 EndsQuietly ends outcome = (ended : Result Status RunError) × (outcome ≡ quietly ended) × ends ended
 
--- the same of a subcommand whose files were written
+-- the end of a subcommand whose files were written, and that tells standard error nothing
 abbrev pub quietly_written : Result AllWritten RunError → Result Outcome RunError
 quietly_written (Ok written) = Ok (record { status = written.status; lines = None })
 quietly_written (Err stop) = Err stop

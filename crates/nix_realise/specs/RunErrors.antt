@@ -36,9 +36,9 @@ abbrev pub stop_of : TableFault → RunError
 stop_of table.NoMemory = NoMemory
 stop_of fault = BadJournal fault
 
--- What is told of a fault that ends a run: its number in the table of faults; the status of the run;
--- where the fault was found, as the line says, which is a word as it was given, a path, the journal
--- or the run; and the fault's name with its value.
+-- What is told of a fault that ends a run: its number in the table of faults; the status of the
+-- run; where the fault was found, as the line says, which is a word as it was given, a path, the
+-- journal or the run; and the fault's name with its value.
 pub record Row : Type 0 where
   pub number : ℕ
   pub status : Status
@@ -47,12 +47,13 @@ pub record Row : Type 0 where
 
 -- a word, a file or the journal is refused
 abbrev pub refused : ℕ → (location words : Bytes) → Row
-refused n place name = record { number = n; status = Refused; location = place; words = name }
+refused n location name = record { number = n; status = Refused; location = location; words = name }
 
 -- the run is cut short: the store folder may not be used now, the journal can't be read or would be
 -- too long to be read again, the workers end too early, memory or a write is refused
 abbrev pub cut_short : ℕ → (location words : Bytes) → Row
-cut_short n place name = record { number = n; status = CutShort; location = place; words = name }
+cut_short n location name =
+    record { number = n; status = CutShort; location = location; words = name }
 
 -- what is told of each fault
 abbrev pub row_of : RunError → Row
@@ -76,8 +77,8 @@ row_of (NotRestored path) = cut_short 74 path.now (codes "Unwritable")
 row_of (InUse dir) = cut_short 75 dir.now (codes "InUse")
 row_of (NixStore dir) = cut_short 76 dir.now (codes "NixStore")
 row_of (NoRunner program) = refused 77 program.now (codes "NoRunner")
-row_of (BadArchive path place) =
-    refused 87 path.now (with_value (codes "BadNar") (decimal place))
+row_of (BadArchive path offset) =
+    refused 87 path.now (with_value (codes "BadNar") (decimal offset))
 row_of (NoPath word fault) = refused (name_number_of fault) word.now (name_fault_words fault)
 row_of (BadDraft file fault) = refused (node_number_of fault) file.now (node_fault_words fault)
 row_of (BadDrv path fault) = refused (node_number_of fault) path (node_fault_words fault)
@@ -92,7 +93,7 @@ words_of (OfName fault) = name_fault_words fault
 words_of (OfNode fault) = node_fault_words fault.now
 words_of (OfJournal fault) = table_fault_words fault.now
 words_of (OfRun fault) = run_fault_words fault
-words_of (OfArchive place) = with_value (codes "BadNar") (decimal place)
+words_of (OfArchive offset) = with_value (codes "BadNar") (decimal offset)
 
 -- the line of the fault on standard error
 abbrev pub stop_line : RunError → Bytes

@@ -26,7 +26,7 @@ IsTriedAt file left (Written written) = (written.path ≡ file) × IsTraceOf lef
 IsTriedAt file left (Unwritten blamed why) = blamed ≡ file
 IsTriedAt file left (NoText refused) = Unit {0}
 
--- the same by the file that was to get the trace, if one was asked for
+-- what came of writing the trace to the file that was to get it, if one was asked for
 abbrev pub IsTraceTried : Option (Bor Bytes) → Option Ledger → Option TraceTried → Type 0
 IsTraceTried (Some file) left (Some tried) = IsTriedAt file left tried
 IsTraceTried None left None = Unit {0}
@@ -49,7 +49,7 @@ abbrev pub told_by : Option TraceTried → (ended : Result Outcome RunError)
 told_by (Some tried) (Ok finish) = told_with tried finish
 told_by trace ended = ended
 
--- the same of a run that may have been stopped before its workers were made
+-- what is told of a run that may have been stopped before its workers were made
 abbrev pub told_of : Result TracedRun RunError → Result Outcome RunError
 told_of (Ok run) = told_by run.trace run.ended
 told_of (Err stopped) = Err stopped

@@ -43,13 +43,13 @@ fn main(rt: HostRuntime) -> ExitCode {
     let ending = if err.is_terminal() && !is_dumb(&rt) {
         let progress = ProgressLine::new(rt.alloc(), columns(&rt), err);
         let make = WithProgress::new(&rt, &make, &progress);
-        let keep = || progress.keep(&rt);
+        let draw = || progress.draw(&rt);
         let run = || {
             let ending = run_process(&rt, &make, &AnnouncedLocks::new(&rt, err), &mut err);
             progress.end(&rt);
             ending
         };
-        thread::join(&rt, keep, run).1
+        thread::join(&rt, draw, run).1
     } else {
         run_process(&rt, &make, &rt, &mut err)
     };

@@ -58,7 +58,7 @@ sorted_ahead names sorted kept last_first are moved ordered is turned =
     (ahead (map bytes_in kept) (names_sorted names sorted kept moved ordered is).0
     (All-map IsName bytes_in kept each))
 
--- the same names as before
+-- sorting keeps the names
 pub sorted_same : (names sorted kept last_first : List (Vec ℕ Global))
     → IsPermutation names sorted
     → IsSorted (λ (x y : Vec ℕ Global). slice_cmp nat_cmp x.items y.items) sorted

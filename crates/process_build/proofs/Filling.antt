@@ -42,7 +42,7 @@ found_in outputs all text i p zip low is begun =
       whole ∙ ap (λ n. n ++ drop (length p.text.items) text) made.0,
     )
 
--- what a text has from a place on
+-- what a text has from an index on
 pub rest_is : (text : List ℕ) (i : ℕ) → take (length text - i) (drop i text) ≡ drop i text
 rest_is text i = take_all (length text - i) (drop i text) (omega (arith, length-drop i text))
 

@@ -4,50 +4,51 @@ use Rattle.nix_archive.specs.Trees.{Bytes, Entries, Entry, File, Folder, Link, N
 use Rattle.nix_archive.specs.Tokens.{Token, EntryEnded, FileByte, FileEnded, FolderEnded, tokens_among, tokens_of}
 use Rattle.process_build.specs.MadeTrees.{Step, ByteWritten, FileClosed, FileMade, FolderMade, steps_among, steps_of}
 use Rattle.process_build.specs.Contents.{child_of}
-use Rattle.process_build.specs.Making.{AreTaken, MakesTrees, Place, place_along, steps_along}
-use Rattle.process_build.specs.private.MakingLaws.{place_append, steps_append}
+use Rattle.process_build.specs.Making.{AreTaken, MakesTrees, Position, position_along, steps_along}
+use Rattle.process_build.specs.private.MakingLaws.{position_append, steps_append}
 
-abbrev at : (path : Bytes) (around : List Bytes) → Place
+abbrev at : (path : Bytes) (around : List Bytes) → Position
 at path around = record { path = path; around = around }
 
-bytes_place : (place : Place) (bytes : Bytes) → place_along place (map FileByte bytes) ≡ place
-bytes_place place [] = refl
-bytes_place place (byte ∷ bytes) = bytes_place place bytes
+bytes_position : (position : Position) (bytes : Bytes)
+    → position_along position (map FileByte bytes) ≡ position
+bytes_position position [] = refl
+bytes_position position (byte ∷ bytes) = bytes_position position bytes
 
-bytes_steps : (place : Place) (bytes : Bytes)
-    → steps_along place (map FileByte bytes) ≡ map ByteWritten bytes
-bytes_steps place [] = refl
-bytes_steps place (byte ∷ bytes) = ap (λ l. ByteWritten byte ∷ l) (bytes_steps place bytes)
+bytes_steps : (position : Position) (bytes : Bytes)
+    → steps_along position (map FileByte bytes) ≡ map ByteWritten bytes
+bytes_steps position [] = refl
+bytes_steps position (byte ∷ bytes) = ap (λ l. ByteWritten byte ∷ l) (bytes_steps position bytes)
 
 -- a piece of a file was made
-pub piece_taken : {M : Type 0} (made : M → List Step → M → Type 0) (place : Place) (s t : M)
+pub piece_taken : {M : Type 0} (made : M → List Step → M → Type 0) (position : Position) (s t : M)
     (bytes : Bytes) → made s (map ByteWritten bytes) t
-    → AreTaken made place place s t (map FileByte bytes)
-piece_taken made place s t bytes h = record {
-  steps = subst (λ l. made s l t) (sym (bytes_steps place bytes)) h;
-  place = sym (bytes_place place bytes);
+    → AreTaken made position position s t (map FileByte bytes)
+piece_taken made position s t bytes h = record {
+  steps = subst (λ l. made s l t) (sym (bytes_steps position bytes)) h;
+  position = sym (bytes_position position bytes);
 }
 
 mutual
-  tree_place : (tree : Tree) (path : Bytes) (around : List Bytes)
-      → place_along (at path around) (tokens_of tree) ≡ at path around
-  tree_place (File executable bytes) path around =
-      place_append (at path around) (map FileByte bytes) (FileEnded (length bytes) ∷ [])
-      ∙ bytes_place (at path around) bytes
-  tree_place (Link target) path around = refl
-  tree_place (Folder entries) path around =
-      place_append (at path around) (tokens_among entries) (FolderEnded ∷ [])
-      ∙ among_place entries path around
+  tree_position : (tree : Tree) (path : Bytes) (around : List Bytes)
+      → position_along (at path around) (tokens_of tree) ≡ at path around
+  tree_position (File executable bytes) path around =
+      position_append (at path around) (map FileByte bytes) (FileEnded (length bytes) ∷ [])
+      ∙ bytes_position (at path around) bytes
+  tree_position (Link target) path around = refl
+  tree_position (Folder entries) path around =
+      position_append (at path around) (tokens_among entries) (FolderEnded ∷ [])
+      ∙ among_position entries path around
 
-  among_place : (entries : Entries) (path : Bytes) (around : List Bytes)
-      → place_along (at path around) (tokens_among entries) ≡ at path around
-  among_place NoEntries path around = refl
-  among_place (Entry name tree rest) path around =
+  among_position : (entries : Entries) (path : Bytes) (around : List Bytes)
+      → position_along (at path around) (tokens_among entries) ≡ at path around
+  among_position NoEntries path around = refl
+  among_position (Entry name tree rest) path around =
       let child : Bytes = child_of path name in
       let later : List Token = EntryEnded ∷ tokens_among rest in
-      place_append (at child (path ∷ around)) (tokens_of tree) later
-      ∙ ap (λ p. place_along p later) (tree_place tree child (path ∷ around))
-      ∙ among_place rest path around
+      position_append (at child (path ∷ around)) (tokens_of tree) later
+      ∙ ap (λ p. position_along p later) (tree_position tree child (path ∷ around))
+      ∙ among_position rest path around
 
 mutual
   tree_steps : (tree : Tree) (path : Bytes) (around : List Bytes)
@@ -68,14 +69,14 @@ mutual
   among_steps NoEntries path around = refl
   among_steps (Entry name tree rest) path around =
       let child : Bytes = child_of path name in
-      let inside : Place = at child (path ∷ around) in
+      let inside : Position = at child (path ∷ around) in
       let later : List Token = EntryEnded ∷ tokens_among rest in
       steps_append inside (tokens_of tree) later
-      ∙ ap (λ l. l ++ steps_along (place_along inside (tokens_of tree)) later)
+      ∙ ap (λ l. l ++ steps_along (position_along inside (tokens_of tree)) later)
       (tree_steps tree child (path ∷ around))
       ∙ ap (λ p. steps_of child tree ++ steps_along p later)
-      (tree_place tree child (path ∷ around))
+      (tree_position tree child (path ∷ around))
       ∙ ap (λ l. steps_of child tree ++ l) (among_steps rest path around)
 
 pub makes_trees : MakesTrees
-makes_trees tree path around = (tree_steps tree path around, tree_place tree path around)
+makes_trees tree path around = (tree_steps tree path around, tree_position tree path around)

@@ -15,12 +15,12 @@ use Rattle.process_build.specs.Setups.{entry, entry_under_nix, file_name_of, is_
 use Rattle.process_build.specs.Setups.{entry_of_builtin, or_text}
 use Rattle.process_build.specs.declared.process.builtins.OwnBuiltin.{OwnBuiltin}
 
--- one more item behind others
-pub mapped_behind : {X Y Z W : Type 0} (f : X → Z) (g : W → Z) (h : Y → W) (old now more : List X)
+-- one more item after others
+pub mapped_after : {X Y Z W : Type 0} (f : X → Z) (g : W → Z) (h : Y → W) (old now more : List X)
     (x : X) (ys : List Y) (i : ℕ) (d : Y) → i < length ys → more ≡ now ++ x ∷ []
     → map f now ≡ map f old ++ map g (map h (take i ys)) → f x ≡ g (h (get_or ys i d))
     → map f more ≡ map f old ++ map g (map h (take (i + 1) ys))
-mapped_behind f g h old now more x ys i d low is_more had same =
+mapped_after f g h old now more x ys i d low is_more had same =
     ap (map f) is_more ∙ map-append f now (x ∷ []) ∙ ap (λ l. l ++ f x ∷ []) had
     ∙ append_assoc (map f old) (map g (map h (take i ys))) (f x ∷ [])
     ∙ ap (λ l. map f old ++ l)
@@ -28,7 +28,7 @@ mapped_behind f g h old now more x ys i d low is_more had same =
     ∙ sym (ap (map g) (map_more h ys i d low)
     ∙ map-append g (map h (take i ys)) (h (get_or ys i d) ∷ [])))
 
--- the same without a second function
+-- one more item after others, without a second function
 pub mapped_next : {X Y Z : Type 0} (f : X → Z) (g : Y → Z) (old now more : List X)
     (x : X) (ys : List Y) (i : ℕ) (d : Y) → i < length ys → more ≡ now ++ x ∷ []
     → map f now ≡ map f old ++ map g (take i ys) → f x ≡ g (get_or ys i d)

@@ -11,7 +11,7 @@ use Rattle.nix_archive.specs.Tokens.{Token, EntryBegun, EntryEnded, FileBegun, F
 use Rattle.nix_archive.proofs.Bytes.{both_bytes, no_bytes}
 use Rattle.process_build.specs.Walks.{IsTreeTold}
 use Rattle.process_build.specs.declared.walk.tree_walk.OpenFolder.{OpenFolder}
-use Rattle.process_build.specs.private.Walking.{AreAhead, AreAllTold, AreTold, IsAt, IsFileTold, IsFolderBegun, IsFoundTold, IsPart, IsPlace, IsWithin, ahead_of, first_first, last_name}
+use Rattle.process_build.specs.private.Walking.{AreAhead, AreAllTold, AreTold, IsAt, IsFileTold, IsFolderBegun, IsFoundTold, IsPart, IsAtOrDone, IsWithin, ahead_of, first_first, last_name}
 
 -- ---- the entries of a folder
 
@@ -170,10 +170,10 @@ module _ {S : Type 0} (heard : S → List Token → S → Type 0)
   }
 
   -- the walk begins
-  pub placed : (s t : S) (place : Option OpenFolder) (around : List OpenFolder) → around ≡ []
-      → IsFoundTold heard s t place → IsPlace heard s t place around
-  placed s t None around e h = h
-  placed s t (Some folder) around e h = at_begun s t folder around e h
+  pub at_or_done : (s t : S) (position : Option OpenFolder) (around : List OpenFolder) → around ≡ []
+      → IsFoundTold heard s t position → IsAtOrDone heard s t position around
+  at_or_done s t None around e h = h
+  at_or_done s t (Some folder) around e h = at_begun s t folder around e h
 
   -- an entry that is a file or a link was told
   pub at_more : (s a b c t : S) (ahead later : List Bytes) (name : Bytes)

@@ -1,4 +1,4 @@
--- Two lists whose items go together, place by place.
+-- Two lists whose items go together, index by index.
 use Rattle.std.proofs.Common.{◌≡◌, ◌∙◌, ap, sym, subst, refl, ℕ, zero, suc, List, [], ◌∷◌, ◌++◌}
 use Rattle.std.proofs.Common.{◌+◌, ◌<◌, arith, get_or, length, map, take}
 use Rattle.std.specs.List.{AllZip, Contains}
@@ -14,7 +14,7 @@ zip_more R xs ys i x y low is had one =
     (ap (λ v. take i xs ++ v ∷ []) is ∙ sym (take_more xs i x low))
     (all_zipped_more R (take i xs) ys x y had one)
 
--- the same for an item that is read where it stands
+-- one more pair, of an item that is read where it stands
 pub zip_next : {A B : Type 0} (R : A → B → Type 0) (xs : List A) (ys : List B) (i : ℕ) (d : A) (y : B)
     → i < length xs → AllZip R (take i xs) ys → R (get_or xs i d) y
     → AllZip R (take (i + 1) xs) (ys ++ y ∷ [])

@@ -29,71 +29,71 @@ AreWritten contents None new bytes = ⊥
 
 -- Where a maker is: at the path of what is made next, in the folders around it, the innermost
 -- first.
-pub record Place : Type 0 where
+pub record Position : Type 0 where
   pub path : Bytes
   pub around : List Bytes
 
--- the outermost path of a place, which is that of the whole tree
+-- the outermost path of a position, which is that of the whole tree
 abbrev pub outermost : (path : Bytes) → (around : List Bytes) → Bytes
 outermost path [] = path
 outermost path (folder ∷ around) = outermost folder around
 
--- the place above another one, and the same place where there is none above it
-abbrev pub above : (path : Bytes) → (around : List Bytes) → Place
+-- the position above another one, and the same position where there is none above it
+abbrev pub above : (path : Bytes) → (around : List Bytes) → Position
 above path [] = record { path = path; around = [] }
 above path (outer ∷ around) = record { path = outer; around = around }
 
--- the place after a token
-abbrev pub place_after : Place → Token → Place
-place_after place (EntryBegun name) =
-    record { path = child_of place.path name; around = place.path ∷ place.around }
-place_after place EntryEnded = above place.path place.around
-place_after place FolderBegun = place
-place_after place FolderEnded = place
-place_after place (FileBegun executable size) = place
-place_after place (FileByte byte) = place
-place_after place (FileEnded size) = place
-place_after place (LinkTo target) = place
+-- the position after a token
+abbrev pub position_after : Position → Token → Position
+position_after position (EntryBegun name) =
+    record { path = child_of position.path name; around = position.path ∷ position.around }
+position_after position EntryEnded = above position.path position.around
+position_after position FolderBegun = position
+position_after position FolderEnded = position
+position_after position (FileBegun executable size) = position
+position_after position (FileByte byte) = position
+position_after position (FileEnded size) = position
+position_after position (LinkTo target) = position
 
 -- the steps at a token
-abbrev pub steps_at : Place → Token → List Step
-steps_at place FolderBegun = FolderMade place.path ∷ []
-steps_at place (EntryBegun name) = []
-steps_at place EntryEnded = []
-steps_at place FolderEnded = []
-steps_at place (FileBegun executable size) = FileMade place.path executable ∷ []
-steps_at place (FileByte byte) = ByteWritten byte ∷ []
-steps_at place (FileEnded size) = FileClosed ∷ []
-steps_at place (LinkTo target) = LinkMade place.path target ∷ []
+abbrev pub steps_at : Position → Token → List Step
+steps_at position FolderBegun = FolderMade position.path ∷ []
+steps_at position (EntryBegun name) = []
+steps_at position EntryEnded = []
+steps_at position FolderEnded = []
+steps_at position (FileBegun executable size) = FileMade position.path executable ∷ []
+steps_at position (FileByte byte) = ByteWritten byte ∷ []
+steps_at position (FileEnded size) = FileClosed ∷ []
+steps_at position (LinkTo target) = LinkMade position.path target ∷ []
 
--- the place after some tokens
-abbrev pub place_along : Place → List Token → Place
-place_along place [] = place
-place_along place (token ∷ said) = place_along (place_after place token) said
+-- the position after some tokens
+abbrev pub position_along : Position → List Token → Position
+position_along position [] = position
+position_along position (token ∷ said) = position_along (position_after position token) said
 
 -- the steps at some tokens
-abbrev pub steps_along : Place → List Token → List Step
-steps_along place [] = []
-steps_along place (token ∷ said) =
-    steps_at place token ++ steps_along (place_after place token) said
+abbrev pub steps_along : Position → List Token → List Step
+steps_along position [] = []
+steps_along position (token ∷ said) =
+    steps_at position token ++ steps_along (position_after position token) said
 
--- the place of a maker with this path, in these folders, the outermost first
-abbrev pub place_at : String Global → List (String Global) → Place
-place_at path around =
+-- the position of a maker with this path, in these folders, the outermost first
+abbrev pub position_at : String Global → List (String Global) → Position
+position_at path around =
     record { path = string_bytes path; around = map string_bytes (reverse around) }
 
--- The tokens were taken: the steps at them were made, and the place is the one after them.
-pub record AreTaken {S : Type 0} (made : S → List Step → S → Type 0) (from to : Place)
+-- The tokens were taken: the steps at them were made, and the position is the one after them.
+pub record AreTaken {S : Type 0} (made : S → List Step → S → Type 0) (from to : Position)
     (before after : S) (said : List Token) : Type 0 where
   pub steps : made before (steps_along from said) after
-  pub place : to ≡ place_along from said
+  pub position : to ≡ position_along from said
 
--- the place where a maker is
-abbrev pub place_of : {M : Type 0} → TreeMaker M → Place
-place_of maker = place_at maker.path maker.around.items
+-- the position where a maker is
+abbrev pub position_of : {M : Type 0} → TreeMaker M → Position
+position_of maker = position_at maker.path maker.around.items
 
--- both are places in one tree
-abbrev pub HaveOneTree : (before after : Place) → Type 0
+-- both are positions in one tree
+abbrev pub HaveOneTree : (before after : Position) → Type 0
 HaveOneTree before after =
     outermost after.path after.around ≡ outermost before.path before.around
 
@@ -102,8 +102,9 @@ abbrev pub IsHeardBy : {M : Type 0} (made : M → List Step → M → Type 0) (b
     (said : List Token) (after : TreeMaker M) → (was is : Option MakerFault) → Type 0
 IsHeardBy made before said after (Some fault) is = after ≡ before
 IsHeardBy made before said after None None =
-    AreTaken made (place_of before) (place_of after) before.parts after.parts said
-IsHeardBy made before said after None (Some fault) = HaveOneTree (place_of before) (place_of after)
+    AreTaken made (position_of before) (position_of after) before.parts after.parts said
+IsHeardBy made before said after None (Some fault) =
+    HaveOneTree (position_of before) (position_of after)
 
 -- what a maker has heard
 abbrev pub IsHeard : {M : Type 0} (made : M → List Step → M → Type 0) (before : TreeMaker M)
@@ -114,6 +115,6 @@ IsHeard made before said after = IsHeardBy made before said after before.fault a
 -- is where it was.
 abbrev pub MakesTrees : Type 0
 MakesTrees = (tree : Tree) (path : Bytes) (around : List Bytes)
-    → let place : Place = record { path = path; around = around } in
-    (steps_along place (tokens_of tree) ≡ steps_of path tree)
-    × (place_along place (tokens_of tree) ≡ place)
+    → let position : Position = record { path = path; around = around } in
+    (steps_along position (tokens_of tree) ≡ steps_of path tree)
+    × (position_along position (tokens_of tree) ≡ position)

@@ -1,6 +1,7 @@
 -- What a builder is started with: its name, arguments, environment and files. Those of the profile
--- `plain` are this product's own (`FORMATS.md`); those of `nix` are Nix 2.8's (Nix manual, "Building";
--- its source, `local-derivation-goal.cc`: `startBuilder`, `initEnv`, `initTmpDir`, `runChild`).
+-- `plain` are this product's own (`FORMATS.md`); those of `nix` are Nix 2.8's (Nix manual,
+-- "Building"; its source, `local-derivation-goal.cc`: `startBuilder`, `initEnv`, `initTmpDir`,
+-- `runChild`).
 use Rattle.std.specs.Prelude.{◌≡◌, ◌≢◌, ◌⊎◌, ℕ, Bool, false, ◌==◌, List, [], ◌∷◌, ◌++◌}
 use Rattle.std.specs.Prelude.{All, Contains, IsUtf8, Option, None, Some, bytes_eq, codes, decimal}
 use Rattle.std.specs.Prelude.{filter, fold, if◌then◌else◌, map, nat_eq, string_bytes}
@@ -35,7 +36,7 @@ abbrev pub text_bytes : Text → Bytes
 text_bytes (text.Lent lent) = lent.now
 text_bytes (text.Made made) = string_bytes made
 
--- the same of bytes that need not be a text
+-- the bytes of what need not be a text, whoever owns it
 abbrev pub raw_bytes : RawText → Bytes
 raw_bytes (raw.Lent lent) = lent.now
 raw_bytes (raw.Made made) = made.items
@@ -236,7 +237,8 @@ builder_under Plain builtins builder = builder
 builder_under Nix builtins builder =
     or_text builder (value_of builder (map entry_of_builtin builtins))
 
--- the name that a builder is told as its own: its text, under `nix` what stands after its last slash
+-- the name that a builder is told as its own: its text, under `nix` what stands after its last
+-- slash
 abbrev pub name_under : Profile → (builder : Bytes) → Name
 name_under Plain builder = builder
 name_under Nix builder = after_last (λ byte. byte == 47) builder
@@ -298,9 +300,9 @@ CannotBeGiven around job prepared =
     ⊎ HasNoEntry (filled_outputs job.profile job.outputs.items)
     (entries_under job.profile around job prepared)
 
--- Under `plain` a builder is started with the texts of its job as they stand, whatever was prepared:
--- under its own text, with its arguments, with its entries between those of the store folder and of
--- the build folder, and with no files.
+-- Under `plain` a builder is started with the texts of its job as they stand, whatever was
+-- prepared: under its own text, with its arguments, with its entries between those of the store
+-- folder and of the build folder, and with no files.
 pub record IsPlainSetup (around : Surroundings) (job : Job) (setup : Setup) : Type 0 where
   pub builder : setup.builder.now ≡ job.builder.items
   pub name : setup.name.now ≡ job.builder.items

@@ -22,7 +22,7 @@ pub fn unsettled_never_rises()
     ensures { UnsettledNeverRises }
 {}
 
-/// The same calls in another order, as those of several workers come, give the same counts.
+/// Calls in another order, as those of several workers come, give the same counts.
 pub fn order_is_no_matter()
     ensures { OrderIsNoMatter }
 {}

@@ -71,7 +71,7 @@ below_from_dir members a (es, is, h) = (
       (below_row (hidden-the_row-Member-0 members) es h),
 )
 
--- The entry of the member at a place stands beside others, beside which that of any other member
+-- The entry of the member with a number stands beside others, beside which that of any other member
 -- may stand in its place.
 record IsReplaceable (ms : List Member) (j : ℕ) (d : Member) (es : Entries) : Type 0 where
   pub node : Archived

@@ -54,7 +54,7 @@ same_entry : (f g : Bytes) (s t : Archived) (es fs : Entries) → f ≡ g → s 
 same_entry f g s t es fs a b c =
     ap (λ l. Entry l s es) a ∙ ap (λ l. Entry g l es) b ∙ ap (λ l. Entry g t l) c
 
--- where names rise, one has one place among the others
+-- where names rise, one stands at one number among the others
 pub put_once : (b c name : Bytes) (node : Archived) (others es fs : Entries) → AreEntries b es
     → AreEntries c fs → IsBeside name node others es → IsBeside name node others fs → es ≡ fs
 put_once b c name node others NoEntries fs p q h k = absurd h

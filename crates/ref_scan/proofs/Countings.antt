@@ -9,7 +9,7 @@ use Rattle.ref_scan.specs.ArchivedTrees.{KeepsLimits, archived_bytes, archived_d
 use Rattle.ref_scan.specs.Counting.{AreCountsOf, CountsHearLimits, CountsStayPast, CountsTellLimits, IsWithin, KeepWithin, bytes_at, bytes_heard, deepest_from, entries_at, entries_heard, in_64_bits, level_after, level_at}
 use Rattle.ref_scan.specs.declared.hearers.tree_counts.TreeCounts.{TreeCounts}
 
--- ---- tokens behind others
+-- ---- tokens after others
 
 level_least : (l : ℕ) (ts : List Token) → l ≤ deepest_from l ts
 level_least l [] = omega arith
@@ -51,9 +51,9 @@ measure_both xs ys e b d e' b' d' h k = record {
   bytes = omega (arith, sum_by-append bytes_at xs ys, h.bytes, k.bytes);
   level = λ l. level_both l xs ys ∙ ap (λ n. level_after n ys) (h.level l) ∙ k.level l;
   deepest = λ l.
-      let behind : deepest_from (level_after l xs) ys ≡ l + d' =
+      let later : deepest_from (level_after l xs) ys ≡ l + d' =
       ap (λ n. deepest_from n ys) (h.level l) ∙ k.deepest l in
-      omega (arith, deepest_both l xs ys, behind, h.deepest l);
+      omega (arith, deepest_both l xs ys, later, h.deepest l);
 }
 
 -- a token that leads to no other level
@@ -112,7 +112,7 @@ depth_is (File _ _) = refl
 depth_is (Link _) = refl
 depth_is (Folder _) = refl
 
--- behind a token that counts nothing, and before one
+-- after a token that counts nothing, and before one
 measure_within : (first last : Token) (ts : List Token) (e b d : ℕ)
     → Measures (first ∷ []) 0 0 0 → Measures (last ∷ []) 0 0 0 → Measures ts e b d
     → Measures (first ∷ (ts ++ last ∷ [])) e b d

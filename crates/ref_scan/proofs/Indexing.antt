@@ -18,7 +18,7 @@ use Rattle.nix_names.specs.Rising.{IsRising}
 use Rattle.nix_names.specs.StorePaths.{hash_part_of, is_hash_part}
 use Rattle.nix_names.proofs.Lists.{Contains-map}
 use Rattle.nix_names.proofs.RisingLists.{IsBelow, equal_from_eq, members_of_dedup, not_below_itself, rising_dedup, sorted_from_rising}
-use Rattle.ref_scan.specs.private.Places.{ArePartsOf, IsPlaceOfPart, IsSieve, LetsThrough, key_of_part, part_at, slot_of, tag_of}
+use Rattle.ref_scan.specs.private.Parts.{ArePartsOf, IsPartNumber, IsSieve, LetsThrough, key_of_part, part_at, slot_of, tag_of}
 use Rattle.ref_scan.specs.private.Marks.{IsPartMet, Marked}
 
 -- what a call promised at Ok, where it was Ok
@@ -35,9 +35,9 @@ below_later parts i j d rises = Less-from_sorted (slice_cmp nat_cmp) parts i j d
     (sorted_from_rising parts rises)
 
 -- no part stands twice
-one_place : (parts : List (List ℕ)) (i j : ℕ) → IsRising parts → i < length parts
+one_part : (parts : List (List ℕ)) (i j : ℕ) → IsRising parts → i < length parts
     → j < length parts → part_at parts i ≡ part_at parts j → i ≡ j
-one_place parts i j rises lt lt' same =
+one_part parts i j rises lt lt' same =
     ⊎_elim
     (λ (e : i ≡ j). e)
     (λ (ne : i ≡ j → ⊥). absurd (⊎_elim
@@ -50,18 +50,18 @@ one_place parts i j rises lt lt' same =
     (cases_eq i j)
 
 -- what a search for a window tells
-pub place_told :
+pub part_told :
     (parts : List (List ℕ)) (window : List ℕ) (found : Result ℕ ℕ) →
     IsRising parts →
     IsSearchInRange found (length parts) →
     IsBinarySearchResult (λ y. slice_cmp nat_cmp y window) parts found →
-    IsPlaceOfPart parts window (result_ok found)
-place_told parts window (Ok k) rises within here = (
+    IsPartNumber parts window (result_ok found)
+part_told parts window (Ok k) rises within here = (
   within,
   equal_from_eq (part_at parts k) window
       (texts_ties (part_at parts k) window ∙ ap is_eq (here [])),
 )
-place_told parts window (Err i) rises within apart =
+part_told parts window (Err i) rises within apart =
     search (rules, searchable_from_sorted, nat_list_cmp_total, below_later, tied_itself, cases_lt)
 
 -- ---- the parts of paths
@@ -181,12 +181,12 @@ mark_stays : (met : List Bool) (i k : ℕ) → i < length met → IsPartMet met 
 mark_stays met i k lt h = search (rules, set, get_or-set_same, get_or-set_other, cases_eq)
 
 pub marked_one :
-    (parts : List (List ℕ)) (met : List Bool) (window : List ℕ) (place : ℕ) →
+    (parts : List (List ℕ)) (met : List Bool) (window : List ℕ) (number : ℕ) →
     IsRising parts →
     length met ≡ length parts →
-    IsPlaceOfPart parts window (Some place) →
-    Marked parts met (set met place true) window
-marked_one parts met window place rises count at =
+    IsPartNumber parts window (Some number) →
+    Marked parts met (set met number true) window
+marked_one parts met window number rises count at =
     search (
       rules,
       length-set,
@@ -194,6 +194,6 @@ marked_one parts met window place rises count at =
       cases_eq,
       mark_stays,
       set,
-      one_place,
+      one_part,
       get_or-set_same,
     )

@@ -15,7 +15,7 @@ use Rattle.nix_names.specs.Rising.{IsRising}
 use Rattle.nix_names.specs.StorePaths.{IsStorePath, hash_part_of, is_hash_part}
 use Rattle.nix_names.proofs.Keys.{lesser_hash_part}
 use Rattle.nix_names.proofs.PathTexts.{hash_part_of_is}
-use Rattle.ref_scan.specs.private.Places.{ArePartsOf, Indexed, IsIndex, NumbersRise, key_of_part, part_at, parts_told}
+use Rattle.ref_scan.specs.private.Parts.{ArePartsOf, Indexed, IsIndex, NumbersRise, key_of_part, part_at, parts_told}
 use Rattle.ref_scan.proofs.Indexing.{parts_as_paths}
 
 -- ---- numbers that rise
@@ -90,36 +90,36 @@ key_at : (parts : List (List ℕ)) (keys window : List ℕ) → keys ≡ map key
 key_at parts keys window is has = search (rules, get_or_default, length-map, get_or-map)
 
 pub key_missing :
-    (parts : List (List ℕ)) (keys window : List ℕ) (key place : ℕ) →
+    (parts : List (List ℕ)) (keys window : List ℕ) (key number : ℕ) →
     keys ≡ map key_of_part parts →
     key ≡ key_of_part window →
     NumbersRise keys →
-    IsBinarySearchResult (λ y. nat_cmp y key) keys (Err place) →
+    IsBinarySearchResult (λ y. nat_cmp y key) keys (Err number) →
     Contains parts window → ⊥
-key_missing parts keys window key place is of_window rises apart has =
+key_missing parts keys window key number is of_window rises apart has =
     let at = key_at parts keys window is has in
-    let sides = searched keys key (Err place) apart (not_above keys rises) in
-    elim (cases_lt at.0 place) [
+    let sides = searched keys key (Err number) apart (not_above keys rises) in
+    elim (cases_lt at.0 number) [
       | inl before ↦ absurd (omega (arith, at.3, of_window, sides.1 at.0 before))
-      | inr behind ↦ absurd (omega (arith, at.3, of_window, sides.2 at.0 behind at.1))
+      | inr later ↦ absurd (omega (arith, at.3, of_window, sides.2 at.0 later at.1))
     ]
 
 other_part :
-    (parts : List (List ℕ)) (keys window : List ℕ) (key place : ℕ) →
+    (parts : List (List ℕ)) (keys window : List ℕ) (key number : ℕ) →
     keys ≡ map key_of_part parts →
     key ≡ key_of_part window →
     NumbersRise keys →
-    place < length keys →
-    get_or keys place 0 ≡ key →
-    (part_at parts place ≡ window → ⊥) →
+    number < length keys →
+    get_or keys number 0 ≡ key →
+    (part_at parts number ≡ window → ⊥) →
     Contains parts window → ⊥
-other_part parts keys window key place is of_window rises within found other has =
+other_part parts keys window key number is of_window rises within found other has =
     let at = key_at parts keys window is has in
-    let same : at.0 ≡ place = one_number keys at.0 place rises at.1 within
+    let same : at.0 ≡ number = one_number keys at.0 number rises at.1 within
     (at.3 ∙ sym of_window ∙ sym found) in
     other (ap (part_at parts) (sym same) ∙ at.2)
 
--- what a search for a key tells, where it tells no place and where it tells one
+-- what a search for a key tells, where it tells no number and where it tells one
 pub none_found :
     (parts : List (List ℕ)) (keys window : List ℕ) (key : ℕ) (found : Result ℕ ℕ) →
     keys ≡ map key_of_part parts →
@@ -130,29 +130,29 @@ pub none_found :
     Contains parts window → ⊥
 none_found parts keys window key (Ok k) is of_window rises here none =
     absurd (false≢true (ap is_some none))
-none_found parts keys window key (Err place) is of_window rises apart none =
+none_found parts keys window key (Err number) is of_window rises apart none =
     search (rules, key_missing)
 
 one_found :
-    (keys : List ℕ) (key place : ℕ) (found : Result ℕ ℕ) →
+    (keys : List ℕ) (key number : ℕ) (found : Result ℕ ℕ) →
     NumbersRise keys →
     IsBinarySearchResult (λ y. nat_cmp y key) keys found →
-    Some place ≡ result_ok found →
-    (place < length keys) × (get_or keys place 0 ≡ key)
-one_found keys key place (Ok k) rises here some =
+    Some number ≡ result_ok found →
+    (number < length keys) × (get_or keys number 0 ≡ key)
+one_found keys key number (Ok k) rises here some =
     subst (λ n. (n < length keys) × (get_or keys n 0 ≡ key)) (sym (ap (λ o. unwrap_or o 0) some))
     (searched keys key (Ok k) here (not_above keys rises))
-one_found keys key place (Err k) rises here some = absurd (false≢true (sym (ap is_some some)))
+one_found keys key number (Err k) rises here some = absurd (false≢true (sym (ap is_some some)))
 
--- the part at the place of a key is that of its path
+-- the part with the number of a key is that of its path
 part_at_key :
-    (paths parts : List (List ℕ)) (keys path : List ℕ) (place : ℕ) →
+    (paths parts : List (List ℕ)) (keys path : List ℕ) (number : ℕ) →
     map hash_part_of paths ≡ parts →
     keys ≡ map key_of_part parts →
-    place < length keys →
-    path ≡ get_or paths place path →
-    (place < length parts) × (part_at parts place ≡ hash_part_of path)
-part_at_key paths parts keys path place are is within here = search (rules, length-map, get_or-map)
+    number < length keys →
+    path ≡ get_or paths number path →
+    (number < length parts) × (part_at parts number ≡ hash_part_of path)
+part_at_key paths parts keys path number are is within here = search (rules, length-map, get_or-map)
 
 -- ---- a search in an index by keys
 
@@ -164,22 +164,22 @@ seen in_order paths apart = record {
   in_order = in_order;
 }
 
--- a search for a window's key that finds a place tells the part there, and that no part is the
+-- a search for a window's key that finds a number tells the part there, and that no part is the
 -- window where that one is not
 pub part_found :
     {in_order : Bool} {paths apart : List (List ℕ)} {keys sieve slice : List ℕ} {now : Indexed}
-    (window path : List ℕ) (key place : ℕ) (found : Result ℕ ℕ) →
+    (window path : List ℕ) (key number : ℕ) (found : Result ℕ ℕ) →
     IsIndex in_order paths keys apart sieve →
     seen in_order paths apart ≡ now →
     IsTrue now.in_order →
     key ≡ key_of_part window →
     slice ≡ keys →
     IsBinarySearchResult (λ y. nat_cmp y key) slice found →
-    Some place ≡ result_ok found →
-    path ≡ get_or paths place path →
-    (place < length now.parts) × (part_at now.parts place ≡ hash_part_of path)
-    × ((part_at now.parts place ≡ window → ⊥) → Contains now.parts window → ⊥)
-part_found {in_order} {paths} {apart} {keys} {now} window path key place found index view by_keys
+    Some number ≡ result_ok found →
+    path ≡ get_or paths number path →
+    (number < length now.parts) × (part_at now.parts number ≡ hash_part_of path)
+    × ((part_at now.parts number ≡ window → ⊥) → Contains now.parts window → ⊥)
+part_found {in_order} {paths} {apart} {keys} {now} window path key number found index view by_keys
     of_window sliced searched_for some at =
     let ordered : in_order ≡ true = ap (λ v. v.in_order) view ∙ by_keys in
     let told : parts_told in_order paths apart ≡ now.parts = ap (λ v. v.parts) view in
@@ -189,9 +189,9 @@ part_found {in_order} {paths} {apart} {keys} {now} window path key place found i
     let rises = index.rising ordered in
     let here = subst (λ ks. IsBinarySearchResult (λ y. nat_cmp y key) ks found) sliced searched_for
     in
-    let one = one_found keys key place found rises here some in
-    let there = part_at_key paths now.parts keys path place are of_parts one.0 at in (
+    let one = one_found keys key number found rises here some in
+    let there = part_at_key paths now.parts keys path number are of_parts one.0 at in (
       there.0,
       there.1,
-      other_part now.parts keys window key place of_parts of_window rises one.0 one.1,
+      other_part now.parts keys window key number of_parts of_window rises one.0 one.1,
     )

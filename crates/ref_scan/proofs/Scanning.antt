@@ -6,7 +6,7 @@ use Rattle.std.proofs.lemmas.List.{get_or-replicate, length-map, length-replicat
 use Rattle.nix_names.specs.StorePaths.{hash_part_of, is_hash_part}
 use Rattle.ref_scan.specs.private.Kept.{last_bytes}
 use Rattle.ref_scan.specs.private.Marks.{IsPartMet, Searched}
-use Rattle.ref_scan.specs.private.Places.{ArePartsOf, IsPlaceOfPart, part_at}
+use Rattle.ref_scan.specs.private.Parts.{ArePartsOf, IsPartNumber, part_at}
 use Rattle.ref_scan.specs.Scan.{OccursIn, Within}
 use Rattle.ref_scan.specs.private.Scanned.{Scanned, Sought}
 use Rattle.ref_scan.proofs.Pieces.{Any-none, Any-left, Any-last, Any-last_cases, not_in_none, occurs_before_none}
@@ -100,22 +100,22 @@ scanned_cut permitted parts ended in_order present met tail before = record {
   kept = refl;
 }
 
--- the mark of a part's place tells whether the part occurs
+-- the mark of a part tells whether the part occurs
 pub met_at :
-    (sought : Sought) (met : List Bool) (tail part : List ℕ) (place : ℕ) →
+    (sought : Sought) (met : List Bool) (tail part : List ℕ) (number : ℕ) →
     Scanned sought met tail →
-    IsPlaceOfPart sought.parts part (Some place) →
-    IsPartMet met place ↔ OccursIn part (sought.ended ++ sought.present ∷ [])
-met_at sought met tail part place scanned at = search rules
+    IsPartNumber sought.parts part (Some number) →
+    IsPartMet met number ↔ OccursIn part (sought.ended ++ sought.present ∷ [])
+met_at sought met tail part number scanned at = search rules
 
--- the place of the part of a path, where the parts stand as the paths do
-pub place_in_order :
+-- the number of the part of a path, where the parts stand as the paths do
+pub part_in_order :
     (paths parts : List (List ℕ)) (in_order : Bool) (number : ℕ) →
     ArePartsOf paths parts in_order →
     IsTrue in_order →
     number < length paths →
-    IsPlaceOfPart parts (hash_part_of (get_or paths number [])) (Some number)
-place_in_order paths parts in_order number of ordered lt = search (rules, length-map, get_or-map)
+    IsPartNumber parts (hash_part_of (get_or paths number [])) (Some number)
+part_in_order paths parts in_order number of ordered lt = search (rules, length-map, get_or-map)
 
 -- a slice of a list that was lent whole, and written
 pub written : {X : Type 0} (new rest : List X) (n : ℕ) → length new ≡ n → take n (new ++ rest) ≡ new

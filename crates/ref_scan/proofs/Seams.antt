@@ -71,7 +71,7 @@ pub within_joined :
 within_joined part now piece is within =
     let long = hash_part_long part is in
     let tail = last_bytes now in
-    ⊎_elim inl (λ h. inr (behind h))
+    ⊎_elim inl (λ h. inr (after h))
     (⊎_elim
     (λ (whole : tail ≡ now). inr (subst (λ l. Within part (l ++ piece)) (sym whole) within))
     (λ (full : length tail ≡ 31).
@@ -83,9 +83,9 @@ within_joined part now piece is within =
     ∙ append_assoc (before_last now) tail piece) within)))
     (kept_long now))
   where
-    behind : Within part (last_bytes now ++ piece) → Within part (last_bytes now ++ take 31 piece)
+    after : Within part (last_bytes now ++ piece) → Within part (last_bytes now ++ take 31 piece)
         ⊎ Within part piece
-    behind h =
+    after h =
         let long = hash_part_long part is in
         let head = take 31 piece in
         ⊎_elim

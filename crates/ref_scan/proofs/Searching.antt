@@ -5,7 +5,7 @@ use Rattle.std.proofs.lemmas.List.{drop-drop, take_rest, get_or-take}
 use Rattle.nix_names.specs.Base32.{is_digit}
 use Rattle.nix_names.specs.StorePaths.{is_hash_part}
 use Rattle.ref_scan.specs.private.Marks.{IsPartMet, Marked, Searched}
-use Rattle.ref_scan.specs.private.Places.{part_at}
+use Rattle.ref_scan.specs.private.Parts.{part_at}
 use Rattle.ref_scan.specs.Scan.{Within}
 use Rattle.ref_scan.proofs.Windows.{within_past, within_next, within_window, within_few, within_of_drop}
 
@@ -24,13 +24,13 @@ abbrev AreParts : List (List ℕ) → Type 0
 AreParts parts = All (λ part. IsTrue (is_hash_part part)) parts
 
 pub searching_past :
-    (parts : List (List ℕ)) (old met : List Bool) (bytes : List ℕ) (start place : ℕ) →
+    (parts : List (List ℕ)) (old met : List Bool) (bytes : List ℕ) (start offset : ℕ) →
     AreParts parts →
     Searching parts old met bytes start →
-    place < 32 →
-    is_digit (get_or (drop start bytes) place 0) ≡ false →
-    Searching parts old met bytes (start + (place + 1))
-searching_past parts old met bytes start place are before lt foreign =
+    offset < 32 →
+    is_digit (get_or (drop start bytes) offset 0) ≡ false →
+    Searching parts old met bytes (start + (offset + 1))
+searching_past parts old met bytes start offset are before lt foreign =
     record {
       count = before.count;
       stays = before.stays;
@@ -39,9 +39,9 @@ searching_past parts old met bytes start place are before lt foreign =
           let part = part_at parts k in
           ⊎_elim
           inl
-          (λ behind. inr
-          (subst (Within part) (drop-drop (place + 1) start bytes)
-          (within_past part (drop start bytes) place (are k [] at) lt foreign behind)))
+          (λ after. inr
+          (subst (Within part) (drop-drop (offset + 1) start bytes)
+          (within_past part (drop start bytes) offset (are k [] at) lt foreign after)))
           (before.rest k at h);
     }
 
@@ -66,11 +66,11 @@ searching_next parts old met new bytes start are before marked =
           let part = part_at parts k in
           ⊎_elim
           (λ m. inl ((marked.each k at).1 (inl m)))
-          (λ behind.
+          (λ after.
           ⊎_elim
           (λ window. inl ((marked.each k at).1 (inr window)))
           (λ later. inr (subst (Within part) (drop-drop 1 start bytes) later))
-          (within_next part (drop start bytes) (are k [] at) behind))
+          (within_next part (drop start bytes) (are k [] at) after))
           (before.rest k at h);
     }
 
@@ -88,8 +88,8 @@ searching_end parts old met bytes start are before few =
         λ h. ⊎_elim
             (before.stays k at)
             (λ within. ⊎_elim (λ m. m)
-            (λ behind. absurd (within_few (part_at parts k) (drop start bytes) (are k [] at) few
-            behind))
+            (λ after. absurd (within_few (part_at parts k) (drop start bytes) (are k [] at) few
+            after))
             (before.rest k at within))
             h,
       );
@@ -103,11 +103,11 @@ pub window_is :
 window_is bytes window start is = is ∙ ap (take 32) (take_rest bytes start)
 
 pub foreign_at :
-    (bytes window : List ℕ) (start place : ℕ) →
+    (bytes window : List ℕ) (start offset : ℕ) →
     window ≡ take 32 (take (length bytes - start) (drop start bytes)) →
-    place < 32 →
-    is_digit (get_or window place 0) ≡ false →
-    is_digit (get_or (drop start bytes) place 0) ≡ false
-foreign_at bytes window start place is lt foreign =
-    ap is_digit (sym (ap (λ w. get_or w place 0) (window_is bytes window start is)
-    ∙ get_or-take 32 (drop start bytes) place 0 lt)) ∙ foreign
+    offset < 32 →
+    is_digit (get_or window offset 0) ≡ false →
+    is_digit (get_or (drop start bytes) offset 0) ≡ false
+foreign_at bytes window start offset is lt foreign =
+    ap is_digit (sym (ap (λ w. get_or w offset 0) (window_is bytes window start is)
+    ∙ get_or-take 32 (drop start bytes) offset 0 lt)) ∙ foreign

@@ -23,10 +23,10 @@ within_right part a b (x, y, is) =
     (a ++ x, y, ap (λ l. a ++ l) is ∙ sym (append_assoc a x (part ++ y)))
 
 -- A part that stands somewhere stands after n bytes, or begins before.
-pub within_behind :
+pub within_after :
     (part bytes : List ℕ) (n : ℕ) (x y : List ℕ) → bytes ≡ x ++ (part ++ y) → n ≤ length x
     → Within part (drop n bytes)
-within_behind part bytes n x y is le =
+within_after part bytes n x y is le =
     (drop n x, y, ap (drop n) is ∙ drop-append-le n x (part ++ y) le)
 
 -- the byte of a part that stands after x
@@ -40,21 +40,21 @@ byte_of_part part bytes x y i is lt =
 
 -- past a byte that no part has
 pub within_past :
-    (part bytes : List ℕ) (place : ℕ) →
-    IsTrue (is_hash_part part) → place < 32 → is_digit (get_or bytes place 0) ≡ false →
-    Within part bytes → Within part (drop (place + 1) bytes)
-within_past part bytes place is_part lt foreign (x, y, is) =
+    (part bytes : List ℕ) (offset : ℕ) →
+    IsTrue (is_hash_part part) → offset < 32 → is_digit (get_or bytes offset 0) ≡ false →
+    Within part bytes → Within part (drop (offset + 1) bytes)
+within_past part bytes offset is_part lt foreign (x, y, is) =
     let long = hash_part_long part is_part in
     ⊎_elim
-    (λ (before : length x < place + 1).
-    let i = place - length x in
-    let at : length x + i ≡ place = omega arith in
+    (λ (before : length x < offset + 1).
+    let i = offset - length x in
+    let at : length x + i ≡ offset = omega arith in
     let same = byte_of_part part bytes x y i is (omega arith) in
     absurd (false≢true
     (sym foreign ∙ ap is_digit (subst (λ k. get_or bytes k 0 ≡ get_or part i 0) at same)
     ∙ hash_part_digit part is_part i (omega arith))))
-    (λ (behind : place + 1 ≤ length x). within_behind part bytes (place + 1) x y is behind)
-    (cases_lt (length x) (place + 1))
+    (λ (after : offset + 1 ≤ length x). within_after part bytes (offset + 1) x y is after)
+    (cases_lt (length x) (offset + 1))
 
 -- past the first byte, where the window there is no part
 pub within_next :
@@ -63,7 +63,7 @@ pub within_next :
     Within part bytes → (take 32 bytes ≡ part) ⊎ Within part (drop 1 bytes)
 within_next part bytes is_part ([], y, is) =
     inl (ap (take 32) is ∙ take_at part y 32 (hash_part_long part is_part))
-within_next part bytes is_part (b ∷ x, y, is) = search (rules, within_behind)
+within_next part bytes is_part (b ∷ x, y, is) = search (rules, within_after)
 
 pub within_window : (part bytes : List ℕ) → take 32 bytes ≡ part → Within part bytes
 within_window part bytes is =
@@ -104,7 +104,7 @@ cover part a m b long (x, y, is) =
           ∙ ap (λ l. l ++ drop (length (x ++ part)) (a ++ m)) same
           ∙ append_assoc x part (drop (length (x ++ part)) (a ++ m)),
     ))
-    (λ (behind : length a ≤ length x).
+    (λ (after : length a ≤ length x).
     inr (subst (Within part) (drop_at a (m ++ b) (length a) refl)
-    (within_behind part (a ++ (m ++ b)) (length a) x y is behind)))
+    (within_after part (a ++ (m ++ b)) (length a) x y is after)))
     (cases_lt (length x) (length a))

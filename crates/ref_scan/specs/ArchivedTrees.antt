@@ -15,7 +15,7 @@ abbrev mutual
   archived_pieces (Link target) = target ∷ []
   archived_pieces (Folder entries) = pieces_of_entries entries
 
-  -- the same of a folder's entries
+  -- each file's bytes, each link's target and each entry's name, of a folder's entries
   pub pieces_of_entries : Entries → List Bytes
   pieces_of_entries NoEntries = []
   pieces_of_entries (Entry name tree rest) =

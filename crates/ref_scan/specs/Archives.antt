@@ -10,7 +10,7 @@ use Rattle.ref_scan.specs.declared.tree_archive.outcome.Told.{Told}
 use Rattle.ref_scan.specs.declared.tree_archive.outcome.Told.TheVariants.{Whole, NoArchive}
 use Rattle.ref_scan.specs.declared.tree.Tree.{Tree, File, Pieces, Executable, Link, Dir', Row_of-Member, end_of-Member, more_of-Member}
 
--- the entries are the others, whose order stays, and this one, which stands at any place
+-- the entries are the others, whose order stays, and this one, which stands anywhere among them
 abbrev pub IsBeside : (name : Bytes) (node : Archived) (others entries : Entries) → Type 0
 IsBeside name node others NoEntries = ⊥
 IsBeside name node others (Entry first tree rest) =

@@ -17,7 +17,7 @@ bytes_at (FileByte byte) = 1
 bytes_at (LinkTo target) = length target
 bytes_at token = 0
 
--- in how many entries the place behind a token lies, if the place before it lies in so many
+-- the level after a token, which is in how many entries one is, from the level before it
 abbrev pub level_at : (level : ℕ) → Token → ℕ
 level_at level (EntryBegun name) = level + 1
 level_at level EntryEnded = level - 1
@@ -31,12 +31,12 @@ entries_heard said = sum_by entries_at said
 abbrev pub bytes_heard : List Token → ℕ
 bytes_heard said = sum_by bytes_at said
 
--- in how many entries the place behind tokens lies
+-- the level after some tokens
 abbrev pub level_after : (level : ℕ) → List Token → ℕ
 level_after level [] = level
 level_after level (token ∷ said) = level_after (level_at level token) said
 
--- in how many entries the deepest place before, between or behind tokens lies
+-- the deepest level before, between and after some tokens
 abbrev pub deepest_from : (level : ℕ) → List Token → ℕ
 deepest_from level [] = level
 deepest_from level (token ∷ said) = max level (deepest_from (level_at level token) said)

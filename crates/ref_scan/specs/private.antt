@@ -2,7 +2,7 @@
 pub mod HearingLaws
 pub mod Kept
 pub mod Marks
-pub mod Places
+pub mod Parts
 pub mod Room
 pub mod Scanned
 pub mod Telling

@@ -1,7 +1,7 @@
 //! The base-32 alphabet, as bytes are tested against it.
 ghost use Rattle.std.specs.Prelude.{◌≡◌, ◌<◌, ◌≤◌, ◌+◌, MatchOption, slice_index, false};
 ghost use Rattle.nix_names.specs.Base32.{is_digit};
-ghost use Rattle.ref_scan.specs.private.Places.{AreDigits};
+ghost use Rattle.ref_scan.specs.private.Parts.{AreDigits};
 
 const N: bool = false;
 
@@ -27,19 +27,19 @@ pub(crate) fn is_digit(byte: u8) -> bool
     IS_DIGIT[byte as usize]
 }
 
-// The place of the last byte outside the alphabet, from this place on.
+// The offset of the last byte outside the alphabet, from this offset on.
 #[inline(always)]
 pub(crate) fn last_foreign(window: &[u8; 32], from: usize) -> Option<usize>
     requires { from ≤ 32 }
-    ensures { MatchOption result (AreDigits window.now from 32) (λ place. (from ≤ place)
-        × (place < 32) × (is_digit (slice_index window.now place) ≡ false)
-        × AreDigits window.now (place + 1) 32) }
+    ensures { MatchOption result (AreDigits window.now from 32) (λ offset. (from ≤ offset)
+        × (offset < 32) × (is_digit (slice_index window.now offset) ≡ false)
+        × AreDigits window.now (offset + 1) 32) }
 {
-    let mut place = 32;
-    while place > from {
-        place -= 1;
-        if !is_digit(window[place]) {
-            return Some(place);
+    let mut offset = 32;
+    while offset > from {
+        offset -= 1;
+        if !is_digit(window[offset]) {
+            return Some(offset);
         }
     }
     None

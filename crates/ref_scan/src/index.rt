@@ -2,7 +2,7 @@
 ghost use Rattle.std.specs.Prelude.{◌≡◌, ◌≢◌, ◌↔◌, ◌⊎◌, ◌<◌, [], ℕ, All, IfOk, IsTrue, false, length, map, take, vec_capacity};
 ghost use Rattle.nix_names.specs.Keys.{key_of};
 ghost use Rattle.nix_names.specs.StorePaths.{IsStorePath, hash_part_of, is_hash_part};
-ghost use Rattle.ref_scan.specs.private.Places.{ArePartsOf, IsPlaceOfPart, IsSieve, IsSlotCount, LetsThrough, NumbersRise, key_of_part, mix_bits, slot_of, tag_of, word_of};
+ghost use Rattle.ref_scan.specs.private.Parts.{ArePartsOf, IsPartNumber, IsSieve, IsSlotCount, LetsThrough, NumbersRise, key_of_part, mix_bits, slot_of, tag_of, word_of};
 
 use nix_names::StorePath;
 use std::alloc::{AllocError, Global};
@@ -18,10 +18,10 @@ const NONE: u8 = 0;
 
 const ALL: u8 = 255;
 
-// The hash parts of some paths. A table of bytes, the sieve, is asked first: few windows pass it that
-// are no hash part. Where the keys of the paths rise strictly, as those of one folder's paths nearly
-// always do, a part is found by its key, and a path's text is looked at only where a window has its
-// key. Else the parts are kept in a sorted list of their own.
+// The hash parts of some paths. A table of bytes, the sieve, is asked first: few windows pass it
+// that are no hash part. Where the keys of the paths rise strictly, as those of one folder's paths
+// nearly always do, a part is found by its key, and a path's text is looked at only where a window
+// has its key. Else the parts are kept in a sorted list of their own.
 #[derive(Drop)]
 pub(crate) struct Index {
     paths: Vec<StorePath>,
@@ -32,7 +32,7 @@ pub(crate) struct Index {
 }
 
 impl Model for Index {
-    ghost use Rattle.ref_scan.specs.private.Places.{Indexed, IsIndex, parts_told};
+    ghost use Rattle.ref_scan.specs.private.Parts.{Indexed, IsIndex, parts_told};
 
     ghost Value = { Indexed };
 
@@ -105,7 +105,7 @@ impl Index {
         &self.paths
     }
 
-    // Whether each part stands at the place of its path.
+    // Whether each part has the number of its path.
     pub(crate) fn is_in_order(&self) -> bool
         ensures { result ≡ self.now.in_order }
     {
@@ -119,41 +119,41 @@ impl Index {
         self.keys.len()
     }
 
-    // The place of a window that is one of the parts.
+    // The number of a window that is one of the parts.
     #[inline(always)]
-    pub(crate) fn place_of(&self, window: &[u8; 32]) -> Option<usize>
-        ensures { IsPlaceOfPart self.now.parts window.now result }
+    pub(crate) fn part_number(&self, window: &[u8; 32]) -> Option<usize>
+        ensures { IsPartNumber self.now.parts window.now result }
     {
         let first = first_of(window);
         let held = self.sieve[slot_of(self.sieve.len(), first)];
         if held != tag_of(first) && held != ALL {
             return None;
         }
-        self.place_behind(window)
+        self.part_past_sieve(window)
     }
 
     // Which path's hash part a window is that passed the sieve, as few do.
     #[cold]
     #[inline(never)]
-    fn place_behind(&self, window: &[u8; 32]) -> Option<usize>
-        ensures { IsPlaceOfPart self.now.parts window.now result }
+    fn part_past_sieve(&self, window: &[u8; 32]) -> Option<usize>
+        ensures { IsPartNumber self.now.parts window.now result }
     {
         if self.in_order {
-            self.place_by_key(window)
+            self.part_by_key(window)
         } else {
             self.apart.binary_search(window).ok()
         }
     }
 
     // Which path's hash part a window is, where the parts stand as the paths do.
-    fn place_by_key(&self, window: &[u8; 32]) -> Option<usize>
+    fn part_by_key(&self, window: &[u8; 32]) -> Option<usize>
         requires { IsTrue self.now.in_order }
-        ensures { IsPlaceOfPart self.now.parts window.now result }
+        ensures { IsPartNumber self.now.parts window.now result }
     {
         let key = key_of(window);
-        let place = self.keys.binary_search(&key).ok()?;
-        if self.paths[place].hash_part() == window.as_slice() {
-            Some(place)
+        let number = self.keys.binary_search(&key).ok()?;
+        if self.paths[number].hash_part() == window.as_slice() {
+            Some(number)
         } else {
             None
         }
@@ -189,8 +189,8 @@ fn keys_of(alloc: Global, paths: &[StorePath]) -> Result<Vec<u64>, AllocError>
 fn are_rising(keys: &[u64]) -> bool
     ensures { IsTrue result ↔ NumbersRise keys.now }
 {
-    for place in 1..keys.len() {
-        if keys[place] <= keys[place - 1] {
+    for number in 1..keys.len() {
+        if keys[number] <= keys[number - 1] {
             return false;
         }
     }
@@ -274,7 +274,7 @@ fn slot_count(parts: usize) -> usize
 
 // The last four of eight characters as one number.
 #[inline(always)]
-#[tactic(auto, unfolding(crate::specs::private::Places::word_of))]
+#[tactic(auto, unfolding(crate::specs::private::Parts::word_of))]
 fn word_of(first: &[u8; 8]) -> u32
     ensures { result ≡ word_of first.now }
 {

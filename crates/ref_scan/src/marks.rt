@@ -6,7 +6,7 @@ ghost use Rattle.ref_scan.specs.Scan.{IsFoundIn, OccursIn};
 
 use crate::fed_bytes::{FedBytes, Piece};
 use crate::index::{Index, part_of};
-use crate::seam::{KEPT, seam, tail_behind};
+use crate::seam::{KEPT, seam, tail_after};
 use crate::search::search;
 use arrayvec::ArrayVec;
 use nix_names::StorePath;
@@ -69,7 +69,7 @@ impl Marks {
         let seam = seam(self.tail.as_slice(), piece);
         search(&self.index, &mut self.met, seam.as_slice());
         search(&self.index, &mut self.met, piece);
-        self.tail = tail_behind(seam.as_slice(), piece);
+        self.tail = tail_after(seam.as_slice(), piece);
         self.fed = self.fed.and(&Piece { bytes: piece });
     }
 
@@ -121,8 +121,8 @@ impl Marks {
         if self.index.is_in_order() {
             return self.met[number];
         }
-        match self.index.place_of(&part_of(&paths[number])) {
-            Some(place) => self.met[place],
+        match self.index.part_number(&part_of(&paths[number])) {
+            Some(part) => self.met[part],
             None => false,
         }
     }

@@ -19,7 +19,7 @@ fn tail_of(bytes: &[u8]) -> ArrayVec<u8, KEPT>
 }
 
 // The tail after a piece, of which the seam has the tail before it and the first 31 bytes.
-pub(crate) fn tail_behind(seam: &[u8], piece: &[u8]) -> ArrayVec<u8, KEPT>
+pub(crate) fn tail_after(seam: &[u8], piece: &[u8]) -> ArrayVec<u8, KEPT>
     ensures { (bytes : List ℕ) → seam.now ≡ last_bytes bytes ++ take 31 piece.now
         → result.items ≡ last_bytes (bytes ++ piece.now) }
 {

@@ -1,6 +1,6 @@
 //! The search of some bytes for all hash parts at once.
 ghost use Rattle.std.specs.Prelude.{◌≡◌, ◌≤◌, length};
-ghost use Rattle.ref_scan.specs.private.Places.{AreHashParts};
+ghost use Rattle.ref_scan.specs.private.Parts.{AreHashParts};
 ghost use Rattle.ref_scan.specs.private.Marks.{Marked, Searched};
 
 use crate::alphabet::last_foreign;
@@ -16,9 +16,9 @@ pub(crate) fn search(index: &Index, met: &mut [bool], bytes: &[u8])
     let mut start = 0;
     let mut known = 0;
     while let Some(window) = bytes[start..].first_chunk::<32>() {
-        if let Some(place) = last_foreign(window, known) {
-            start += place + 1;
-            known = 31 - place;
+        if let Some(offset) = last_foreign(window, known) {
+            start += offset + 1;
+            known = 31 - offset;
         } else {
             mark(index, met, window);
             start += 1;
@@ -34,7 +34,7 @@ fn mark(index: &Index, met: &mut [bool], window: &[u8; 32])
     requires count { length met.old ≡ length index.now.parts }
     ensures { Marked index.now.parts met.old met.new window.now }
 {
-    if let Some(place) = index.place_of(window) {
-        met[place] = true;
+    if let Some(number) = index.part_number(window) {
+        met[number] = true;
     }
 }

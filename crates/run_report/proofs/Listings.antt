@@ -18,7 +18,7 @@ use Rattle.nix_names.proofs.RisingLists.{rising_sorted}
 use Rattle.drv_graph.specs.Loading.{AreDistinct}
 use Rattle.drv_graph.specs.Nodes.{Node, paths_of}
 use Rattle.drv_graph.proofs.Gathering.{sorted_map}
-use Rattle.drv_graph.proofs.PathLists.{distinct_push, same_place}
+use Rattle.drv_graph.proofs.PathLists.{distinct_push, same_index}
 use Rattle.run_report.specs.Reports.{AreByPath, path_at}
 use Rattle.run_report.specs.Listing.{AreListed, AreWithin, HasItsPath, IsMarked, listed_in, listed_paths, numbers_of}
 use Rattle.run_report.specs.declared.report.listing.Keyed.{Keyed}
@@ -63,7 +63,7 @@ path_before nodes marks n listed path distinct are at has =
     in
     let before = (are.just one.number).0
     (Contains-map (λ (l : Listed). l.number) _ _ found.1) in
-    let same = same_place _ _ n _ distinct there at in
+    let same = same_index _ _ n _ distinct there at in
     omega (arith, before.0, same)
 
 -- a marked one
@@ -105,7 +105,7 @@ listed_push nodes marks n listed one distinct is at marked are = record {
     paths : listed_paths (listed ++ one ∷ []) ≡ listed_paths listed ++ one.path.now ∷ []
     paths = search (rules, map-append)
 
--- the same after keys
+-- one more derivation is listed, after keys
 pub keyed_new : (nodes : List Node) (marks : List Bool) (n : ℕ) (keyed more : List Keyed)
     (one : Keyed) → AreDistinct (paths_of nodes)
     → one.listed.number ≡ n → slice_get (paths_of nodes) n ≡ Some one.listed.path.now

@@ -30,10 +30,10 @@ one_permitted registrations seeds outputs p q of_p of_q =
       λ has. (of_p.each path).1 ((of_q.each path).0 has),
     ))
 
-one_at : (graph : Graph) (entries : List Entry) (d place : ℕ) (m n : Option (List ℕ))
-    → IsPermittedAt graph entries d place m → IsPermittedAt graph entries d place n → m ≡ n
-one_at graph entries d place m n of_m of_n =
-    of_m.is_at ∙ ap (λ (ps : List (List ℕ)). slice_get ps place) lists ∙ sym of_n.is_at
+one_at : (graph : Graph) (entries : List Entry) (d index : ℕ) (m n : Option (List ℕ))
+    → IsPermittedAt graph entries d index m → IsPermittedAt graph entries d index n → m ≡ n
+one_at graph entries d index m n of_m of_n =
+    of_m.is_at ∙ ap (λ (ps : List (List ℕ)). slice_get ps index) lists ∙ sym of_n.is_at
   where
     same : of_m.node ≡ of_n.node
     same = let is : Some of_m.node ≡ Some of_n.node = sym of_m.is_node ∙ of_n.is_node in cc
@@ -47,8 +47,8 @@ one_at graph entries d place m n of_m of_n =
 one_by : (graph : Graph) (entries : List Entry) (d : ℕ) (reason : Reason)
     (m n : Option (List ℕ)) → IsNamedBy graph entries d reason m
     → IsNamedBy graph entries d reason n → m ≡ n
-one_by graph entries d (NotAllowed output place) m n of_m of_n =
-    one_at graph entries d place m n of_m of_n
+one_by graph entries d (NotAllowed output index) m n of_m of_n =
+    one_at graph entries d index m n of_m of_n
 one_by graph entries d (ExitStatus status) m n of_m of_n = of_m ∙ sym of_n
 one_by graph entries d NoStart m n of_m of_n = of_m ∙ sym of_n
 one_by graph entries d (MissingOutput output) m n of_m of_n = of_m ∙ sym of_n
@@ -63,8 +63,8 @@ one_by graph entries d (BadMode output) m n of_m of_n = of_m ∙ sym of_n
 one_by graph entries d (BadSpecifier output) m n of_m of_n = of_m ∙ sym of_n
 one_by graph entries d BadAttributes m n of_m of_n = of_m ∙ sym of_n
 one_by graph entries d BadGraph m n of_m of_n = of_m ∙ sym of_n
-one_by graph entries d (UnknownNar place) m n of_m of_n =
-    one_at graph entries d place m n of_m of_n
+one_by graph entries d (UnknownNar index) m n of_m of_n =
+    one_at graph entries d index m n of_m of_n
 one_by graph entries d (PastMaxSize output) m n of_m of_n = of_m ∙ sym of_n
 one_by graph entries d (PastMaxClosureSize output) m n of_m of_n = of_m ∙ sym of_n
 
@@ -101,9 +101,9 @@ ReferAlike entries other = (seeds outputs : List (List ℕ)) (path : List ℕ)
     ↔ MayRefer (registered other) seeds outputs path
 
 at_after : (graph : Graph) (entries other : List Entry) → ReferAlike entries other
-    → (d place : ℕ) (named : Option (List ℕ)) → IsPermittedAt graph entries d place named
-    → IsPermittedAt graph other d place named
-at_after graph entries other alike d place named is = record {
+    → (d index : ℕ) (named : Option (List ℕ)) → IsPermittedAt graph entries d index named
+    → IsPermittedAt graph other d index named
+at_after graph entries other alike d index named is = record {
   node = is.node;
   is_node = is.is_node;
   permitted = is.permitted;
@@ -126,8 +126,8 @@ at_after graph entries other alike d place named is = record {
 by_after : (graph : Graph) (entries other : List Entry) → ReferAlike entries other
     → (d : ℕ) (reason : Reason) (named : Option (List ℕ)) → IsNamedBy graph entries d reason named
     → IsNamedBy graph other d reason named
-by_after graph entries other alike d (NotAllowed output place) named is =
-    at_after graph entries other alike d place named is
+by_after graph entries other alike d (NotAllowed output index) named is =
+    at_after graph entries other alike d index named is
 by_after graph entries other alike d (ExitStatus status) named is = is
 by_after graph entries other alike d NoStart named is = is
 by_after graph entries other alike d (MissingOutput output) named is = is
@@ -142,8 +142,8 @@ by_after graph entries other alike d (BadMode output) named is = is
 by_after graph entries other alike d (BadSpecifier output) named is = is
 by_after graph entries other alike d BadAttributes named is = is
 by_after graph entries other alike d BadGraph named is = is
-by_after graph entries other alike d (UnknownNar place) named is =
-    at_after graph entries other alike d place named is
+by_after graph entries other alike d (UnknownNar index) named is =
+    at_after graph entries other alike d index named is
 by_after graph entries other alike d (PastMaxSize output) named is = is
 by_after graph entries other alike d (PastMaxClosureSize output) named is = is
 

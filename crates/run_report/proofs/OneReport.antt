@@ -63,7 +63,7 @@ one_list key (x ∷ xs) (y ∷ ys) rises rises' same =
     )) in
     ap (λ d. d ∷ xs) first ∙ ap (λ ds. y ∷ ds) rest
 
--- the same texts of each of some numbers
+-- the texts of each of some numbers are the same
 pub lines_alike : (f g : ℕ → List ℕ) (numbers : List ℕ)
     → ((d : ℕ) → Contains numbers d → f d ≡ g d) → flat_map f numbers ≡ flat_map g numbers
 lines_alike f g [] each = refl

@@ -32,56 +32,56 @@ use Rattle.drv_graph.proofs.FirstTwins.{first_within}
 
 -- ---- the first input that is refused
 
--- those before a place are built or reused
-abbrev pub AreGood : (state : ℕ → State) → (numbers : List ℕ) → (place : ℕ) → Type 0
-AreGood state numbers place = (k : ℕ) → k < place → is_good (state (get_or numbers k 0)) ≡ true
+-- those before an index are built or reused
+abbrev pub AreGood : (state : ℕ → State) → (numbers : List ℕ) → (index : ℕ) → Type 0
+AreGood state numbers index = (k : ℕ) → k < index → is_good (state (get_or numbers k 0)) ≡ true
 
 -- so are all, in the end
-all_good : (f : ℕ → State) (numbers : List ℕ) (place : ℕ) → length numbers ≤ place
-    → AreGood f numbers place → (i : ℕ) → Contains numbers i → is_good (f i) ≡ true
-all_good f numbers place past good i has =
+all_good : (f : ℕ → State) (numbers : List ℕ) (index : ℕ) → length numbers ≤ index
+    → AreGood f numbers index → (i : ℕ) → Contains numbers i → is_good (f i) ≡ true
+all_good f numbers index past good i has =
     let low = has.1 in
     subst (λ n. is_good (f n) ≡ true) (any_default numbers has.0 0 i low ∙ has.2)
     (good has.0 (omega arith))
 
-pub are_whole : (f : ℕ → State) (numbers : List ℕ) (place : ℕ) → length numbers ≤ place
-    → AreGood f numbers place → true ≡ list_all (λ i. is_good (f i)) numbers
-are_whole f numbers place past good = sym (all_from f numbers (all_good f numbers place past good))
+pub are_whole : (f : ℕ → State) (numbers : List ℕ) (index : ℕ) → length numbers ≤ index
+    → AreGood f numbers index → true ≡ list_all (λ i. is_good (f i)) numbers
+are_whole f numbers index past good = sym (all_from f numbers (all_good f numbers index past good))
 
 -- or one isn't
-pub not_whole : (f : ℕ → State) (numbers : List ℕ) (place : ℕ) → place < length numbers
-    → is_good (f (get_or numbers place 0)) ≡ false → false ≡ list_all (λ i. is_good (f i)) numbers
-not_whole f [] place low not = absurd (omega arith)
+pub not_whole : (f : ℕ → State) (numbers : List ℕ) (index : ℕ) → index < length numbers
+    → is_good (f (get_or numbers index 0)) ≡ false → false ≡ list_all (λ i. is_good (f i)) numbers
+not_whole f [] index low not = absurd (omega arith)
 not_whole f (n ∷ ns) zero low not =
     sym (and_left (is_good (f n)) (list_all (λ i. is_good (f i)) ns) not)
-not_whole f (n ∷ ns) (suc place) low not =
+not_whole f (n ∷ ns) (suc index) low not =
     sym (and_right (is_good (f n)) (list_all (λ i. is_good (f i)) ns)
-    (sym (not_whole f ns place (omega arith) not)))
+    (sym (not_whole f ns index (omega arith) not)))
 
-first_bad : (f : ℕ → State) (inputs : List ℕ) (place : ℕ) → place < length inputs
-    → ((k : ℕ) → k < place → is_bad (f (get_or inputs k 0)) ≡ false)
-    → is_bad (f (get_or inputs place 0)) ≡ true
-    → find (λ i. is_bad (f i)) inputs ≡ Some (get_or inputs place 0)
-first_bad f [] place low before here = absurd (omega arith)
+first_bad : (f : ℕ → State) (inputs : List ℕ) (index : ℕ) → index < length inputs
+    → ((k : ℕ) → k < index → is_bad (f (get_or inputs k 0)) ≡ false)
+    → is_bad (f (get_or inputs index 0)) ≡ true
+    → find (λ i. is_bad (f i)) inputs ≡ Some (get_or inputs index 0)
+first_bad f [] index low before here = absurd (omega arith)
 first_bad f (i ∷ is) zero low before here = search (rules, here)
-first_bad f (i ∷ is) (suc place) low before here =
+first_bad f (i ∷ is) (suc index) low before here =
     ap (λ b. cond b (Some i) (find (λ j. is_bad (f j)) is)) (before 0 (omega arith))
-    ∙ first_bad f is place (omega arith) (λ k less. before (suc k) (omega arith)) here
+    ∙ first_bad f is index (omega arith) (λ k less. before (suc k) (omega arith)) here
 
 -- it is refused for that one
-pub refused_after : (f : ℕ → State) (inputs : List ℕ) (place input : ℕ)
-    → place < length inputs → input ≡ get_or inputs place 0 → AreGood f inputs place
+pub refused_after : (f : ℕ → State) (inputs : List ℕ) (index input : ℕ)
+    → index < length inputs → input ≡ get_or inputs index 0 → AreGood f inputs index
     → is_bad (f input) ≡ true
     → ◌≡◌ {A = State} (Refused (InputNotRealised input)) (built_if_ready (by_inputs f inputs))
-refused_after f inputs place input low is good bad =
+refused_after f inputs index input low is good bad =
     search (rules, first_bad, inputs, good_not_bad)
 
 -- after good ones it is built
-pub built_after : (f : ℕ → State) (inputs : List ℕ) (place : ℕ) → length inputs ≤ place
-    → AreGood f inputs place
+pub built_after : (f : ℕ → State) (inputs : List ℕ) (index : ℕ) → length inputs ≤ index
+    → AreGood f inputs index
     → ◌≡◌ {A = State} Done (built_if_ready (by_inputs f inputs))
-built_after f inputs place past good =
-    let each = all_good f inputs place past good in
+built_after f inputs index past good =
+    let each = all_good f inputs index past good in
     sym (rw (none_bad f inputs each, all_from f inputs each) refl)
 
 -- what is neither open nor good is bad

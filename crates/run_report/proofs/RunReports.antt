@@ -27,7 +27,7 @@ pub marks_told : (run : Run) (opening : List Entry) (wanted : List Bool)
     → IsMarked wanted (length run.graph.nodes) d ↔ IsWanted run opening d
 marks_told run opening wanted are d = search (rules, marked_within)
 
--- the same derivations by path, in other words
+-- the derivations by path, in other words
 pub by_path_moved : (nodes : List Node) (is_wanted is_wanted' : ℕ → Type 0) (numbers : List ℕ)
     → ((d : ℕ) → is_wanted d ↔ is_wanted' d) → AreByPath nodes is_wanted numbers
     → AreByPath nodes is_wanted' numbers

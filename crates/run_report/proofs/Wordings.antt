@@ -43,7 +43,7 @@ pub number_left : (texts : List (List ℕ)) (n : ℕ) → slice_get texts n ≡ 
     ≡ text_or_number (slice_get texts n) n
 number_left texts n none = search rules
 
--- the same text was added
+-- an equal text was added
 pub added_same : (answer : Result (Unit {0}) AllocError) (out old text text' : List ℕ) → text
     ≡ text' → OnOk answer (out ≡ old ++ text) → OnOk answer (out ≡ old ++ text')
 added_same answer out old text text' same = search rules

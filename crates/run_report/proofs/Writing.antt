@@ -2,7 +2,7 @@
 use Rattle.std.proofs.Common.{◌≡◌, ◌++◌, List, ℕ, drop}
 use Rattle.std.specs.List.{flat_map}
 
--- with the lines of the items from this place on, the output is all lines after its start
+-- with the lines of the items from this index on, the output is all lines after its start
 abbrev pub AreWritten : {A : Type 0} → List A → ℕ → (A → List ℕ) → (start out : List ℕ) → Type 0
-AreWritten items place line start out =
-    out ++ flat_map line (drop place items) ≡ start ++ flat_map line items
+AreWritten items index line start out =
+    out ++ flat_map line (drop index items) ≡ start ++ flat_map line items

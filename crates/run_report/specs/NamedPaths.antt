@@ -15,23 +15,23 @@ use Rattle.run_states.specs.Legal.{ArePermitted}
 use Rattle.run_states.specs.declared.state.State.{State}
 use Rattle.run_states.specs.declared.state.State.TheVariants.{Failed}
 
--- The path at a place of the rising list of the paths that are permitted to a derivation of a plan
+-- The path at an index of the rising list of the paths that are permitted to a derivation of a plan
 -- after some entries; none past its end.
-pub record IsPermittedAt (graph : Graph) (entries : List Entry) (d place : ℕ) (named : Option Path)
+pub record IsPermittedAt (graph : Graph) (entries : List Entry) (d index : ℕ) (named : Option Path)
     : Type 0 where
   pub node : Node
   pub is_node : slice_get graph.nodes d ≡ Some node
   pub permitted : List Path
   pub are_permitted : ArePermitted (registered entries) (seeds_of graph.nodes node.drv)
       (output_paths_of node.drv) permitted
-  pub is_at : named ≡ slice_get permitted place
+  pub is_at : named ≡ slice_get permitted index
 
 -- the path that is named where a derivation failed for this reason
 abbrev pub IsNamedBy : Graph → List Entry → (d : ℕ) → Reason → (named : Option Path) → Type 0
-IsNamedBy graph entries d (NotAllowed output place) named =
-    IsPermittedAt graph entries d place named
-IsNamedBy graph entries d (UnknownNar place) named =
-    IsPermittedAt graph entries d place named
+IsNamedBy graph entries d (NotAllowed output index) named =
+    IsPermittedAt graph entries d index named
+IsNamedBy graph entries d (UnknownNar index) named =
+    IsPermittedAt graph entries d index named
 IsNamedBy graph entries d reason named = named ≡ None
 
 -- the path that is named in the line of a derivation in this state

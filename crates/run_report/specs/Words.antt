@@ -40,7 +40,7 @@ abbrev pub output_words : Drv → (output : ℕ) → Bytes
 output_words drv output = text_or_number (slice_get (spelled_names drv) output) output
 
 -- why the building of a derivation failed; of a path to which an output may not refer, or whose
--- archive is not known, its place is told where no path is named
+-- archive is not known, its index is told where no path is named
 abbrev pub reason_words : Drv → (named : Option Path) → Reason → Bytes
 reason_words drv named (ExitStatus status) =
     with_value (codes "ExitStatus") (signed_decimal status)
@@ -55,14 +55,14 @@ reason_words drv named ReadFault = codes "ReadFault"
 reason_words drv named OutOfMemory = codes "OutOfMemory"
 reason_words drv named Killed = codes "Killed"
 reason_words drv named (BadMode output) = with_value (codes "BadMode") (output_words drv output)
-reason_words drv named (NotAllowed output place) = with_value (codes "NotAllowed")
-    (output_words drv output ++ codes "," ++ text_or_number named place)
+reason_words drv named (NotAllowed output index) = with_value (codes "NotAllowed")
+    (output_words drv output ++ codes "," ++ text_or_number named index)
 reason_words drv named (BadSpecifier output) =
     with_value (codes "BadSpecifier") (output_words drv output)
 reason_words drv named BadAttributes = codes "BadAttributes"
 reason_words drv named BadGraph = codes "BadGraph"
-reason_words drv named (UnknownNar place) =
-    with_value (codes "UnknownNar") (text_or_number named place)
+reason_words drv named (UnknownNar index) =
+    with_value (codes "UnknownNar") (text_or_number named index)
 reason_words drv named (PastMaxSize output) =
     with_value (codes "PastMaxSize") (output_words drv output)
 reason_words drv named (PastMaxClosureSize output) =

@@ -92,7 +92,7 @@ impl<'a> States for NamedTable<'a> {
 /// `failed P: WHY` or `refused P: WHY`, or none while it is Blocked, Ready or Building. Then for
 /// each root that was built or reused, in the order of the roots, a line `output O` for each of its
 /// outputs. Where a derivation failed since an output refers to a path to which it may not, WHY
-/// names the path that `named` has at its number, and where that has none, its place. An error
+/// names the path that `named` has at its number, and where that has none, its index. An error
 /// where memory is refused, and no other. Costs one sort of the wanted derivations by path, and
 /// else time in proportion to the plan's derivations and the text.
 pub fn report_of(

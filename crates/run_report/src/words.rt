@@ -22,7 +22,7 @@ use nix_names::StorePath;
 use run_states::{Refusal, required_feature};
 use std::alloc::AllocError;
 
-// Adds why the building of a derivation failed. Where no path is named, the place of the one to
+// Adds why the building of a derivation failed. Where no path is named, the index of the one to
 // which an output may not refer is told.
 pub(crate) fn write_reason(
     drv: &Derivation,
@@ -47,11 +47,11 @@ pub(crate) fn write_reason(
         Reason::OutOfMemory => write_name(b"OutOfMemory", out),
         Reason::Killed => write_name(b"Killed", out),
         Reason::BadMode(output) => write_with_output(b"BadMode", drv, output, out),
-        Reason::NotAllowed(output, place) => write_not_allowed(drv, output, named, place, out),
+        Reason::NotAllowed(output, index) => write_not_allowed(drv, output, named, index, out),
         Reason::BadSpecifier(output) => write_with_output(b"BadSpecifier", drv, output, out),
         Reason::BadAttributes => write_name(b"BadAttributes", out),
         Reason::BadGraph => write_name(b"BadGraph", out),
-        Reason::UnknownNar(place) => write_unknown_nar(named, place, out),
+        Reason::UnknownNar(index) => write_unknown_nar(named, index, out),
         Reason::PastMaxSize(output) => write_with_output(b"PastMaxSize", drv, output, out),
         Reason::PastMaxClosureSize(output) => {
             write_with_output(b"PastMaxClosureSize", drv, output, out)
@@ -102,49 +102,49 @@ fn write_not_allowed(
     drv: &Derivation,
     output: usize,
     named: Option<&StorePath>,
-    place: usize,
+    index: usize,
     out: &mut Vec<u8>,
 ) -> Result<(), AllocError>
     ensures { OnOk result (out.new.items ≡ out.old.items ++ with_value (codes "NotAllowed")
         (output_words drv.now output ++ codes ","
-        ++ text_or_number (option_map (λ path. path.now) named.entry) place)) }
+        ++ text_or_number (option_map (λ path. path.now) named.entry) index)) }
 {
     out.extend_from_slice(b"NotAllowed")?;
     out.extend_from_slice(b"(")?;
-    write_reference(drv, output, named, place, out)?;
+    write_reference(drv, output, named, index, out)?;
     out.extend_from_slice(b")")
 }
 
 // Adds that the archive of a path is not known.
 fn write_unknown_nar(
     named: Option<&StorePath>,
-    place: usize,
+    index: usize,
     out: &mut Vec<u8>,
 ) -> Result<(), AllocError>
     ensures { OnOk result (out.new.items ≡ out.old.items ++ with_value (codes "UnknownNar")
-        (text_or_number (option_map (λ path. path.now) named.entry) place)) }
+        (text_or_number (option_map (λ path. path.now) named.entry) index)) }
 {
     out.extend_from_slice(b"UnknownNar")?;
     out.extend_from_slice(b"(")?;
-    write_path_or_place(named, place, out)?;
+    write_path_or_index(named, index, out)?;
     out.extend_from_slice(b")")
 }
 
-// Adds the name of an output that refers to a path, a comma, and that path, or its place where no
+// Adds the name of an output that refers to a path, a comma, and that path, or its index where no
 // path is named.
 fn write_reference(
     drv: &Derivation,
     output: usize,
     named: Option<&StorePath>,
-    place: usize,
+    index: usize,
     out: &mut Vec<u8>,
 ) -> Result<(), AllocError>
     ensures { OnOk result (out.new.items ≡ out.old.items ++ output_words drv.now output
-        ++ codes "," ++ text_or_number (option_map (λ path. path.now) named.entry) place) }
+        ++ codes "," ++ text_or_number (option_map (λ path. path.now) named.entry) index) }
 {
     write_output(drv, output, out)?;
     out.extend_from_slice(b",")?;
-    write_path_or_place(named, place, out)
+    write_path_or_index(named, index, out)
 }
 
 // Adds the name of an output as the derivation's text spells it.
@@ -157,18 +157,18 @@ fn write_output(drv: &Derivation, output: usize, out: &mut Vec<u8>) -> Result<()
     }
 }
 
-// Adds a path, or its place where there is none.
-fn write_path_or_place(
+// Adds a path, or its index where there is none.
+fn write_path_or_index(
     named: Option<&StorePath>,
-    place: usize,
+    index: usize,
     out: &mut Vec<u8>,
 ) -> Result<(), AllocError>
     ensures { OnOk result (out.new.items ≡ out.old.items
-        ++ text_or_number (option_map (λ path. path.now) named.entry) place) }
+        ++ text_or_number (option_map (λ path. path.now) named.entry) index) }
 {
     match named {
         Some(path) => out.extend_from_slice(path.text()),
-        None => write_number(place, out),
+        None => write_number(index, out),
     }
 }
 

@@ -21,31 +21,31 @@ use Rattle.run_states.specs.declared.users.Edge.{Edge}
 
 -- ---- how often an edge is in a list
 
-times-append : (user place : ℕ) (xs ys : List Edge)
-    → times user place (xs ++ ys) ≡ times user place xs + times user place ys
-times-append user place [] ys = omega arith
-times-append user place (x ∷ xs) ys = omega (arith, times-append user place xs ys)
+times-append : (user index : ℕ) (xs ys : List Edge)
+    → times user index (xs ++ ys) ≡ times user index xs + times user index ys
+times-append user index [] ys = omega arith
+times-append user index (x ∷ xs) ys = omega (arith, times-append user index xs ys)
 
-times-where : (user place : ℕ) (b : Bool) (edges : List Edge)
-    → times user place (if b then edges else []) ≡ (if b then times user place edges else 0)
-times-where user place true edges = refl
-times-where user place false edges = refl
+times-where : (user index : ℕ) (b : Bool) (edges : List Edge)
+    → times user index (if b then edges else []) ≡ (if b then times user index edges else 0)
+times-where user index true edges = refl
+times-where user index false edges = refl
 
 times-first : (edge : Edge) (left : List Edge)
-    → times edge.user edge.place (edge ∷ left) ≡ 1 + times edge.user edge.place left
+    → times edge.user edge.index (edge ∷ left) ≡ 1 + times edge.user edge.index left
 times-first edge left = search (rules, eq-eqb)
 
-times-other_user : (user place : ℕ) (edge : Edge) (left : List Edge) → (user ≡ edge.user → ⊥)
-    → times user place (edge ∷ left) ≡ times user place left
-times-other_user user place edge left apart = search (rules, ne_eqb)
+times-other_user : (user index : ℕ) (edge : Edge) (left : List Edge) → (user ≡ edge.user → ⊥)
+    → times user index (edge ∷ left) ≡ times user index left
+times-other_user user index edge left apart = search (rules, ne_eqb)
 
-times-other_place : (user place : ℕ) (edge : Edge) (left : List Edge) → (place ≡ edge.place → ⊥)
-    → times user place (edge ∷ left) ≡ times user place left
-times-other_place user place edge left apart = by (eqb edge.user user) (eqb edge.place place)
-    (ne_eqb edge.place place (λ e. apart (sym e)))
+times-other_index : (user index : ℕ) (edge : Edge) (left : List Edge) → (index ≡ edge.index → ⊥)
+    → times user index (edge ∷ left) ≡ times user index left
+times-other_index user index edge left apart = by (eqb edge.user user) (eqb edge.index index)
+    (ne_eqb edge.index index (λ e. apart (sym e)))
   where
     by : (a b : Bool) → b ≡ false
-        → (if a && b then 1 else 0) + times user place left ≡ times user place left
+        → (if a && b then 1 else 0) + times user index left ≡ times user index left
     by true b failed = rw failed (omega arith)
     by false b failed = omega arith
 
@@ -95,15 +95,15 @@ knows_more known now left more none knows = search rules
 
 -- a memo that is right for some states is right for others where so much is left to tell
 hears_others : (inputs : Awaited) (before after : ℕ → State) (left more : ℕ → ℕ) (memo : NodeState)
-    → ((place input : ℕ) (known : News) → slice_get (all_of inputs) place ≡ Some input
-    → Knows known (news_of (before input)) (left place)
-    → Knows known (news_of (after input)) (more place))
+    → ((index input : ℕ) (known : News) → slice_get (all_of inputs) index ≡ Some input
+    → Knows known (news_of (before input)) (left index)
+    → Knows known (news_of (after input)) (more index))
     → Hears inputs before left memo → Hears inputs after more memo
 hears_others inputs before after left more memo step hears = record {
   heard = hears.heard;
   is = hears.is;
-  knows = λ place input at. step place input (slice_index_or hears.heard place Open) at
-      (hears.knows place input at);
+  knows = λ index input at. step index input (slice_index_or hears.heard index Open) at
+      (hears.knows index input at);
 }
 
 -- ---- one memo that changes
@@ -143,33 +143,33 @@ module _ (inputs : ℕ → Awaited) (count : ℕ) (users : List (List Edge)) (me
   after_other i apart = search (rules, map-set, state_of, get_or-set_other)
 
   -- how often the edge from the one that changed is to be told
-  times_more : (u place input : ℕ) → u < count → slice_get (all_of (inputs u)) place ≡ Some input
-      → times u place more
-      ≡ times u place left + (if news then (if input == d then 1 else 0) else 0)
-  times_more u place input low is = search (rules, times-append, times-where, news, in_plan, low)
+  times_more : (u index input : ℕ) → u < count → slice_get (all_of (inputs u)) index ≡ Some input
+      → times u index more
+      ≡ times u index left + (if news then (if input == d then 1 else 0) else 0)
+  times_more u index input low is = search (rules, times-append, times-where, news, in_plan, low)
 
   -- of each input of a user
-  pub knows_step : (u place input : ℕ) (known : News) → u < count
-      → slice_get (all_of (inputs u)) place ≡ Some input
-      → Knows known (news_of (before input)) (times u place left)
-      → Knows known (news_of (after input)) (times u place more)
-  knows_step u place input known low is knows =
+  pub knows_step : (u index input : ℕ) (known : News) → u < count
+      → slice_get (all_of (inputs u)) index ≡ Some input
+      → Knows known (news_of (before input)) (times u index left)
+      → Knows known (news_of (after input)) (times u index more)
+  knows_step u index input known low is knows =
       ⊎_elim
       (λ here.
       let it = eqb-true input d here in
       subst (λ n. Knows known (news_of (after input)) n) (sym (times_more u _ _ low is))
       (subst (λ s. Knows known (news_of s)
-      (times u place left + (if news then (if input == d then 1 else 0) else 0)))
+      (times u index left + (if news then (if input == d then 1 else 0) else 0)))
       (sym (ap after it ∙ after_is))
       (knows_turned _ _ _ _ _
       turns (rw here refl)
-      (subst (λ s. Knows known (news_of s) (times u place left)) (ap before it ∙ before_is)
+      (subst (λ s. Knows known (news_of s) (times u index left)) (ap before it ∙ before_is)
       knows))))
       (λ other.
       let apart = eqb-false input d other in
       subst (λ n. Knows known (news_of (after input)) n) (sym (times_more u _ _ low is))
       (subst (λ s. Knows known (news_of s)
-      (times u place left + (if news then (if input == d then 1 else 0) else 0)))
+      (times u index left + (if news then (if input == d then 1 else 0) else 0)))
       (sym (after_other _ apart))
       (knows_more _ _ _
       _ (rw other (nothing news)) knows)))
@@ -181,24 +181,24 @@ module _ (inputs : ℕ → Awaited) (count : ℕ) (users : List (List Edge)) (me
 
   -- each user's memo is right, where the others' and the one's that changed are
   pub heard_step : (earlier : List Edge)
-      → ((u place : ℕ) → (u ≡ d → ⊥) → times u place earlier ≡ times u place left)
+      → ((u index : ℕ) → (u ≡ d → ⊥) → times u index earlier ≡ times u index left)
       → HaveHeard inputs memos earlier
-      → Hears (inputs d) before (λ place. times d place left) new
+      → Hears (inputs d) before (λ index. times d index left) new
       → HaveHeard inputs (set memos d new) more
   heard_step earlier same have own = record {
     each = λ u t is.
         ⊎_elim
         (λ here.
-        subst (λ n. Hears (inputs n) after (λ place. times n place more) t) (sym here.0)
-        (subst (λ w. Hears (inputs d) after (λ place. times d place more) w) here.1
-        (hears_others _ before after (λ place. times d place left)
-        (λ place. times d place more) _
-        (λ place input known it. knows_step d _ _ _ (in_plan d _ at) it) own)))
+        subst (λ n. Hears (inputs n) after (λ index. times n index more) t) (sym here.0)
+        (subst (λ w. Hears (inputs d) after (λ index. times d index more) w) here.1
+        (hears_others _ before after (λ index. times d index left)
+        (λ index. times d index more) _
+        (λ index input known it. knows_step d _ _ _ (in_plan d _ at) it) own)))
         (λ other.
-        hears_others _ before after (λ place. times u place earlier)
-        (λ place. times u place more) t
-        (λ place input known it knows. knows_step u _ _ _ (in_plan u t other.1) it
-        (subst (λ n. Knows known (news_of (before input)) n) (same u place other.0) knows))
+        hears_others _ before after (λ index. times u index earlier)
+        (λ index. times u index more) t
+        (λ index input known it knows. knows_step u _ _ _ (in_plan u t other.1) it
+        (subst (λ n. Knows known (news_of (before input)) n) (same u index other.0) knows))
         (have.each u t other.1))
         (get_set_cases _ d u _ t is);
   }
@@ -216,7 +216,7 @@ pub heard_turned : (inputs : ℕ → Awaited) (count : ℕ) (users : List (List 
     (left ++ to_tell memo.state after (users_of users d))
 heard_turned inputs count users memos d memo after left long are at turns begun have =
     heard_step _ count users memos d memo (record memo { state = after }) left long are at
-    turns left (λ u place apart. refl) have
+    turns left (λ u index apart. refl) have
     (let hears = have.each d memo at in
     record {
       heard = hears.heard;
@@ -247,28 +247,28 @@ heard_turned inputs count users memos d memo after left long are at turns begun 
 
 module _ (inputs : ℕ → Awaited) (memos : List NodeState) (edge : Edge) (w : ℕ) (memo : NodeState)
     (left : List Edge) (at : slice_get memos edge.user ≡ Some memo)
-    (it : slice_get (all_of (inputs edge.user)) edge.place ≡ Some w)
+    (it : slice_get (all_of (inputs edge.user)) edge.index ≡ Some w)
     (have : HaveHeard inputs memos (edge ∷ left)) where
   abbrev state : ℕ → State
   state = kept (states_in memos)
 
-  abbrev hears : Hears (inputs edge.user) state (λ place. times edge.user place (edge ∷ left)) memo
+  abbrev hears : Hears (inputs edge.user) state (λ index. times edge.user index (edge ∷ left)) memo
   hears = have.each edge.user memo at
 
   abbrev told_news : List News
-  told_news = set hears.heard edge.place (news_of (state w))
+  told_news = set hears.heard edge.index (news_of (state w))
 
-  low : edge.place < length hears.heard
+  low : edge.index < length hears.heard
   low = search (rules, slice_get_within)
 
-  unheard : (slice_index_or hears.heard edge.place Open ≡ Open)
-      × (times edge.user edge.place left ≡ 0)
+  unheard : (slice_index_or hears.heard edge.index Open ≡ Open)
+      × (times edge.user edge.index left ≡ 0)
   unheard = ⊎_elim
       (λ heard. absurd (omega (arith, heard.1, times-first edge left)))
       (λ unheard. (unheard.0, omega (arith, unheard.2, times-first edge left)))
-      (hears.knows edge.place w it)
+      (hears.knows edge.index w it)
 
-  hearing : CanHear (inputs edge.user) hears.heard memo edge.place w
+  hearing : CanHear (inputs edge.user) hears.heard memo edge.index w
   hearing = record {
     is = hears.is;
     unknown = slice_get-get_or _ _ _ low ∙ ap Some unheard.0;
@@ -276,59 +276,59 @@ module _ (inputs : ℕ → Awaited) (memos : List NodeState) (edge : Edge) (w : 
   }
 
   -- what `told` requires
-  pub can_hear : (heard : List News) × CanHear (inputs edge.user) heard memo edge.place w
+  pub can_hear : (heard : List News) × CanHear (inputs edge.user) heard memo edge.index w
   can_hear = (hears.heard, hearing)
 
-  knows_told : (place input : ℕ) → slice_get (all_of (inputs edge.user)) place ≡ Some input
-      → Knows (slice_index_or told_news place Open) (news_of (state input))
-      (times edge.user place left)
-  knows_told place input is = ⊎_elim
+  knows_told : (index input : ℕ) → slice_get (all_of (inputs edge.user)) index ≡ Some input
+      → Knows (slice_index_or told_news index Open) (news_of (state input))
+      (times edge.user index left)
+  knows_told index input is = ⊎_elim
       (λ here.
-      let same : place ≡ edge.place = eqb-true place edge.place here in
-      let one : w ≡ input = same_element (all_of (inputs edge.user)) edge.place w _ it
+      let same : index ≡ edge.index = eqb-true index edge.index here in
+      let one : w ≡ input = same_element (all_of (inputs edge.user)) edge.index w _ it
       (subst (λ n. slice_get (all_of (inputs edge.user)) n ≡ Some input) same is) in
       inl (
         ap (λ n. get_or told_news n Open) same
-            ∙ get_or-set_same hears.heard edge.place (news_of (state w)) Open low
+            ∙ get_or-set_same hears.heard edge.index (news_of (state w)) Open low
             ∙ ap (λ n. news_of (state n)) one,
         ap (λ n. times edge.user n left) same ∙ unheard.1,
       ))
       (λ other.
-      let apart : place ≡ edge.place → ⊥ = eqb-false place edge.place other in
-      subst (λ n. Knows n (news_of (state input)) (times edge.user place left))
-      (sym (get_or-set_other hears.heard edge.place place (news_of (state w)) Open apart))
-      (subst (λ n. Knows (get_or hears.heard place Open) (news_of (state input)) n)
-      (times-other_place _ _ _ _ apart) (hears.knows place input is)))
-      (cases_Bool (place == edge.place))
+      let apart : index ≡ edge.index → ⊥ = eqb-false index edge.index other in
+      subst (λ n. Knows n (news_of (state input)) (times edge.user index left))
+      (sym (get_or-set_other hears.heard edge.index index (news_of (state w)) Open apart))
+      (subst (λ n. Knows (get_or hears.heard index Open) (news_of (state input)) n)
+      (times-other_index _ _ _ _ apart) (hears.knows index input is)))
+      (cases_Bool (index == edge.index))
 
   pub hears_told : (new : NodeState)
-      → ((heard : List News) → CanHear (inputs edge.user) heard memo edge.place w
-      → IsMemo (inputs edge.user) (slice_set heard edge.place (news_of (state w))) new)
-      → Hears (inputs edge.user) state (λ place. times edge.user place left) new
+      → ((heard : List News) → CanHear (inputs edge.user) heard memo edge.index w
+      → IsMemo (inputs edge.user) (slice_set heard edge.index (news_of (state w))) new)
+      → Hears (inputs edge.user) state (λ index. times edge.user index left) new
   hears_told new told = search (rules, told_news, hearing, knows_told)
 
 pub heard_told : (inputs : ℕ → Awaited) (count : ℕ) (users : List (List Edge))
     (memos : List NodeState) (edge : Edge) (w : ℕ) (memo new : NodeState) (left : List Edge)
     → length memos ≡ count → AreUsers (λ e. all_of (inputs e)) count users
     → slice_get memos edge.user ≡ Some memo
-    → slice_get (all_of (inputs edge.user)) edge.place ≡ Some w
+    → slice_get (all_of (inputs edge.user)) edge.index ≡ Some w
     → HaveHeard inputs memos (edge ∷ left)
-    → ((heard : List News) → CanHear (inputs edge.user) heard memo edge.place w
+    → ((heard : List News) → CanHear (inputs edge.user) heard memo edge.index w
     → IsMemo (inputs edge.user)
-    (slice_set heard edge.place (news_of (kept (states_in memos) w))) new)
+    (slice_set heard edge.index (news_of (kept (states_in memos) w))) new)
     → Turns memo.state new.state
     → HaveHeard inputs (slice_set memos edge.user new)
     (left ++ to_tell memo.state new.state (users_of users edge.user))
 heard_told inputs count users memos edge w memo new left long are at it have told turns =
     heard_step _ count users memos edge.user memo new left long are at turns (edge ∷ left)
-    (λ u place apart. times-other_user u _ _ _ apart) have
+    (λ u index apart. times-other_user u _ _ _ apart) have
     (hears_told _ memos edge w memo left at it have new told)
 
 -- ---- one more memo, in plan order
 
 pub heard_more : (inputs : ℕ → Awaited) (memos : List NodeState) (memo : NodeState)
     → ((d i : ℕ) → Contains (all_of (inputs d)) i → i < d) → HaveHeard inputs memos []
-    → Hears (inputs (length memos)) (kept (states_in memos)) (λ place. 0) memo
+    → Hears (inputs (length memos)) (kept (states_in memos)) (λ index. 0) memo
     → HaveHeard inputs (memos ++ memo ∷ []) []
 heard_more inputs memos memo first have hears = record {
   each = λ d t is.
@@ -336,8 +336,8 @@ heard_more inputs memos memo first have hears = record {
       (λ earlier. grown d t (le_of_lt (slice_get_within memos d t earlier))
       (have.each d t earlier))
       (λ last.
-      subst (λ n. Hears (inputs n) after (λ place. 0) t) (sym last.0)
-      (subst (λ w. Hears (inputs (length memos)) after (λ place. 0) w) last.1
+      subst (λ n. Hears (inputs n) after (λ index. 0) t) (sym last.0)
+      (subst (λ w. Hears (inputs (length memos)) after (λ index. 0) w) last.1
       (grown (length memos) memo (le_refl (length memos)) hears)))
       (get_push_cases _ _ d t is);
 }
@@ -352,18 +352,18 @@ heard_more inputs memos memo first have hears = record {
         (omega (arith, low, length-map memos (λ (t : NodeState). t.state)))
 
     grown : (d : ℕ) (t : NodeState) → d ≤ length memos
-        → Hears (inputs d) (kept (states_in memos)) (λ place. 0) t
-        → Hears (inputs d) after (λ place. 0) t
+        → Hears (inputs d) (kept (states_in memos)) (λ index. 0) t
+        → Hears (inputs d) after (λ index. 0) t
     grown d t low =
         search (rules, hears_others, after, stays, lt_of_lt_of_le, Contains-from_get, low)
 
 -- ---- once nothing is left to tell, the states are those by the nearest twins
 
--- what is known of each place is what is so
+-- what is known of each index is what is so
 all_known : (awaited : Awaited) (heard : List News) (state : ℕ → State)
     → length heard ≡ length (all_of awaited)
-    → ((place one : ℕ) → slice_get (all_of awaited) place ≡ Some one
-    → slice_index_or heard place Open ≡ news_of (state one))
+    → ((index one : ℕ) → slice_get (all_of awaited) index ≡ Some one
+    → slice_index_or heard index Open ≡ news_of (state one))
     → heard ≡ news_in state (all_of awaited)
 all_known awaited heard state same known =
     ext_get_or Open heard (news_in state (all_of awaited))
@@ -396,15 +396,15 @@ heard_states rows memos first stand have = near_are_one _ state _ first
     awaited d = record { inputs = rows.inputs d; twins = rows.twins d }
 
     by_table : (d : ℕ) (memo : NodeState) → slice_get memos d ≡ Some memo
-        → Hears (awaited d) state (λ place. 0) memo → state d ≡ near_table rows state d
+        → Hears (awaited d) state (λ index. 0) memo → state d ≡ near_table rows state d
     by_table d memo at hears =
         let is : state d ≡ memo.state =
         get_or_from_slice_get _ d _ _
         (get_mapped (λ (t : NodeState). t.state) memos d memo at) in
-        let known : (place one : ℕ) → slice_get (all_of (awaited d)) place ≡ Some one
-        → slice_index_or hears.heard place Open ≡ news_of (state one) =
-        λ place one it. ⊎_elim (λ heard. heard.0) (λ unheard. absurd (omega (arith, unheard.2)))
-        (hears.knows place one it) in
+        let known : (index one : ℕ) → slice_get (all_of (awaited d)) index ≡ Some one
+        → slice_index_or hears.heard index Open ≡ news_of (state one) =
+        λ index one it. ⊎_elim (λ heard. heard.0) (λ unheard. absurd (omega (arith, unheard.2)))
+        (hears.knows index one it) in
         let whole = all_known (awaited d) hears.heard state hears.is.count known in
         let parts = news_of_parts state (rows.inputs d) (rows.twins d) in
         let ins : of_inputs (awaited d) hears.heard ≡ news_in state (rows.inputs d) =

@@ -329,7 +329,7 @@ module _ (graph : Graph) (preconditions : List Precondition) (wanted : List Bool
       → memo.wanted ≡ get_or wanted d not_wanted → memo.twin ≡ get_or twins d no_twin
       → inputs ≡ inputs_at graph.nodes (slice_get graph.nodes d)
       → Hears (record { inputs = inputs; twins = listed (get_or twins d no_twin) })
-      (kept (states_in memos)) (λ place. 0) memo → phase_in memo.state ≡ Idle
+      (kept (states_in memos)) (λ index. 0) memo → phase_in memo.state ≡ Idle
       → now ≡ memos ++ memo ∷ [] → AreOpened graph preconditions wanted twins d memos
       → AreOpened graph preconditions wanted twins (d + 1) now
   opened_more d memos now memo inputs no_precondition not_wanted no_twin low within inside stands
@@ -351,9 +351,9 @@ module _ (graph : Graph) (preconditions : List Precondition) (wanted : List Bool
         idle = idle_push _ _ before.idle idle;
         heard = heard_more (awaited_at graph twins) _ _
             (awaited_first _ _ sound smaller) before.heard
-            (subst (λ n. Hears (awaited_at graph twins n) (kept (states_in memos)) (λ place. 0)
+            (subst (λ n. Hears (awaited_at graph twins n) (kept (states_in memos)) (λ index. 0)
             memo) (sym before.count)
-            (subst (λ (a : Awaited). Hears a (kept (states_in memos)) (λ place. 0) memo) here
+            (subst (λ (a : Awaited). Hears a (kept (states_in memos)) (λ index. 0) memo) here
             hears));
       })
     where

@@ -14,28 +14,28 @@ use Rattle.drv_graph.specs.Nodes.{Node, inputs_of, paths_of}
 use Rattle.drv_graph.specs.Plans.{AreNumbers, Graph}
 use Rattle.drv_graph.specs.SoundGraphs.{IsSound}
 use Rattle.drv_graph.proofs.Numbers.{first_number, later_numbers, number_grows}
-use Rattle.drv_graph.proofs.PathLists.{other_path, same_place}
+use Rattle.drv_graph.proofs.PathLists.{other_path, same_index}
 use Rattle.run_states.specs.PlanLaws.{RowsInOrder}
 use Rattle.run_states.specs.Runs.{inputs_at}
 use Rattle.run_states.proofs.EarlierTwins.{twins_first}
 use Rattle.nix_names.proofs.Lists.{Contains-from_map, Contains-nothing, element_at, get_from_contains}
 
--- a path is found at its place
-place_is : (paths : List (List ℕ)) (n : ℕ) (path : List ℕ) → AreDistinct paths → slice_get paths n
+-- a path is found at its index
+index_is : (paths : List (List ℕ)) (n : ℕ) (path : List ℕ) → AreDistinct paths → slice_get paths n
     ≡ Some path → position_or_len (same_bytes path) paths ≡ n
-place_is paths n path once at =
+index_is paths n path once at =
     let low : n < length paths = slice_get_within paths n path at in
     let here : get_or paths n [] ≡ path = get_or_from_slice_get _ n _ [] at in
     let apart : (k : ℕ) → k < n → pointwise nat_eq path (get_or paths k []) ≡ false = λ k less.
     other_path _ _ (λ same.
     let there : slice_get paths k ≡ Some path =
     slice_get-get_or _ k [] (omega (arith, less, low)) ∙ ap Some (sym same) in
-    let place : k ≡ n = same_place _ k n _ once there at in
-    omega (arith, less, place)) in
+    let index : k ≡ n = same_index _ k n _ once there at in
+    omega (arith, less, index)) in
     position_or_len_is (same_bytes path) _ n [] (omega (arith, low)) apart
     (λ within. ap (pointwise nat_eq path) here ∙ nat_list_eq_equiv.refl path)
 
--- numbers of paths are the places at which these are found
+-- numbers of paths are the indices at which these are found
 pub numbers_are : (nodes : List Node) (ns : List ℕ) (paths : List (List ℕ))
     → AreDistinct (paths_of nodes) → AreNumbers nodes ns paths → ns
     ≡ map (λ path. position_or_len (same_bytes path) (paths_of nodes)) paths
@@ -45,7 +45,7 @@ numbers_are nodes (n ∷ ns) [] once are = absurd cc
 numbers_are nodes (n ∷ ns) (p ∷ ps) once are =
     search (
       rules,
-      place_is,
+      index_is,
       first_number,
       later_numbers,
       numbers_are nodes ns ps once (later_numbers nodes n ns p ps are),
@@ -66,14 +66,14 @@ path_before graph d node path sound at has =
     let before : Contains (paths_of (take d graph.nodes)) path =
     drvs_paths _ _ _ lawful.right.are_used
     _ has in
-    let place = get_from_contains _ _ before in
-    let there : slice_get (paths_of graph.nodes) place.0 ≡ Some path =
-    subst (λ l. slice_get (paths_of l) place.0 ≡ Some path) (sym parts)
-    (number_grows (take d graph.nodes) (node ∷ drop (suc d) graph.nodes) place.0 _ place.1)
+    let index = get_from_contains _ _ before in
+    let there : slice_get (paths_of graph.nodes) index.0 ≡ Some path =
+    subst (λ l. slice_get (paths_of l) index.0 ≡ Some path) (sym parts)
+    (number_grows (take d graph.nodes) (node ∷ drop (suc d) graph.nodes) index.0 _ index.1)
     in
-    let same = place_is _ _ _ sound.distinct there in
-    let low : place.0 < length (paths_of (take d graph.nodes)) =
-    slice_get_within (paths_of (take d graph.nodes)) place.0 path place.1 in
+    let same = index_is _ _ _ sound.distinct there in
+    let low : index.0 < length (paths_of (take d graph.nodes)) =
+    slice_get_within (paths_of (take d graph.nodes)) index.0 path index.1 in
     omega (
       arith,
       same,

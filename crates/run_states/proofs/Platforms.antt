@@ -20,7 +20,7 @@ pub any_mapped : {X Y : Type 0} (p : Y → Bool) (h : X → Y) (xs : List X) →
 any_mapped p h [] = refl
 any_mapped p h (x ∷ xs) = ap (λ b. p (h x) || b) (any_mapped p h xs)
 
--- how many made elements pass from the front on, and the place of the first that passes
+-- how many made elements pass from the front on, and the index of the first that passes
 prefix_mapped : {X Y : Type 0} (p : Y → Bool) (h : X → Y) (xs : List X)
     → prefix_len (λ x. p (h x)) xs ≡ prefix_len p (map h xs)
 prefix_mapped p h [] = refl

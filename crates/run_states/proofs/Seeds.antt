@@ -19,7 +19,7 @@ use Rattle.valid_table.specs.declared.entry.Registration.{Registration}
 use Rattle.valid_table.proofs.AddedEntries.{registered_push}
 use Rattle.valid_table.proofs.JournalLists.{still_valid}
 use Rattle.valid_table.proofs.TakenIn.{valid_by_some}
-use Rattle.valid_table.proofs.ClosureLaws.{leads_before, leads_behind}
+use Rattle.valid_table.proofs.ClosureLaws.{leads_before, leads_after}
 use Rattle.std.proofs.lemmas.Map.Views.{Contains-from_any}
 use Rattle.nix_names.proofs.RisingLists.{equal_from_eq}
 use Rattle.run_states.specs.Headline.{PermittedStays, SeedsAreValid}
@@ -451,4 +451,4 @@ seeds_are_valid run _
 
 pub permitted_stays : PermittedStays
 permitted_stays first more seeds outputs path closed once valid =
-    search (rules, leads_behind, leads_before)
+    search (rules, leads_after, leads_before)

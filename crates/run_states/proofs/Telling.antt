@@ -26,7 +26,7 @@ use Rattle.run_states.proofs.KnownNews.{known_news}
 -- ---- edges
 
 times_has : (row : List Edge) (i : ℕ) (edge : Edge) → slice_get row i ≡ Some edge
-    → 0 < times edge.user edge.place row
+    → 0 < times edge.user edge.index row
 times_has [] i edge at = absurd cc
 times_has (x ∷ row) zero edge at = search (rules, edge, eq-eqb)
 times_has (x ∷ row) (suc i) edge at = omega (arith, times_has row i edge at)
@@ -42,14 +42,14 @@ once_is (Some n) w has = by (n == w) refl
 -- the input stands where an edge to its user says
 edge_is : (inputs : ℕ → List ℕ) (users : List (List Edge)) (count w i : ℕ) (edge : Edge)
     → AreUsers inputs count users → w < count → slice_get (users_of users w) i ≡ Some edge
-    → (edge.user < count) × (slice_get (inputs edge.user) edge.place ≡ Some w)
+    → (edge.user < count) × (slice_get (inputs edge.user) edge.index ≡ Some w)
 edge_is inputs users count w i edge edges low at =
     let user : edge.user < count =
     subst (λ (e : Edge). e.user < count) (get_or_from_slice_get _ i _ _ at)
     (edges.within w i edge (slice_get_within (users_of users w) i edge at)) in (
       user,
       once_is _ w
-          (subst (λ n. 0 < n) (edges.each w edge.user edge.place low user)
+          (subst (λ n. 0 < n) (edges.each w edge.user edge.index low user)
           (times_has _ i _ at)),
     )
 
@@ -186,7 +186,7 @@ module _ (inputs : ℕ → Awaited) (users : List (List Edge)) (memos : List Nod
   abbrev before : NodeState
   before = get_or memos edge.user no_memo
 
-  its : (edge.user < length memos) × (slice_get (all_of (inputs edge.user)) edge.place ≡ Some w)
+  its : (edge.user < length memos) × (slice_get (all_of (inputs edge.user)) edge.index ≡ Some w)
   its = edge_is (λ e. all_of (inputs e)) _ _ w i _ is.edges low
       (subst (λ l. slice_get l i ≡ Some edge) row_is (slice_get-get_or _ i _ here))
 
@@ -203,7 +203,7 @@ module _ (inputs : ℕ → Awaited) (users : List (List Edge)) (memos : List Nod
   heard = search (rules, drop_more, edge)
 
   -- what `told` requires
-  pub can_tell : (ins : Awaited) × (heard : List News) × CanHear ins heard before edge.place w
+  pub can_tell : (ins : Awaited) × (heard : List News) × CanHear ins heard before edge.index w
   can_tell =
       let can = can_hear inputs memos edge w _ _ at its.1 heard in
       (inputs edge.user, can.0, can.1)
@@ -220,7 +220,7 @@ module _ (inputs : ℕ → Awaited) (users : List (List Edge)) (memos : List Nod
         times_has (edge ∷ rest) 0 _ refl,
       )))
       (λ unheard. unheard.1 none)
-      ((heard.each edge.user before at).knows edge.place w its.1)
+      ((heard.each edge.user before at).knows edge.index w its.1)
 
   module _ (after : NodeState) (turns : Turns before.state after.state)
       (same : IsSameElse before after) where
@@ -255,8 +255,8 @@ module _ (inputs : ℕ → Awaited) (users : List (List Edge)) (memos : List Nod
     told_edges = noted_edges _ _ queues _ _ _ at turns
 
     pub told_user : (good : Bool) → good ≡ is_good (kept (states_in memos) w)
-        → ((ins : Awaited) (heard : List News) → CanHear ins heard before edge.place w
-        → IsMemo ins (slice_set heard edge.place (news_by good)) after)
+        → ((ins : Awaited) (heard : List News) → CanHear ins heard before edge.index w
+        → IsMemo ins (slice_set heard edge.index (news_by good)) after)
         → IsSpreading inputs users (set memos edge.user after)
         (noted queues edge.user before after) (drop (i + 1) (users_of users w))
     told_user good good_is told = record {
@@ -268,7 +268,7 @@ module _ (inputs : ℕ → Awaited) (users : List (List Edge)) (memos : List Nod
           (heard_told inputs _ users memos edge w before after rest refl is.edges
           at its.1 heard
           (λ known can. subst
-          (λ news. IsMemo (inputs edge.user) (slice_set known edge.place news) after)
+          (λ news. IsMemo (inputs edge.user) (slice_set known edge.index news) after)
           (ap news_by good_is ∙ known_news (kept (states_in memos) w) has_news)
           (told (inputs edge.user) known can)) turns);
       listed = told_queues;

@@ -72,50 +72,50 @@ dropped (x ∷ xs) ys (suc n) same = dropped xs ys n (omega (arith, same))
 
 -- ---- news of one more input
 
-waiting-set : (heard : List News) (place : ℕ) (news : News) → slice_get heard place ≡ Some Open
-    → waiting (set heard place news) + 1 ≡ waiting heard + waiting (news ∷ [])
-waiting-set [] place news at = absurd (none-some Open at)
+waiting-set : (heard : List News) (index : ℕ) (news : News) → slice_get heard index ≡ Some Open
+    → waiting (set heard index news) + 1 ≡ waiting heard + waiting (news ∷ [])
+waiting-set [] index news at = absurd (none-some Open at)
 waiting-set (n ∷ heard) zero news at = search (rules, n, same_Some)
-waiting-set (n ∷ heard) (suc place) news at = omega (arith, waiting-set heard place news at)
+waiting-set (n ∷ heard) (suc index) news at = omega (arith, waiting-set heard index news at)
 
-module _ (heard : List News) (place : ℕ) (at : slice_get heard place ≡ Some Open) where
-  low : place < length heard
-  low = slice_get_within heard place Open at
+module _ (heard : List News) (index : ℕ) (at : slice_get heard index ≡ Some Open) where
+  low : index < length heard
+  low = slice_get_within heard index Open at
 
-  here_now : (news : News) → get_or (set heard place news) place Open ≡ news
-  here_now news = get_or-set_same heard place news Open low
+  here_now : (news : News) → get_or (set heard index news) index Open ≡ news
+  here_now news = get_or-set_same heard index news Open low
 
-  first-good : position_or_len is_bad_news (set heard place Good)
+  first-good : position_or_len is_bad_news (set heard index Good)
       ≡ position_or_len is_bad_news heard
-  first-good = position_or_len-set is_bad_news heard place Good Open
-      (sym (ap is_bad_news (get_or_from_slice_get heard place Open Open at)))
+  first-good = position_or_len-set is_bad_news heard index Good Open
+      (sym (ap is_bad_news (get_or_from_slice_get heard index Open Open at)))
 
-  first-bad : place < position_or_len is_bad_news heard
-      → position_or_len is_bad_news (set heard place Bad) ≡ place
-  first-bad sooner = position_or_len_is is_bad_news (set heard place Bad) place Open
-      (omega (arith, low, length-set heard place Bad))
+  first-bad : index < position_or_len is_bad_news heard
+      → position_or_len is_bad_news (set heard index Bad) ≡ index
+  first-bad sooner = position_or_len_is is_bad_news (set heard index Bad) index Open
+      (omega (arith, low, length-set heard index Bad))
       (λ k under.
-      ap is_bad_news (get_or-set_other heard place k Bad Open (λ same. omega (arith, same, under)))
+      ap is_bad_news (get_or-set_other heard index k Bad Open (λ same. omega (arith, same, under)))
       ∙ fails_before_first is_bad_news heard k Open (omega (arith, under, sooner)))
       (λ inside. ap is_bad_news (here_now Bad))
 
-  first-later : position_or_len is_bad_news heard ≤ place
-      → position_or_len is_bad_news (set heard place Bad) ≡ position_or_len is_bad_news heard
+  first-later : position_or_len is_bad_news heard ≤ index
+      → position_or_len is_bad_news (set heard index Bad) ≡ position_or_len is_bad_news heard
   first-later past =
       let first = position_or_len is_bad_news heard in
       let inside : position_or_len is_bad_news heard < length heard = omega (arith, past, low) in
       let bad = passes_at_first is_bad_news heard Open inside in
-      let apart : position_or_len is_bad_news heard ≡ place → ⊥ =
-      λ same. false≢true (sym (ap is_bad_news (get_or_from_slice_get heard place Open Open at))
+      let apart : position_or_len is_bad_news heard ≡ index → ⊥ =
+      λ same. false≢true (sym (ap is_bad_news (get_or_from_slice_get heard index Open Open at))
       ∙ ap (λ n. is_bad_news (get_or heard n Open)) (sym same) ∙ bad) in
-      position_or_len_is is_bad_news (set heard place Bad) (position_or_len is_bad_news heard) Open
-      (omega (arith, past, low, length-set heard place Bad))
+      position_or_len_is is_bad_news (set heard index Bad) (position_or_len is_bad_news heard) Open
+      (omega (arith, past, low, length-set heard index Bad))
       (λ k under.
-      ap is_bad_news (get_or-set_other heard place k Bad Open
+      ap is_bad_news (get_or-set_other heard index k Bad Open
       (λ same. omega (arith, same, under, past)))
       ∙ fails_before_first is_bad_news heard k Open under)
       (λ within.
-      ap is_bad_news (get_or-set_other heard place (position_or_len is_bad_news heard) Bad Open
+      ap is_bad_news (get_or-set_other heard index (position_or_len is_bad_news heard) Bad Open
       apart) ∙ bad)
 
 -- ---- a memo by what it counts
@@ -158,12 +158,12 @@ read_at xs i (Some x) is_item = search (rules, slice_get_read)
 
 -- ---- a memo that is told of an input
 
--- a place that isn't the twin's is an input's
-pub is_input : (memo : NodeState) (awaited : Awaited) (heard : List News) (place one : ℕ)
-    → CanHear awaited heard memo place one → (place ≡ memo.inputs → ⊥) → place < memo.inputs
-is_input memo awaited heard place one can apart =
-    let within : place < length (all_of awaited) =
-    slice_get_within (all_of awaited) place one can.is_awaited in
+-- an index that isn't the twin's is an input's
+pub is_input : (memo : NodeState) (awaited : Awaited) (heard : List News) (index one : ℕ)
+    → CanHear awaited heard memo index one → (index ≡ memo.inputs → ⊥) → index < memo.inputs
+is_input memo awaited heard index one can apart =
+    let within : index < length (all_of awaited) =
+    slice_get_within (all_of awaited) index one can.is_awaited in
     ⊎_elim (λ same. absurd (apart same))
     (λ other. ⊎_elim (λ low. low)
     (λ past. absurd (omega (
@@ -174,7 +174,7 @@ is_input memo awaited heard place one can apart =
       can.is.inputs,
       length-append awaited.inputs awaited.twins,
     ))) other)
-    (either place memo.inputs)
+    (either index memo.inputs)
   where
     either : (a b : ℕ) → (a ≡ b) ⊎ ((a < b) ⊎ (b < a))
     either zero zero = inl refl
@@ -182,37 +182,37 @@ is_input memo awaited heard place one can apart =
     either (suc a) zero = inr (inr (omega arith))
     either (suc a) (suc b) = search (rules, either a b)
 
-module _ (memo : NodeState) (awaited : Awaited) (heard : List News) (place input : ℕ)
-    (can : CanHear awaited heard memo place input) (low : place < memo.inputs) where
+module _ (memo : NodeState) (awaited : Awaited) (heard : List News) (index input : ℕ)
+    (can : CanHear awaited heard memo index input) (low : index < memo.inputs) where
   abbrev ins : List News
   ins = of_inputs awaited heard
 
   abbrev tws : List News
   tws = of_twins awaited heard
 
-  inside : place < length awaited.inputs
+  inside : index < length awaited.inputs
   inside = omega (arith, low, can.is.inputs)
 
-  input_is : slice_get awaited.inputs place ≡ Some input
+  input_is : slice_get awaited.inputs index ≡ Some input
   input_is = search (rules, get_front, inside)
 
-  unknown : slice_get ins place ≡ Some Open
+  unknown : slice_get ins index ≡ Some Open
   unknown = search (rules, get_taken, inside)
 
-  ins_now : (news : News) → of_inputs awaited (set heard place news) ≡ set ins place news
+  ins_now : (news : News) → of_inputs awaited (set heard index news) ≡ set ins index news
   ins_now news = search (rules, take_set, inside)
 
-  tws_now : (news : News) → of_twins awaited (set heard place news) ≡ tws
+  tws_now : (news : News) → of_twins awaited (set heard index news) ≡ tws
   tws_now news = search (rules, drop_set, inside)
 
   number : (news : News)
-      → waiting (of_inputs awaited (set heard place news)) + 1 ≡ memo.waits + waiting (news ∷ [])
+      → waiting (of_inputs awaited (set heard index news)) + 1 ≡ memo.waits + waiting (news ∷ [])
   number news = search (rules, ins_now, waiting-set, ins, unknown)
 
-  count : (news : News) → length (set heard place news) ≡ length (all_of awaited)
-  count news = length-set heard place news ∙ can.is.count
+  count : (news : News) → length (set heard index news) ≡ length (all_of awaited)
+  count news = length-set heard index news ∙ can.is.count
 
-  held_now : (news : News) → memo.held ≡ is_held (of_twins awaited (set heard place news))
+  held_now : (news : News) → memo.held ≡ is_held (of_twins awaited (set heard index news))
   held_now news = search (rules, tws_now)
 
   -- an input isn't built yet
@@ -236,44 +236,44 @@ module _ (memo : NodeState) (awaited : Awaited) (heard : List News) (place input
   pub told_good : (good : Bool) → good ≡ true → (state : State)
       → state ≡ by_phase (phase_in state) (by_all memo.precondition tws
       (by_first (slice_get awaited.inputs memo.first) ((memo.waits - 1) == 0)))
-      → IsMemo awaited (slice_set heard place (news_by good))
+      → IsMemo awaited (slice_set heard index (news_by good))
       (record memo { state = state; waits = memo.waits - 1 })
   told_good good built state is =
       let none : waiting (Good ∷ []) ≡ 0 = refl in
-      rw built (memo_from_counts awaited (set heard place Good)
+      rw built (memo_from_counts awaited (set heard index Good)
       (record memo { state = state; waits = memo.waits - 1 }) can.is.one (count Good)
       can.is.inputs
       (omega (arith, number Good, none))
       (can.is.first ∙ sym (ap (position_or_len is_bad_news) (ins_now Good)
-      ∙ first-good ins place unknown)) can.is.failed (held_now Good)
+      ∙ first-good ins index unknown)) can.is.failed (held_now Good)
       (is ∙ ap (λ t. by_phase (phase_in state) (by_all memo.precondition t
       (by_first (slice_get awaited.inputs memo.first) ((memo.waits - 1) == 0))))
       (sym (tws_now Good))))
 
-  pub told_bad : (good : Bool) → good ≡ false → place < memo.first → (state : State)
+  pub told_bad : (good : Bool) → good ≡ false → index < memo.first → (state : State)
       → state ≡ by_phase (phase_in state)
       (by_all memo.precondition tws (by_first (Some input) false))
-      → IsMemo awaited (slice_set heard place (news_by good))
-      (record memo { state = state; first = place; failed = Some input })
+      → IsMemo awaited (slice_set heard index (news_by good))
+      (record memo { state = state; first = index; failed = Some input })
   told_bad good failed sooner state is =
       let one : waiting (Bad ∷ []) ≡ 1 = refl in
-      rw failed (memo_from_counts awaited (set heard place Bad)
-      (record memo { state = state; first = place; failed = Some input }) can.is.one (count Bad)
+      rw failed (memo_from_counts awaited (set heard index Bad)
+      (record memo { state = state; first = index; failed = Some input }) can.is.one (count Bad)
       can.is.inputs
       (omega (arith, number Bad, one))
       (sym (ap (position_or_len is_bad_news) (ins_now Bad)
-      ∙ first-bad ins place unknown (omega (arith, sooner, can.is.first))))
+      ∙ first-bad ins index unknown (omega (arith, sooner, can.is.first))))
       (sym input_is) (held_now Bad)
       (is ∙ ap (λ t. by_phase (phase_in state)
       (by_all memo.precondition t (by_first (Some input) false))) (sym (tws_now Bad))
       ∙ ap (λ s. by_phase (phase_in state)
-      (by_all memo.precondition (of_twins awaited (set heard place Bad)) s))
+      (by_all memo.precondition (of_twins awaited (set heard index Bad)) s))
       (sym (ap (λ o. by_first o (memo.waits == 0)) input_is
       ∙ ap (by_first (Some input)) (ne_eqb memo.waits 0
       (λ none. omega (arith, none, told_waits)))))))
 
-  pub told_later : (good : Bool) → good ≡ false → memo.first ≤ place
-      → IsMemo awaited (slice_set heard place (news_by good)) memo
+  pub told_later : (good : Bool) → good ≡ false → memo.first ≤ index
+      → IsMemo awaited (slice_set heard index (news_by good)) memo
   told_later good failed past =
       search (
         rules,
@@ -386,9 +386,9 @@ module _ (memo : NodeState) (awaited : Awaited) (heard : List News) (twin : ℕ)
 -- ---- a memo that was counted
 
 module _ (precondition : Precondition) (wanted : Bool) (twin : Option ℕ) (inputs : List ℕ)
-    (state_of : ℕ → State) (place waits first : ℕ) (state : State) (held : Bool)
-    (past : length inputs ≤ place) (within : place ≤ length inputs)
-    (are : AreCounted (news_in state_of inputs) place waits first)
+    (state_of : ℕ → State) (index waits first : ℕ) (state : State) (held : Bool)
+    (past : length inputs ≤ index) (within : index ≤ length inputs)
+    (are : AreCounted (news_in state_of inputs) index waits first)
     (says : held ≡ is_held (map (λ t. Open) (listed twin)))
     (is : state ≡ by_validity precondition (if held then Blocked
     else by_hindrance precondition (by_first (slice_get inputs first) (waits == 0)))) where
@@ -408,7 +408,7 @@ module _ (precondition : Precondition) (wanted : Bool) (twin : Option ℕ) (inpu
   long = length-map inputs (λ i. news_of (state_of i))
 
   counts : (waits ≡ waiting known) × (first ≡ position_or_len is_bad_news known)
-  counts = all_counted known place waits first (omega (arith, long, past))
+  counts = all_counted known index waits first (omega (arith, long, past))
       (omega (arith, long, within)) are
 
   front : of_inputs awaited_here (known ++ unheard) ≡ known
@@ -464,18 +464,18 @@ module _ (precondition : Precondition) (wanted : Bool) (twin : Option ℕ) (inpu
       ∙ ap (λ p. by_phase p (by_all precondition (of_twins awaited_here (known ++ unheard)) own))
       (sym idle))
 
--- where all is known, each place has the news of what stands there
+-- where all is known, each index has the news of what stands there
 pub hears_all : (awaited : Awaited) (state_of : ℕ → State) (heard : List News) (memo : NodeState)
     → IsMemo awaited heard memo → heard ≡ news_in state_of (all_of awaited)
-    → Hears awaited state_of (λ place. 0) memo
+    → Hears awaited state_of (λ index. 0) memo
 hears_all awaited state_of heard memo is all = record {
   heard = heard;
   is = is;
-  knows = λ place one at. inl (
-    ap (λ l. get_or l place Open) all
-        ∙ get_or-map (λ i. news_of (state_of i)) (all_of awaited) place 0 Open
-        (slice_get_within (all_of awaited) place one at)
-        ∙ ap (λ i. news_of (state_of i)) (get_or_from_slice_get (all_of awaited) place one 0 at),
+  knows = λ index one at. inl (
+    ap (λ l. get_or l index Open) all
+        ∙ get_or-map (λ i. news_of (state_of i)) (all_of awaited) index 0 Open
+        (slice_get_within (all_of awaited) index one at)
+        ∙ ap (λ i. news_of (state_of i)) (get_or_from_slice_get (all_of awaited) index one 0 at),
     refl,
   );
 }
@@ -536,7 +536,7 @@ module _ (inputs : List ℕ) (t : ℕ) (state_of : ℕ → State) (memo : NodeSt
   can_release = search (rules, unknown, get_last, at_end)
 
   pub hears_open : is_open (state_of t) ≡ true
-      → Hears with_twin state_of (λ place. 0) memo
+      → Hears with_twin state_of (λ index. 0) memo
   hears_open still = hears_all with_twin state_of opened memo is
       (ap (λ n. news_in state_of inputs ++ n ∷ []) (news_open (state_of t) still)
       ∙ news_push state_of inputs t)
@@ -546,7 +546,7 @@ module _ (inputs : List ℕ) (t : ℕ) (state_of : ℕ → State) (memo : NodeSt
       → ((awaited : Awaited) (heard : List News) (twin : ℕ)
       → CanHear awaited heard memo memo.inputs twin
       → IsMemo awaited (slice_set heard memo.inputs (news_by good)) result)
-      → Hears with_twin state_of (λ place. 0) result
+      → Hears with_twin state_of (λ index. 0) result
   hears_released good result says closed told =
       hears_all with_twin state_of (set opened memo.inputs (news_by good)) result
       (told with_twin opened t can_release)
@@ -558,7 +558,7 @@ module _ (inputs : List ℕ) (t : ℕ) (state_of : ℕ → State) (memo : NodeSt
 -- one that waits for its inputs alone
 pub hears_inputs : (inputs : List ℕ) (state_of : ℕ → State) (memo : NodeState)
     → IsMemo (record { inputs = inputs; twins = [] }) (news_in state_of inputs ++ []) memo
-    → Hears (record { inputs = inputs; twins = [] }) state_of (λ place. 0) memo
+    → Hears (record { inputs = inputs; twins = [] }) state_of (λ index. 0) memo
 hears_inputs inputs state_of memo is = search (rules, hears_all, append-nil)
 
 -- the state that a memo holds, as it is kept

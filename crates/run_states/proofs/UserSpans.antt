@@ -14,51 +14,51 @@ use Rattle.run_states.specs.declared.users.Span.{Span}
 
 -- ---- one more edge
 
-times_push : (user place : ℕ) (edges : List Edge) (edge : Edge)
-    → times user place (edges ++ edge ∷ [])
-    ≡ times user place edges + cond (eqb edge.user user && eqb edge.place place) 1 0
-times_push user place [] edge = omega arith
-times_push user place (e ∷ edges) edge = omega (arith, times_push user place edges edge)
+times_push : (user index : ℕ) (edges : List Edge) (edge : Edge)
+    → times user index (edges ++ edge ∷ [])
+    ≡ times user index edges + cond (eqb edge.user user && eqb edge.index index) 1 0
+times_push user index [] edge = omega arith
+times_push user index (e ∷ edges) edge = omega (arith, times_push user index edges edge)
 
 -- numbers that differ
-apart : (k place : ℕ) (b : Bool) → (k ≡ place → ⊥)
-    → ◌≡◌ {A = ℕ} (cond (eqb k place && b) 1 0) 0
-apart k place b differ = search (rules, ne_eqb)
+apart : (k index : ℕ) (b : Bool) → (k ≡ index → ⊥)
+    → ◌≡◌ {A = ℕ} (cond (eqb k index && b) 1 0) 0
+apart k index b differ = search (rules, ne_eqb)
 
-next_same : (k place : ℕ) → eqb (suc k) (suc place) ≡ eqb k place
-next_same k place = search (rules, eq-eqb, ne_eqb, cases_eq)
+next_same : (k index : ℕ) → eqb (suc k) (suc index) ≡ eqb k index
+next_same k index = search (rules, eq-eqb, ne_eqb, cases_eq)
 
-once_push : (xs : List ℕ) (x place input : ℕ) → once_at (slice_get (xs ++ x ∷ []) place) input
-    ≡ once_at (slice_get xs place) input + cond (eqb (length xs) place && eqb x input) 1 0
+once_push : (xs : List ℕ) (x index input : ℕ) → once_at (slice_get (xs ++ x ∷ []) index) input
+    ≡ once_at (slice_get xs index) input + cond (eqb (length xs) index && eqb x input) 1 0
 once_push [] x zero input = omega arith
-once_push [] x (suc place) input = search (rules, apart, eqb)
+once_push [] x (suc index) input = search (rules, apart, eqb)
 once_push (y ∷ xs) x zero input = search (rules, apart, eqb)
-once_push (y ∷ xs) x (suc place) input = search (rules, eqb, next_same, once_push xs x place input)
+once_push (y ∷ xs) x (suc index) input = search (rules, eqb, next_same, once_push xs x index input)
 
 -- ---- the edges of one user
 
 pub adds_none : (user count : ℕ) (rows : ℕ → List Edge) → AddsUser user [] count rows rows
 adds_none user count rows = record {
-  each = λ input other place low. grind (arith, nat_tests);
+  each = λ input other index low. grind (arith, nat_tests);
   size = λ input low. omega arith;
   within = λ input bound low less all. all;
 }
 
-pub adds_more : (user place : ℕ) (seen : List ℕ) (i count : ℕ) (old mid new : ℕ → List Edge)
-    → place ≡ length seen → new i ≡ mid i ++ record { user = user; place = place } ∷ []
+pub adds_more : (user index : ℕ) (seen : List ℕ) (i count : ℕ) (old mid new : ℕ → List Edge)
+    → index ≡ length seen → new i ≡ mid i ++ record { user = user; index = index } ∷ []
     → ((d : ℕ) → d < count → (d ≡ i → ⊥) → new d ≡ mid d)
     → AddsUser user seen count old mid → AddsUser user (seen ++ i ∷ []) count old new
 adds_more user k seen i count old mid new size at others prior = record {
-  each = λ input other place low. each input other place low (cases_eq input i);
+  each = λ input other index low. each input other index low (cases_eq input i);
   size = λ input low. grown input low (cases_eq input i);
   within = λ input bound low less all. within input bound low less all (cases_eq input i);
 }
   where
-    each : (input other place : ℕ) → input < count → (input ≡ i) ⊎ (input ≡ i → ⊥)
-        → times other place (new input) ≡ times other place (old input)
-        + cond (eqb other user) (once_at (slice_get (seen ++ i ∷ []) place) input) 0
-    each input other place low (inl same) = search (rules, times_push, once_push, nat_tests, size)
-    each input other place low (inr apart) = search (rules, apart, once_push, nat_tests)
+    each : (input other index : ℕ) → input < count → (input ≡ i) ⊎ (input ≡ i → ⊥)
+        → times other index (new input) ≡ times other index (old input)
+        + cond (eqb other user) (once_at (slice_get (seen ++ i ∷ []) index) input) 0
+    each input other index low (inl same) = search (rules, times_push, once_push, nat_tests, size)
+    each input other index low (inr apart) = search (rules, apart, once_push, nat_tests)
 
     grown : (input : ℕ) → input < count → (input ≡ i) ⊎ (input ≡ i → ⊥)
         → length (new input) ≡ length (old input) + often input (seen ++ i ∷ [])
@@ -69,8 +69,8 @@ adds_more user k seen i count old mid new size at others prior = record {
         → All (λ (edge : Edge). edge.user < bound) (old input) → (input ≡ i) ⊎ (input ≡ i → ⊥)
         → All (λ (edge : Edge). edge.user < bound) (new input)
     within input bound low less all (inl same) =
-        let here : new input ≡ mid input ++ record { user = user; place = k } ∷ [] =
-        subst (λ d. new d ≡ mid d ++ record { user = user; place = k } ∷ []) (sym same) at
+        let here : new input ≡ mid input ++ record { user = user; index = k } ∷ [] =
+        subst (λ d. new d ≡ mid d ++ record { user = user; index = k } ∷ []) (sym same) at
         in
         subst (All (λ (edge : Edge). edge.user < bound)) (sym here)
         (All-push (λ (edge : Edge). edge.user < bound) _
@@ -81,16 +81,16 @@ adds_more user k seen i count old mid new size at others prior = record {
 
 -- The edges to the first `done` users, by input.
 pub record AreOfFirst (inputs : ℕ → List ℕ) (count done : ℕ) (rows : ℕ → List Edge) : Type 0 where
-  pub each : (input user place : ℕ) → input < count
-      → times user place (rows input)
-      ≡ cond (ltb user done) (once_at (slice_get (inputs user) place) input) 0
+  pub each : (input user index : ℕ) → input < count
+      → times user index (rows input)
+      ≡ cond (ltb user done) (once_at (slice_get (inputs user) index) input) 0
   pub size : (input : ℕ) → input < count → length (rows input) ≡ uses inputs done input
   pub within : (input : ℕ) → input < count → All (λ (edge : Edge). edge.user < count) (rows input)
 
 pub first_none : (inputs : ℕ → List ℕ) (count : ℕ) (rows : ℕ → List Edge)
     → ((d : ℕ) → d < count → rows d ≡ []) → AreOfFirst inputs count 0 rows
 first_none inputs count rows none = record {
-  each = λ input user place low. ap (times user place) (none input low) ∙ grind (arith, nat_tests);
+  each = λ input user index low. ap (times user index) (none input low) ∙ grind (arith, nat_tests);
   size = λ input low. ap length (none input low);
   within = λ input low. subst (All (λ (edge : Edge). edge.user < count)) (sym (none input low))
       (All-nil (λ (edge : Edge). edge.user < count));
@@ -100,7 +100,7 @@ pub first_more : (inputs : ℕ → List ℕ) (count d : ℕ) (old new : ℕ → 
     → AddsUser d (inputs d) count old new → AreOfFirst inputs count d old
     → AreOfFirst inputs count (d + 1) new
 first_more inputs count d old new low adds before = record {
-  each = λ input user place less. each input user place less (cases_eq user d);
+  each = λ input user index less. each input user index less (cases_eq user d);
   size = λ input less. omega (
     arith,
     adds.size input less,
@@ -110,17 +110,17 @@ first_more inputs count d old new low adds before = record {
   within = λ input less. adds.within input count less low (before.within input less);
 }
   where
-    each : (input user place : ℕ) → input < count → (user ≡ d) ⊎ (user ≡ d → ⊥)
-        → times user place (new input)
-        ≡ cond (ltb user (d + 1)) (once_at (slice_get (inputs user) place) input) 0
-    each input user place less (inl same) = search (rules, nat_tests)
-    each input user place less (inr apart) = search (rules, nat_tests)
+    each : (input user index : ℕ) → input < count → (user ≡ d) ⊎ (user ≡ d → ⊥)
+        → times user index (new input)
+        ≡ cond (ltb user (d + 1)) (once_at (slice_get (inputs user) index) input) 0
+    each input user index less (inl same) = search (rules, nat_tests)
+    each input user index less (inr apart) = search (rules, nat_tests)
 
 -- ---- spans
 
-pub room_less : (spans : List Span) (places : ℕ) (more less : ℕ → ℕ) → HaveRoom spans places more
-    → ((n : ℕ) → n < length spans → less n ≤ more n) → HaveRoom spans places less
-room_less spans places more less room fewer = record {
+pub room_less : (spans : List Span) (slots : ℕ) (more less : ℕ → ℕ) → HaveRoom spans slots more
+    → ((n : ℕ) → n < length spans → less n ≤ more n) → HaveRoom spans slots less
+room_less spans slots more less room fewer = record {
   rise = room.rise;
   apart = λ n m below within.
       omega (arith, room.apart n m below within, fewer n (omega (arith, below, within)));
@@ -144,11 +144,11 @@ end_grown : (spans : List Span) (i : ℕ) → i < length spans
     → (span_at (set spans i (longer (span_at spans i))) i).end ≡ (span_at spans i).end + 1
 end_grown spans i within = search (rules, get_or-set_same, longer, within)
 
-pub room_next : (spans : List Span) (i places : ℕ) (more left : ℕ → ℕ) → i < length spans
+pub room_next : (spans : List Span) (i slots : ℕ) (more left : ℕ → ℕ) → i < length spans
     → more i ≡ left i + 1 → ((n : ℕ) → (n ≡ i → ⊥) → more n ≡ left n)
-    → HaveRoom spans places more
-    → HaveRoom (set spans i (longer (span_at spans i))) places left
-room_next spans i places more left low here others room = record {
+    → HaveRoom spans slots more
+    → HaveRoom (set spans i (longer (span_at spans i))) slots left
+room_next spans i slots more left low here others room = record {
   rise = λ n within. omega (
     arith,
     start_kept _ i n low,
@@ -175,17 +175,17 @@ room_next spans i places more left low here others room = record {
     ends n = search (rules, set, longer, end_grown, end_kept, cases_eq)
 
 -- a span with one more edge, which it had room for
-pub room_taken : (spans : List Span) (i places : ℕ) (left : ℕ → ℕ) → i < length spans
-    → HaveRoom spans places (λ n. often n (i ∷ []) + left n)
-    → HaveRoom (set spans i (longer (span_at spans i))) places left
-room_taken spans i places left within room =
+pub room_taken : (spans : List Span) (i slots : ℕ) (left : ℕ → ℕ) → i < length spans
+    → HaveRoom spans slots (λ n. often n (i ∷ []) + left n)
+    → HaveRoom (set spans i (longer (span_at spans i))) slots left
+room_taken spans i slots left within room =
     search (rules, room_next, within, often_one, often_none)
 
 -- what has room for the edges of the users that are left has it for those of the next
-module _ (inputs : ℕ → List ℕ) (count d : ℕ) (spans : List Span) (places : ℕ) (low : d < count)
-    (room : HaveRoom spans places (λ n. uses inputs count n - uses inputs d n)) where
+module _ (inputs : ℕ → List ℕ) (count d : ℕ) (spans : List Span) (slots : ℕ) (low : d < count)
+    (room : HaveRoom spans slots (λ n. uses inputs count n - uses inputs d n)) where
   pub room_own : (numbers : List ℕ) → numbers ≡ inputs d
-      → HaveRoom spans places (λ n. often n numbers)
+      → HaveRoom spans slots (λ n. often n numbers)
   room_own numbers same = room_less _ _ (λ n. uses inputs count n - uses inputs d n)
       (λ n. often n numbers) room
       (λ n within. omega (
@@ -196,15 +196,15 @@ module _ (inputs : ℕ → List ℕ) (count d : ℕ) (spans : List Span) (places
       ))
 
   pub room_others : (numbers : List ℕ) → numbers ≡ inputs d
-      → HaveRoom spans places
+      → HaveRoom spans slots
       (λ n. often n numbers + (uses inputs count n - uses inputs (d + 1) n))
   room_others numbers same = search (rules, room_less, uses_next, uses_grow)
 
 -- an empty span after the others, and room for its edges
-pub room_pushed : (spans : List Span) (places : ℕ) (more : ℕ → ℕ) → HaveRoom spans places more
-    → HaveRoom (spans ++ record { start = places; end = places } ∷ [])
-    (places + more (length spans)) more
-room_pushed spans places more room = record {
+pub room_pushed : (spans : List Span) (slots : ℕ) (more : ℕ → ℕ) → HaveRoom spans slots more
+    → HaveRoom (spans ++ record { start = slots; end = slots } ∷ [])
+    (slots + more (length spans)) more
+room_pushed spans slots more room = record {
   rise = λ n within. ⊎_elim
       (λ (low : n < length spans). omega (arith, first n low, room.rise n low))
       (λ past. omega (arith, last n (omega (arith, past, within, size))))
@@ -230,21 +230,21 @@ room_pushed spans places more room = record {
 }
   where
     pushed : List Span
-    pushed = spans ++ record { start = places; end = places } ∷ []
+    pushed = spans ++ record { start = slots; end = slots } ∷ []
 
-    size : length (spans ++ record { start = places; end = places } ∷ []) ≡ length spans + 1
+    size : length (spans ++ record { start = slots; end = slots } ∷ []) ≡ length spans + 1
     size = search (rules, length_push)
 
     first : (n : ℕ) → n < length spans
-        → ((span_at (spans ++ record { start = places; end = places } ∷ []) n).start
+        → ((span_at (spans ++ record { start = slots; end = slots } ∷ []) n).start
         ≡ (span_at spans n).start)
-        × ((span_at (spans ++ record { start = places; end = places } ∷ []) n).end
+        × ((span_at (spans ++ record { start = slots; end = slots } ∷ []) n).end
         ≡ (span_at spans n).end)
     first n low = search (rules, get_or_append_left)
 
     last : (n : ℕ) → n ≡ length spans
-        → ((span_at (spans ++ record { start = places; end = places } ∷ []) n).start ≡ places)
-        × ((span_at (spans ++ record { start = places; end = places } ∷ []) n).end ≡ places)
+        → ((span_at (spans ++ record { start = slots; end = slots } ∷ []) n).start ≡ slots)
+        × ((span_at (spans ++ record { start = slots; end = slots } ∷ []) n).end ≡ slots)
     last n is = search (rules, get_or_push)
 
 -- ---- the edges in spans

@@ -13,7 +13,7 @@ use Rattle.run_states.specs.NodeStates.{Turns, states_in, turns_begun, turns_don
 use Rattle.run_states.specs.declared.state.State.{State}
 use Rattle.run_states.specs.declared.state.State.TheVariants.{Done, Failed, Building, Reused, Refused, Ready, Blocked}
 use Rattle.run_states.specs.declared.node_states.NodeState.{NodeState}
-use Rattle.build_outcome.proofs.Places.{set_cases, set_other, set_same}
+use Rattle.build_outcome.proofs.Indices.{set_cases, set_other, set_same}
 
 abbrev pub one : Bool → ℕ
 one is = if is then 1 else 0

@@ -29,7 +29,7 @@ last_alone [] = []
 last_alone (n ∷ []) = n ∷ []
 last_alone (n ∷ m ∷ more) = last_alone (m ∷ more)
 
--- the same rows, with the nearest earlier twin of each derivation alone
+-- the rows with the nearest earlier twin of each derivation alone
 abbrev pub nearest : Rows → Rows
 nearest rows = record rows { twins = λ d. last_alone (rows.twins d) }
 

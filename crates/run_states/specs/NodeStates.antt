@@ -45,9 +45,9 @@ abbrev pub waiting : List News → ℕ
 waiting [] = 0
 waiting (news ∷ more) = (if is_good_news news then 0 else 1) + waiting more
 
--- the input at a place, if there is a place
+-- the input at an index, if there is an index
 abbrev pub input_at : List ℕ → Option ℕ → Option ℕ
-input_at inputs (Some place) = slice_get inputs place
+input_at inputs (Some index) = slice_get inputs index
 input_at inputs None = None
 
 -- the state of a derivation that nothing else hinders, by what is known of each of its inputs
@@ -69,14 +69,14 @@ abbrev pub by_all : Precondition → (twins : List News) → (by_inputs : State)
 by_all precondition twins by_inputs =
     by_validity precondition (by_twin_news twins (by_hindrance precondition by_inputs))
 
--- the same, by what is known of all that the derivation waits for
+-- the state of a derivation without an event, by what is known of all that it waits for
 abbrev pub by_heard : Precondition → Awaited → List News → State
 by_heard precondition awaited heard = by_all precondition (of_twins awaited heard)
     (by_news awaited.inputs (of_inputs awaited heard))
 
 -- A memo is right for what is known of all that the derivation waits for: the state is the
 -- table's, `inputs` is the number of inputs, `waits` counts those that are neither Done nor Reused,
--- `first` is the place of the first that failed or is refused, or the number of inputs, `failed` is
+-- `first` is the index of the first that failed or is refused, or the number of inputs, `failed` is
 -- the number of that input, if there is one, and `held` says whether nothing is known of the twin
 -- yet.
 pub record IsMemo (awaited : Awaited) (heard : List News) (memo : NodeState) : Type 0 where
@@ -97,13 +97,13 @@ Knows known now left =
     ((known ≡ now) × (left ≡ 0)) ⊎ ((known ≡ Open) × (now ≡ Open → ⊥) × (left ≡ 1))
 
 -- A memo is right for what is known of all that the derivation waits for, which have these states.
--- Of the one at each place, `left` says how often its end is still to be told.
-pub record Hears (awaited : Awaited) (state : ℕ → State) (left : (place : ℕ) → ℕ) (memo : NodeState)
+-- Of the one at each index, `left` says how often its end is still to be told.
+pub record Hears (awaited : Awaited) (state : ℕ → State) (left : (index : ℕ) → ℕ) (memo : NodeState)
     : Type 0 where
   pub heard : List News
   pub is : IsMemo awaited heard memo
-  pub knows : (place one : ℕ) → slice_get (all_of awaited) place ≡ Some one
-      → Knows (slice_index_or heard place Open) (news_of (state one)) (left place)
+  pub knows : (index one : ℕ) → slice_get (all_of awaited) index ≡ Some one
+      → Knows (slice_index_or heard index Open) (news_of (state one)) (left index)
 
 -- the states that memos hold
 abbrev pub states_in : List NodeState → List State
@@ -113,7 +113,7 @@ states_in memos = map (λ (memo : NodeState). memo.state) memos
 pub record HaveHeard (awaited : ℕ → Awaited) (memos : List NodeState) (left : List Edge)
     : Type 0 where
   pub each : (d : ℕ) (memo : NodeState) → slice_get memos d ≡ Some memo
-      → Hears (awaited d) (kept (states_in memos)) (λ place. times d place left) memo
+      → Hears (awaited d) (kept (states_in memos)) (λ index. times d index left) memo
 
 -- whether this change is told to those that wait: nothing was known, and now the derivation has
 -- ended
@@ -128,12 +128,12 @@ are_news Bad after = false
 abbrev pub to_tell : (before after : State) → List Edge → List Edge
 to_tell before after edges = if are_news (news_of before) (news_of after) then edges else []
 
--- A derivation whose memo this is can be told of the one at this place that it waits for.
-pub record CanHear (awaited : Awaited) (heard : List News) (memo : NodeState) (place one : ℕ)
+-- A derivation whose memo this is can be told of the one at this index that it waits for.
+pub record CanHear (awaited : Awaited) (heard : List News) (memo : NodeState) (index one : ℕ)
     : Type 0 where
   pub is : IsMemo awaited heard memo
-  pub unknown : slice_get heard place ≡ Some Open
-  pub is_awaited : slice_get (all_of awaited) place ≡ Some one
+  pub unknown : slice_get heard index ≡ Some Open
+  pub is_awaited : slice_get (all_of awaited) index ≡ Some one
 
 -- how the state of a derivation may change
 pub data Turns : (before after : State) → Type 0 where

@@ -112,7 +112,8 @@ demand_cause profile system drv =
     or_else (if is_unsupported_under profile system drv then Some Unsupported else None)
     (cause_at MissingFeature (missing_feature_under profile system drv))
 
--- the same under `nix` of a derivation with structured attributes, where its builder is supported
+-- the cause that lies in what a derivation with structured attributes asks for under `nix`, where
+-- its builder is supported
 abbrev pub structured_cause : Platform → Option Members → Option Refusal
 structured_cause system attributes =
     cause_at MissingFeature (first_missing system (listed_features attributes))

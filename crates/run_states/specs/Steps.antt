@@ -13,7 +13,7 @@ total part zero = 0
 total part (suc count) = part 0 + total (λ n. part (suc n)) count
 
 -- The number of edges from an open derivation, one that is Blocked, Ready or Building, to those
--- that wait for it: one for each place at which it stands among what these wait for.
+-- that wait for it: one for each index at which it stands among what these wait for.
 abbrev pub edges_ahead : (awaited : ℕ → List ℕ) → (state : ℕ → State) → (count : ℕ) → ℕ
 edges_ahead awaited state count =
     total (λ d. if is_open (state d) then uses awaited count d else 0) count

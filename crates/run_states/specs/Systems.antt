@@ -54,11 +54,12 @@ required_features drv = features_by (json_of drv) drv
 abbrev pub offers : Platform → Bytes → Bool
 offers system feature = list_any (same_bytes feature) system.features
 
--- the place of the first of some features that a system doesn't offer
+-- the index of the first of some features that a system doesn't offer
 abbrev pub first_missing : Platform → List Bytes → Option ℕ
 first_missing system features = position (λ feature. not (offers system feature)) features
 
--- the place, among the features that a derivation asks for, of the first that a system doesn't offer
+-- the index, among the features that a derivation asks for, of the first that a system doesn't
+-- offer
 abbrev pub missing_feature : Platform → Drv → Option ℕ
 missing_feature system drv = first_missing system (required_features drv)
 

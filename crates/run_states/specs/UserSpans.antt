@@ -32,20 +32,20 @@ parts spans edges = map (part edges) spans
 abbrev pub span_at : List Span → ℕ → Span
 span_at spans n = slice_index_or spans n (record { start = 0; end = 0 })
 
--- Spans lie one after the other among `places` places, the n-th with room for `more n` edges more.
-pub record HaveRoom (spans : List Span) (places : ℕ) (more : ℕ → ℕ) : Type 0 where
+-- Spans lie one after the other among `slots` slots, the n-th with room for `more n` edges more.
+pub record HaveRoom (spans : List Span) (slots : ℕ) (more : ℕ → ℕ) : Type 0 where
   pub rise : (n : ℕ) → n < length spans → (span_at spans n).start ≤ (span_at spans n).end
   pub apart : (n m : ℕ) → n < m → m < length spans
       → (span_at spans n).end + more n ≤ (span_at spans m).start
-  pub fit : (n : ℕ) → n < length spans → (span_at spans n).end + more n ≤ places
+  pub fit : (n : ℕ) → n < length spans → (span_at spans n).end + more n ≤ slots
 
 -- The edges to the users of each of the first `count` derivations, before and after the edges to
 -- one more user are added, which waits for these.
 pub record AddsUser (user : ℕ) (inputs : List ℕ) (count : ℕ) (old new : ℕ → List Edge)
     : Type 0 where
-  pub each : (input other place : ℕ) → input < count
-      → times other place (new input) ≡ times other place (old input)
-      + (if other == user then once_at (slice_get inputs place) input else 0)
+  pub each : (input other index : ℕ) → input < count
+      → times other index (new input) ≡ times other index (old input)
+      + (if other == user then once_at (slice_get inputs index) input else 0)
   pub size : (input : ℕ) → input < count
       → length (new input) ≡ length (old input) + often input inputs
   pub within : (input bound : ℕ) → input < count → user < bound

@@ -4,12 +4,12 @@ use Rattle.std.specs.Prelude.{◌≡◌, ◌<◌, ◌+◌, ◌==◌, ◌&&◌, �
 use Rattle.std.specs.List.{slice_index_or}
 use Rattle.run_states.specs.declared.users.Edge.{Edge}
 
--- how often the edge to this user and place is in a list: the place is that of an awaited
+-- how often the edge to this user and index is in a list: the index is that of an awaited
 -- derivation among what the user waits for
-abbrev pub times : (user place : ℕ) → List Edge → ℕ
-times user place [] = 0
-times user place (edge ∷ edges) =
-    (if (edge.user == user) && (edge.place == place) then 1 else 0) + times user place edges
+abbrev pub times : (user index : ℕ) → List Edge → ℕ
+times user index [] = 0
+times user index (edge ∷ edges) =
+    (if (edge.user == user) && (edge.index == index) then 1 else 0) + times user index edges
 
 -- 1 where there is a number and it is this one
 abbrev pub once_at : Option ℕ → ℕ → ℕ
@@ -25,10 +25,10 @@ abbrev pub users_of_all : List (List Edge) → List ℕ → List Edge
 users_of_all users [] = []
 users_of_all users (input ∷ inputs) = users_of users input ++ users_of_all users inputs
 
--- Of each derivation, the edges to those that wait for it: once for each place at which it stands
+-- Of each derivation, the edges to those that wait for it: once for each index at which it stands
 -- among what one of them waits for.
 pub record AreUsers (awaited : ℕ → List ℕ) (count : ℕ) (users : List (List Edge)) : Type 0 where
   pub rows : length users ≡ count
-  pub each : (input user place : ℕ) → input < count → user < count
-      → times user place (users_of users input) ≡ once_at (slice_get (awaited user) place) input
+  pub each : (input user index : ℕ) → input < count → user < count
+      → times user index (users_of users input) ≡ once_at (slice_get (awaited user) index) input
   pub within : (input : ℕ) → All (λ (edge : Edge). edge.user < count) (users_of users input)

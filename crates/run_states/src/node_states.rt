@@ -12,7 +12,7 @@ use crate::state::{Refusal, State};
 use crate::states::{fails, is_open, serves};
 
 // What is kept of a derivation: its precondition, whether it is wanted, its nearest earlier twin,
-// its state, how many inputs it has, how many of these are neither Done nor Reused, the place of
+// its state, how many inputs it has, how many of these are neither Done nor Reused, the index of
 // the first that failed or is refused (where none did, the number of inputs) with its number, and
 // whether the twin is Blocked, Ready or Building.
 #[derive(Clone, Copy, Debug)]
@@ -40,7 +40,7 @@ pub(crate) fn memo_of(
     requires inputs { All (λ input. input < length memos.now) inputs.now }
     requires twin { All (λ t. t < length memos.now) (listed twin) }
     ensures hears { Hears (record { inputs = inputs.now; twins = listed twin })
-        (kept (states_in memos.now)) (λ place. 0) result }
+        (kept (states_in memos.now)) (λ index. 0) result }
     ensures precondition { result.precondition ≡ precondition }
     ensures wanted { result.wanted ≡ wanted }
     ensures twin { result.twin ≡ twin }
@@ -78,12 +78,12 @@ fn memo_by_inputs(
 {
     let mut waits = inputs.len();
     let mut first = inputs.len();
-    for (place, &input) in inputs.iter().enumerate() {
+    for (index, &input) in inputs.iter().enumerate() {
         let state = memos[input].state;
         if serves(state) {
             waits -= 1;
-        } else if place < first && fails(state) {
-            first = place;
+        } else if index < first && fails(state) {
+            first = index;
         }
     }
     let failed = inputs.get(first).copied();
@@ -102,17 +102,17 @@ fn memo_by_inputs(
     }
 }
 
-// The memo of a derivation that is told of the end of another one, which stands at this place
-// among what it waits for: that one was built or was valid, or it failed or is refused. The place
+// The memo of a derivation that is told of the end of another one, which stands at this index
+// among what it waits for: that one was built or was valid, or it failed or is refused. The index
 // after the inputs is that of the nearest earlier twin.
-pub(crate) fn input_ended(memo: NodeState, place: usize, ended: usize, good: bool) -> NodeState
-    requires { (awaited : Awaited) × (heard : List News) × CanHear awaited heard memo place ended }
-    ensures is { (awaited : Awaited) (heard : List News) → CanHear awaited heard memo place ended
-        → IsMemo awaited (slice_set heard place (news_by good)) result }
+pub(crate) fn input_ended(memo: NodeState, index: usize, ended: usize, good: bool) -> NodeState
+    requires { (awaited : Awaited) × (heard : List News) × CanHear awaited heard memo index ended }
+    ensures is { (awaited : Awaited) (heard : List News) → CanHear awaited heard memo index ended
+        → IsMemo awaited (slice_set heard index (news_by good)) result }
     ensures same { IsSameElse memo result }
     ensures turns { Turns memo.state result.state }
 {
-    if place == memo.inputs {
+    if index == memo.inputs {
         hear_twin_end(memo, good)
     } else if good {
         let waits = memo.waits - 1;
@@ -122,11 +122,11 @@ pub(crate) fn input_ended(memo: NodeState, place: usize, ended: usize, good: boo
             waits,
             ..memo
         }
-    } else if place < memo.first {
+    } else if index < memo.first {
         let state = state_after_bad(memo.precondition, memo.state, memo.held, ended);
         NodeState {
             state,
-            first: place,
+            first: index,
             failed: Some(ended),
             ..memo
         }

@@ -190,14 +190,14 @@ fn are_all_valid(journal: &Journal, paths: &[StorePath]) -> bool
     paths.iter().all(|path| is_valid(journal, path))
 }
 
-// The place of the first of the paths that is valid.
+// The index of the first of the paths that is valid.
 fn first_valid(journal: &Journal, paths: &[StorePath]) -> Option<usize>
     ensures { result ≡ position (is_valid journal.now.entries) paths.now }
 {
     paths.iter().position(|path| is_valid(journal, path))
 }
 
-// The place of the first of the paths that isn't valid.
+// The index of the first of the paths that isn't valid.
 fn first_missing(journal: &Journal, paths: &[StorePath]) -> Option<usize>
     ensures { result ≡ position (λ path. not (is_valid journal.now.entries path)) paths.now }
 {

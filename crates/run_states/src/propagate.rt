@@ -96,7 +96,7 @@ fn tell_users(
     let edges = users.of(ended);
     for &edge in edges {
         let before = memos[edge.user];
-        let after = input_ended(before, edge.place, ended, good);
+        let after = input_ended(before, edge.index, ended, good);
         memos[edge.user] = after;
         queues.note(edge.user, before, after);
     }

@@ -14,12 +14,12 @@ use drv_graph::Plan;
 use std::alloc::{AllocError, Global};
 use std::marker::Model;
 
-// The edge to a derivation that waits. The place is that of the awaited one among the user's
-// inputs, in its text's order; the place after all inputs is that of its nearest earlier twin.
+// The edge to a derivation that waits. The index is that of the awaited one among the user's
+// inputs, in its text's order; the index after all inputs is that of its nearest earlier twin.
 #[derive(Clone, Copy, Debug, PartialEq, Eq)]
 pub(crate) struct Edge {
     pub(crate) user: usize,
-    pub(crate) place: usize,
+    pub(crate) index: usize,
 }
 
 // Of each derivation, the edges to those that wait for it: those of one stand side by side.
@@ -29,7 +29,7 @@ pub(crate) struct Users {
     edges: Vec<Edge>,
 }
 
-// Where edges stand: from one place up to another.
+// Where edges stand: from one index up to another.
 #[derive(Clone, Copy, Debug)]
 struct Span {
     start: usize,
@@ -70,7 +70,7 @@ impl Users {
         ensures few { IfOk result
             (λ users. total (sizes users) (length plan.now.nodes) < 2 ^ 63) }
     {
-        let mut edges = vec![in alloc; Edge { user: 0, place: 0 }; pairs_in(plan, twins)]?;
+        let mut edges = vec![in alloc; Edge { user: 0, index: 0 }; pairs_in(plan, twins)]?;
         let counts = counts_of(alloc, plan, twins)?;
         let mut spans = empty_spans(alloc, &counts)?;
         for d in 0..plan.len() {
@@ -107,7 +107,7 @@ fn pairs_in(plan: &Plan, twins: &[Option<usize>]) -> usize
     pairs
 }
 
-// Of each derivation of a plan, how many places there are at which it is waited for.
+// Of each derivation of a plan, how often it is waited for.
 fn counts_of(alloc: Global, plan: &Plan, twins: &[Option<usize>]) -> Result<Vec<usize>, AllocError>
     requires count { length twins.now ≡ length plan.now.nodes }
     requires smaller { (d : ℕ) → All (λ t. t < d) (listed (slice_index_or twins.now d None)) }
@@ -155,13 +155,13 @@ fn empty_spans(alloc: Global, counts: &[usize]) -> Result<Vec<Span>, AllocError>
     ensures exact { IfOk result (λ spans. vec_capacity spans ≡ length counts.now) }
 {
     let mut spans = Vec::with_capacity(alloc, counts.len())?;
-    let mut places: usize = 0;
+    let mut slots: usize = 0;
     for &count in counts {
         spans.push_reserved(Span {
-            start: places,
-            end: places,
+            start: slots,
+            end: slots,
         });
-        places += count;
+        slots += count;
     }
     Ok(spans)
 }
@@ -204,14 +204,14 @@ fn add_edges(user: usize, inputs: &[usize], spans: &mut [Span], edges: &mut [Edg
     ensures adds { AddsUser user inputs.now (length spans.old)
         (users_of (parts spans.old edges.old)) (users_of (parts spans.new edges.new)) }
 {
-    for (place, &input) in inputs.iter().enumerate() {
-        add_edge(user, place, input, spans, edges);
+    for (index, &input) in inputs.iter().enumerate() {
+        add_edge(user, index, input, spans, edges);
     }
 }
 
 // Adds the edge from a derivation to a user that waits for it, at the end of its span. It stands at
-// this place among what the user waits for.
-fn add_edge(user: usize, place: usize, awaited: usize, spans: &mut [Span], edges: &mut [Edge])
+// this index among what the user waits for.
+fn add_edge(user: usize, index: usize, awaited: usize, spans: &mut [Span], edges: &mut [Edge])
     requires within { awaited < length spans.old }
     requires room { HaveRoom spans.old (length edges.old) (λ n. often n (awaited ∷ [])) }
     ensures spans { length spans.new ≡ length spans.old }
@@ -219,13 +219,13 @@ fn add_edge(user: usize, place: usize, awaited: usize, spans: &mut [Span], edges
     ensures room { (left : ℕ → ℕ)
         → HaveRoom spans.old (length edges.old) (λ n. often n (awaited ∷ []) + left n)
         → HaveRoom spans.new (length edges.new) left }
-    ensures adds { (before : List ℕ) (old : ℕ → List Edge) → length before ≡ place
+    ensures adds { (before : List ℕ) (old : ℕ → List Edge) → length before ≡ index
         → AddsUser user before (length spans.old) old (users_of (parts spans.old edges.old))
         → AddsUser user (before ++ awaited ∷ []) (length spans.old) old
         (users_of (parts spans.new edges.new)) }
 {
     let span = spans[awaited];
-    edges[span.end] = Edge { user, place };
+    edges[span.end] = Edge { user, index };
     spans[awaited] = Span {
         end: span.end + 1,
         ..span

@@ -23,7 +23,7 @@ use Rattle.nix_names.proofs.Lists.{element_at, same_element}
 
 -- ---- lists, element by element
 
--- lists that are the same by two maps are so at each place
+-- lists that are the same by two maps are so at each index
 pub same_there : {X Y V : Type 0} (f : X → V) (g : Y → V) (xs : List X) (ys : List Y) (n : ℕ)
     (x : X) (y : Y) → n < length xs → n < length ys
     → x ≡ get_or xs n x → y ≡ get_or ys n y → map f xs ≡ map g ys → f x ≡ g y
@@ -35,7 +35,7 @@ same_there f g xs ys n x y low low' is is' same =
     let both : Some (f x) ≡ Some (g y) = sym left ∙ ap (λ l. slice_get l n) same ∙ right in
     cc
 
--- one place more
+-- one index more
 pub same_more : {X Y V : Type 0} (f : X → V) (g : Y → V) (xs : List X) (ys : List Y) (n : ℕ) (x : X)
     (y : Y) → n < length xs → n < length ys
     → x ≡ get_or xs n x → y ≡ get_or ys n y → f x ≡ g y → map f (take n xs) ≡ map g (take n ys)
@@ -47,7 +47,7 @@ same_more f g xs ys n x y low low' is is' here before =
     ∙ sym (ap (map g) (take_more _ n y low' ∙ ap (λ z. take n ys ++ z ∷ []) (sym is'))
     ∙ map-append g (take n ys) (y ∷ []))
 
--- the same of outputs and of the paths beside them
+-- one more output, and the path beside it
 pub path_there : (made : List JobOutput) (paths : List (List ℕ)) (n : ℕ) (output : JobOutput)
     (path : List ℕ) → n < length made → n < length paths
     → output ≡ get_or made n output → path ≡ get_or paths n path

@@ -101,7 +101,7 @@ own_fitting entries drv kind infos has_kind own new = record {
 
 -- ---- the entry
 
--- a list has a registration exactly if it has its path and its record at one place
+-- a list has a registration exactly if it has its path and its record at one index
 beside : (all : List Registration) (path : List ℕ) (info : PathInfo)
     → Contains all (record { path = path; info = info }) ↔
     ((n : ℕ) × (slice_get (paths_registered all) n ≡ Some path)

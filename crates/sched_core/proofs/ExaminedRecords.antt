@@ -19,8 +19,8 @@ examined_may_refer entries job permitted answer (Err reason) are examined = tt
 examined_may_refer entries job permitted answer (Ok infos) are (inl (refused, taken)) = absurd cc
 examined_may_refer entries job permitted answer (Ok infos) are (inr (taken, records, acyclic)) =
     λ info path has refers.
-    let place = get_from_contains _ _ has in
-    let is_record = records.each place.0 info place.1 in
+    let index = get_from_contains _ _ has in
+    let is_record = records.each index.0 info index.1 in
     (are.each path).0 ((is_record.2.found.each path).0 refers).0
 
 pub verdicts_may_refer : VerdictsMayRefer

@@ -76,25 +76,25 @@ pub element_none : (left next : Option (Bor (List (List ℕ)))) (paths : List (L
 element_none left next paths n none same = search (rules, step_none)
 
 -- an output of an input is used or not
-pub used_step : (inputs : List Input) (place : ℕ) (used : Drv) (seeds paths : List (List ℕ))
+pub used_step : (inputs : List Input) (index : ℕ) (used : Drv) (seeds paths : List (List ℕ))
     (outs : List OutputStruct) (n : ℕ) (output : OutputStruct) (text : List ℕ) (told : Bool)
     (left next : Option (Bor (List (List ℕ))))
     → map output_of outs ≡ used.outputs → paths ≡ output_paths_of used → n < length paths → output
     ≡ get_or outs n output → text ≡ output.name.items
-    → IfSome (slice_get inputs place) (λ used. IsTrue told ↔ Contains used.names text)
+    → IfSome (slice_get inputs index) (λ used. IsTrue told ↔ Contains used.names text)
     → ((told ≡ true) × IsStep left (get_or paths n [] ∷ []) next) ⊎ ((told ≡ false) × (next ≡ left))
-    → ((input : Input) → slice_get inputs place ≡ Some input
+    → ((input : Input) → slice_get inputs index ≡ Some input
     → IsRest seeds (first_named input.names used.outputs n) left)
-    → (input : Input) → slice_get inputs place ≡ Some input
+    → (input : Input) → slice_get inputs index ≡ Some input
     → IsRest seeds (first_named input.names used.outputs (n + 1)) next
-used_step inputs place used seeds paths outs n output text told left next view are low is_output
-    is_text told_is either before input at_place =
+used_step inputs index used seeds paths outs n output text told left next view are low is_output
+    is_text told_is either before input at_index =
     let below : n < length outs = omega (arith, low, outputs_count used _ _ view are) in
     let at : slice_get outs n ≡ Some output = read_at _ n _ below is_output in
-    let named = subst (λ t. IfSome (slice_get inputs place)
+    let named = subst (λ t. IfSome (slice_get inputs index)
     (λ used. IsTrue told ↔ Contains used.names t)) is_text told_is in
     let there = output_at _ used n _ view at in
-    let is_named = at_input inputs place _ _ _ at_place named in
+    let is_named = at_input inputs index _ _ _ at_index named in
     ⊎_elim
     (λ is_used.
     let its : get_or paths n [] ≡ output.path.items =
@@ -104,52 +104,52 @@ used_step inputs place used seeds paths outs n output text told left next view a
     (sym (first_more _ _ n _ _ there
     (is_named ∙ is_used.0)))
     (rest_after_step _ _ _ _ _
-    (before input at_place) (subst (λ p. IsStep left (p ∷ []) next) its is_used.1)))
+    (before input at_index) (subst (λ p. IsStep left (p ∷ []) next) its is_used.1)))
     (λ unused.
     subst (λ o. IsRest seeds (first_named input.names used.outputs (n + 1)) o) (sym unused.1)
     (subst (λ l. IsRest seeds l left)
     (sym (first_more _ _ n _ _ there
     (is_named ∙ unused.0) ∙ append-nil (first_named input.names used.outputs n)))
-    (before input at_place)))
+    (before input at_index)))
     either
 
 -- all outputs were seen
-pub used_all : (inputs : List Input) (place : ℕ) (used : Drv) (seeds : List (List ℕ)) (n : ℕ)
+pub used_all : (inputs : List Input) (index : ℕ) (used : Drv) (seeds : List (List ℕ)) (n : ℕ)
     (left : Option (Bor (List (List ℕ)))) → length used.outputs ≤ n
-    → ((input : Input) → slice_get inputs place ≡ Some input
+    → ((input : Input) → slice_get inputs index ≡ Some input
     → IsRest seeds (first_named input.names used.outputs n) left)
-    → (input : Input) → slice_get inputs place ≡ Some input
+    → (input : Input) → slice_get inputs index ≡ Some input
     → IsRest seeds (paths_named input.names used) left
-used_all inputs place used seeds n left all is_rest input at =
+used_all inputs index used seeds n left all is_rest input at =
     subst (λ l. IsRest seeds
     (map (λ (o : Output). o.path)
     (filter (λ (o : Output). list_any (same_bytes o.name) input.names) l)) left)
     (take_all n used.outputs all) (is_rest input at)
 
 -- an input was seen
-pub input_step : (nodes : List Node) (d : ℕ) (drv used : Drv) (numbers : List ℕ) (place number : ℕ)
+pub input_step : (nodes : List Node) (d : ℕ) (drv used : Drv) (numbers : List ℕ) (index number : ℕ)
     (seeds : List (List ℕ)) (left next : Option (Bor (List (List ℕ))))
     → AreDistinct (paths_of nodes)
     → slice_get (drvs_of nodes) d ≡ Some drv → IfSome (slice_get nodes d)
-    (λ node. AreNumbers nodes numbers (inputs_of node.drv)) → slice_get numbers place
+    (λ node. AreNumbers nodes numbers (inputs_of node.drv)) → slice_get numbers index
     ≡ Some number
-    → slice_get (drvs_of nodes) number ≡ Some used → place < length drv.inputs
-    → ((input : Input) → slice_get drv.inputs place ≡ Some input
+    → slice_get (drvs_of nodes) number ≡ Some used → index < length drv.inputs
+    → ((input : Input) → slice_get drv.inputs index ≡ Some input
     → IsStep left (paths_named input.names used) next)
     → ((node : Node) → slice_get nodes d ≡ Some node
-    → IsRest seeds (first_seeds nodes node place) left)
+    → IsRest seeds (first_seeds nodes node index) left)
     → (node : Node) → slice_get nodes d ≡ Some node
-    → IsRest seeds (first_seeds nodes node (place + 1)) next
-input_step nodes d drv used numbers place number seeds left next once is_drv are at_number at_used
+    → IsRest seeds (first_seeds nodes node (index + 1)) next
+input_step nodes d drv used numbers index number seeds left next once is_drv are at_number at_used
     within step before node at =
     let there = element_at _ _ within in
-    let after : List (List ℕ) = first_seeds nodes node place ++ paths_named there.0.names used in
-    let more : after ≡ first_seeds nodes node (place + 1) =
+    let after : List (List ℕ) = first_seeds nodes node index ++ paths_named there.0.names used in
+    let more : after ≡ first_seeds nodes node (index + 1) =
     input_added _ d _ _ _ _ _ _ _ once
     is_drv are at_number at_used within
-    (λ input is. ap (λ (i : Input). first_seeds nodes node place ++ paths_named i.names used)
-    (one_input drv.inputs place there.0 input there.1 is))
-    (λ other is. ap (λ (x : Node). first_seeds nodes x place) (one_node nodes d node other at is))
+    (λ input is. ap (λ (i : Input). first_seeds nodes node index ++ paths_named i.names used)
+    (one_input drv.inputs index there.0 input there.1 is))
+    (λ other is. ap (λ (x : Node). first_seeds nodes x index) (one_node nodes d node other at is))
     node at in
     subst (λ l. IsRest seeds l next) more
     (rest_after_step _ _ _ _ _
@@ -163,20 +163,20 @@ input_step nodes d drv used numbers place number seeds left next once is_drv are
         → slice_get nodes n ≡ Some b → a ≡ b
     one_node nodes n a b is also = search rules
 
-pub input_some : (inputs : List Input) (place : ℕ) (used : Drv)
+pub input_some : (inputs : List Input) (index : ℕ) (used : Drv)
     (left next given : Option (Bor (List (List ℕ)))) (rest : Bor (List (List ℕ))) → left ≡ Some rest
-    → ((input : Input) → slice_get inputs place ≡ Some input
+    → ((input : Input) → slice_get inputs index ≡ Some input
     → IsRest rest.now (paths_named input.names used) given) → next ≡ given
-    → (input : Input) → slice_get inputs place ≡ Some input
+    → (input : Input) → slice_get inputs index ≡ Some input
     → IsStep left (paths_named input.names used) next
-input_some inputs place used left next given rest some is_rest same input at =
+input_some inputs index used left next given rest some is_rest same input at =
     search (rules, step_some)
 
-pub input_none : (inputs : List Input) (place : ℕ) (used : Drv)
+pub input_none : (inputs : List Input) (index : ℕ) (used : Drv)
     (left next : Option (Bor (List (List ℕ)))) → left ≡ None → next ≡ None
-    → (input : Input) → slice_get inputs place ≡ Some input
+    → (input : Input) → slice_get inputs index ≡ Some input
     → IsStep left (paths_named input.names used) next
-input_none inputs place used left next none same input at = search (rules, step_none)
+input_none inputs index used left next none same input at = search (rules, step_none)
 
 -- all inputs were seen
 pub seeds_left : (nodes : List Node) (d : ℕ) (numbers : List ℕ) (seeds : List (List ℕ)) (count : ℕ)

@@ -47,11 +47,11 @@ seeds_of_job graph entries d job is valid =
 -- ---- a path
 
 -- what is permitted to the job of a derivation is permitted to it
-pub at_place : (graph : Graph) (entries : List Entry) (d place : ℕ) (job : Job)
+pub at_index : (graph : Graph) (entries : List Entry) (d index : ℕ) (job : Job)
     (permitted : List (List ℕ)) (named : Option (List ℕ)) → IsJob graph d job
-    → ArePermittedPaths entries job permitted → named ≡ slice_get permitted place
-    → IsPermittedAt graph entries d place named
-at_place graph entries d place job permitted named is are at = record {
+    → ArePermittedPaths entries job permitted → named ≡ slice_get permitted index
+    → IsPermittedAt graph entries d index named
+at_index graph entries d index job permitted named is are at = record {
   node = is.node;
   is_node = is.is_node;
   permitted = permitted;

@@ -27,19 +27,19 @@ verdicts_are_registrable graph d job node permitted answer infos of at (taken, r
               ∙ ap length of.paths
               ∙ length-map of.node.drv.outputs (λ (o : Output). o.path);
           fixed = λ method digest kind info has.
-              let place = get_from_contains _ _ has in
-              let is_record = records.each place.0 info place.1 in
-              let below = slice_get_within infos place.0 info place.1 in
+              let index = get_from_contains _ _ has in
+              let is_record = records.each index.0 info index.1 in
+              let below = slice_get_within infos index.0 info index.1 in
               let fixed = one_kind of.node.drv _ _ of.kind kind in
               let fault = λ (why : Reason) (h : IsTreeFault job.profile job.kind is_record.0 why).
-              taken.2 place.0 why (omega (arith, records.count)) (is_record.0, is_record.1, h) in
+              taken.2 index.0 why (omega (arith, records.count)) (is_record.0, is_record.1, h) in
               taken_fixed _ _ is_record.0 _ _ _ fixed fault is_record.2.digest;
         };
         acyclic = λ cyclic.
             acyclic (subst (λ (paths : List (List ℕ)). IsCyclic paths infos) (sym of.paths) cyclic);
       };
       among = λ info path has refers.
-          let place = get_from_contains _ _ has in
-          let is_record = records.each place.0 info place.1 in
+          let index = get_from_contains _ _ has in
+          let is_record = records.each index.0 info index.1 in
           ((is_record.2.found.each path).0 refers).0;
     })

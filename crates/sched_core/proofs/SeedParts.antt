@@ -26,7 +26,7 @@ use Rattle.run_report.proofs.PlanDrvs.{drv_is}
 use Rattle.run_states.proofs.Seeds.{found_by_number}
 use Rattle.nix_names.proofs.Lists.{Contains-from_get, element_at}
 
--- ---- elements by their places
+-- ---- elements by their indices
 
 pub read_at : {X : Type 0} (xs : List X) (n : ℕ) (x : X) → n < length xs → x ≡ get_or xs n x
     → slice_get xs n ≡ Some x
@@ -85,58 +85,58 @@ pub path_at : (paths : List (List ℕ)) (used : Drv) (n : ℕ) (path : List ℕ)
     → path ≡ output.path
 path_at paths used n path output are at is = search (rules, slice_get-map)
 
-pub at_input : (inputs : List Input) (place : ℕ) (input : Input) (told : Bool) (name : List ℕ)
-    → slice_get inputs place ≡ Some input
-    → IfSome (slice_get inputs place) (λ used. IsTrue told ↔ Contains used.names name)
+pub at_input : (inputs : List Input) (index : ℕ) (input : Input) (told : Bool) (name : List ℕ)
+    → slice_get inputs index ≡ Some input
+    → IfSome (slice_get inputs index) (λ used. IsTrue told ↔ Contains used.names name)
     → list_any (same_bytes name) input.names ≡ told
-at_input inputs place input told name at told_is =
+at_input inputs index input told name at told_is =
     told_named _ _ _
     (subst (λ (o : Option Input). IfSome o (λ used. IsTrue told ↔ Contains used.names name)) at
     told_is)
 
 -- What was added of an input's outputs so far.
-abbrev pub AddsFirst : (inputs : List Input) → (place : ℕ) → Drv → (old new : List (List ℕ))
+abbrev pub AddsFirst : (inputs : List Input) → (index : ℕ) → Drv → (old new : List (List ℕ))
     → (n : ℕ) → Type 0
-AddsFirst inputs place used old new n = (input : Input) → slice_get inputs place ≡ Some input → new
+AddsFirst inputs index used old new n = (input : Input) → slice_get inputs index ≡ Some input → new
     ≡ old ++ first_named input.names used.outputs n
 
-pub adds_none : (inputs : List Input) (place : ℕ) (used : Drv) (old : List (List ℕ))
-    → AddsFirst inputs place used old old 0
-adds_none inputs place used old input at = sym (append-nil old)
+pub adds_none : (inputs : List Input) (index : ℕ) (used : Drv) (old : List (List ℕ))
+    → AddsFirst inputs index used old old 0
+adds_none inputs index used old input at = sym (append-nil old)
 
 -- an output is used
-pub adds_used : (inputs : List Input) (place : ℕ) (used : Drv) (old seeds paths : List (List ℕ))
+pub adds_used : (inputs : List Input) (index : ℕ) (used : Drv) (old seeds paths : List (List ℕ))
     (outs : List OutputStruct) (n : ℕ) (output : OutputStruct) (path copy : List ℕ) (told : Bool)
     → map output_of outs ≡ used.outputs → paths ≡ output_paths_of used → slice_get outs n
     ≡ Some output → slice_get paths n ≡ Some path → copy ≡ path
-    → IfSome (slice_get inputs place) (λ used. IsTrue told ↔ Contains used.names output.name.items)
+    → IfSome (slice_get inputs index) (λ used. IsTrue told ↔ Contains used.names output.name.items)
     → told ≡ true
-    → AddsFirst inputs place used old seeds n
-    → AddsFirst inputs place used old (seeds ++ copy ∷ []) (n + 1)
-adds_used inputs place used old seeds paths outs n output path copy told view are at at_path same
-    told_is is_used before input at_place =
+    → AddsFirst inputs index used old seeds n
+    → AddsFirst inputs index used old (seeds ++ copy ∷ []) (n + 1)
+adds_used inputs index used old seeds paths outs n output path copy told view are at at_path same
+    told_is is_used before input at_index =
     let there = output_at _ used n _ view at in
-    let named = at_input inputs place _ _ _ at_place told_is ∙ is_used in
+    let named = at_input inputs index _ _ _ at_index told_is ∙ is_used in
     let its : copy ≡ output.path.items = same
     ∙ path_at _ used n _ _ are at_path there in
-    ap (λ l. l ++ copy ∷ []) (before input at_place)
+    ap (λ l. l ++ copy ∷ []) (before input at_index)
     ∙ append_assoc old (first_named input.names used.outputs n) (copy ∷ [])
     ∙ ap (λ p. old ++ (first_named input.names used.outputs n ++ p ∷ [])) its
     ∙ ap (λ l. old ++ l)
     (sym (first_more _ _ n _ _ there named))
 
 -- an output isn't used
-pub adds_unused : (inputs : List Input) (place : ℕ) (used : Drv) (old seeds : List (List ℕ))
+pub adds_unused : (inputs : List Input) (index : ℕ) (used : Drv) (old seeds : List (List ℕ))
     (outs : List OutputStruct) (n : ℕ) (output : OutputStruct) (told : Bool)
     → map output_of outs ≡ used.outputs → slice_get outs n ≡ Some output
-    → IfSome (slice_get inputs place) (λ used. IsTrue told ↔ Contains used.names output.name.items)
+    → IfSome (slice_get inputs index) (λ used. IsTrue told ↔ Contains used.names output.name.items)
     → told ≡ false
-    → AddsFirst inputs place used old seeds n → AddsFirst inputs place used old seeds (n + 1)
-adds_unused inputs place used old seeds outs n output told view at told_is is_unused before input
-    at_place =
+    → AddsFirst inputs index used old seeds n → AddsFirst inputs index used old seeds (n + 1)
+adds_unused inputs index used old seeds outs n output told view at told_is is_unused before input
+    at_index =
     let there = output_at outs used n output view at in
-    let named = at_input inputs place input told output.name.items at_place told_is ∙ is_unused in
-    before input at_place
+    let named = at_input inputs index input told output.name.items at_index told_is ∙ is_unused in
+    before input at_index
     ∙ ap (λ l. old ++ l)
     (sym (first_more _ _ n _ _ there named
     ∙ append-nil (first_named input.names used.outputs n)))
@@ -151,66 +151,66 @@ pub paths_count_is : (used : Drv) (paths : List (List ℕ)) → paths ≡ output
 paths_count_is used paths are = search (rules, length-map)
 
 -- an output is used or not
-pub output_seen : (inputs : List Input) (place : ℕ) (used : Drv)
+pub output_seen : (inputs : List Input) (index : ℕ) (used : Drv)
     (old seeds new paths : List (List ℕ)) (outs : List OutputStruct) (n : ℕ) (output : OutputStruct)
     (text : List ℕ) (told : Bool)
     → map output_of outs ≡ used.outputs → paths ≡ output_paths_of used → n < length paths → output
     ≡ get_or outs n output → text ≡ output.name.items
-    → IfSome (slice_get inputs place) (λ used. IsTrue told ↔ Contains used.names text)
+    → IfSome (slice_get inputs index) (λ used. IsTrue told ↔ Contains used.names text)
     → ((told ≡ true) × (new ≡ seeds ++ get_or paths n [] ∷ [])) ⊎ ((told ≡ false) × (new ≡ seeds))
-    → AddsFirst inputs place used old seeds n → AddsFirst inputs place used old new (n + 1)
-output_seen inputs place used old seeds new paths outs n output text told view are low is_output
+    → AddsFirst inputs index used old seeds n → AddsFirst inputs index used old new (n + 1)
+output_seen inputs index used old seeds new paths outs n output text told view are low is_output
     is_text told_is either before =
     let below : n < length outs = omega (arith, low, outputs_count used _ _ view are) in
     let at : slice_get outs n ≡ Some output = read_at _ n _ below is_output in
-    let named = subst (λ t. IfSome (slice_get inputs place)
+    let named = subst (λ t. IfSome (slice_get inputs index)
     (λ used. IsTrue told ↔ Contains used.names t)) is_text told_is in
     ⊎_elim
-    (λ yes_used. subst (λ l. AddsFirst inputs place used old l (n + 1)) (sym yes_used.1)
-    (adds_used inputs place used _ _ _ _ n _ _
+    (λ yes_used. subst (λ l. AddsFirst inputs index used old l (n + 1)) (sym yes_used.1)
+    (adds_used inputs index used _ _ _ _ n _ _
     _ _ view are at (slice_get-get_or _ n [] low) refl named yes_used.0
     before))
-    (λ unused. subst (λ l. AddsFirst inputs place used old l (n + 1)) (sym unused.1)
-    (adds_unused inputs place used _ _ _ n _ _ view at named unused.0 before))
+    (λ unused. subst (λ l. AddsFirst inputs index used old l (n + 1)) (sym unused.1)
+    (adds_unused inputs index used _ _ _ n _ _ view at named unused.0 before))
     either
 
 -- all outputs were seen
-pub adds_all : (inputs : List Input) (place : ℕ) (used : Drv) (old new : List (List ℕ)) (n : ℕ)
-    → length used.outputs ≤ n → AddsFirst inputs place used old new n
-    → (input : Input) → slice_get inputs place ≡ Some input → new ≡ old
+pub adds_all : (inputs : List Input) (index : ℕ) (used : Drv) (old new : List (List ℕ)) (n : ℕ)
+    → length used.outputs ≤ n → AddsFirst inputs index used old new n
+    → (input : Input) → slice_get inputs index ≡ Some input → new ≡ old
     ++ paths_named input.names used
-adds_all inputs place used old new n all adds input at = search (rules, filter, take_all)
+adds_all inputs index used old new n all adds input at = search (rules, filter, take_all)
 
 -- ---- the inputs
 
 -- an input is found at its number
-pub found_input : (nodes : List Node) (node : Node) (numbers : List ℕ) (place number : ℕ)
+pub found_input : (nodes : List Node) (node : Node) (numbers : List ℕ) (index number : ℕ)
     (input : Input) → AreDistinct (paths_of nodes)
-    → AreNumbers nodes numbers (inputs_of node.drv) → slice_get numbers place ≡ Some number
-    → slice_get node.drv.inputs place ≡ Some input
+    → AreNumbers nodes numbers (inputs_of node.drv) → slice_get numbers index ≡ Some number
+    → slice_get node.drv.inputs index ≡ Some input
     → find (λ (n : Node). same_bytes input.path n.path) nodes ≡ slice_get nodes number
-found_input nodes node numbers place number input once are at_number at_input_place =
-    let place_of = λ (path : List ℕ). position_or_len (same_bytes path) (paths_of nodes) in
-    let at_path : slice_get (inputs_of node.drv) place
-    ≡ Some input.path = slice_get-map (λ (i : Input). i.path) node.drv.inputs place
-    ∙ ap (option_map (λ (i : Input). i.path)) at_input_place in
-    let at_place : slice_get numbers place ≡ Some (place_of input.path) =
-    ap (λ l. slice_get l place) (numbers_are _ _ _ once are)
-    ∙ slice_get-map place_of (inputs_of node.drv) place ∙ ap (option_map place_of) at_path in
-    let both : Some number ≡ Some (place_of input.path) = sym at_number ∙ at_place in
-    let same : number ≡ place_of input.path = cc in
+found_input nodes node numbers index number input once are at_number at_input_index =
+    let index_of = λ (path : List ℕ). position_or_len (same_bytes path) (paths_of nodes) in
+    let at_path : slice_get (inputs_of node.drv) index
+    ≡ Some input.path = slice_get-map (λ (i : Input). i.path) node.drv.inputs index
+    ∙ ap (option_map (λ (i : Input). i.path)) at_input_index in
+    let at_index : slice_get numbers index ≡ Some (index_of input.path) =
+    ap (λ l. slice_get l index) (numbers_are _ _ _ once are)
+    ∙ slice_get-map index_of (inputs_of node.drv) index ∙ ap (option_map index_of) at_path in
+    let both : Some number ≡ Some (index_of input.path) = sym at_number ∙ at_index in
+    let same : number ≡ index_of input.path = cc in
     found_by_number nodes input.path ∙ ap (slice_get nodes) (sym same)
 
 -- the outputs that are used of an input are those of the derivation with its number
-used_named : (nodes : List Node) (node : Node) (numbers : List ℕ) (place number : ℕ) (input : Input)
+used_named : (nodes : List Node) (node : Node) (numbers : List ℕ) (index number : ℕ) (input : Input)
     (used : Drv) → AreDistinct (paths_of nodes)
-    → AreNumbers nodes numbers (inputs_of node.drv) → slice_get numbers place ≡ Some number
-    → slice_get node.drv.inputs place ≡ Some input
+    → AreNumbers nodes numbers (inputs_of node.drv) → slice_get numbers index ≡ Some number
+    → slice_get node.drv.inputs index ≡ Some input
     → slice_get (drvs_of nodes) number ≡ Some used → named_outputs nodes input
     ≡ paths_named input.names used
-used_named nodes node numbers place number input used once are at_number at_input_place at_used =
+used_named nodes node numbers index number input used once are at_number at_input_index at_used =
     ap (paths_of_found input.names)
-    (found_input nodes node numbers place number input once are at_number at_input_place)
+    (found_input nodes node numbers index number input once are at_number at_input_index)
     ∙ by (slice_get nodes number) refl
   where
     by : (o : Option Node) → slice_get nodes number ≡ o → paths_of_found input.names o
@@ -229,12 +229,12 @@ abbrev pub AreFirstSeeds : (nodes : List Node) → (d : ℕ) → (seeds : List (
 AreFirstSeeds nodes d seeds count = (node : Node) → slice_get nodes d ≡ Some node → seeds
     ≡ node.drv.sources ++ flat_map (named_outputs nodes) (take count node.drv.inputs)
 
--- an input's place is one of a number
-pub input_within : (nodes : List Node) (d : ℕ) (drv : Drv) (numbers : List ℕ) (place : ℕ) → d
+-- an input's index is one of a number
+pub input_within : (nodes : List Node) (d : ℕ) (drv : Drv) (numbers : List ℕ) (index : ℕ) → d
     < length nodes → slice_get (drvs_of nodes) d ≡ Some drv
-    → IfSome (slice_get nodes d) (λ node. AreNumbers nodes numbers (inputs_of node.drv)) → place
-    < length numbers → place < length drv.inputs
-input_within nodes d drv numbers place low is_drv are within =
+    → IfSome (slice_get nodes d) (λ node. AreNumbers nodes numbers (inputs_of node.drv)) → index
+    < length numbers → index < length drv.inputs
+input_within nodes d drv numbers index low is_drv are within =
     let there = element_at _ d low in
     let its : AreNumbers nodes numbers (inputs_of there.0.drv) =
     subst (λ (o : Option Node).
@@ -248,23 +248,23 @@ input_within nodes d drv numbers place low is_drv are within =
     omega (arith, within, counts, size, length-map there.0.drv.inputs (λ (i : Input). i.path))
 
 -- a number of an input is one of a node
-pub number_within : (nodes : List Node) (d : ℕ) (numbers : List ℕ) (place number : ℕ) → d
-    < length nodes → All (λ input. input < d) numbers → slice_get numbers place ≡ Some number
+pub number_within : (nodes : List Node) (d : ℕ) (numbers : List ℕ) (index number : ℕ) → d
+    < length nodes → All (λ input. input < d) numbers → slice_get numbers index ≡ Some number
     → number < length nodes
-number_within nodes d numbers place number low smaller at =
+number_within nodes d numbers index number low smaller at =
     search (rules, All-contains, Contains-from_get)
 
 -- the seeds with those of one input more
-pub input_added : (nodes : List Node) (d : ℕ) (drv used : Drv) (numbers : List ℕ) (place number : ℕ)
+pub input_added : (nodes : List Node) (d : ℕ) (drv used : Drv) (numbers : List ℕ) (index number : ℕ)
     (before after : List (List ℕ)) → AreDistinct (paths_of nodes)
     → slice_get (drvs_of nodes) d ≡ Some drv → IfSome (slice_get nodes d)
-    (λ node. AreNumbers nodes numbers (inputs_of node.drv)) → slice_get numbers place
+    (λ node. AreNumbers nodes numbers (inputs_of node.drv)) → slice_get numbers index
     ≡ Some number
-    → slice_get (drvs_of nodes) number ≡ Some used → place < length drv.inputs
-    → ((input : Input) → slice_get drv.inputs place ≡ Some input → after ≡ before
+    → slice_get (drvs_of nodes) number ≡ Some used → index < length drv.inputs
+    → ((input : Input) → slice_get drv.inputs index ≡ Some input → after ≡ before
     ++ paths_named input.names used)
-    → AreFirstSeeds nodes d before place → AreFirstSeeds nodes d after (place + 1)
-input_added nodes d drv used numbers place number before after once is_drv are at_number at_used
+    → AreFirstSeeds nodes d before index → AreFirstSeeds nodes d after (index + 1)
+input_added nodes d drv used numbers index number before after once is_drv are at_number at_used
     within adds first node at =
     let its : AreNumbers nodes numbers (inputs_of node.drv) =
     subst (λ (o : Option Node).
@@ -272,20 +272,20 @@ input_added nodes d drv used numbers place number before after once is_drv are a
     let same : drv ≡ node.drv = drv_is _ d _ _ at is_drv in
     let there = element_at _ _ within in
     let input : Input = there.0 in
-    let at_input_place : slice_get node.drv.inputs place
-    ≡ Some there.0 = ap (λ (x : Drv). slice_get x.inputs place) (sym same) ∙ there.1 in
+    let at_input_index : slice_get node.drv.inputs index
+    ≡ Some there.0 = ap (λ (x : Drv). slice_get x.inputs index) (sym same) ∙ there.1 in
     let named = used_named _ node _ _ _ _ _ once its at_number
-    at_input_place at_used in
+    at_input_index at_used in
     adds there.0 there.1
     ∙ ap (λ l. l ++ paths_named there.0.names used) (first node at)
-    ∙ append_assoc node.drv.sources (flat_map (named_outputs nodes) (take place node.drv.inputs))
+    ∙ append_assoc node.drv.sources (flat_map (named_outputs nodes) (take index node.drv.inputs))
     (paths_named there.0.names used)
     ∙ ap (λ l. node.drv.sources
-    ++ (flat_map (named_outputs nodes) (take place node.drv.inputs) ++ l))
+    ++ (flat_map (named_outputs nodes) (take index node.drv.inputs) ++ l))
     (sym named ∙ sym (append-nil (named_outputs nodes there.0)))
     ∙ ap (λ l. node.drv.sources ++ l)
     (sym (ap (flat_map (named_outputs nodes))
-    (take_next _ _ _ at_input_place)
+    (take_next _ _ _ at_input_index)
     ∙ flat_map-append (named_outputs nodes) _ _))
 
 -- all inputs were seen

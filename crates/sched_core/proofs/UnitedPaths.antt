@@ -40,32 +40,32 @@ rising_append (x ∷ z ∷ zs) ys rises rises' below = (
       (λ w y has. below w y (Contains-later x (z ∷ zs) w has)),
 )
 
--- ---- the place of a path
+-- ---- the index of a path
 
--- where a path is not found, what stands before the place is below it, and what stands after above
-pub record IsGap (paths : List (List ℕ)) (path : List ℕ) (place : ℕ) : Type 0 where
-  pub before : (x : List ℕ) → Contains (take place paths) x → IsBelow x path
-  pub above : (x : List ℕ) → Contains (drop place paths) x → IsBelow path x
+-- where a path is not found, what stands before the index is below it, and what stands after above
+pub record IsGap (paths : List (List ℕ)) (path : List ℕ) (index : ℕ) : Type 0 where
+  pub before : (x : List ℕ) → Contains (take index paths) x → IsBelow x path
+  pub above : (x : List ℕ) → Contains (drop index paths) x → IsBelow path x
 
 pub found_told :
-    (paths : List (List ℕ)) (path : List ℕ) (place : ℕ) →
-    place < length paths →
-    HoldsAt (λ y. slice_cmp nat_cmp y path ≡ Equal) paths place →
+    (paths : List (List ℕ)) (path : List ℕ) (index : ℕ) →
+    index < length paths →
+    HoldsAt (λ y. slice_cmp nat_cmp y path ≡ Equal) paths index →
     Contains paths path
-found_told paths path place within here = (
-  place,
+found_told paths path index within here = (
+  index,
   within,
   equal_from_eq _ _
-      (texts_ties (get_or paths place path) path ∙ ap is_eq (here path)),
+      (texts_ties (get_or paths index path) path ∙ ap is_eq (here path)),
 )
 
 pub gap_told :
-    (paths : List (List ℕ)) (path : List ℕ) (place : ℕ) →
+    (paths : List (List ℕ)) (path : List ℕ) (index : ℕ) →
     IsRising paths →
-    place ≤ length paths →
-    IsBinarySearchResult (λ y. slice_cmp nat_cmp y path) paths (Err place) →
-    IsGap paths path place
-gap_told paths path place rises within told =
+    index ≤ length paths →
+    IsBinarySearchResult (λ y. slice_cmp nat_cmp y path) paths (Err index) →
+    IsGap paths path index
+gap_told paths path index rises within told =
     let sides = told
     (searchable_from_sorted nat_list_cmp_total (λ (p : List ℕ). p) paths path
     (λ j d low lt. ap is_lt
@@ -76,16 +76,16 @@ gap_told paths path place rises within told =
     record {
       before = λ x has.
           let k = has.0 in
-          let lt : k < place = omega (arith, has.1, length-take place paths) in
-          subst (λ y. IsBelow y path) (sym (get_or-take place paths k x lt) ∙ has.2)
+          let lt : k < index = omega (arith, has.1, length-take index paths) in
+          subst (λ y. IsBelow y path) (sym (get_or-take index paths k x lt) ∙ has.2)
           (sides.0 k x (omega arith) lt);
       above = λ x has.
           let k = has.0 in
-          let lt : place + k < length paths = omega (arith, has.1, length-drop place paths) in
-          let greater : slice_cmp nat_cmp (get_or paths (place + k) x) path
-          ≡ Greater = sides.1 (place + k) x (omega arith) lt in
-          subst (IsBelow path) (sym (get_or-drop place paths k x) ∙ has.2)
-          (nat_list_cmp_total.antisymm path (get_or paths (place + k) x)
+          let lt : index + k < length paths = omega (arith, has.1, length-drop index paths) in
+          let greater : slice_cmp nat_cmp (get_or paths (index + k) x) path
+          ≡ Greater = sides.1 (index + k) x (omega arith) lt in
+          subst (IsBelow path) (sym (get_or-drop index paths k x) ∙ has.2)
+          (nat_list_cmp_total.antisymm path (get_or paths (index + k) x)
           ∙ ap ordering_reverse greater);
     }
 
@@ -140,13 +140,13 @@ module _ (paths others below left above : List (List ℕ)) (path : List ℕ)
   }
 
   -- another path goes above, after what stands above it in the first list
-  pub uniting_placed :
+  pub uniting_inserted :
       (front tail : List (List ℕ)) →
       below ≡ front ++ tail →
       ((x : List ℕ) → Contains front x → IsBelow x path) →
       ((x : List ℕ) → Contains tail x → IsBelow path x) →
       IsUniting paths others front left (path ∷ (tail ++ above))
-  uniting_placed front tail parts lower higher =
+  uniting_inserted front tail parts lower higher =
       let joined : below ++ above ≡ front ++ (tail ++ above) = ap (λ l. l ++ above) parts
       ∙ append_assoc front tail above in
       let rises = subst IsRising joined before.below_rises in

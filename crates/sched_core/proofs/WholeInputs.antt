@@ -33,22 +33,22 @@ abbrev pub is_named : (names : List (List ℕ)) → OutputStruct → Bool
 is_named names output = list_any (same_bytes output.name.items) names
 
 -- The first outputs are named.
-abbrev pub AreFirstNamed : (inputs : List Input) → (place : ℕ) → (outs : List OutputStruct)
+abbrev pub AreFirstNamed : (inputs : List Input) → (index : ℕ) → (outs : List OutputStruct)
     → (count : ℕ) → Type 0
-AreFirstNamed inputs place outs count = (input : Input) → slice_get inputs place ≡ Some input
+AreFirstNamed inputs index outs count = (input : Input) → slice_get inputs index ≡ Some input
     → list_all (is_named input.names) (take count outs) ≡ true
 
-pub named_more : (inputs : List Input) (place : ℕ) (outs : List OutputStruct) (i : ℕ)
+pub named_more : (inputs : List Input) (index : ℕ) (outs : List OutputStruct) (i : ℕ)
     (output : OutputStruct) (text : List ℕ) (told : Bool) → i < length outs
     → output ≡ get_or outs i output → text ≡ output.name.items → told ≡ true
-    → IfSome (slice_get inputs place) (λ used. IsTrue told ↔ Contains used.names text)
-    → AreFirstNamed inputs place outs i → AreFirstNamed inputs place outs (i + 1)
-named_more inputs place outs i output text told within at is_text true_is told_is before input there
+    → IfSome (slice_get inputs index) (λ used. IsTrue told ↔ Contains used.names text)
+    → AreFirstNamed inputs index outs i → AreFirstNamed inputs index outs (i + 1)
+named_more inputs index outs i output text told within at is_text true_is told_is before input there
     =
     let here : is_named input.names (get_or outs i output) ≡ true =
     ap (is_named input.names) (sym at)
-    ∙ at_input inputs place input told output.name.items there
-    (subst (λ t. IfSome (slice_get inputs place) (λ used. IsTrue told ↔ Contains used.names t))
+    ∙ at_input inputs index input told output.name.items there
+    (subst (λ t. IfSome (slice_get inputs index) (λ used. IsTrue told ↔ Contains used.names t))
     is_text told_is)
     ∙ true_is in
     list_all_more (is_named input.names) outs i output within
@@ -63,12 +63,12 @@ named_all names used outs view =
     ∙ list_all-map (λ (o : Output). list_any (same_bytes o.name) names) output_of outs
 
 -- all outputs were seen
-pub all_named : (inputs : List Input) (place : ℕ) (used : Drv) (outs : List OutputStruct) (i : ℕ)
-    → map output_of outs ≡ used.outputs → length outs ≤ i → AreFirstNamed inputs place outs i
-    → IfSome (slice_get inputs place) (λ input. true ≡ are_all_named input.names used)
-all_named inputs place used outs i view all first = by (slice_get inputs place) refl
+pub all_named : (inputs : List Input) (index : ℕ) (used : Drv) (outs : List OutputStruct) (i : ℕ)
+    → map output_of outs ≡ used.outputs → length outs ≤ i → AreFirstNamed inputs index outs i
+    → IfSome (slice_get inputs index) (λ input. true ≡ are_all_named input.names used)
+all_named inputs index used outs i view all first = by (slice_get inputs index) refl
   where
-    by : (o : Option Input) → slice_get inputs place ≡ o
+    by : (o : Option Input) → slice_get inputs index ≡ o
         → IfSome o (λ input. true ≡ are_all_named input.names used)
     by None is = tt
     by (Some input) is =
@@ -76,23 +76,23 @@ all_named inputs place used outs i view all first = by (slice_get inputs place) 
         ∙ ap (list_all (is_named input.names)) (sym (take_all i outs all)) ∙ first input is)
 
 -- an output isn't named
-pub one_unnamed : (inputs : List Input) (place : ℕ) (used : Drv) (outs : List OutputStruct) (i : ℕ)
+pub one_unnamed : (inputs : List Input) (index : ℕ) (used : Drv) (outs : List OutputStruct) (i : ℕ)
     (output : OutputStruct) (text : List ℕ) (told : Bool) → map output_of outs ≡ used.outputs
     → i < length outs → output ≡ get_or outs i output → text ≡ output.name.items → told ≡ false
-    → IfSome (slice_get inputs place) (λ used. IsTrue told ↔ Contains used.names text)
-    → IfSome (slice_get inputs place) (λ input. false ≡ are_all_named input.names used)
-one_unnamed inputs place used outs i output text told view within at is_text false_is told_is =
-    by (slice_get inputs place) refl
+    → IfSome (slice_get inputs index) (λ used. IsTrue told ↔ Contains used.names text)
+    → IfSome (slice_get inputs index) (λ input. false ≡ are_all_named input.names used)
+one_unnamed inputs index used outs i output text told view within at is_text false_is told_is =
+    by (slice_get inputs index) refl
   where
-    by : (o : Option Input) → slice_get inputs place ≡ o
+    by : (o : Option Input) → slice_get inputs index ≡ o
         → IfSome o (λ input. false ≡ are_all_named input.names used)
     by None is = tt
     by (Some input) is =
         sym (named_all input.names used outs view
         ∙ list_all_at (is_named input.names) outs i output within
         (ap (is_named input.names) (sym at)
-        ∙ at_input inputs place input told output.name.items is
-        (subst (λ t. IfSome (slice_get inputs place) (λ used. IsTrue told ↔ Contains used.names t))
+        ∙ at_input inputs index input told output.name.items is
+        (subst (λ t. IfSome (slice_get inputs index) (λ used. IsTrue told ↔ Contains used.names t))
         is_text told_is)
         ∙ false_is))
 
@@ -132,76 +132,76 @@ whole_at nodes number names used path paths told at_drv at_path at_paths is =
         ∙ ap (told_whole told path) (sym (its ∙ ap output_paths_of (sym same)))
 
 -- One input more told this.
-abbrev pub MoreTold : (nodes : List Node) → (d place : ℕ) → (told : Bool) → (path : List ℕ)
+abbrev pub MoreTold : (nodes : List Node) → (d index : ℕ) → (told : Bool) → (path : List ℕ)
     → (paths : List (List ℕ)) → Type 0
-MoreTold nodes d place told path paths = (node : Node) → slice_get nodes d ≡ Some node
-    → flat_map (whole_input nodes) (take (place + 1) node.drv.inputs)
-    ≡ flat_map (whole_input nodes) (take place node.drv.inputs) ++ told_whole told path paths
+MoreTold nodes d index told path paths = (node : Node) → slice_get nodes d ≡ Some node
+    → flat_map (whole_input nodes) (take (index + 1) node.drv.inputs)
+    ≡ flat_map (whole_input nodes) (take index node.drv.inputs) ++ told_whole told path paths
 
 pub inputs_more : (nodes : List Node) (d : ℕ) (drv used : Drv) (numbers : List ℕ)
-    (place number : ℕ) (path : List ℕ) (paths : List (List ℕ)) (told : Bool)
+    (index number : ℕ) (path : List ℕ) (paths : List (List ℕ)) (told : Bool)
     → AreDistinct (paths_of nodes) → slice_get (drvs_of nodes) d ≡ Some drv
     → IfSome (slice_get nodes d) (λ node. AreNumbers nodes numbers (inputs_of node.drv))
-    → slice_get numbers place ≡ Some number → slice_get (drvs_of nodes) number ≡ Some used
+    → slice_get numbers index ≡ Some number → slice_get (drvs_of nodes) number ≡ Some used
     → slice_get (paths_of nodes) number ≡ Some path
     → IfSome (slice_get nodes number) (λ n. paths ≡ output_paths_of n.drv)
-    → place < length drv.inputs
-    → IfSome (slice_get drv.inputs place) (λ input. told ≡ are_all_named input.names used)
-    → MoreTold nodes d place told path paths
-inputs_more nodes d drv used numbers place number path paths told once is_drv are at_number at_used
+    → index < length drv.inputs
+    → IfSome (slice_get drv.inputs index) (λ input. told ≡ are_all_named input.names used)
+    → MoreTold nodes d index told path paths
+inputs_more nodes d drv used numbers index number path paths told once is_drv are at_number at_used
     at_path at_paths within is node at =
     let its : AreNumbers nodes numbers (inputs_of node.drv) =
     subst (λ (o : Option Node).
     IfSome o (λ (n : Node). AreNumbers nodes numbers (inputs_of n.drv))) at are in
-    let there = element_at drv.inputs place within in
+    let there = element_at drv.inputs index within in
     let same : drv ≡ node.drv = drv_is nodes d drv node at is_drv in
-    let here : slice_get node.drv.inputs place ≡ Some there.0 =
-    ap (λ (x : Drv). slice_get x.inputs place) (sym same) ∙ there.1 in
+    let here : slice_get node.drv.inputs index ≡ Some there.0 =
+    ap (λ (x : Drv). slice_get x.inputs index) (sym same) ∙ there.1 in
     let told_is : told ≡ are_all_named there.0.names used =
     subst (λ (o : Option Input). IfSome o (λ i. told ≡ are_all_named i.names used)) there.1 is in
     let one : whole_input nodes there.0 ≡ told_whole told path paths =
     ap (whole_of_found there.0.names)
-    (found_input nodes node numbers place number there.0 once its at_number here)
+    (found_input nodes node numbers index number there.0 once its at_number here)
     ∙ whole_at nodes number there.0.names used path paths told at_used at_path at_paths told_is in
-    ap (flat_map (whole_input nodes)) (take_next node.drv.inputs place there.0 here)
-    ∙ flat_map-append (whole_input nodes) (take place node.drv.inputs) (there.0 ∷ [])
-    ∙ ap (λ ps. flat_map (whole_input nodes) (take place node.drv.inputs) ++ ps)
+    ap (flat_map (whole_input nodes)) (take_next node.drv.inputs index there.0 here)
+    ∙ flat_map-append (whole_input nodes) (take index node.drv.inputs) (there.0 ∷ [])
+    ∙ ap (λ ps. flat_map (whole_input nodes) (take index node.drv.inputs) ++ ps)
     (append-nil (whole_input nodes there.0) ∙ one)
 
--- the same of an input of which not each output is named
+-- an input of which not each output is named
 pub inputs_still : (nodes : List Node) (d : ℕ) (drv used : Drv) (numbers : List ℕ)
-    (place number : ℕ) (told : Bool)
+    (index number : ℕ) (told : Bool)
     → AreDistinct (paths_of nodes) → slice_get (drvs_of nodes) d ≡ Some drv
     → IfSome (slice_get nodes d) (λ node. AreNumbers nodes numbers (inputs_of node.drv))
-    → slice_get numbers place ≡ Some number → slice_get (drvs_of nodes) number ≡ Some used
-    → place < length drv.inputs
-    → IfSome (slice_get drv.inputs place) (λ input. told ≡ are_all_named input.names used)
+    → slice_get numbers index ≡ Some number → slice_get (drvs_of nodes) number ≡ Some used
+    → index < length drv.inputs
+    → IfSome (slice_get drv.inputs index) (λ input. told ≡ are_all_named input.names used)
     → told ≡ false → (node : Node) → slice_get nodes d ≡ Some node
-    → flat_map (whole_input nodes) (take (place + 1) node.drv.inputs)
-    ≡ flat_map (whole_input nodes) (take place node.drv.inputs)
-inputs_still nodes d drv used numbers place number told once is_drv are at_number at_used within is
+    → flat_map (whole_input nodes) (take (index + 1) node.drv.inputs)
+    ≡ flat_map (whole_input nodes) (take index node.drv.inputs)
+inputs_still nodes d drv used numbers index number told once is_drv are at_number at_used within is
     unused =
     by (slice_get nodes number) refl
   where
     by : (o : Option Node) → slice_get nodes number ≡ o → (node : Node)
         → slice_get nodes d ≡ Some node
-        → flat_map (whole_input nodes) (take (place + 1) node.drv.inputs)
-        ≡ flat_map (whole_input nodes) (take place node.drv.inputs)
+        → flat_map (whole_input nodes) (take (index + 1) node.drv.inputs)
+        ≡ flat_map (whole_input nodes) (take index node.drv.inputs)
     by None none node at =
         absurd (none-some used
         (sym (slice_get-map (λ (n : Node). n.drv) nodes number
         ∙ ap (option_map (λ (n : Node). n.drv)) none) ∙ at_used))
     by (Some input) there node at =
-        inputs_more nodes d drv used numbers place number input.path (output_paths_of input.drv)
+        inputs_more nodes d drv used numbers index number input.path (output_paths_of input.drv)
         told once is_drv are at_number at_used
         (slice_get-map (λ (n : Node). n.path) nodes number
         ∙ ap (option_map (λ (n : Node). n.path)) there)
         (subst
         (λ (o : Option Node). IfSome o (λ n. output_paths_of input.drv ≡ output_paths_of n.drv))
         (sym there) refl) within is node at
-        ∙ ap (λ b. flat_map (whole_input nodes) (take place node.drv.inputs)
+        ∙ ap (λ b. flat_map (whole_input nodes) (take index node.drv.inputs)
         ++ told_whole b input.path (output_paths_of input.drv)) unused
-        ∙ append-nil (flat_map (whole_input nodes) (take place node.drv.inputs))
+        ∙ append-nil (flat_map (whole_input nodes) (take index node.drv.inputs))
 
 -- ---- all inputs
 
@@ -211,27 +211,27 @@ ToldFirst nodes d told count = (node : Node) → slice_get nodes d ≡ Some node
     → told ≡ flat_map (whole_input nodes) (take count node.drv.inputs)
 
 -- an input told one more
-pub told_more : (nodes : List Node) (d : ℕ) (old new : List WholeInput) (place : ℕ)
+pub told_more : (nodes : List Node) (d : ℕ) (old new : List WholeInput) (index : ℕ)
     (input : WholeInput) (told : Bool) (path : List ℕ) (paths : List (List ℕ))
-    → ToldFirst nodes d (map shown_whole old) place → new ≡ old ++ input ∷ []
-    → shown_whole input ≡ (path, paths) → told ≡ true → MoreTold nodes d place told path paths
-    → ToldFirst nodes d (map shown_whole new) (place + 1)
-told_more nodes d old new place input told path paths before added is holds more node at =
+    → ToldFirst nodes d (map shown_whole old) index → new ≡ old ++ input ∷ []
+    → shown_whole input ≡ (path, paths) → told ≡ true → MoreTold nodes d index told path paths
+    → ToldFirst nodes d (map shown_whole new) (index + 1)
+told_more nodes d old new index input told path paths before added is holds more node at =
     ap (map shown_whole) added ∙ map-append shown_whole old (input ∷ [])
     ∙ ap (λ ps. ps ++ shown_whole input ∷ []) (before node at)
-    ∙ ap (λ p. flat_map (whole_input nodes) (take place node.drv.inputs) ++ p ∷ []) is
-    ∙ ap (λ b. flat_map (whole_input nodes) (take place node.drv.inputs) ++ told_whole b path paths)
+    ∙ ap (λ p. flat_map (whole_input nodes) (take index node.drv.inputs) ++ p ∷ []) is
+    ∙ ap (λ b. flat_map (whole_input nodes) (take index node.drv.inputs) ++ told_whole b path paths)
     (sym holds)
     ∙ sym (more node at)
 
 -- an input told nothing
-pub told_still : (nodes : List Node) (d : ℕ) (old new : List WholeInput) (place : ℕ)
-    → ToldFirst nodes d (map shown_whole old) place → new ≡ old
+pub told_still : (nodes : List Node) (d : ℕ) (old new : List WholeInput) (index : ℕ)
+    → ToldFirst nodes d (map shown_whole old) index → new ≡ old
     → ((node : Node) → slice_get nodes d ≡ Some node
-    → flat_map (whole_input nodes) (take (place + 1) node.drv.inputs)
-    ≡ flat_map (whole_input nodes) (take place node.drv.inputs))
-    → ToldFirst nodes d (map shown_whole new) (place + 1)
-told_still nodes d old new place before same still node at =
+    → flat_map (whole_input nodes) (take (index + 1) node.drv.inputs)
+    ≡ flat_map (whole_input nodes) (take index node.drv.inputs))
+    → ToldFirst nodes d (map shown_whole new) (index + 1)
+told_still nodes d old new index before same still node at =
     ap (map shown_whole) same ∙ before node at ∙ sym (still node at)
 
 -- all inputs were seen
@@ -256,17 +256,17 @@ told_all nodes d numbers told count are all first = by (slice_get nodes d) refl 
 
 -- ---- compared with a job's
 
-pub told_at : (whole : List WholeInput) (place : ℕ) (input : WholeInput) (told : Bool) (pair : Pair)
-    → slice_get whole place ≡ Some input → IsTrue told ↔ (shown_whole input ≡ pair)
-    → IsTrue told ↔ (option_map shown_whole (slice_get whole place) ≡ Some pair)
-told_at whole place input told pair at is = (
+pub told_at : (whole : List WholeInput) (index : ℕ) (input : WholeInput) (told : Bool) (pair : Pair)
+    → slice_get whole index ≡ Some input → IsTrue told ↔ (shown_whole input ≡ pair)
+    → IsTrue told ↔ (option_map shown_whole (slice_get whole index) ≡ Some pair)
+told_at whole index input told pair at is = (
   λ yes. ap (option_map shown_whole) at ∙ ap Some (is.0 yes),
   λ same. is.1 (same_Some (shown_whole input) pair (sym (ap (option_map shown_whole) at) ∙ same)),
 )
 
-pub none_at : (whole : List WholeInput) (place : ℕ) (pair : Pair) → slice_get whole place ≡ None
-    → IsTrue false ↔ (option_map shown_whole (slice_get whole place) ≡ Some pair)
-none_at whole place pair none = (
+pub none_at : (whole : List WholeInput) (index : ℕ) (pair : Pair) → slice_get whole index ≡ None
+    → IsTrue false ↔ (option_map shown_whole (slice_get whole index) ≡ Some pair)
+none_at whole index pair none = (
   λ never. absurd (false≢true never),
   λ same. absurd (none-some pair (sym (ap (option_map shown_whole) none) ∙ same)),
 )
@@ -290,41 +290,41 @@ other_first input drv paths first is one = (
 )
 
 -- The first whole inputs of a job are what the first inputs told.
-pub record AreAlike (nodes : List Node) (d : ℕ) (whole : List WholeInput) (count place : ℕ)
+pub record AreAlike (nodes : List Node) (d : ℕ) (whole : List WholeInput) (count index : ℕ)
     : Type 0 where
   pub within : count ≤ length whole
-  pub same : ToldFirst nodes d (map shown_whole (take count whole)) place
+  pub same : ToldFirst nodes d (map shown_whole (take count whole)) index
 
 -- an input told one more, and the job has it
-pub alike_more : (nodes : List Node) (d : ℕ) (whole : List WholeInput) (count place : ℕ)
-    (told : Bool) (path : List ℕ) (paths : List (List ℕ)) → AreAlike nodes d whole count place
+pub alike_more : (nodes : List Node) (d : ℕ) (whole : List WholeInput) (count index : ℕ)
+    (told : Bool) (path : List ℕ) (paths : List (List ℕ)) → AreAlike nodes d whole count index
     → option_map shown_whole (slice_get whole count) ≡ Some (path, paths) → told ≡ true
-    → MoreTold nodes d place told path paths
-    → AreAlike nodes d whole (count + 1) (place + 1)
-alike_more nodes d whole count place told path paths alike at holds more =
+    → MoreTold nodes d index told path paths
+    → AreAlike nodes d whole (count + 1) (index + 1)
+alike_more nodes d whole count index told path paths alike at holds more =
     by (slice_get whole count) refl at
   where
     by : (o : Option WholeInput) → slice_get whole count ≡ o
         → option_map shown_whole o ≡ Some (path, paths)
-        → AreAlike nodes d whole (count + 1) (place + 1)
+        → AreAlike nodes d whole (count + 1) (index + 1)
     by None none is = absurd (none-some (path, paths) is)
     by (Some input) there is = record {
       within = let low = slice_get_within whole count input there in omega arith;
-      same = told_more nodes d (take count whole) (take (count + 1) whole) place input told path
+      same = told_more nodes d (take count whole) (take (count + 1) whole) index input told path
           paths alike.same (take_next whole count input there)
           (same_Some (shown_whole input) (path, paths) is) holds more;
     }
 
 -- an input told nothing
-pub alike_still : (nodes : List Node) (d : ℕ) (whole : List WholeInput) (count place : ℕ)
-    → AreAlike nodes d whole count place
+pub alike_still : (nodes : List Node) (d : ℕ) (whole : List WholeInput) (count index : ℕ)
+    → AreAlike nodes d whole count index
     → ((node : Node) → slice_get nodes d ≡ Some node
-    → flat_map (whole_input nodes) (take (place + 1) node.drv.inputs)
-    ≡ flat_map (whole_input nodes) (take place node.drv.inputs))
-    → AreAlike nodes d whole count (place + 1)
-alike_still nodes d whole count place alike more = record {
+    → flat_map (whole_input nodes) (take (index + 1) node.drv.inputs)
+    ≡ flat_map (whole_input nodes) (take index node.drv.inputs))
+    → AreAlike nodes d whole count (index + 1)
+alike_still nodes d whole count index alike more = record {
   within = alike.within;
-  same = told_still nodes d (take count whole) (take count whole) place alike.same refl more;
+  same = told_still nodes d (take count whole) (take count whole) index alike.same refl more;
 }
 
 get_seam : {X : Type 0} (front : List X) (x : X) (rest : List X)
@@ -333,13 +333,13 @@ get_seam [] x rest = refl
 get_seam (y ∷ front) x rest = get_seam front x rest
 
 -- an input told what the job hasn't there
-pub not_alike : (nodes : List Node) (d : ℕ) (whole : List WholeInput) (count place : ℕ)
-    (told : Bool) (path : List ℕ) (paths : List (List ℕ)) → AreAlike nodes d whole count place
+pub not_alike : (nodes : List Node) (d : ℕ) (whole : List WholeInput) (count index : ℕ)
+    (told : Bool) (path : List ℕ) (paths : List (List ℕ)) → AreAlike nodes d whole count index
     → (option_map shown_whole (slice_get whole count) ≡ Some (path, paths) → ⊥)
-    → told ≡ true → MoreTold nodes d place told path paths
+    → told ≡ true → MoreTold nodes d index told path paths
     → IfSome (slice_get nodes d) (λ node. IsTrue false
     ↔ (map shown_whole whole ≡ flat_map (whole_input nodes) node.drv.inputs))
-not_alike nodes d whole count place told path paths alike other holds more = by
+not_alike nodes d whole count index told path paths alike other holds more = by
     (slice_get nodes d) refl
   where
     at : (node : Node) → slice_get nodes d ≡ Some node
@@ -347,12 +347,12 @@ not_alike nodes d whole count place told path paths alike other holds more = by
     at node own same =
         let f = whole_input nodes in
         let inputs : List Input = node.drv.inputs in
-        let front : List Pair = flat_map f (take place inputs) in
-        let rest : List Pair = flat_map f (drop (place + 1) inputs) in
+        let front : List Pair = flat_map f (take index inputs) in
+        let rest : List Pair = flat_map f (drop (index + 1) inputs) in
         let pair : Pair = (path, paths) in
         let parts : map shown_whole whole ≡ front ++ pair ∷ rest =
-        same ∙ ap (flat_map f) (sym (take-append-drop (place + 1) inputs))
-        ∙ flat_map-append f (take (place + 1) inputs) (drop (place + 1) inputs)
+        same ∙ ap (flat_map f) (sym (take-append-drop (index + 1) inputs))
+        ∙ flat_map-append f (take (index + 1) inputs) (drop (index + 1) inputs)
         ∙ ap (λ ps. ps ++ rest)
         (more node own ∙ ap (λ b. front ++ told_whole b path paths) holds)
         ∙ append_assoc front (pair ∷ []) rest in
@@ -372,14 +372,14 @@ not_alike nodes d whole count place told path paths alike other holds more = by
 
 -- all inputs were seen: the job has no more
 pub alike_all : (nodes : List Node) (d : ℕ) (numbers : List ℕ) (whole : List WholeInput)
-    (count place : ℕ)
+    (count index : ℕ)
     → IfSome (slice_get nodes d) (λ node. AreNumbers nodes numbers (inputs_of node.drv))
-    → length numbers ≤ place → AreAlike nodes d whole count place
+    → length numbers ≤ index → AreAlike nodes d whole count index
     → IfSome (slice_get nodes d) (λ node. IsTrue (count == length whole)
     ↔ (map shown_whole whole ≡ flat_map (whole_input nodes) node.drv.inputs))
-alike_all nodes d numbers whole count place are all alike =
+alike_all nodes d numbers whole count index are all alike =
     by (slice_get nodes d)
-    (told_all nodes d numbers (map shown_whole (take count whole)) place are all alike.same)
+    (told_all nodes d numbers (map shown_whole (take count whole)) index are all alike.same)
   where
     by : (o : Option Node)
         → IfSome o (λ node. map shown_whole (take count whole)

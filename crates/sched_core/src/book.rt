@@ -275,8 +275,8 @@ impl<O: Outlet> Book<O> {
     /// worked out, and one for each edge that it followed, from a derivation to one that waits for
     /// it as for an input, or as for the nearest of its earlier twins. That is one for each event,
     /// and two for each edge from a derivation that ended since the book opened. In a run it is at
-    /// most twice its derivations, twice the pairs of a derivation and a place of its text at which
-    /// an input stands, and twice the derivations that have an earlier twin.
+    /// most twice its derivations, twice the pairs of a derivation and an input that its text
+    /// names, and twice the derivations that have an earlier twin.
     pub fn steps(&self) -> u64
         ensures { result ≡ steps_in self.now.run self.now.history % 2 ^ 64 }
     {
@@ -289,8 +289,8 @@ impl<O: Outlet> Book<O> {
     /// `built P`, `reused P`, `failed P: WHY` or `refused P: WHY`. Then for each root that was
     /// built or reused, in the order of the roots, it has a line `output O` for each of its
     /// outputs. Where a derivation failed since an output refers to a path to which it may not, WHY
-    /// names that path, which `Reason::NotAllowed` gives by its place in the list of `permitted`,
-    /// or the place where the list has no such place. An error where memory is refused, and no
+    /// names that path, which `Reason::NotAllowed` gives by its index in the list of `permitted`,
+    /// or the index where the list has no such index. An error where memory is refused, and no
     /// other. Costs one sort of the wanted derivations by path, for each derivation that failed so
     /// what `permitted` costs, and else time in proportion to the plan's derivations and the text.
     pub fn report(&self) -> Result<Vec<u8>, AllocError>

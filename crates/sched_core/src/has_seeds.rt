@@ -19,11 +19,11 @@ pub(crate) fn has_seeds(plan: &Plan, d: usize, seeds: &[StorePath]) -> bool
     let drv = plan.drv(d);
     let inputs = plan.inputs(d);
     let mut left = rest_after_paths(seeds, plan.sources(d));
-    for place in 0..inputs.len() {
-        let used = plan.drv(inputs[place]);
-        let paths = plan.output_paths(inputs[place]);
+    for index in 0..inputs.len() {
+        let used = plan.drv(inputs[index]);
+        let paths = plan.output_paths(inputs[index]);
         left = match left {
-            Some(rest) => rest_after_used(drv, place, used, paths, rest),
+            Some(rest) => rest_after_used(drv, index, used, paths, rest),
             None => None,
         };
     }
@@ -48,23 +48,23 @@ fn rest_after_paths<'a>(seeds: &'a [StorePath], paths: &[StorePath]) -> Option<&
 }
 
 // What is left of some seeds after the paths of the outputs that a derivation uses of its input
-// with this place.
+// with this index.
 fn rest_after_used<'a>(
     drv: &Derivation,
-    place: usize,
+    index: usize,
     used: &Derivation,
     paths: &[StorePath],
     seeds: &'a [StorePath],
 ) -> Option<&'a [StorePath]>
-    requires place { place < length drv.now.inputs }
+    requires index { index < length drv.now.inputs }
     requires paths { paths.now ≡ output_paths_of used.now }
-    ensures { (input : Input) → slice_get drv.now.inputs place ≡ Some input
+    ensures { (input : Input) → slice_get drv.now.inputs index ≡ Some input
         → IsRest seeds.now (paths_named input.names used.now) result }
 {
     let outputs = used.outputs();
     let mut left = Some(seeds);
     for n in 0..paths.len() {
-        if drv.uses(place, &outputs[n].name) {
+        if drv.uses(index, &outputs[n].name) {
             left = match left {
                 Some(rest) => rest_after_path(rest, &paths[n]),
                 None => None,

@@ -47,34 +47,34 @@ fn named_path(
         (IsNamedIn states.now.graph journal.now.entries d (table_state states.now d)) }
 {
     match states.state(d) {
-        State::Failed(Reason::NotAllowed(_, place)) => {
-            permitted_at(alloc, states.plan(), journal, d, place)
+        State::Failed(Reason::NotAllowed(_, index)) => {
+            permitted_at(alloc, states.plan(), journal, d, index)
         }
-        State::Failed(Reason::UnknownNar(place)) => {
-            permitted_at(alloc, states.plan(), journal, d, place)
+        State::Failed(Reason::UnknownNar(index)) => {
+            permitted_at(alloc, states.plan(), journal, d, index)
         }
         _ => Ok(None),
     }
 }
 
-// The path at a place among those that are permitted to the derivation with this number, in rising
+// The path at an index among those that are permitted to the derivation with this number, in rising
 // order; none past their end.
 fn permitted_at(
     alloc: Global,
     plan: &Plan,
     journal: &Journal,
     d: usize,
-    place: usize,
+    index: usize,
 ) -> Result<Option<StorePath>, AllocError>
     requires within { d < length plan.now.nodes }
     requires seeds { IfSome (slice_get plan.now.nodes d)
         (λ node. All (IsValid (registered journal.now.entries))
         (seeds_of plan.now.nodes node.drv)) }
-    ensures ok { IfOk result (IsPermittedAt plan.now journal.now.entries d place) }
+    ensures ok { IfOk result (IsPermittedAt plan.now journal.now.entries d index) }
 {
     let job = job_of(alloc, plan, d)?;
     let permitted = permitted_to(alloc, journal, &job)?;
-    match permitted.get(place) {
+    match permitted.get(index) {
         Some(path) => Ok(Some(path.copy(alloc)?)),
         None => Ok(None),
     }

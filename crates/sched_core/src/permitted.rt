@@ -20,7 +20,7 @@ use valid_table::{Journal, TableFault};
 /// error where memory is refused, and no other. Costs one sort of the job's outputs, a copy and a
 /// binary search for each of them, and a move of the paths of `reached` that stand above the least
 /// of them. A search compares an output with some of the paths of `reached`. None of those is
-/// copied, and those below the least output keep their places.
+/// copied, and those below the least output aren't moved.
 pub fn permitted_beside(
     alloc: Global,
     reached: Vec<StorePath>,

@@ -20,10 +20,10 @@ pub(crate) fn seeds_of(alloc: Global, plan: &Plan, d: usize) -> Result<Vec<Store
     let mut seeds = Vec::new(alloc);
     add_paths(alloc, plan.sources(d), &mut seeds)?;
     let inputs = plan.inputs(d);
-    for place in 0..inputs.len() {
-        let used = plan.drv(inputs[place]);
-        let paths = plan.output_paths(inputs[place]);
-        add_used(alloc, plan.drv(d), place, used, paths, &mut seeds)?;
+    for index in 0..inputs.len() {
+        let used = plan.drv(inputs[index]);
+        let paths = plan.output_paths(inputs[index]);
+        add_used(alloc, plan.drv(d), index, used, paths, &mut seeds)?;
     }
     Ok(seeds)
 }
@@ -42,23 +42,23 @@ pub(crate) fn add_paths(
     Ok(())
 }
 
-// Adds the paths of the outputs that a derivation uses of its input with this place.
+// Adds the paths of the outputs that a derivation uses of its input with this index.
 fn add_used(
     alloc: Global,
     drv: &Derivation,
-    place: usize,
+    index: usize,
     used: &Derivation,
     paths: &[StorePath],
     seeds: &mut Vec<StorePath>,
 ) -> Result<(), AllocError>
-    requires place { place < length drv.now.inputs }
+    requires index { index < length drv.now.inputs }
     requires paths { paths.now ≡ output_paths_of used.now }
-    ensures { OnOk result ((input : Input) → slice_get drv.now.inputs place ≡ Some input
+    ensures { OnOk result ((input : Input) → slice_get drv.now.inputs index ≡ Some input
         → seeds.new.items ≡ seeds.old.items ++ paths_named input.names used.now) }
 {
     let outputs = used.outputs();
     for n in 0..paths.len() {
-        if drv.uses(place, &outputs[n].name) {
+        if drv.uses(index, &outputs[n].name) {
             let path = paths[n].copy(alloc)?;
             seeds.push(path)?;
         }

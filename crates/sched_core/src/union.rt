@@ -6,10 +6,10 @@ ghost use Rattle.valid_table.specs.Unions.{IsUnion};
 use nix_names::StorePath;
 use std::alloc::AllocError;
 
-/// The union of two strictly rising lists, strictly rising, of which the second is meant to have few
-/// paths; both are given away. The error says that memory was refused. Costs a binary search for
-/// each path of the second, and a move of the paths of the first that stand above the least of
-/// those; the others keep their places, and no path is copied.
+/// The union of two strictly rising lists, strictly rising, of which the second is meant to have
+/// few paths; both are given away. The error says that memory was refused. Costs a binary search
+/// for each path of the second, and a move of the paths of the first that stand above the least of
+/// those; the others aren't moved, and no path is copied.
 pub fn union_of(paths: Vec<StorePath>, others: Vec<StorePath>) -> Result<Vec<StorePath>, AllocError>
     requires left { IsRising paths.items }
     requires right { IsRising others.items }
@@ -20,8 +20,8 @@ pub fn union_of(paths: Vec<StorePath>, others: Vec<StorePath>) -> Result<Vec<Sto
     let mut left = others;
     let mut above = Vec::new(alloc);
     while let Some(path) = left.pop() {
-        if let Err(place) = below.binary_search(&path) {
-            take_off(&mut below, place, &mut above)?;
+        if let Err(index) = below.binary_search(&path) {
+            take_off(&mut below, index, &mut above)?;
             above.push(path)?;
         }
     }
@@ -30,18 +30,18 @@ pub fn union_of(paths: Vec<StorePath>, others: Vec<StorePath>) -> Result<Vec<Sto
     Ok(below)
 }
 
-// Moves the paths from this place on to the end of `above`, the last path first.
+// Moves the paths from this index on to the end of `above`, the last path first.
 fn take_off(
     paths: &mut Vec<StorePath>,
-    place: usize,
+    index: usize,
     above: &mut Vec<StorePath>,
 ) -> Result<(), AllocError>
-    requires { place ≤ length paths.old.items }
-    ensures below { IfOk result (λ _. paths.new.items ≡ take place paths.old.items) }
+    requires { index ≤ length paths.old.items }
+    ensures below { IfOk result (λ _. paths.new.items ≡ take index paths.old.items) }
     ensures above { IfOk result
-        (λ _. above.new.items ≡ above.old.items ++ reverse (drop place paths.old.items)) }
+        (λ _. above.new.items ≡ above.old.items ++ reverse (drop index paths.old.items)) }
 {
-    let mut taken = paths.split_off(place)?;
+    let mut taken = paths.split_off(index)?;
     taken.reverse();
     above.append(&mut taken)
 }

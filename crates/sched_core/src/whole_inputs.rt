@@ -27,7 +27,7 @@ pub(crate) fn whole_inputs_of(
     }
 }
 
-// The same under the profile `nix`.
+// Under `nix`, the inputs of a derivation of which it names each output.
 fn all_whole(alloc: Global, plan: &Plan, d: usize) -> Result<Vec<WholeInput>, AllocError>
     requires { d < length plan.now.nodes }
     ensures { IfOk result (λ whole. IfSome (slice_get plan.now.nodes d) (λ node.
@@ -35,9 +35,9 @@ fn all_whole(alloc: Global, plan: &Plan, d: usize) -> Result<Vec<WholeInput>, Al
 {
     let mut whole = Vec::new(alloc);
     let inputs = plan.inputs(d);
-    for place in 0..inputs.len() {
-        let number = inputs[place];
-        if is_whole(plan.drv(d), place, plan.drv(number)) {
+    for index in 0..inputs.len() {
+        let number = inputs[index];
+        if is_whole(plan.drv(d), index, plan.drv(number)) {
             let input = whole_of(alloc, plan.path(number), plan.output_paths(number))?;
             whole.push(input)?;
         }
@@ -57,14 +57,14 @@ fn whole_of(alloc: Global, drv: &StorePath, paths: &[StorePath]) -> Result<Whole
     })
 }
 
-// Whether a derivation names each output of its input with this place.
-fn is_whole(drv: &Derivation, place: usize, used: &Derivation) -> bool
-    requires { place < length drv.now.inputs }
-    ensures { IfSome (slice_get drv.now.inputs place)
+// Whether a derivation names each output of its input with this index.
+fn is_whole(drv: &Derivation, index: usize, used: &Derivation) -> bool
+    requires { index < length drv.now.inputs }
+    ensures { IfSome (slice_get drv.now.inputs index)
         (λ input. result ≡ are_all_named input.names used.now) }
 {
     for output in used.outputs() {
-        if !drv.uses(place, &output.name) {
+        if !drv.uses(index, &output.name) {
             return false;
         }
     }
@@ -86,7 +86,7 @@ pub(crate) fn has_whole_inputs(plan: &Plan, d: usize, whole: &[WholeInput]) -> b
     }
 }
 
-// The same under the profile `nix`.
+// Under `nix`, whether these are the inputs of which a derivation names each output.
 fn has_all_whole(plan: &Plan, d: usize, whole: &[WholeInput]) -> bool
     requires { d < length plan.now.nodes }
     ensures { IfSome (slice_get plan.now.nodes d) (λ node. IsTrue result
@@ -94,9 +94,9 @@ fn has_all_whole(plan: &Plan, d: usize, whole: &[WholeInput]) -> bool
 {
     let mut count = 0;
     let inputs = plan.inputs(d);
-    for place in 0..inputs.len() {
-        let number = inputs[place];
-        if is_whole(plan.drv(d), place, plan.drv(number)) {
+    for index in 0..inputs.len() {
+        let number = inputs[index];
+        if is_whole(plan.drv(d), index, plan.drv(number)) {
             if !is_at(whole, count, plan.path(number), plan.output_paths(number)) {
                 return false;
             }
@@ -106,12 +106,12 @@ fn has_all_whole(plan: &Plan, d: usize, whole: &[WholeInput]) -> bool
     count == whole.len()
 }
 
-// Whether the whole input at this place has this path and these outputs.
-fn is_at(whole: &[WholeInput], place: usize, drv: &StorePath, paths: &[StorePath]) -> bool
+// Whether the whole input at this index has this path and these outputs.
+fn is_at(whole: &[WholeInput], index: usize, drv: &StorePath, paths: &[StorePath]) -> bool
     ensures { IsTrue result
-        ↔ (option_map shown_whole (slice_get whole.now place) ≡ Some (drv.now, paths.now)) }
+        ↔ (option_map shown_whole (slice_get whole.now index) ≡ Some (drv.now, paths.now)) }
 {
-    match whole.get(place) {
+    match whole.get(index) {
         Some(input) => is_same(input, drv, paths),
         None => false,
     }

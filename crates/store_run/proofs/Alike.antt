@@ -197,13 +197,13 @@ module _ (may : Job → Result Answer Reason → Type 0) (run : Run) (history : 
       → (n : ℕ) × (slice_get (output_paths_of node.drv) n ≡ Some path)
       × (slice_get made.infos n ≡ Some info)
   record_is path info own has =
-      let place = get_from_contains _ _ own in
-      let below = slice_get_within (output_paths_of node.drv) place.0 path place.1 in
+      let index = get_from_contains _ _ own in
+      let below = slice_get_within (output_paths_of node.drv) index.0 path index.1 in
       let count = came_count may run history once d node at made.infos made.came in
-      let found = element_at made.infos place.0 (omega (arith, below, count)) in
+      let found = element_at made.infos index.0 (omega (arith, below, count)) in
       let same : found.0 ≡ info = one_info _ once _ _ _
-      (record_registered _ _ _ place.1 found.1) has in
-      (place.0, place.1, found.1 ∙ ap Some same)
+      (record_registered _ _ _ index.1 found.1) has in
+      (index.0, index.1, found.1 ∙ ap Some same)
 
 -- the outputs of a derivation with the same records are carried
 made_carried : (may : Job → Result Answer Reason → Type 0) (run : Run) (history other : History)
@@ -219,13 +219,13 @@ made_carried may run history other once once' d node at made made' same carried 
     outputs_carried _ _
     _ _ carried
     (λ path info own has.
-    let place = record_is _ _ history once d node at made path info own has in
-    record_registered _ _ _ once' d node at made' place.0 path info place.1
-    (ap (λ (infos : List PathInfo). slice_get infos place.0) (sym same) ∙ place.2))
+    let index = record_is _ _ history once d node at made path info own has in
+    record_registered _ _ _ once' d node at made' index.0 path info index.1
+    (ap (λ (infos : List PathInfo). slice_get infos index.0) (sym same) ∙ index.2))
     (λ path next info own has refers.
-    let place = record_is may run history once d node at made path info own has in
+    let index = record_is may run history once d node at made path info own has in
     came_refers may _ _ once d node at _ made.came _ _
-    (Contains-from_get _ _ _ place.2) refers)
+    (Contains-from_get _ _ _ index.2) refers)
 
 -- ---- one derivation
 

@@ -9,7 +9,7 @@ use Rattle.valid_table.specs.PathInfos.{PathInfo}
 use Rattle.valid_table.specs.Valid.{AreReferencesValid, IsOnce, IsValid, Registers}
 use Rattle.valid_table.specs.declared.entry.Entry.{Entry}
 use Rattle.valid_table.specs.declared.entry.Registration.{Registration}
-use Rattle.valid_table.proofs.ClosureLaws.{leads_before, leads_behind, registers_from_valid}
+use Rattle.valid_table.proofs.ClosureLaws.{leads_before, leads_after, registers_from_valid}
 use Rattle.valid_table.proofs.Following.{one_info}
 use Rattle.run_states.specs.Legal.{MayRefer}
 use Rattle.run_states.proofs.Dones.{reached_is_valid}
@@ -151,7 +151,7 @@ pub reach_more : (first more : List Registration) → AreReferencesValid first
     → IsOnce (first ++ more) → (from to : List ℕ) → IsValid first from
     → Reaches first from to ↔ Reaches (first ++ more) from to
 reach_more first more closed once from to valid = (
-  λ reaches. (reaches.0, leads_behind first more from to reaches.0 reaches.1),
+  λ reaches. (reaches.0, leads_after first more from to reaches.0 reaches.1),
   λ reaches. (reaches.0, leads_before first more closed once from to reaches.0 valid reaches.1),
 )
 

@@ -53,9 +53,9 @@ module _ {X : Type 0} (p q : X → Bool) where
       let rest = first_agree xs (λ y has. same y (Contains-later x xs y has)) in
       rw (here, rest) refl
 
-  place_agree : (xs : List X) → ((x : X) → Contains xs x → p x ≡ q x)
+  index_agree : (xs : List X) → ((x : X) → Contains xs x → p x ≡ q x)
       → position p xs ≡ position q xs
-  place_agree xs same = rw (first_agree xs same) refl
+  index_agree xs same = rw (first_agree xs same) refl
 
 -- where the same outputs and sources are valid, a derivation stands the same
 precondition_agree : (terms : Terms) (a b : List Entry) (drv : Drv)
@@ -65,8 +65,8 @@ precondition_agree : (terms : Terms) (a b : List Entry) (drv : Drv)
 precondition_agree terms a b drv outputs sources =
     rw (
       all_agree (is_valid a) (is_valid b) (output_paths_of drv) outputs,
-      place_agree (is_valid a) (is_valid b) (output_paths_of drv) outputs,
-      place_agree (λ path. not (is_valid a path)) (λ path. not (is_valid b path)) drv.sources
+      index_agree (is_valid a) (is_valid b) (output_paths_of drv) outputs,
+      index_agree (λ path. not (is_valid a path)) (λ path. not (is_valid b path)) drv.sources
           (λ path has. ap not (sources path has)),
     ) refl
 

@@ -106,11 +106,11 @@ no_fault tree is ReadFault none = none
 no_fault tree is OutOfMemory none = none
 no_fault tree is Killed none = none
 no_fault tree is (BadMode n) none = none
-no_fault tree is (NotAllowed output place) none = none
+no_fault tree is (NotAllowed output index) none = none
 no_fault tree is (BadSpecifier output) none = none
 no_fault tree is BadAttributes none = none
 no_fault tree is BadGraph none = none
-no_fault tree is (UnknownNar place) none = none
+no_fault tree is (UnknownNar index) none = none
 no_fault tree is (PastMaxSize output) none = none
 no_fault tree is (PastMaxClosureSize output) none = none
 

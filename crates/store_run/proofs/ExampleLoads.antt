@@ -17,7 +17,7 @@ use Rattle.nix_drv.specs.Sources.{listing_gives}
 use Rattle.nix_drv.specs.Strings.{spelled, spelling}
 use Rattle.nix_drv.proofs.Rising.{order_means_rising}
 use Rattle.drv_graph.specs.Nodes.{Node, inputs_of}
-use Rattle.drv_graph.specs.Plans.{AreLeft, IsPlan, IsReachedBy, LeadsBy, MayBeAt, Uses, left_behind_inputs, none_left}
+use Rattle.drv_graph.specs.Plans.{AreLeft, IsPlan, IsReachedBy, LeadsBy, MayBeAt, Uses, left_after_inputs, none_left}
 use Rattle.drv_graph.proofs.PathLists.{other_path}
 use Rattle.store_run.proofs.AlonePlans.{all_two, drv_with, files_differ, lawful_both, left_file, left_filed, node_with, one_of, out_short, right_file, right_filed, store, text_named}
 use Rattle.store_run.specs.ScheduleExample.{Recipe, both, drv_alone, failing, left, making, out_alone, right, text_of, two_files}
@@ -118,10 +118,10 @@ without_inputs n has = search (rules, one_of, Contains-cons_cases)
 
 in_order : AreLeft both.graph.nodes [] (left.path ∷ right.path ∷ []) (left.path ∷ right.path ∷ [])
 in_order =
-    left_behind_inputs left [] [] (right.path ∷ []) (left.path ∷ right.path ∷ [])
+    left_after_inputs left [] [] (right.path ∷ []) (left.path ∷ right.path ∷ [])
     (Contains-first left (right ∷ [])) (Contains-nothing left.path) (none_left [])
     (Contains-nothing _)
-    (left_behind_inputs right (left.path ∷ []) (left.path ∷ []) [] (left.path ∷ right.path ∷ [])
+    (left_after_inputs right (left.path ∷ []) (left.path ∷ []) [] (left.path ∷ right.path ∷ [])
     (Contains-later left (right ∷ []) right (Contains-first right [])) not_left
     (none_left (left.path ∷ [])) not_left (none_left (left.path ∷ right.path ∷ [])))
   where

@@ -156,7 +156,7 @@ record IsThread (may : Job → Result Answer Reason → Type 0) (run : Run) (his
   had : HadTurns may run history.opening count other
   turns : (d : ℕ) → d < count → HasSameTurn history other d
 
--- the same of one derivation more
+-- one derivation more had its turn
 turns_more : (history other after : History) (count : ℕ)
     → ((i : ℕ) → (count ≡ i → ⊥) → phase_of after.events i ≡ phase_of other.events i)
     → ((d : ℕ) → d < count → HasSameTurn history other d) → HasSameTurn history after count

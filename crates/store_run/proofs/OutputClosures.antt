@@ -14,7 +14,7 @@ use Rattle.valid_table.specs.Unions.{IsUnion}
 use Rattle.valid_table.specs.Valid.{IsValid, Registers}
 use Rattle.valid_table.specs.declared.entry.Entry.{Entry}
 use Rattle.valid_table.specs.declared.entry.Registration.{Registration}
-use Rattle.valid_table.proofs.ClosureLaws.{leads_behind}
+use Rattle.valid_table.proofs.ClosureLaws.{leads_after}
 use Rattle.valid_table.proofs.JournalLists.{registered-append}
 use Rattle.valid_view.specs.Answers.{AreRecords}
 use Rattle.valid_view.specs.Shown.{IsShowable}
@@ -44,7 +44,7 @@ use Rattle.store_run.proofs.Permits.{permitted_after, reach_after, seeds_stay}
 refer_more : (first more : List Registration) (seeds outputs : List (List ℕ)) (path : List ℕ)
     → MayRefer first seeds outputs path → MayRefer (first ++ more) seeds outputs path
 refer_more first more seeds outputs path (inl (seed, has, (steps, leads))) =
-    inl (seed, has, (steps, leads_behind first more seed path steps leads))
+    inl (seed, has, (steps, leads_after first more seed path steps leads))
 refer_more first more seeds outputs path (inr own) = inr own
 
 -- what may be referred to may be so in each list that goes on
@@ -401,8 +401,8 @@ found_unread seen job permitted showable seeds are answer infos reason is why =
     (λ h. inr (subst (IsFirstTestFault (registered seen) job permitted infos) (sym h.0)
     (unread_first (registered seen) job permitted infos h.1))) why)
 
--- what is found by the tests of an answer's records, by a list that goes on from the one by which it
--- was examined
+-- what is found by the tests of an answer's records, by a list that goes on from the one by which
+-- it was examined
 module _ (before after : List Entry) (job : Job) (permitted : List (List ℕ))
     (infos : List PathInfo) (given : List OutputClosure) (goes : IsPrefix before after)
     (showable : IsShowable after) (seeds : AreSeedsValid before job)

@@ -90,8 +90,8 @@ AreTold run version = (opening : List Entry) (d : ℕ) (job : Job) (permitted : 
 
 told_in_three : (run : Run) → AreTold run Three
 told_in_three run opening d job permitted answer infos free is_job verdict info has =
-    let (n, place) = get_from_contains infos info has in
-    let (tree, at_tree, is) = verdict.1.each n info place in
+    let (n, index) = get_from_contains infos info has in
+    let (tree, at_tree, is) = verdict.1.each n info index in
     record_in_three job permitted tree info is
 
 told_in_two : (dir : List ℕ) (gives : List ℕ → SourceAnswer → Type 0) (roots : List (List ℕ))
@@ -174,8 +174,8 @@ module _ (may : Job → Result Answer Reason → Type 0) (dir : List ℕ)
             ∙ sym (length-map job.outputs.items (λ (o : JobOutput). o.path))
             ∙ ap length outputs;
         each = λ info has.
-            let (n, place) = get_from_contains infos info has in
-            let (tree, at_tree, is) = verdict.1.each n info place in record {
+            let (n, index) = get_from_contains infos info has in
+            let (tree, at_tree, is) = verdict.1.each n info index in record {
               known = tells opening d job permitted answer infos free ending.is_job verdict info
                   has;
               references = All-from_contains (IsPathOf dir) info.references

@@ -78,11 +78,11 @@ fault_there profile Addressed tree other same ReadFault fault = absurd fault
 fault_there profile Addressed tree other same OutOfMemory fault = absurd fault
 fault_there profile Addressed tree other same Killed fault = absurd fault
 fault_there profile Addressed tree other same (BadMode n) fault = absurd fault
-fault_there profile Addressed tree other same (NotAllowed output place) fault = absurd fault
+fault_there profile Addressed tree other same (NotAllowed output index) fault = absurd fault
 fault_there profile Addressed tree other same (BadSpecifier output) fault = absurd fault
 fault_there profile Addressed tree other same BadAttributes fault = absurd fault
 fault_there profile Addressed tree other same BadGraph fault = absurd fault
-fault_there profile Addressed tree other same (UnknownNar place) fault = absurd fault
+fault_there profile Addressed tree other same (UnknownNar index) fault = absurd fault
 fault_there profile Addressed tree other same (PastMaxSize output) fault = absurd fault
 fault_there profile Addressed tree other same (PastMaxClosureSize output) fault = absurd fault
 fault_there profile (Fixed method digest) tree other same (ExitStatus n) fault = absurd fault
@@ -93,7 +93,7 @@ fault_there profile (Fixed method digest) tree other same ReadFault fault = absu
 fault_there profile (Fixed method digest) tree other same OutOfMemory fault = absurd fault
 fault_there profile (Fixed method digest) tree other same Killed fault = absurd fault
 fault_there profile (Fixed method digest) tree other same (BadMode n) fault = absurd fault
-fault_there profile (Fixed method digest) tree other same (NotAllowed output place) fault =
+fault_there profile (Fixed method digest) tree other same (NotAllowed output index) fault =
     absurd fault
 fault_there profile (Fixed method digest) tree other same (BadSpecifier output) fault =
     absurd fault
@@ -101,7 +101,7 @@ fault_there profile (Fixed method digest) tree other same BadAttributes fault =
     absurd fault
 fault_there profile (Fixed method digest) tree other same BadGraph fault =
     absurd fault
-fault_there profile (Fixed method digest) tree other same (UnknownNar place) fault =
+fault_there profile (Fixed method digest) tree other same (UnknownNar index) fault =
     absurd fault
 fault_there profile (Fixed method digest) tree other same (PastMaxSize output) fault =
     absurd fault
@@ -190,8 +190,8 @@ module _ (job : Job) (answer other : Answer) (same : AreSameAnswers answer other
       → AreRecords job permitted answer infos → AreRecords job permitted other infos
   records_there permitted infos are = record {
     count = are.count;
-    each = λ n info place.
-        let (tree, at, is) = are.each n info place in
+    each = λ n info index.
+        let (tree, at, is) = are.each n info index in
         let its = its_tree n tree at in
         (its.0, its.1, record_there job permitted tree its.0 its.2 info is);
   }
@@ -260,11 +260,11 @@ module _ (job : Job) (answer other : Answer) (same : AreSameAnswers answer other
       (taken_too taken, (infos, records_there job answer other same permitted infos records, round))
   verdict_there permitted (Err NoStart) is = absurd is
   verdict_there permitted (Err OutOfMemory) is = absurd is
-  verdict_there permitted (Err (NotAllowed output place)) is = absurd is
+  verdict_there permitted (Err (NotAllowed output index)) is = absurd is
   verdict_there permitted (Err (BadSpecifier output)) is = absurd is
   verdict_there permitted (Err BadAttributes) is = absurd is
   verdict_there permitted (Err BadGraph) is = absurd is
-  verdict_there permitted (Err (UnknownNar place)) is = absurd is
+  verdict_there permitted (Err (UnknownNar index)) is = absurd is
   verdict_there permitted (Err (PastMaxSize output)) is = absurd is
   verdict_there permitted (Err (PastMaxClosureSize output)) is = absurd is
 

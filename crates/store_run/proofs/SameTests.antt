@@ -158,13 +158,13 @@ first_where_same P Q there back xs x first = record {
 }
 
 first_path_same : (permitted : List (List ℕ)) (P Q : List ℕ → Type 0)
-    → ((path : List ℕ) → P path → Q path) → ((path : List ℕ) → Q path → P path) → (place : ℕ)
-    → IsFirstPath permitted P place → IsFirstPath permitted Q place
-first_path_same permitted P Q there back place first =
+    → ((path : List ℕ) → P path → Q path) → ((path : List ℕ) → Q path → P path) → (index : ℕ)
+    → IsFirstPath permitted P index → IsFirstPath permitted Q index
+first_path_same permitted P Q there back index first =
     first_same (λ n. (path : List ℕ) × (slice_get permitted n ≡ Some path) × P path)
     (λ n. (path : List ℕ) × (slice_get permitted n ≡ Some path) × Q path)
     (λ n is. (is.0, is.1, there is.0 is.2)) (λ n is. (is.0, is.1, back is.0 is.2))
-    (length permitted) place first
+    (length permitted) index first
 
 -- a test has the same fault by two jobs that are alike
 module _ (registrations : List Registration) (job again : Job)
@@ -220,7 +220,7 @@ module _ (registrations : List Registration) (job again : Job)
       → IsTestFault registrations again permitted infos test why
   test_fault_too OfAttributes BadAttributes unread = λ can. unread
       (can_read_too again job (sym names) (sym profiles) (sym envs) can)
-  test_fault_too (OfFixed n) (NotAllowed output place) (is, (method, digest, fixed), first) =
+  test_fault_too (OfFixed n) (NotAllowed output index) (is, (method, digest, fixed), first) =
       (is, (method, digest, sym kinds ∙ fixed), first)
   test_fault_too (OfSize n) (PastMaxSize output) (is, (limit, limited, past)) = (
     is,
@@ -237,7 +237,7 @@ module _ (registrations : List Registration) (job again : Job)
           past_too registrations job again outputs infos own limit past,
         ),
       )
-  test_fault_too (OfClosureSize n) (UnknownNar place) (own, limit, at, limited, first) = (
+  test_fault_too (OfClosureSize n) (UnknownNar index) (own, limit, at, limited, first) = (
     own,
     limit,
     subst (λ (paths : List (List ℕ)). slice_get paths n ≡ Some own) outputs at,
@@ -245,7 +245,7 @@ module _ (registrations : List Registration) (job again : Job)
     first_path_same permitted (IsUnmeasured registrations job infos own)
         (IsUnmeasured registrations again infos own)
         (unmeasured_too registrations job again outputs infos own)
-        (unmeasured_too registrations again job (sym outputs) infos own) place first,
+        (unmeasured_too registrations again job (sym outputs) infos own) index first,
   )
   test_fault_too (Of n check) (BadSpecifier output) (is, (own, list, at, listed, bad)) = (
     is,
@@ -257,7 +257,7 @@ module _ (registrations : List Registration) (job again : Job)
       λ are. bad (specifiers_too again job (sym outputs) (sym names) own list are),
     ),
   )
-  test_fault_too (Of n check) (NotAllowed output place) (is, (own, list, at, listed, are, first)) = (
+  test_fault_too (Of n check) (NotAllowed output index) (is, (own, list, at, listed, are, first)) = (
     is,
     (
       own,
@@ -272,7 +272,7 @@ module _ (registrations : List Registration) (job again : Job)
           × Forbids again own check list path)
           (bad_too registrations job again outputs names profiles envs infos n check own list)
           (bad_too registrations again job (sym outputs) (sym names) (sym profiles) (sym envs)
-          infos n check own list) place first,
+          infos n check own list) index first,
     ),
   )
   test_fault_too test why fault = absurd fault

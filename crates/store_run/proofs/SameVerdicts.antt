@@ -157,10 +157,10 @@ module _ (job again : Job) (outputs : outputs_of job ≡ outputs_of again)
   )
   verdict_too permitted (Err NoStart) is = absurd is
   verdict_too permitted (Err OutOfMemory) is = absurd is
-  verdict_too permitted (Err (NotAllowed output place)) is = absurd is
+  verdict_too permitted (Err (NotAllowed output index)) is = absurd is
   verdict_too permitted (Err (BadSpecifier output)) is = absurd is
   verdict_too permitted (Err BadAttributes) is = absurd is
   verdict_too permitted (Err BadGraph) is = absurd is
-  verdict_too permitted (Err (UnknownNar place)) is = absurd is
+  verdict_too permitted (Err (UnknownNar index)) is = absurd is
   verdict_too permitted (Err (PastMaxSize output)) is = absurd is
   verdict_too permitted (Err (PastMaxClosureSize output)) is = absurd is

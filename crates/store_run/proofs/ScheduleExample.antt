@@ -70,9 +70,9 @@ left_behind entries = record {
   );
 }
 
-right_behind : (entries : List Entry)
+right_after : (entries : List Entry)
     → IsVerdictAfter may_leave both entries 1 (Ok (nothing_in ∷ []))
-right_behind entries = record {
+right_after entries = record {
   job = job_of_right 1;
   is_job = is_job_of_right _ 1 refl refl;
   ends_as = (
@@ -221,7 +221,7 @@ answered =
     answered_fail (ended (begun (begun (opened []) 0) 1) 1 1 made) 0 0 (ExitStatus (pos 1))
     (answered_done (begun (begun (opened []) 0) 1) 1 1 right (nothing_in ∷ []) made
     (answered_begin (begun (opened []) 0) 1
-    (answered_begin (opened []) 0 (answered_opening []))) refl (right_behind []) right_entry)
+    (answered_begin (opened []) 0 (answered_opening []))) refl (right_after []) right_entry)
     (inr (left_behind _))
 
 pub closed_failed : (s : State) (reason : Reason) → s ≡ Failed reason → IsOpen s → ⊥
@@ -270,4 +270,4 @@ thread =
     (record { within = omega arith; wanted = wanted [] 0 (omega arith); ready = first_ready })
     (left_behind []))
     (record { within = omega arith; wanted = wanted [] 1 (omega arith); ready = right_ready })
-    refl (right_behind []) right_entry
+    refl (right_after []) right_entry

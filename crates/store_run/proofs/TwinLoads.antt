@@ -13,7 +13,7 @@ use Rattle.nix_drv.specs.Order.{KeysRise}
 use Rattle.nix_drv.specs.Sources.{listing_gives}
 use Rattle.nix_drv.specs.Strings.{spelling}
 use Rattle.drv_graph.specs.Nodes.{Node, inputs_of}
-use Rattle.drv_graph.specs.Plans.{AreLeft, IsPlan, MayBeAt, left_behind_inputs, none_left}
+use Rattle.drv_graph.specs.Plans.{AreLeft, IsPlan, MayBeAt, left_after_inputs, none_left}
 use Rattle.drv_graph.proofs.PathLists.{other_path}
 use Rattle.store_run.specs.ScheduleExample.{right, text_of}
 use Rattle.store_run.specs.TwinExample.{empty_digest, failing_twin, first_twin, making_twin, out_empty, second_twin, three, three_files}
@@ -106,7 +106,7 @@ right_not_left has =
 right_left : AreLeft three.graph.nodes (first_twin.path ∷ second_twin.path ∷ [])
     (right.path ∷ []) roots
 right_left =
-    left_behind_inputs right (first_twin.path ∷ second_twin.path ∷ [])
+    left_after_inputs right (first_twin.path ∷ second_twin.path ∷ [])
     (first_twin.path ∷ second_twin.path ∷ []) [] roots
     (Contains-later _ (second_twin ∷ right ∷ []) _
     (Contains-later second_twin (right ∷ []) _ (Contains-first _ []))) right_not_left
@@ -114,10 +114,10 @@ right_left =
 
 in_order : AreLeft three.graph.nodes [] roots roots
 in_order =
-    left_behind_inputs first_twin [] [] (second_twin.path ∷ right.path ∷ []) roots
+    left_after_inputs first_twin [] [] (second_twin.path ∷ right.path ∷ []) roots
     (Contains-first _ (second_twin ∷ right ∷ []))
     (Contains-nothing _) (none_left []) (Contains-nothing _)
-    (left_behind_inputs second_twin (first_twin.path ∷ []) (first_twin.path ∷ [])
+    (left_after_inputs second_twin (first_twin.path ∷ []) (first_twin.path ∷ [])
     (right.path ∷ []) roots
     (Contains-later _ (second_twin ∷ right ∷ []) _
     (Contains-first _ (right ∷ []))) second_not_left

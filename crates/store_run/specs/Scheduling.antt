@@ -25,8 +25,8 @@ use Rattle.store_run.specs.Builders.{IsAnswered, IsVerdictOn}
 use Rattle.store_run.specs.OneThread.{IsOneThread}
 use Rattle.store_run.specs.Realising.{IsRealised}
 
--- each derivation of a plan has one outcome: whatever paths are valid and permitted, the verdicts on
--- two outcomes that may be given for jobs of it are the same
+-- each derivation of a plan has one outcome: whatever paths are valid and permitted, the verdicts
+-- on two outcomes that may be given for jobs of it are the same
 abbrev pub HasOneOutcome : (may : Job → Result Answer Reason → Type 0) → Graph → Type 0
 HasOneOutcome may graph = (d : ℕ) (job again : Job) (registrations : List Registration)
     (permitted : List Path) (x y : Result Answer Reason) (a b : Result (List PathInfo) Reason)

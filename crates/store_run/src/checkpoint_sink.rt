@@ -31,12 +31,12 @@ pub trait CheckpointSink {
 
 // Where each text may be put that is kept of a run over the basis.
 #[derive(Drop)]
-pub(crate) struct KeepPlace<J: ListId, B: Build, S: Basis, K: CheckpointSink> {
-    keep: K,
+pub(crate) struct TextSink<J: ListId, B: Build, S: Basis, K: CheckpointSink> {
+    inner: K,
     of: PhantomData<(J, B, S)>,
 }
 
-impl<J: ListId, B: Build, S: Basis, K: CheckpointSink> Model for KeepPlace<J, B, S, K> {
+impl<J: ListId, B: Build, S: Basis, K: CheckpointSink> Model for TextSink<J, B, S, K> {
     ghost use Rattle.store_run.specs.Keeping.{TakesEachInterimJournal};
 
     ghost Value = { Unit {0} };
@@ -46,13 +46,13 @@ impl<J: ListId, B: Build, S: Basis, K: CheckpointSink> Model for KeepPlace<J, B,
     ghost invariant = { λ p. TakesEachInterimJournal B.may (J.Showing.shown J.book) S.is_this_run K.may_keep };
 }
 
-impl<J: ListId, B: Build, S: Basis, K: CheckpointSink> KeepPlace<J, B, S, K> {
-    // A place where each such text may be put.
-    pub(crate) fn new(keep: K) -> KeepPlace<J, B, S, K>
+impl<J: ListId, B: Build, S: Basis, K: CheckpointSink> TextSink<J, B, S, K> {
+    // A sink where each such text may be put.
+    pub(crate) fn new(inner: K) -> TextSink<J, B, S, K>
         requires { TakesEachInterimJournal B.may (J.Showing.shown J.book) S.is_this_run K.may_keep }
     {
-        KeepPlace {
-            keep,
+        TextSink {
+            inner,
             of: PhantomData,
         }
     }
@@ -65,7 +65,7 @@ pub(crate) fn keep_on<R, J, O, B, S, K>(
     alloc: Global,
     locked: &Locked<O, B, S>,
     mut text: KeptText<J, S>,
-    mut place: KeepPlace<J, B, S, K>,
+    mut sink: TextSink<J, B, S, K>,
 )
 where
     R: Wait + Clock,
@@ -80,7 +80,7 @@ where
         if locked.ends_within(rt, pause_after(took)) {
             return;
         }
-        took = keep_new(rt, alloc, locked, &mut text, &mut place);
+        took = keep_new(rt, alloc, locked, &mut text, &mut sink);
     }
     unreachable!()
 }
@@ -93,7 +93,7 @@ fn keep_new<R, J, O, B, S, K>(
     alloc: Global,
     locked: &Locked<O, B, S>,
     text: &mut KeptText<J, S>,
-    place: &mut KeepPlace<J, B, S, K>,
+    sink: &mut TextSink<J, B, S, K>,
 ) -> Option<Duration>
 where
     R: Wait + Clock,
@@ -109,7 +109,7 @@ where
     let Ok(()) = text.go_on(news) else {
         return None;
     };
-    if place.keep.keep(text.bytes(), text.shown()) {
+    if sink.inner.keep(text.bytes(), text.shown()) {
         text.note_kept(count);
     }
     start?.elapsed(rt).ok()

@@ -9,7 +9,7 @@ ghost use Rattle.store_run.specs.Realising.{IsRealised, IsRunFault};
 ghost use Rattle.store_run.specs.private.Looking.{AreKeptIn};
 
 use crate::basis::Basis;
-use crate::checkpoint_sink::{CheckpointSink, KeepPlace, keep_on};
+use crate::checkpoint_sink::{CheckpointSink, TextSink, keep_on};
 use crate::fault::RunFault;
 use crate::kept_text::KeptText;
 use crate::locked::Locked;
@@ -28,7 +28,7 @@ use valid_table::{Journal, Version};
 use valid_view::{ListId, Name, Tells, ViewReader};
 
 /// Does what `realise` does, and keeps what is registered while the run goes on. A thread beside
-/// the workers hands texts to the place: each is the text of all entries that the book had at one
+/// the workers hands texts to the sink: each is the text of all entries that the book had at one
 /// moment, of a legal history of the run, in which what became of each derivation is a verdict on
 /// what a builder may give. All are in one version: version 3 under the profile `nix`, and else
 /// that in which `Journal::write` writes the journal. With it comes the list that was shown at that
@@ -39,7 +39,7 @@ use valid_view::{ListId, Name, Tells, ViewReader};
 /// last one that was kept, nor in the first half second. The thread has ended whenever the call
 /// returns; what was registered last may not have been handed over. Where no thread can be made,
 /// nothing is. The lock is held for the lines of new entries alone, and no worker waits for the
-/// place. Takes memory for the text, once.
+/// sink. Takes memory for the text, once.
 pub fn realise_kept<
     'a,
     J: ListId + Send + Sync,
@@ -54,7 +54,7 @@ pub fn realise_kept<
     journal: &Journal,
     system: &System,
     builders: Vec<B>,
-    place: K,
+    sink: K,
 ) -> RunResult<'a, J, R>
     requires name { name ≡ J.book }
     requires each { (shown : List Entry) (bytes : Bytes)
@@ -77,7 +77,7 @@ pub fn realise_kept<
         Err(fault) => return Err((fault, None)),
     };
     let shared = run_kept::<Brand, R, J, _, B, K>(
-        rt, alloc, book, readers, builders, journal, place,
+        rt, alloc, book, readers, builders, journal, sink,
     );
     // Its contract says that what the book shows was shown.
     shared.shows::<J>();
@@ -93,7 +93,7 @@ fn run_kept<S, R, J, O, B, K>(
     readers: Vec<ViewReader<J>>,
     builders: Vec<B>,
     opening: &Journal,
-    place: K,
+    sink: K,
 ) -> Shared<O, B>
 where
     S: Basis + Send,
@@ -120,7 +120,7 @@ where
                 builders,
                 readers,
                 text,
-                KeepPlace::new(place),
+                TextSink::new(sink),
             );
         }
         None => run_workers(rt, alloc, &locked, builders, readers),
@@ -170,7 +170,7 @@ fn run_beside<S, R, J, O, B, K>(
     builders: Vec<B>,
     readers: Vec<ViewReader<J>>,
     text: KeptText<J, S>,
-    place: KeepPlace<J, B, S, K>,
+    sink: TextSink<J, B, S, K>,
 )
 where
     S: Basis + Send,
@@ -181,7 +181,7 @@ where
     K: CheckpointSink + Send + Drop,
 {
     thread::scope(thread::scope_env(), rt, |scope| {
-        let _ = scope.spawn(move || keep_on(rt, alloc, locked, text, place));
+        let _ = scope.spawn(move || keep_on(rt, alloc, locked, text, sink));
         run_workers(rt, alloc, locked, builders, readers);
         locked.ends(rt);
     });

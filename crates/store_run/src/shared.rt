@@ -158,7 +158,7 @@ impl<O: Outlet, B: Build, S: Basis> Shared<O, B, S> {
         O::prefix(self.book.tell()).was_shown();
     }
 
-    // The same, over any basis.
+    // What is shared, over any basis.
     pub(crate) fn over_any(self) -> Shared<O, B>
         ensures { result ≡ self }
     {

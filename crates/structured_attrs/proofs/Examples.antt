@@ -8,15 +8,15 @@ use Rattle.serde_json.specs.Data.{unsigned, negative, null, boolean, number, str
 use Rattle.structured_attrs.specs.FloatTexts.{size_text}
 use Rattle.structured_attrs.specs.Numerals.{number_of}
 use Rattle.structured_attrs.specs.ShellTexts.{line_of, number_word}
-use Rattle.structured_attrs.specs.declared.decimal.Point.TheVariants.{Behind, Before}
+use Rattle.structured_attrs.specs.declared.decimal.Point.TheVariants.{After, Before}
 
 -- ---- the layout of doubles
 
-fifteen_digits_are_plain : size_text (codes "1") (Behind 15) ≡ codes "100000000000000.0"
+fifteen_digits_are_plain : size_text (codes "1") (After 15) ≡ codes "100000000000000.0"
 unfolding digits
 fifteen_digits_are_plain = refl
 
-sixteen_digits_have_an_exponent : size_text (codes "1") (Behind 16) ≡ codes "1e+15"
+sixteen_digits_have_an_exponent : size_text (codes "1") (After 16) ≡ codes "1e+15"
 unfolding digits
 sixteen_digits_have_an_exponent = refl
 
@@ -28,11 +28,11 @@ four_zeros_have_an_exponent : size_text (codes "1") (Before 4) ≡ codes "1e-05"
 unfolding digits
 four_zeros_have_an_exponent = refl
 
-whole_doubles_end_in_zero : size_text (codes "123456789") (Behind 9) ≡ codes "123456789.0"
+whole_doubles_end_in_zero : size_text (codes "123456789") (After 9) ≡ codes "123456789.0"
 unfolding digits
 whole_doubles_end_in_zero = refl
 
-largest_double : size_text (codes "17976931348623157") (Behind 309) ≡ codes "1.7976931348623157e+308"
+largest_double : size_text (codes "17976931348623157") (After 309) ≡ codes "1.7976931348623157e+308"
 unfolding digits
 largest_double = refl
 

@@ -26,14 +26,14 @@ zero_text : decimal 0 ≡ 48 ∷ []
 unfolding digits
 zero_text = refl
 
-behind : List ℕ → List ℕ
-behind [] = []
-behind (x ∷ xs) = xs
+after : List ℕ → List ℕ
+after [] = []
+after (x ∷ xs) = xs
 
 above_zero : (n : ℕ) → n < 2 ^ 63 → signed_decimal (negsuc n) ≡ codes "-0" → ⊥
-unfolding behind
+unfolding after
 above_zero n h e =
-    let same : decimal (suc n) ≡ decimal 0 = ap behind e ∙ sym zero_text in
+    let same : decimal (suc n) ≡ decimal 0 = ap after e ∙ sym zero_text in
     let none : suc n ≡ 0 = decimal_injective (suc n) 0 (omega arith) (omega arith) same in
     omega arith
 

@@ -8,32 +8,32 @@ use Rattle.std.specs.List.{list_all}
 use Rattle.serde_json.specs.Data.{float}
 use Rattle.structured_attrs.specs.Numerals.{number_of}
 use Rattle.structured_attrs.specs.declared.decimal.Point.{Point}
-use Rattle.structured_attrs.specs.declared.decimal.Point.TheVariants.{Behind, Before}
+use Rattle.structured_attrs.specs.declared.decimal.Point.TheVariants.{After, Before}
 
 -- the digits of an exponent: two at least
 abbrev pub exponent_digits : ℕ → List ℕ
 exponent_digits e = if nat_lt e 10 then 48 ∷ decimal e else decimal e
 
--- a point and the digits behind it, where there are any
+-- a point and the digits after it, where there are any
 abbrev pub fraction_text : List ℕ → List ℕ
 fraction_text [] = []
 fraction_text (d ∷ ds) = 46 ∷ d ∷ ds
 
--- the first digit, the others behind a point, and an exponent with its sign
+-- the first digit, the others after a point, and an exponent with its sign
 abbrev pub scientific_text : (digits : List ℕ) → (sign e : ℕ) → List ℕ
 scientific_text digits sign e =
     take 1 digits ++ (fraction_text (drop 1 digits) ++ (101 ∷ sign ∷ exponent_digits e))
 
--- digits with the point behind some of them, with zeros and `.0` where there are fewer digits
+-- digits with the point after some of them, with zeros and `.0` where there are fewer digits
 abbrev pub plain_text : List ℕ → ℕ → List ℕ
 plain_text digits n =
     if nat_le (length digits) n then digits ++ (replicate (n - length digits) 48 ++ codes ".0")
     else take n digits ++ (46 ∷ drop n digits)
 
 -- The text of a number that is not negative, by its digits and its point: plain where at most 15
--- digits stand before the point, or at most 3 zeros behind it and before the first digit.
+-- digits stand before the point, or at most 3 zeros after it and before the first digit.
 abbrev pub size_text : List ℕ → Point → List ℕ
-size_text digits (Behind n) =
+size_text digits (After n) =
     if nat_le n 15 then plain_text digits n else scientific_text digits 43 (n - 1)
 size_text digits (Before zeros) =
     if nat_lt zeros 4 then codes "0." ++ (replicate zeros 48 ++ digits)

@@ -71,11 +71,11 @@ word_of (string text) = Some (shell_quoted text)
 word_of (array ds) = None
 word_of (object ms) = None
 
--- a word with a space behind it
+-- a word with a space after it
 abbrev pub spaced : List ℕ → List ℕ
 spaced word = word ++ (32 ∷ [])
 
--- the words of an array's items, each with a space behind it, where all are simple
+-- the words of an array's items, each with a space after it, where all are simple
 abbrev pub words_of : Items → Option (List ℕ)
 words_of no_items = Some []
 words_of (item d ds) =
@@ -85,7 +85,7 @@ words_of (item d ds) =
 abbrev pub pair_text : List ℕ → List ℕ → List ℕ
 pair_text key word = 91 ∷ (shell_quoted key ++ (codes "]=" ++ spaced word))
 
--- the keys and words of an object's members, each with a space behind it, where all are simple
+-- the keys and words of an object's members, each with a space after it, where all are simple
 abbrev pub pairs_of : Members → Option (List ℕ)
 pairs_of no_members = Some []
 pairs_of (member key d ms) =
@@ -93,7 +93,7 @@ pairs_of (member key d ms) =
 
 -- ---- lines
 
--- what stands before the name of a variable, between name and value, and behind the value
+-- what stands before the name of a variable, between name and value, and after the value
 abbrev pub head_of : Variable → List ℕ
 head_of Plain = codes "declare "
 head_of Indexed = codes "declare -a "

@@ -16,8 +16,8 @@ use std::str;
 /// Where the point stands among the digits of a decimal number.
 #[derive(Clone, Copy, Debug, PartialEq, Eq)]
 pub enum Point {
-    /// Behind so many digits, with zeros where there are fewer.
-    Behind(u32),
+    /// After so many digits, with zeros where there are fewer.
+    After(u32),
     /// Before so many zeros and then the digits.
     Before(u32),
 }
@@ -55,7 +55,7 @@ pub(crate) fn float_text(alloc: Global, x: f64) -> Result<Vec<u8>, AllocError>
 fn decimal_of(alloc: Global, x: f64) -> Result<Decimal, AllocError> {
     let bits = f64_to_bits_with_nan(x);
     let (digits, point) = if x == 0.0 {
-        (Vec::from_slice(alloc, b"0")?, Point::Behind(1))
+        (Vec::from_slice(alloc, b"0")?, Point::After(1))
     } else {
         digits_of(alloc, bits)?
     };
@@ -136,7 +136,7 @@ fn push_size(digits: &[u8], point: Point, out: &mut Vec<u8>) -> Result<(), Alloc
     ensures { OnOk result (out.new.items ≡ out.old.items ++ size_text digits.now point) }
 {
     match point {
-        Point::Behind(n) => {
+        Point::After(n) => {
             if n <= 15 {
                 push_plain(digits, n as usize, out)
             } else {
@@ -153,7 +153,7 @@ fn push_size(digits: &[u8], point: Point, out: &mut Vec<u8>) -> Result<(), Alloc
     }
 }
 
-// Adds digits with the point behind some of them.
+// Adds digits with the point after some of them.
 fn push_plain(digits: &[u8], n: usize, out: &mut Vec<u8>) -> Result<(), AllocError>
     ensures { OnOk result (out.new.items ≡ out.old.items ++ plain_text digits.now n) }
 {
@@ -186,7 +186,7 @@ fn push_zeros(n: usize, out: &mut Vec<u8>) -> Result<(), AllocError>
     out.extend_from_slice(&zeros)
 }
 
-// Adds the first digit, the others behind a point, and an exponent with its sign.
+// Adds the first digit, the others after a point, and an exponent with its sign.
 fn push_scientific(
     digits: &[u8],
     sign: u8,
@@ -204,7 +204,7 @@ fn push_scientific(
     push_exponent(exponent, out)
 }
 
-// Adds a point and the digits behind it, where there are any.
+// Adds a point and the digits after it, where there are any.
 fn push_fraction(digits: &[u8], out: &mut Vec<u8>) -> Result<(), AllocError>
     ensures { OnOk result (out.new.items ≡ out.old.items
         ++ fraction_text digits.now) }

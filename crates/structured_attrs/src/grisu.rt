@@ -114,7 +114,7 @@ struct Scaled {
 }
 
 impl Scaled {
-    // The same number by a power that is so much less.
+    // The number by a power that is so much less.
     fn lowered(self, by: u32) -> Scaled {
         Scaled {
             count: self.count.wrapping_shl(by),
@@ -122,7 +122,7 @@ impl Scaled {
         }
     }
 
-    // The same number with the highest bit set.
+    // The number with the highest bit set.
     fn normal(self) -> Scaled {
         self.lowered(self.count.leading_zeros())
     }
@@ -184,7 +184,7 @@ impl Range {
         }
     }
 
-    // The same times a power of ten.
+    // The range times a power of ten.
     fn times(self, ten: Scaled) -> Range {
         Range {
             lower: self.lower.times(ten),
@@ -241,7 +241,7 @@ impl Search {
         Ok(None)
     }
 
-    // Finds digits behind the point of the limit until they are enough, and says how many.
+    // Finds digits after the point of the limit until they are enough, and says how many.
     fn find_fraction(&mut self, limit: u64, shift: u32) -> Result<usize, AllocError> {
         let one = 1u64.wrapping_shl(shift);
         let mut rest = limit & one.wrapping_sub(1);
@@ -265,8 +265,8 @@ impl Search {
 // are read as the double, and then the nearest ones.
 pub(crate) fn digits_of(alloc: Global, bits: u64) -> Result<(Vec<u8>, Point), AllocError> {
     let range = Range::of(bits);
-    let place = place_of(range.upper.power);
-    let (count, power) = POWERS.get(place).copied().unwrap_or((0, 0));
+    let index = index_of(range.upper.power);
+    let (count, power) = POWERS.get(index).copied().unwrap_or((0, 0));
     let range = range.times(Scaled { count, power });
     let limit = range.upper.count.wrapping_sub(1);
     let mut search = Search {
@@ -275,29 +275,29 @@ pub(crate) fn digits_of(alloc: Global, bits: u64) -> Result<(Vec<u8>, Point), Al
         distance: limit.wrapping_sub(range.value.count),
     };
     let shift = range.upper.power.wrapping_neg().cast_unsigned();
-    let behind = match search.find_whole(limit, shift)? {
+    let after = match search.find_whole(limit, shift)? {
         Some(left) => small(left),
         None => small(search.find_fraction(limit, shift)?).wrapping_neg(),
     };
-    let ten = 300i32.wrapping_sub(small(place).wrapping_mul(8));
+    let ten = 300i32.wrapping_sub(small(index).wrapping_mul(8));
     let length = small(search.digits.len());
-    let point = point_of(ten.wrapping_add(behind).wrapping_add(length));
+    let point = point_of(ten.wrapping_add(after).wrapping_add(length));
     Ok((search.digits, point))
 }
 
-// The place of the power of ten by which a number with this power of two gets one from -60 to -32.
-fn place_of(power: i32) -> usize {
+// The index of the power of ten by which a number with this power of two gets one from -60 to -32.
+fn index_of(power: i32) -> usize {
     let wanted = (-61i32).wrapping_sub(power);
     let ten = wanted.wrapping_mul(78_913) / (1 << 18) + i32::from(0 < wanted);
     ten.wrapping_add(307).clamp(0, 639) as usize / 8
 }
 
-// The point behind so many digits, or before so many zeros.
-fn point_of(behind: i32) -> Point {
-    if 0 < behind {
-        Point::Behind(behind.unsigned_abs())
+// The point after so many digits, or before so many zeros.
+fn point_of(after: i32) -> Point {
+    if 0 < after {
+        Point::After(after.unsigned_abs())
     } else {
-        Point::Before(behind.unsigned_abs())
+        Point::Before(after.unsigned_abs())
     }
 }
 

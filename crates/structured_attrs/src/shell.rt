@@ -15,7 +15,7 @@ use std::num::{nearest_f64_to_f32_with_nan, saturating_f64_to_i64};
 pub enum Variable {
     /// A variable with one value.
     Plain,
-    /// An array whose items have places.
+    /// An array whose items have indices.
     Indexed,
     /// An array whose items have keys.
     Associative,
@@ -43,7 +43,7 @@ impl Variable {
         }
     }
 
-    // What stands behind the value.
+    // What stands after the value.
     fn after(self) -> &'static [u8]
         ensures { result.now ≡ texts.after_of self }
     {
@@ -144,7 +144,7 @@ fn is_name_start(byte: u8) -> bool
     (b'A' <= byte && byte <= b'Z') || (b'a' <= byte && byte <= b'z') || byte == b'_'
 }
 
-// Whether a name may have a byte behind the first.
+// Whether a name may have a byte after the first.
 fn is_name_byte(byte: u8) -> bool
     ensures { result ≡ is_name_byte byte }
 {

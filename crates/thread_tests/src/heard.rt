@@ -224,7 +224,7 @@ pub(crate) fn heard_from<R: Host>(
     Ok((log.into_inner(), ended))
 }
 
-/// The same over an empty journal.
+/// What a run leaves behind that opens with an empty journal.
 pub(crate) fn heard_of<R: Host>(
     rt: &R,
     alloc: Global,

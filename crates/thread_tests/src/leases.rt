@@ -37,9 +37,9 @@ fn ended_by_acts(alloc: Global, acts: &[(usize, Act)], workers: usize) -> Result
     let mut ended = Vec::new(alloc);
     for (worker, act) in acts {
         match (act, running.get_mut(*worker)) {
-            (Act::Runs(d, number), Some(place)) => *place = Some((*number, *d)),
-            (Act::Ends(is_good, _), Some(place)) => {
-                if let Some((number, d)) = place.take() {
+            (Act::Runs(d, number), Some(slot)) => *slot = Some((*number, *d)),
+            (Act::Ends(is_good, _), Some(slot)) => {
+                if let Some((number, d)) = slot.take() {
                     ended.push((number, d, *is_good))?;
                 }
             }

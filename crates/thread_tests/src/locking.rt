@@ -118,8 +118,8 @@ fn first_wrong(alloc: Global, acts: &[(usize, Act)], count: usize) -> Wrong {
     let mut holder = None;
     for (worker, act) in acts {
         match (last.get_mut(*worker), holder_after(holder, *worker, *act)) {
-            (Some(place), Some(after)) if may_follow(*place, *act) => {
-                *place = *act;
+            (Some(did), Some(after)) if may_follow(*did, *act) => {
+                *did = *act;
                 holder = after;
             }
             _ => return Ok(Some((*worker, *act))),
@@ -177,8 +177,8 @@ fn is_apart_first<R: Host>(rt: &R, alloc: Global) -> Result<bool, Fail> {
     let gates = [(0, act, 1)];
     let behaviour = by(2, 0, &gates);
     let (acts, _) = heard_from(rt, alloc, (plan, journal), behaviour)?;
-    let mut behind = acts.iter().skip_while(|(_, known)| *known != act);
-    let first = behind.find(|(_, act)| *act == Act::Lock(LockCall::Taken));
+    let mut later = acts.iter().skip_while(|(_, known)| *known != act);
+    let first = later.find(|(_, act)| *act == Act::Lock(LockCall::Taken));
     Ok(matches!(first, Some((0, _))))
 }
 

@@ -242,7 +242,7 @@ fn content<J: ListId + Send + Sync, R: Threads + Wait + Sync, W: Wait + Drop>(
     Ok(square.content.load(Ordering::SeqCst))
 }
 
-// The same, and how many entries the writer showed in the end.
+// How many readers had right answers, and how many entries the writer showed in the end.
 fn crowded<J: ListId + Send + Sync, R: Host>(
     rt: &R,
     alloc: Global,
@@ -299,7 +299,7 @@ fn asked_meanwhile<J: ListId, O: Tells<J>, R: Wait>(
     (answer, entries)
 }
 
-// The same for the book of a run that opens with path 0.
+// What a reader answers while the lock of a book is held whose run opens with path 0.
 fn asked<J: ListId + Send, R: Host>(
     rt: &R,
     alloc: Global,

@@ -5,7 +5,7 @@ use Rattle.std.proofs.lemmas.List.{append-nil, append_assoc}
 use Rattle.std.proofs.lemmas.List.Elements.{All-push}
 use Rattle.valid_table.specs.Adding.{AreClosed}
 use Rattle.valid_table.specs.Entries.{registered, registered_by}
-use Rattle.valid_table.specs.Valid.{HasDrvPath, IsClosedBehind, IsJournal, IsOnce, IsValid, references_of}
+use Rattle.valid_table.specs.Valid.{HasDrvPath, IsClosedAfter, IsJournal, IsOnce, IsValid, references_of}
 use Rattle.valid_table.specs.declared.entry.Entry.{Entry}
 use Rattle.valid_table.specs.declared.entry.Registration.{Registration}
 use Rattle.valid_table.proofs.JournalLists.{registered-append}
@@ -18,10 +18,10 @@ registered_push entries entry = search (rules, registered-append, append-nil)
 -- closed entries stay so with one more whose references are valid
 pub closed_push :
     (earlier : List Registration) (entries : List Entry) (entry : Entry) →
-    IsClosedBehind earlier entries →
+    IsClosedAfter earlier entries →
     All (IsValid ((earlier ++ registered entries) ++ registered_by entry))
     (references_of (registered_by entry)) →
-    IsClosedBehind earlier (entries ++ entry ∷ [])
+    IsClosedAfter earlier (entries ++ entry ∷ [])
 closed_push earlier [] entry closed valid = (
   subst (λ rs. All (IsValid (rs ++ registered_by entry)) (references_of (registered_by entry)))
       (append-nil earlier) valid,

@@ -14,7 +14,7 @@ use Rattle.valid_table.specs.BadLines.{AreLines, BadLineIsOne, BeginsOutput, IsB
 use Rattle.valid_table.specs.private.LineTexts.{lines_text}
 use Rattle.valid_table.specs.private.Readers.{BeginsNoVersion}
 use Rattle.valid_table.specs.Reading.{BeginsVersion}
-use Rattle.valid_table.specs.private.Steps.{Place, Start, Begun, Opened, Within, Ahead, IsStuck, LeadsTo, Stops}
+use Rattle.valid_table.specs.private.Steps.{Position, Start, Begun, Opened, Within, Ahead, IsStuck, LeadsTo, Stops}
 use Rattle.valid_table.specs.Texts.{IsTextIn, Line, First, Output, line_text, lines, text, version_line}
 use Rattle.valid_table.specs.declared.entry.Entry.{Entry}
 use Rattle.valid_table.specs.declared.path_table.version.Version.{Version}
@@ -49,13 +49,13 @@ lines_newlines (suc n) bytes (line, rest, clear, parts, more) =
     search (rules, line_newlines, (lines_newlines n _ more))
 
 -- the texts of lines that lead on are so many lines
-leads_are_lines : (version : Version) (dir : List ℕ) (Is : Place → Type 0) (lines : List Line)
+leads_are_lines : (version : Version) (dir : List ℕ) (Is : Position → Type 0) (lines : List Line)
     → IsStoreDir dir
     → LeadsTo version dir Is Start lines → AreLines (length lines) (lines_text version lines)
 leads_are_lines version dir Is lines is_dir leads =
     texts_are_lines _ _ (dir_lacks _ newline _ is_dir) _ (lines_of _ _ Is _ _ leads)
 
--- the number of newlines before the place where lines stop
+-- the number of newlines before the position where lines stop
 pub stops_count : (version : Version) (dir bytes : List ℕ) (left : ℕ) → IsStoreDir dir
     → (h : Stops version dir Start bytes left) → length
     (places (is_byte 10) (take (length bytes - left) bytes)) ≡ length h.lines
@@ -83,15 +83,16 @@ sample_is_path dir = record {
 abbrev EndsAs : List ℕ → List ℕ → Type 0
 EndsAs after rest = (after ≡ []) ⊎ (BeginsOutput after × BeginsOutput rest)
 
--- lines end a journal from a place, and their text ends or goes on so
-abbrev EndsIn : Version → List ℕ → List ℕ → List Line → Place → Type 0
-EndsIn version dir rest come place = Ends version dir place come
+-- lines end a journal from a position, and their text ends or goes on so
+abbrev EndsIn : Version → List ℕ → List ℕ → List Line → Position → Type 0
+EndsIn version dir rest come position = Ends version dir position come
     × EndsAs (lines_text version come) rest
 
 -- there are such lines: an output after a deriver, else none
-ending : (version : Version) (dir : List ℕ) (place : Place) (rest : List ℕ) → Ahead place rest
+ending : (version : Version) (dir : List ℕ) (position : Position) (rest : List ℕ)
+    → Ahead position rest
     → (come : List Line)
-    × EndsIn version dir rest come place
+    × EndsIn version dir rest come position
 ending version dir Opened rest ahead =
     let come : List Line = Output (sample dir) None None ∷ [] in (
       come,
@@ -169,12 +170,12 @@ cut_lines version dir clear (suc n) (line ∷ come) prefix after each (first, mo
       later.5,
     )
 
--- what comes after a place comes in bytes that go on alike
-ahead_as : (place : Place) (after rest : List ℕ) → Ahead place after → EndsAs after rest
-    → Ahead place rest
+-- what comes after a position comes in bytes that go on alike
+ahead_as : (position : Position) (after rest : List ℕ) → Ahead position after → EndsAs after rest
+    → Ahead position rest
 ahead_as Opened after rest ahead (inl none) = search rules
 ahead_as Opened after rest ahead (inr both) = both.1
-ahead_as place after rest ahead next = tt
+ahead_as position after rest ahead next = tt
 
 -- lines that stand lead on, in a version
 pub stands_led : (dir bytes rest : List ℕ) (n : ℕ) → IsStoreDir dir → Stands dir n bytes rest
@@ -284,7 +285,7 @@ bad_first dir bytes is_dir none some = record {
 
 -- lines that lead into a journal's text lead to its end, or one more does
 next_line : (version : Version) (dir bytes rest : List ℕ) (entries : List Entry)
-    (Is : Place → Type 0) (lines : List Line) → IsTextIn version dir entries bytes
+    (Is : Position → Type 0) (lines : List Line) → IsTextIn version dir entries bytes
     → LeadsTo version dir Is Start lines → bytes ≡ lines_text version lines ++ rest
     → (rest ≡ []) ⊎ GoesOn version dir Is Start lines rest
 unfolding text

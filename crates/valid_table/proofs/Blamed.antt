@@ -14,26 +14,26 @@ use Rattle.valid_table.specs.declared.path_table.obstacle.FaultAt.{FaultAt}
 use Rattle.valid_table.proofs.EnteredPaths.{unclosed_here}
 use Rattle.nix_names.proofs.Lists.{same_element}
 
--- the places of the first unclosed reference of registrations whose first ones have none
+-- the indices of the first unclosed reference of registrations whose first ones have none
 pub unclosed_at :
     (known some : List Registration) (i : ℕ) (r : Registration) (references : List (List ℕ))
-    (place : ℕ) →
+    (index : ℕ) →
     All (Contains (paths_registered (known ++ some))) (references_of (take i some)) →
     i < length some →
     r ≡ get_or some i r →
     references ≡ r.info.references →
-    IsFirstUnknownAt (paths_registered (known ++ some)) references place →
-    IsUnclosedAt known some (record { registration = i; reference = Some place })
-unclosed_at known some i r references place all lt is same first =
+    IsFirstUnknownAt (paths_registered (known ++ some)) references index →
+    IsUnclosedAt known some (record { registration = i; reference = Some index })
+unclosed_at known some i r references index all lt is same first =
     let here = unclosed_here _ _ i r _ _ all lt is
     same
     first in
-    (r, place, here.0, slice_get-get_or _ i r lt ∙ ap Some (sym is), refl, here.1, here.2)
+    (r, index, here.0, slice_get-get_or _ i r lt ∙ ap Some (sym is), refl, here.1, here.2)
 
 -- who has it is to blame, where all paths are new
 pub blamed_for_reference : (known some : List Registration) (blame : FaultAt) → AreNew known some
     → IsUnclosedAt known some blame → IsBlamed known some blame
-blamed_for_reference known some blame new (r, place, path, at, told, read, first) = search rules
+blamed_for_reference known some blame new (r, index, path, at, told, read, first) = search rules
 
 -- what is answered where all paths are new
 pub blamed_or_closed :
@@ -44,7 +44,7 @@ pub blamed_or_closed :
 blamed_or_closed known some None new closed = (new, closed)
 blamed_or_closed known some (Some blame) new at = blamed_for_reference _ _ _ new at
 
--- and is who is read at the place
+-- and is who is read at the index
 pub blamed_read :
     (known some : List Registration) (blame : FaultAt) (r : Registration) →
     IsBlamed known some blame →
@@ -62,7 +62,7 @@ pub taking_refused :
     IsTakingIn known some taken same (Err fault)
 taking_refused known some taken same r None (AlreadyValid path) blamed told kept =
     rw told (blamed, kept)
-taking_refused known some taken same r (Some place) (Unclosed path) (first, read, new, is) told
+taking_refused known some taken same r (Some index) (Unclosed path) (first, read, new, is) told
     kept = search (rules, same_element)
 taking_refused known some taken same r reference fault blamed told kept = absurd told
 

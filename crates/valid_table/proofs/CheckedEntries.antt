@@ -127,7 +127,7 @@ module _ (known all : List (List ℕ)) where
       IsNewPrefix known (paths_registered (registered_by entry)) new →
       IsLineCheck all (registered_by entry) new (first + length (header entry)) result →
       IsEntryCheck known all (entry_lines entry) first result
-  entry_checked entry new first (Ok behind) prefix (long, closed, number) =
+  entry_checked entry new first (Ok following) prefix (long, closed, number) =
       let rs = registered_by entry in
       let lines = entry_lines_are _ in (
         subst (All Right) (sym lines) (up_to _ _ (all_new _ _ _ prefix long) closed),
@@ -150,7 +150,7 @@ module _ (known all : List (List ℕ)) where
           before = header entry ++ lines_of entry before;
           after = map Reference r.info.references ++ lines_of entry after;
           parts = split_lines _ _ r _ (split_get _ _ r is);
-          is_place = sym (up_to_count _ _);
+          is_index = sym (up_to_count _ _);
           right = up_to _ _ new_before closed;
         },
         start_known _ _ _ _ _
@@ -158,7 +158,7 @@ module _ (known all : List (List ℕ)) where
         omega arith,
       )
   entry_checked entry new first (Err (NotClosed n)) prefix
-      (before, r, after, place, parts, lt, closed, (path, unknown, at), number) =
+      (before, r, after, index, parts, lt, closed, (path, unknown, at), number) =
       let up = header entry ++ lines_of entry before in
       let earlier = starts entry r.path r.info.digest r.info.nar ∷ map Reference unknown.before in
       let later = map Reference unknown.after in
@@ -183,7 +183,7 @@ module _ (known all : List (List ℕ)) where
           before = up ++ earlier;
           after = later ++ rest;
           parts = split;
-          is_place = refl;
+          is_index = refl;
           right = All-append Right up earlier (up_to entry before fresh.0 closed)
               (own_right entry r unknown.before fresh.1 unknown.others);
         },

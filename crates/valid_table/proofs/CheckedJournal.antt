@@ -9,7 +9,7 @@ use Rattle.valid_table.specs.Entries.{paths_registered, registered, registered_b
 use Rattle.valid_table.specs.LineFaults.{IsLeastFault, IsNotClosedAt, IsTwiceAt, StandsAt}
 use Rattle.valid_table.specs.Reading.{IsEntriesChecking}
 use Rattle.valid_table.specs.Texts.{Line, First, Added, Output, Reference, entry_lines, lines}
-use Rattle.valid_table.specs.Valid.{IsClosed, IsClosedBehind, references_of}
+use Rattle.valid_table.specs.Valid.{IsClosed, IsClosedAfter, references_of}
 use Rattle.valid_table.specs.declared.entry.Entry.{Entry}
 use Rattle.valid_table.specs.declared.entry.Registration.{Registration}
 use Rattle.valid_table.specs.declared.fault.TableFault.{TableFault}
@@ -19,27 +19,27 @@ use Rattle.valid_table.proofs.PathLists.{All-right}
 use Rattle.nix_names.proofs.Lists.{All-left, Contains-middle, parts_at, taken_more}
 
 -- a line of an entry after earlier registrations is right
-abbrev pub IsRightBehind : List Registration → Entry → Line → Type 0
-IsRightBehind earlier entry line = IsRight (paths_registered earlier)
+abbrev pub IsRightAfter : List Registration → Entry → Line → Type 0
+IsRightAfter earlier entry line = IsRight (paths_registered earlier)
     (paths_registered (earlier ++ registered_by entry)) line
 
 -- all lines of entries are right, after earlier registrations
 abbrev pub AreRight : List Registration → List Entry → Type 0
 AreRight earlier [] = Unit {0}
-AreRight earlier (entry ∷ entries) = All (IsRightBehind earlier entry) (entry_lines entry)
+AreRight earlier (entry ∷ entries) = All (IsRightAfter earlier entry) (entry_lines entry)
     × AreRight (earlier ++ registered_by entry) entries
 
 -- right entries stay so with one more
 right_push :
     (earlier : List Registration) (entries : List Entry) (entry : Entry) →
     AreRight earlier entries →
-    All (IsRightBehind (earlier ++ registered entries) entry) (entry_lines entry) →
+    All (IsRightAfter (earlier ++ registered entries) entry) (entry_lines entry) →
     AreRight earlier (entries ++ entry ∷ [])
 right_push earlier [] entry right more = search (rules, append-nil)
 right_push earlier (first ∷ entries) entry right more = (
   right.0,
   right_push (earlier ++ registered_by first) entries entry right.1
-      (subst (λ rs. All (IsRightBehind rs entry) (entry_lines entry))
+      (subst (λ rs. All (IsRightAfter rs entry) (entry_lines entry))
       (sym (append_assoc earlier (registered_by first) (registered entries))) more),
 )
 
@@ -47,7 +47,7 @@ right_push earlier (first ∷ entries) entry right more = (
 pub right_at :
     (earlier : List Registration) (before : List Entry) (entry : Entry) (after : List Entry) →
     AreRight earlier (before ++ entry ∷ after) →
-    All (IsRightBehind (earlier ++ registered before) entry) (entry_lines entry)
+    All (IsRightAfter (earlier ++ registered before) entry) (entry_lines entry)
 right_at earlier [] entry after right = search (rules, append-nil)
 right_at earlier (first ∷ before) entry after right =
     search (
@@ -87,10 +87,10 @@ references_valid_of known all entry (r ∷ rs) right =
 
 -- right entries are closed
 right_closed : (earlier : List Registration) (entries : List Entry) → AreRight earlier entries
-    → IsClosedBehind earlier entries
+    → IsClosedAfter earlier entries
 right_closed earlier [] right = tt
 right_closed earlier (entry ∷ entries) right =
-    let Right = IsRightBehind earlier entry in
+    let Right = IsRightAfter earlier entry in
     let own = lines_of entry (registered_by entry) in (
       references_valid_of (paths_registered earlier)
           _ entry
@@ -120,9 +120,9 @@ split_two (z ∷ a) x xs (w ∷ b) y ys same =
     (split_two a x _ b y _ rest)
 
 -- entries with another after them, and more, have at least its lines more
-lines_behind : (entries : List Entry) (entry : Entry) (more : List Entry) → length (lines entries)
+lines_after : (entries : List Entry) (entry : Entry) (more : List Entry) → length (lines entries)
     + length (entry_lines entry) ≤ length (lines (entries ++ entry ∷ more))
-lines_behind entries entry more = search (rules, flat_map-append, entry, length-append, flat_map)
+lines_after entries entry more = search (rules, flat_map-append, entry, length-append, flat_map)
 
 -- Line m of a journal is wrong.
 pub record IsWrongAt (entries : List Entry) (m : ℕ) : Type 0 where
@@ -130,7 +130,7 @@ pub record IsWrongAt (entries : List Entry) (m : ℕ) : Type 0 where
   pub entry : Entry
   pub line : Line
   pub stands : StandsAt entries before entry line m
-  pub wrong : IsRightBehind (registered before) entry line → ⊥
+  pub wrong : IsRightAfter (registered before) entry line → ⊥
 
 -- a line with a fault is wrong
 pub wrong_line : (entries : List Entry) (m : ℕ) → IsNotClosedAt entries m ⊎ IsTwiceAt entries m
@@ -152,7 +152,7 @@ none_wrong entries m w after right =
     let s = w.stands in
     w.wrong
     (not_among _ _ _ _ _
-    (subst (All (IsRightBehind (registered w.before) w.entry)) s.is_line
+    (subst (All (IsRightAfter (registered w.before) w.entry)) s.is_line
     (right_at [] w.before w.entry after right)))
 
 -- in the entry whose first lines are right, a wrong line stands after these
@@ -162,7 +162,7 @@ least_within :
     w.before ≡ pre →
     w.entry ≡ e →
     entry_lines e ≡ first ++ line ∷ last →
-    All (IsRightBehind (registered pre) e) first →
+    All (IsRightAfter (registered pre) e) first →
     length first ≤ length w.stands.first
 least_within entries pre e first line last m w same_before same_entry split right =
     let s = w.stands in
@@ -172,10 +172,10 @@ least_within entries pre e first line last m w same_before same_entry split righ
     (λ h.
     let here = not_among _
     _
-    _ _ _ (subst (All (IsRightBehind (registered pre) e)) h.1 right) in
-    let mine = subst (λ x. IsRightBehind (registered pre) x w.line) (sym same_entry) here in
+    _ _ _ (subst (All (IsRightAfter (registered pre) e)) h.1 right) in
+    let mine = subst (λ x. IsRightAfter (registered pre) x w.line) (sym same_entry) here in
     absurd (w.wrong
-    (subst (λ b. IsRightBehind (registered b) w.entry w.line) (sym same_before) mine)))
+    (subst (λ b. IsRightAfter (registered b) w.entry w.line) (sym same_before) mine)))
     (⊎_elim
     (λ h. omega (arith, ap length h.0))
     (λ h. omega (arith, ap length h.1, length-append first (line ∷ h.0))))
@@ -188,7 +188,7 @@ least_wrong :
     entries ≡ pre ++ e ∷ rest →
     AreRight [] pre →
     entry_lines e ≡ first ++ line ∷ last →
-    All (IsRightBehind (registered pre) e) first →
+    All (IsRightAfter (registered pre) e) first →
     IsWrongAt entries m →
     length (lines pre) + length first + 1 ≤ m
 least_wrong entries pre e rest first line last m parts right split first_right w =
@@ -203,27 +203,27 @@ least_wrong entries pre e rest first line last m parts right split first_right w
       ap (λ es. length (lines es)) h.0,
     ))
     (λ h.
-    let long = lines_behind pre e h.0 in
+    let long = lines_after pre e h.0 in
     let count = ap length split ∙ length-append first (line ∷ last) in
     omega (arith, ap (λ es. length (lines es)) h.1)))
     (split_two w.before w.entry s.after pre e rest (sym s.parts ∙ parts))
 
 -- no fault stands before a line up to which all are right
 pub least_fault :
-    (entries pre : List Entry) (e : Entry) (rest : List Entry) (line : Line) (place n : ℕ) →
+    (entries pre : List Entry) (e : Entry) (rest : List Entry) (line : Line) (index n : ℕ) →
     entries ≡ pre ++ e ∷ rest →
     AreRight [] pre →
     IsRightUpTo (paths_registered (registered pre))
     (paths_registered (registered pre ++ registered_by e))
-    (entry_lines e) line place →
-    n ≡ length (lines pre) + place + 1 →
+    (entry_lines e) line index →
+    n ≡ length (lines pre) + index + 1 →
     IsLeastFault entries n
-least_fault entries pre e rest line place n parts right up number m fault =
+least_fault entries pre e rest line index n parts right up number m fault =
     omega (
       arith,
       least_wrong _ _ e _ _ _ _ m parts right up.parts
           up.right (wrong_line _ m fault),
-      up.is_place,
+      up.is_index,
     )
 
 -- a line that registers a known path
@@ -247,55 +247,55 @@ open_at entries before entry (Reference path) n stands other = (before, entry, p
 open_at entries before entry line n stands other = absurd other
 
 -- what an entry after others is checked against
-abbrev pub IsCheckBehind : List Entry → Entry → ℕ → Result ℕ TableFault → Type 0
-IsCheckBehind pre entry first result =
+abbrev pub IsCheckAfter : List Entry → Entry → ℕ → Result ℕ TableFault → Type 0
+IsCheckAfter pre entry first result =
     IsEntryCheck (paths_registered (registered pre))
     (paths_registered (registered pre ++ registered_by entry))
     (entry_lines entry) first result
 
 -- that is what it is checked against where the known registrations are theirs
-pub check_behind :
+pub check_after :
     (pre : List Entry) (entry : Entry) (known : List Registration) (first : ℕ)
     (result : Result ℕ TableFault) →
     known ≡ registered pre →
     IsEntryCheck (paths_registered known) (paths_registered (known ++ registered_by entry))
     (entry_lines entry)
     first result →
-    IsCheckBehind pre entry first result
-check_behind pre entry known first result same check = search rules
+    IsCheckAfter pre entry first result
+check_after pre entry known first result same check = search rules
 
 -- one of some entries, and those before it
 module _ (entries : List Entry) (i : ℕ) (entry : Entry) (lt : i < length entries)
     (is : entry ≡ get_or entries i entry) where
   -- a line up to which all are right stands there
-  stands_there : (line : Line) (place n : ℕ)
+  stands_there : (line : Line) (index n : ℕ)
       → IsRightUpTo (paths_registered (registered (take i entries)))
       (paths_registered (registered (take i entries) ++ registered_by entry)) (entry_lines entry)
-      line place
-      → n ≡ length (lines (take i entries)) + place + 1
+      line index
+      → n ≡ length (lines (take i entries)) + index + 1
       → StandsAt entries (take i entries) entry line n
-  stands_there line place n up number = record {
+  stands_there line index n up number = record {
     after = drop (i + 1) entries;
     parts = parts_at _ i _ lt is;
     first = up.before;
     last = up.after;
     is_line = up.parts;
-    number = omega (arith, up.is_place);
+    number = omega (arith, up.is_index);
   }
 
   -- the first fault of entries
   pub first_fault : (first : ℕ) (fault : TableFault) → AreRight [] (take i entries)
       → first ≡ length (lines (take i entries)) + 1
-      → IsCheckBehind (take i entries) entry first (Err fault)
+      → IsCheckAfter (take i entries) entry first (Err fault)
       → IsEntriesChecking entries (Err fault)
-  first_fault first (Twice n) right number (line, place, up, known, counted) =
-      let at : n ≡ length (lines (take i entries)) + place + 1 = omega arith in (
+  first_fault first (Twice n) right number (line, index, up, known, counted) =
+      let at : n ≡ length (lines (take i entries)) + index + 1 = omega arith in (
         twice_at _ _ _ _ n (stands_there _ _ n up at) known,
         least_fault _ _ _ _ _ _ n
             (parts_at _ i _ lt is) right up at,
       )
-  first_fault first (NotClosed n) right number (line, place, up, other, counted) =
-      let at : n ≡ length (lines (take i entries)) + place + 1 = omega arith in (
+  first_fault first (NotClosed n) right number (line, index, up, other, counted) =
+      let at : n ≡ length (lines (take i entries)) + index + 1 = omega arith in (
         open_at _ _ _ _ n (stands_there _ _ n up at) other,
         least_fault _ _ _ _ _ _ n
             (parts_at _ i _ lt is) right up at,
@@ -307,12 +307,12 @@ module _ (entries : List Entry) (i : ℕ) (entry : Entry) (lt : i < length entri
   pub lines_fit : length (lines (take i entries)) + length (entry_lines entry)
       ≤ length (lines entries)
   lines_fit =
-      let long = lines_behind (take i entries) entry (drop (i + 1) entries) in
+      let long = lines_after (take i entries) entry (drop (i + 1) entries) in
       omega (arith, ap (λ es. length (lines es)) (parts_at entries i entry lt is))
 
   -- with it those before it are right
   pub right_more : AreRight [] (take i entries)
-      → All (IsRightBehind (registered (take i entries)) entry) (entry_lines entry)
+      → All (IsRightAfter (registered (take i entries)) entry) (entry_lines entry)
       → AreRight [] (take (i + 1) entries)
   right_more right more = subst (AreRight []) (sym (taken_more _ i _ lt is))
       (right_push [] (take i entries) entry right more)
@@ -335,6 +335,6 @@ module _ (entries : List Entry) (i : ℕ) (entry : Entry) (lt : i < length entri
       ∙ sym (ap registered (taken_more _ i _ lt is))
 
 -- where all entries are right, they are closed
-pub closed_behind : (entries : List Entry) (i : ℕ) → length entries ≤ i
+pub closed_after : (entries : List Entry) (i : ℕ) → length entries ≤ i
     → AreRight [] (take i entries) → IsClosed entries
-closed_behind entries i long right = search (rules, right_closed, take_all)
+closed_after entries i long right = search (rules, right_closed, take_all)

@@ -45,7 +45,7 @@ line_count_fits rs i r lt is =
       ap (λ x. length (output_lines x)) is,
     )
 
--- the place of an unknown path is within the list
+-- the index of an unknown path is within the list
 pub unknown_within : (all paths : List (List ℕ)) (at : ℕ) → IsFirstUnknownAt all paths at → at
     < length paths
 unknown_within all paths at (path, first, is) = search (rules, length-append)
@@ -90,14 +90,14 @@ open_here all rs new first i r references at number upto other lt is same closed
     )
 
 -- all registrations are right
-pub right_behind :
-    (all : List (List ℕ)) (rs : List Registration) (new first i behind : ℕ) →
+pub right_after :
+    (all : List (List ℕ)) (rs : List Registration) (new first i after : ℕ) →
     i ≤ new →
     length rs ≤ i →
     All (Contains all) (references_of (take i rs)) →
-    behind ≡ first + line_count (take i rs) →
-    IsLineCheck all rs new first (Ok behind)
-right_behind all rs new first i behind upto long closed counted = (
+    after ≡ first + line_count (take i rs) →
+    IsLineCheck all rs new first (Ok after)
+right_after all rs new first i after upto long closed counted = (
   omega arith,
   closed_all _ _ i long closed,
   counted ∙ ap (λ l. first + line_count l) (take_all i rs long),

@@ -48,11 +48,11 @@ registers_from_valid registrations path valid =
     (r.info, (valid.0, below, get_or_default registrations valid.0 own none below ∙ is))
 
 -- what leads by first registrations does so by more of them
-pub leads_behind : (first more : List Registration) (from to : List ℕ) (steps : List (List ℕ))
+pub leads_after : (first more : List Registration) (from to : List ℕ) (steps : List (List ℕ))
     → LeadsByReferences first from to steps → LeadsByReferences (first ++ more) from to steps
-leads_behind first more from to [] leads = (still_valid _ _ _ leads.0, leads.1)
-leads_behind first more from to (next ∷ steps) leads =
-    search (rules, Contains-append_left, leads_behind first more next to steps leads.1)
+leads_after first more from to [] leads = (still_valid _ _ _ leads.0, leads.1)
+leads_after first more from to (next ∷ steps) leads =
+    search (rules, Contains-append_left, leads_after first more next to steps leads.1)
 
 -- from a valid path, more registrations lead nowhere else
 pub leads_before : (first more : List Registration) → AreReferencesValid first
@@ -70,14 +70,14 @@ leads_before first more closed once from to (next ∷ steps) valid leads =
     (refers, leads_before first more closed once next to steps next_valid leads.1)
 
 -- a closure stays the same where more is registered
-pub closure_stays_behind : (first more : List Registration) (roots all : List (List ℕ))
+pub closure_stays_after : (first more : List Registration) (roots all : List (List ℕ))
     → AreReferencesValid first → IsOnce (first ++ more) → All (IsValid first) roots
     → IsClosure first roots all → IsClosure (first ++ more) roots all
-closure_stays_behind first more roots all closed once valid is = record {
+closure_stays_after first more roots all closed once valid is = record {
   rising = is.rising;
   each = λ path. (
     λ has. let h = (is.each path).0 has
-        in (h.0, h.1, (h.2.0, leads_behind _ _ _ _ _ h.2.1)),
+        in (h.0, h.1, (h.2.0, leads_after _ _ _ _ _ h.2.1)),
     λ h. (is.each path).1 (
       h.0,
       h.1,
@@ -96,7 +96,7 @@ closure_stays entries more roots all closed closed_more once valid is =
     let whole : registered (entries ++ more) ≡ registered entries
     ++ registered more = flat_map-append registered_by entries more in
     subst (λ (registrations : List Registration). IsClosure registrations roots all) (sym whole)
-    (closure_stays_behind _ _ _ _
+    (closure_stays_after _ _ _ _
     (closed_references_valid _ closed) (subst IsOnce whole once) valid is)
 
 -- some paths have one closure

@@ -14,7 +14,7 @@ use Rattle.valid_table.proofs.RowNumbers.{path_count, path_read}
 use Rattle.nix_names.specs.Firsts.{IsFirst}
 use Rattle.nix_names.proofs.Lists.{element_at, get_mapped, parts_at}
 
--- the path of the registration at a place
+-- the path of the registration at an index
 pub path_at : (rs : List Registration) (i : ℕ) (r : Registration) (d : List ℕ) → i < length rs → r
     ≡ get_or rs i r → get_or (paths_registered rs) i d ≡ r.path
 path_at rs i r d lt is = search (rules, path_read)
@@ -90,15 +90,15 @@ middle xs before x after i parts at =
 -- the first unknown reference of registrations whose first ones have none
 pub unclosed_here :
     (known : List (List ℕ)) (rs : List Registration) (i : ℕ) (r : Registration)
-    (references : List (List ℕ)) (place : ℕ) →
+    (references : List (List ℕ)) (index : ℕ) →
     All (Contains known) (references_of (take i rs)) →
     i < length rs →
     r ≡ get_or rs i r →
     references ≡ r.info.references →
-    IsFirstUnknownAt known references place →
-    (path : List ℕ) × (slice_get r.info.references place ≡ Some path)
+    IsFirstUnknownAt known references index →
+    (path : List ℕ) × (slice_get r.info.references index ≡ Some path)
     × IsFirst (Contains known) (IsNotKnown known) (references_of rs) path
-unclosed_here known rs i r references place all lt is same (path, first, at) =
+unclosed_here known rs i r references index all lt is same (path, first, at) =
     let earlier = references_of (take i rs) in
     let rest = references_of (drop (i + 1) rs) in
     let own : r.info.references ≡ first.before ++ path ∷ first.after = sym same ∙ first.parts in
@@ -132,13 +132,13 @@ closed_all known rs n long all = subst (λ l. All (Contains known) (references_o
     (take_all n rs long) all
 
 -- the path of the registration after the new ones is the first that is known
-pub known_behind :
+pub known_after :
     (known : List (List ℕ)) (rs : List Registration) (count : ℕ) →
     IsNewPrefix known (paths_registered rs) count →
     count < length rs →
     (r : Registration) × (slice_get rs count ≡ Some r)
     × IsFirst (IsNotKnown known) (Contains known) (paths_registered rs) r.path
-known_behind known rs count prefix lt =
+known_after known rs count prefix lt =
     let (r, read) = element_at rs count lt in
     let some = get_mapped (λ (x : Registration). x.path) rs _ r read in (
       r,

@@ -162,16 +162,16 @@ same_known known paths i = λ path. (
 pub same_check : (all known : List (List ℕ)) (rs : List Registration) (new first : ℕ)
     (result : Result ℕ TableFault) → HaveSame all known → IsLineCheck all rs new first result
     → IsLineCheck known rs new first result
-same_check all known rs new first (Ok behind) same (long, closed, number) =
+same_check all known rs new first (Ok later) same (long, closed, number) =
     (long, All-weaker (Contains all) (Contains known) (λ p has. (same p).0 has) _ closed, number)
 same_check all known rs new first (Err (Twice n)) same (lt, closed, number) =
     (lt, All-weaker (Contains all) (Contains known) (λ p has. (same p).0 has) _ closed, number)
 same_check all known rs new first (Err (NotClosed n)) same
-    (before, r, after, place, parts, lt, closed, unknown, number) = (
+    (before, r, after, index, parts, lt, closed, unknown, number) = (
       before,
       r,
       after,
-      place,
+      index,
       parts,
       lt,
       All-weaker (Contains all) (Contains known) (λ p has. (same p).0 has) _ closed,
@@ -206,5 +206,5 @@ check_before known now rs new first result is check =
 pub where_right : {P : Type 0} (all : List (List ℕ)) (rs : List Registration) (new first : ℕ)
     (result : Result ℕ TableFault) → IsLineCheck all rs new first result → (length rs ≤ new → P)
     → OnOk result P
-where_right all rs new first (Ok behind) check holds = holds check.0
+where_right all rs new first (Ok later) check holds = holds check.0
 where_right all rs new first (Err e) check holds = tt

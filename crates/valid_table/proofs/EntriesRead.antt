@@ -7,13 +7,13 @@ use Rattle.std.proofs.lemmas.List.Elements.{All-nil, All-push}
 use Rattle.valid_table.specs.private.LineTexts.{lines_text}
 use Rattle.valid_table.specs.private.Readers.{HasEntry, HasToBegin, SoFarEntries, StopsInText}
 use Rattle.valid_table.specs.Reading.{BeginsVersion}
-use Rattle.valid_table.specs.private.Steps.{Place, Begun, Stops}
+use Rattle.valid_table.specs.private.Steps.{Position, Begun, Stops}
 use Rattle.valid_table.specs.Texts.{IsEntryIn, IsJournalText, First, entry_lines, lines, text, version_line}
 use Rattle.valid_table.specs.declared.entry.Entry.{Entry}
 use Rattle.valid_table.specs.declared.path_table.version.Version.{Version}
 use Rattle.valid_table.proofs.EntryLines.{lead}
 use Rattle.valid_table.proofs.Leading.{text_and}
-use Rattle.valid_table.proofs.LineSteps.{stop_behind}
+use Rattle.valid_table.proofs.LineSteps.{stop_after}
 
 -- before the first entry the first line was read
 pub version_read : (version : Version) (dir bytes : List ℕ) (entries : List Entry) (rest : List ℕ)
@@ -22,7 +22,7 @@ pub version_read : (version : Version) (dir bytes : List ℕ) (entries : List En
 version_read version dir bytes entries rest begins none = rw none (record {
   parts = begins ∙ ap (λ (t : List ℕ). t ++ rest) (sym (append-nil (version_line version)));
   of_dir = All-nil (IsEntryIn version dir);
-  leads = λ left goes_on. stop_behind _ _ _ _ First _ _ begins tt
+  leads = λ left goes_on. stop_after _ _ _ _ First _ _ begins tt
       (goes_on Begun tt);
 })
 
@@ -41,14 +41,14 @@ text_more version entries entry rest =
 
 -- one more entry
 pub entries_more : (version : Version) (dir bytes : List ℕ) (entries more : List Entry)
-    (rest behind : List ℕ)
+    (rest after : List ℕ)
     (entry : Entry) → SoFarEntries version dir bytes entries rest
-    → HasEntry version dir rest entry behind → more
-    ≡ entries ++ entry ∷ [] → SoFarEntries version dir bytes more behind
-entries_more version dir bytes entries more rest behind entry so_far h pushed =
+    → HasEntry version dir rest entry after → more
+    ≡ entries ++ entry ∷ [] → SoFarEntries version dir bytes more after
+entries_more version dir bytes entries more rest after entry so_far h pushed =
     rw pushed (record {
       parts = so_far.parts ∙ ap (λ t. lines_text version (lines entries) ++ t) h.parts
-          ∙ text_more _ _ _ behind;
+          ∙ text_more _ _ _ after;
       of_dir = All-push (IsEntryIn version dir) _ _ so_far.of_dir h.of_dir;
       leads = λ left goes_on.
           so_far.leads left
@@ -71,7 +71,7 @@ version_begins version dir bytes entries rest so_far = search (rules, append_ass
 -- where the lines of an entry stop, so do those of the text
 pub text_stops : (version : Version) (dir bytes : List ℕ) (entries : List Entry) (rest : List ℕ)
     (left : ℕ) → SoFarEntries version dir bytes entries rest
-    → ((from : Place) → HasToBegin from rest → Stops version dir from rest left)
+    → ((from : Position) → HasToBegin from rest → Stops version dir from rest left)
     → StopsInText dir bytes left
 text_stops version dir bytes entries rest left so_far stops =
     inl (version, version_begins _ _ _ _ _ so_far, so_far.leads left stops)

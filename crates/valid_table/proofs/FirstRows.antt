@@ -16,7 +16,7 @@ use Rattle.valid_table.specs.private.Closing.{AreRows, HaveSame, path_at, paths_
 use Rattle.valid_table.specs.PathInfos.{PathInfo}
 use Rattle.valid_table.specs.Tables.{registrations_of}
 use Rattle.valid_table.proofs.RowNumbers.{row_count}
-use Rattle.valid_table.specs.private.FirstRows.{AreFirst, rows_behind}
+use Rattle.valid_table.specs.private.FirstRows.{AreFirst, rows_of_keyed}
 use Rattle.valid_table.specs.declared.entry.Registration.{Registration}
 
 -- ---- lists of numbers none of which stands twice
@@ -113,10 +113,10 @@ first_stay count more rows are fewer = search rules
 
 -- and when they are put in another order
 pub first_moved : (count : ℕ) (keyed moved : List (ℕ × ℕ)) → IsPermutation keyed moved
-    → AreFirst count (rows_behind keyed) → AreFirst count (rows_behind moved)
+    → AreFirst count (rows_of_keyed keyed) → AreFirst count (rows_of_keyed moved)
 first_moved count keyed moved is are =
     let rows = IsPermutation-map (λ (k : ℕ × ℕ). k.1) keyed moved is in
-    let same = length_permutation (rows_behind keyed) (rows_behind moved) rows in
+    let same = length_permutation (rows_of_keyed keyed) (rows_of_keyed moved) rows in
     record {
       few = omega (arith, are.few, same);
       distinct = IsDistinct-IsPermutation nat_eq nat_eq_equiv.symm _
@@ -224,8 +224,8 @@ regrouped_rows registrations first found are rows = record {
 
 -- so also of rows that stand after keys
 pub first_none : (count : ℕ) (keyed : List (ℕ × ℕ)) → keyed ≡ []
-    → AreFirst count (rows_behind keyed)
-first_none count keyed none = subst (λ ks. AreFirst count (rows_behind ks)) (sym none)
+    → AreFirst count (rows_of_keyed keyed)
+first_none count keyed none = subst (λ ks. AreFirst count (rows_of_keyed ks)) (sym none)
     (none_first _)
 
 -- and of a table with more rows
@@ -245,13 +245,13 @@ first_of_more rows added more first is are =
 
 -- one more row after its key
 pub keyed_more : (count key row : ℕ) (keyed more : List (ℕ × ℕ))
-    → AreFirst count (rows_behind keyed) → length keyed ≡ row → row < count
-    → more ≡ keyed ++ (key, row) ∷ [] → AreFirst count (rows_behind more)
+    → AreFirst count (rows_of_keyed keyed) → length keyed ≡ row → row < count
+    → more ≡ keyed ++ (key, row) ∷ [] → AreFirst count (rows_of_keyed more)
 keyed_more count key row keyed more are next below is =
-    let long : length (rows_behind keyed) ≡ row = length-map keyed (λ (k : ℕ × ℕ). k.1) ∙ next in
+    let long : length (rows_of_keyed keyed) ≡ row = length-map keyed (λ (k : ℕ × ℕ). k.1) ∙ next in
     subst (AreFirst count)
-    (ap (λ r. rows_behind keyed ++ r ∷ []) long
-    ∙ sym (ap rows_behind is ∙ map-append (λ (k : ℕ × ℕ). k.1) keyed ((key, row) ∷ [])))
+    (ap (λ r. rows_of_keyed keyed ++ r ∷ []) long
+    ∙ sym (ap rows_of_keyed is ∙ map-append (λ (k : ℕ × ℕ). k.1) keyed ((key, row) ∷ [])))
     (first_more _ _ are (omega (arith, long, below)))
 
 -- ---- one more row is looked at
@@ -268,25 +268,25 @@ pub left_out : {A : Type 0} (p : A → Bool) (rows more start old : List A) (row
 left_out p rows more start old row more_is before is = search (rules, filter-append, append-nil)
 
 -- the rows after those keys of whose rows a test holds
-pub behind_kept : (p : ℕ → Bool) (keyed : List (ℕ × ℕ)) → rows_behind (filter (λ k. p k.1) keyed)
-    ≡ filter p (rows_behind keyed)
-behind_kept p [] = refl
-behind_kept p (k ∷ keyed) = split (p k.1) (behind_kept p keyed)
+pub after_kept : (p : ℕ → Bool) (keyed : List (ℕ × ℕ)) → rows_of_keyed (filter (λ k. p k.1) keyed)
+    ≡ filter p (rows_of_keyed keyed)
+after_kept p [] = refl
+after_kept p (k ∷ keyed) = split (p k.1) (after_kept p keyed)
   where
-    split : (b : Bool) → rows_behind (filter (λ k. p k.1) keyed) ≡ filter p (rows_behind keyed)
-        → rows_behind (cond b (k ∷ filter (λ k. p k.1) keyed) (filter (λ k. p k.1) keyed))
-        ≡ cond b (k.1 ∷ filter p (rows_behind keyed)) (filter p (rows_behind keyed))
+    split : (b : Bool) → rows_of_keyed (filter (λ k. p k.1) keyed) ≡ filter p (rows_of_keyed keyed)
+        → rows_of_keyed (cond b (k ∷ filter (λ k. p k.1) keyed) (filter (λ k. p k.1) keyed))
+        ≡ cond b (k.1 ∷ filter p (rows_of_keyed keyed)) (filter p (rows_of_keyed keyed))
     split true same = ap (λ l. k.1 ∷ l) same
     split false same = same
 
-pub behind_added : (p : ℕ → Bool) (ordered start pushed : List (ℕ × ℕ))
+pub after_added : (p : ℕ → Bool) (ordered start pushed : List (ℕ × ℕ))
     → pushed ≡ start ++ filter (λ k. p k.1) ordered
-    → rows_behind pushed ≡ rows_behind start ++ filter p (rows_behind ordered)
-behind_added p ordered start pushed is = search (rules, map-append, behind_kept)
+    → rows_of_keyed pushed ≡ rows_of_keyed start ++ filter p (rows_of_keyed ordered)
+after_added p ordered start pushed is = search (rules, map-append, after_kept)
 
-pub behind_pushed : (keyed pushed : List (ℕ × ℕ)) (item : ℕ × ℕ) → pushed ≡ keyed ++ item ∷ []
-    → rows_behind pushed ≡ rows_behind keyed ++ item.1 ∷ []
-behind_pushed keyed pushed item is = search (rules, map-append)
+pub after_pushed : (keyed pushed : List (ℕ × ℕ)) (item : ℕ × ℕ) → pushed ≡ keyed ++ item ∷ []
+    → rows_of_keyed pushed ≡ rows_of_keyed keyed ++ item.1 ∷ []
+after_pushed keyed pushed item is = search (rules, map-append)
 
 pub keys_swept : (P : ℕ × ℕ → Type 0) (p : ℕ × ℕ → Bool) (all ordered start pushed
     : List (ℕ × ℕ)) → (ordered ≡ []) ⊎ (ordered ≡ all) → start ≡ []
@@ -325,16 +325,16 @@ same_paths registrations chosen found paths same are =
 -- ---- the rows that a closure sorts
 
 pub swept_first : (count : ℕ) (all ordered : List (ℕ × ℕ)) → (ordered ≡ []) ⊎ (ordered ≡ all)
-    → AreFirst count (rows_behind all) → AreFirst count (rows_behind ordered)
+    → AreFirst count (rows_of_keyed all) → AreFirst count (rows_of_keyed ordered)
 swept_first count all ordered (inl none) are = first_none _ _ none
 swept_first count all ordered (inr same) are = search rules
 
 pub regrouped_is : (found : List ℕ) (ordered start middle new : List (ℕ × ℕ)) → start ≡ []
-    → rows_behind middle ≡ rows_behind start
-    ++ filter (λ row. list_any (nat_eq row) found) (rows_behind ordered)
-    → rows_behind new ≡ rows_behind middle
+    → rows_of_keyed middle ≡ rows_of_keyed start
+    ++ filter (λ row. list_any (nat_eq row) found) (rows_of_keyed ordered)
+    → rows_of_keyed new ≡ rows_of_keyed middle
     ++ filter (λ row. not (nat_lt row (length ordered))) found
-    → rows_behind new ≡ regrouped (rows_behind ordered) found
+    → rows_of_keyed new ≡ regrouped (rows_of_keyed ordered) found
 regrouped_is found ordered start middle new none first late =
     search (rules, not, nat_lt, nat_eq, length-map)
 

@@ -17,7 +17,7 @@ use Rattle.valid_table.specs.Valid.{IsOnce, IsValid, Registers}
 use Rattle.valid_table.specs.declared.entry.Registration.{Registration}
 use Rattle.valid_table.proofs.AddedRows.{paths_kept}
 use Rattle.valid_table.proofs.PathLists.{All-right}
-use Rattle.valid_table.proofs.Reaching.{reached_itself, reached_more, same_place}
+use Rattle.valid_table.proofs.Reaching.{reached_itself, reached_more, same_index}
 use Rattle.valid_table.proofs.RowNumbers.{path_count, row_count, valid_from_row}
 use Rattle.nix_names.proofs.Lists.{Contains-map, taken_more}
 
@@ -47,11 +47,11 @@ one_info registrations once path a b has has' =
     let at' : get_or (paths_registered registrations) has'.0 []
     ≡ path = get_or-map (λ (r : Registration). r.path) _ _ _ [] has'.1
     ∙ ap (λ (r : Registration). r.path) has'.2 in
-    let place : has.0 ≡ has'.0 = same_place _ once _ _
+    let index : has.0 ≡ has'.0 = same_index _ once _ _
     (omega (arith, has.1, path_count registrations))
     (omega (arith, has'.1, path_count registrations)) (at ∙ sym at') in
     let same : first ≡ second = sym has.2 ∙ get_or_default registrations has.0 first second has.1
-    ∙ ap (λ (k : ℕ). get_or registrations k second) place ∙ has'.2 in
+    ∙ ap (λ (k : ℕ). get_or registrations k second) index ∙ has'.2 in
     ap (λ (r : Registration). r.info) same
 
 -- a row registers its path with its record

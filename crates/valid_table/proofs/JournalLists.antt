@@ -5,7 +5,7 @@ use Rattle.std.proofs.lemmas.List.{append-nil, append_assoc, map-append, take_mo
 use Rattle.std.proofs.lemmas.List.Concat.{flat_map-append}
 use Rattle.std.proofs.lemmas.List.Elements.{All-nil, All-append, All-weaker, Contains-append_left}
 use Rattle.valid_table.specs.Entries.{paths_registered, registered, registered_by}
-use Rattle.valid_table.specs.Valid.{AreReferencesValid, IsClosed, IsClosedBehind, IsOnce, IsValid, references_of}
+use Rattle.valid_table.specs.Valid.{AreReferencesValid, IsClosed, IsClosedAfter, IsOnce, IsValid, references_of}
 use Rattle.valid_table.specs.declared.entry.Entry.{Entry}
 use Rattle.valid_table.specs.declared.entry.Registration.{Registration}
 use Rattle.valid_table.proofs.PathLists.{once_prefix}
@@ -39,7 +39,7 @@ valid_more some more paths valid = search (rules, All-weaker, still_valid)
 
 -- in closed entries after registrations whose references are valid, each reference is valid
 closed_valid : (earlier : List Registration) (entries : List Entry) → AreReferencesValid earlier
-    → IsClosedBehind earlier entries → AreReferencesValid (earlier ++ registered entries)
+    → IsClosedAfter earlier entries → AreReferencesValid (earlier ++ registered entries)
 closed_valid earlier [] valid closed = subst AreReferencesValid (sym (append-nil earlier)) valid
 closed_valid earlier (entry ∷ entries) valid closed =
     let now = earlier ++ registered_by entry in

@@ -16,7 +16,7 @@ use Rattle.nix_names.specs.Rising.{IsRising}
 use Rattle.nix_names.proofs.Keys.{bytes_less, eight_spelt, same_front}
 use Rattle.nix_names.proofs.RisingLists.{equal_from_eq}
 use Rattle.valid_table.specs.private.Closing.{path_at, paths_at}
-use Rattle.valid_table.specs.private.FirstRows.{AreFirst, rows_behind}
+use Rattle.valid_table.specs.private.FirstRows.{AreFirst, rows_of_keyed}
 use Rattle.valid_table.specs.private.Keys.{AreKeyed, IsKey, KeysRiseAbove, folder_of, folder_part}
 use Rattle.valid_table.specs.PathInfos.{PathInfo}
 use Rattle.valid_table.specs.Tables.{registrations_of}
@@ -50,7 +50,7 @@ is_key folder text key bound (inr is) above = is
 rising_by : (registrations : List Registration) (folder : List ℕ) (bound : ℕ)
     (keyed : List (ℕ × ℕ)) → AllByRecursion
     (λ (k : ℕ × ℕ). (k.0 ≡ 0) ⊎ (IsKey folder (path_at registrations k.1) k.0)) keyed
-    → KeysRiseAbove bound keyed → IsRising (paths_at registrations (rows_behind keyed))
+    → KeysRiseAbove bound keyed → IsRising (paths_at registrations (rows_of_keyed keyed))
 rising_by registrations folder bound [] keys rise = tt
 rising_by registrations folder bound (k ∷ []) keys rise = tt
 rising_by registrations folder bound (k ∷ l ∷ keyed) keys rise = (
@@ -62,7 +62,7 @@ rising_by registrations folder bound (k ∷ l ∷ keyed) keys rise = (
 
 pub paths_rise : (registrations : List Registration) (keyed : List (ℕ × ℕ))
     → AreKeyed registrations keyed → KeysRiseAbove 0 keyed
-    → IsRising (paths_at registrations (rows_behind keyed))
+    → IsRising (paths_at registrations (rows_of_keyed keyed))
 paths_rise registrations keyed keys rise =
     rising_by _ _ 0 _
     (recursion_from_All
@@ -106,7 +106,7 @@ folder_stays (r ∷ registrations) added row below = refl
 
 -- what is registered later changes neither a row's path nor the folder
 keyed_with_more : (registrations added : List Registration) (keyed : List (ℕ × ℕ))
-    → AreFirst (length registrations) (rows_behind keyed) → AreKeyed registrations keyed
+    → AreFirst (length registrations) (rows_of_keyed keyed) → AreKeyed registrations keyed
     → AreKeyed (registrations ++ added) keyed
 keyed_with_more registrations added keyed first keys i d below = rw (folder, path) (keys i d below)
   where
@@ -115,7 +115,7 @@ keyed_with_more registrations added keyed first keys i d below = rw (folder, pat
 
     within : row < length registrations
     within =
-        let at : get_or (rows_behind keyed) i 0 ≡ row =
+        let at : get_or (rows_of_keyed keyed) i 0 ≡ row =
         get_or-map (λ (k : ℕ × ℕ). k.1) _ i d 0 below in
         subst (λ r. r < length registrations) at
         (first_below _ _ first i 0
@@ -128,7 +128,7 @@ keyed_with_more registrations added keyed first keys i d below = rw (folder, pat
     folder = folder_stays _ _ _ within
 
 pub keyed_of_more : (rows : List (List ℕ × PathInfo)) (added : List Registration)
-    (keyed : List (ℕ × ℕ)) → AreFirst (length rows) (rows_behind keyed)
+    (keyed : List (ℕ × ℕ)) → AreFirst (length rows) (rows_of_keyed keyed)
     → AreKeyed (registrations_of rows) keyed → AreKeyed (registrations_of rows ++ added) keyed
 keyed_of_more rows added keyed first keys = search (rules, keyed_with_more, row_count)
 

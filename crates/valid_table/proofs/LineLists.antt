@@ -8,7 +8,7 @@ use Rattle.nix_names.specs.declared.method.MethodDigest.{MethodDigest}
 use Rattle.valid_table.specs.PathInfos.{NarInfo}
 use Rattle.valid_table.specs.Entries.{paths_registered}
 use Rattle.valid_table.specs.private.LineTexts.{lines_text}
-use Rattle.valid_table.specs.private.Steps.{Place, Start, Begun, Opened, Within, Ahead, LeadsTo, MayBegin, MayBeOutputAfter, MayBeLine, behind}
+use Rattle.valid_table.specs.private.Steps.{Position, Start, Begun, Opened, Within, Ahead, LeadsTo, MayBegin, MayBeOutputAfter, MayBeLine, position_after}
 use Rattle.valid_table.specs.Texts.{IsKnownOf, IsEntryIn, IsOf, IsJournalText, Line, First, Added, Deriver, Output, Reference, entry_lines, lines, output_lines, text}
 use Rattle.valid_table.specs.declared.entry.Entry.{Entry}
 use Rattle.valid_table.specs.declared.entry.Entry.TheVariants.{Add, Done}
@@ -19,14 +19,14 @@ use Rattle.valid_table.proofs.RisingPaths.{AreAbove, above_of_rising, rising_of_
 
 -- ---- the lines of entries, and what comes after them
 
--- what holds of lines from a place on, where it holds of those after the first
-abbrev pub IsBackward : Version → List ℕ → (Place → List Line → Type 0) → Type 0
-IsBackward version dir Of = (from : Place) (line : Line) (more : List Line)
+-- what holds of lines from a position on, where it holds of those after the first
+abbrev pub IsBackward : Version → List ℕ → (Position → List Line → Type 0) → Type 0
+IsBackward version dir Of = (from : Position) (line : Line) (more : List Line)
     → MayBeLine version dir from line
-    → Of (behind from line) more → Of from (line ∷ more)
+    → Of (position_after from line) more → Of from (line ∷ more)
 
 -- references that rise after the one before them
-pub references_back : (version : Version) (dir : List ℕ) (Of : Place → List Line → Type 0)
+pub references_back : (version : Version) (dir : List ℕ) (Of : Position → List Line → Type 0)
     → IsBackward version dir Of
     → (output before : Option (List ℕ)) (references : List (List ℕ)) (more : List Line)
     → All (IsPathOf dir) references → AreAbove before references
@@ -42,34 +42,35 @@ references_back version dir Of back output before (path ∷ paths) more of_dir a
           (All-tail (IsPathOf dir) _ _ of_dir) above.1 of),
     )
 
--- the place where an output may stand: after a deriver, or within the lines of an output before it
-abbrev pub place_at : Option (List ℕ) → Option (List ℕ) → Place
-place_at None last = Opened
-place_at (Some output) last = Within (Some output) last
+-- the position where an output may stand: after a deriver, or within the lines of an output before
+-- it
+abbrev pub position_at : Option (List ℕ) → Option (List ℕ) → Position
+position_at None last = Opened
+position_at (Some output) last = Within (Some output) last
 
 pub may_stand : (version : Version) (dir : List ℕ) (before last : Option (List ℕ)) (path : List ℕ)
     (digest : Option MethodDigest) (nar : Option NarInfo)
     → MayBeOutputAfter version dir before path digest nar
-    → MayBeLine version dir (place_at before last) (Output path digest nar)
+    → MayBeLine version dir (position_at before last) (Output path digest nar)
 may_stand version dir None last path digest nar may = may
 may_stand version dir (Some output) last path digest nar may = may
 
 -- outputs that rise after the one before them
-pub outputs_back : (version : Version) (dir : List ℕ) (Of : Place → List Line → Type 0)
+pub outputs_back : (version : Version) (dir : List ℕ) (Of : Position → List Line → Type 0)
     → IsBackward version dir Of
     → (outputs : List Registration) (before last : Option (List ℕ)) (more : List Line)
     → All (IsOf version dir) outputs → AreAbove before (paths_registered outputs)
-    → ((reference : Option (List ℕ)) → Of (place_at (last_or before (paths_registered outputs))
+    → ((reference : Option (List ℕ)) → Of (position_at (last_or before (paths_registered outputs))
     reference)
-    more) → Of (place_at before last) (flat_map output_lines outputs ++ more)
+    more) → Of (position_at before last) (flat_map output_lines outputs ++ more)
 outputs_back version dir Of back [] before last more of_dir above of = of last
 outputs_back version dir Of back (o ∷ outputs) before last more of_dir above of =
     let is : IsOf version dir o = All-head (IsOf version dir) o _ of_dir in
     let later = flat_map output_lines outputs ++ more in
-    subst (λ (ls : List Line). Of (place_at before last) (Output o.path o.info.digest o.info.nar
+    subst (λ (ls : List Line). Of (position_at before last) (Output o.path o.info.digest o.info.nar
     ∷ ls))
     (sym (append_assoc (map Reference o.info.references) (flat_map output_lines outputs) more))
-    (back (place_at before last) (Output o.path o.info.digest o.info.nar)
+    (back (position_at before last) (Output o.path o.info.digest o.info.nar)
     (map Reference o.info.references ++ later)
     (may_stand _ _ _ _ _ _ _ (is.path, (is.digest, is.nar), above.0))
     (references_back _ _ Of back _ _ _ _ is.references
@@ -77,31 +78,31 @@ outputs_back version dir Of back (o ∷ outputs) before last more of_dir above o
     (outputs_back version dir Of back outputs (Some o.path) (last_or None o.info.references) more
     (All-tail (IsOf version dir) o _ of_dir) above.1 of)))
 
--- an entry may begin at a place
-abbrev pub MayEnter : Version → List ℕ → Place → Type 0
-MayEnter version dir place = (line : Line) → MayBegin version dir line
-    → MayBeLine version dir place line
+-- an entry may begin at a position
+abbrev pub MayEnter : Version → List ℕ → Position → Type 0
+MayEnter version dir position = (line : Line) → MayBegin version dir line
+    → MayBeLine version dir position line
 
--- a place is after the lines of an entry
-abbrev pub IsBehind : Entry → Place → Type 0
-IsBehind (Add r) (Within None last) = Unit {0}
-IsBehind (Done deriver outputs) (Within (Some output) last) = Unit {0}
-IsBehind entry place = ⊥
+-- a position is after the lines of an entry
+abbrev pub IsAfter : Entry → Position → Type 0
+IsAfter (Add r) (Within None last) = Unit {0}
+IsAfter (Done deriver outputs) (Within (Some output) last) = Unit {0}
+IsAfter entry position = ⊥
 
 -- after outputs is after the last of them
-behind_outputs : (deriver path : List ℕ) (paths : List (List ℕ)) (outputs : List Registration)
-    (reference : Option (List ℕ)) → IsBehind (Done deriver outputs)
-    (place_at (last_or (Some path) paths) reference)
-behind_outputs deriver path [] outputs reference = tt
-behind_outputs deriver path (next ∷ paths) outputs reference =
-    behind_outputs deriver next paths outputs reference
+after_outputs : (deriver path : List ℕ) (paths : List (List ℕ)) (outputs : List Registration)
+    (reference : Option (List ℕ)) → IsAfter (Done deriver outputs)
+    (position_at (last_or (Some path) paths) reference)
+after_outputs deriver path [] outputs reference = tt
+after_outputs deriver path (next ∷ paths) outputs reference =
+    after_outputs deriver next paths outputs reference
 
 -- an entry
-pub entry_back : (version : Version) (dir : List ℕ) (Of : Place → List Line → Type 0)
+pub entry_back : (version : Version) (dir : List ℕ) (Of : Position → List Line → Type 0)
     → IsBackward version dir Of
-    → (from : Place) (entry : Entry) (more : List Line) → MayEnter version dir from
+    → (from : Position) (entry : Entry) (more : List Line) → MayEnter version dir from
     → IsEntryIn version dir entry
-    → ((to : Place) → IsBehind entry to → Of to more)
+    → ((to : Position) → IsAfter entry to → Of to more)
     → Of from (entry_lines entry ++ more)
 entry_back version dir Of back from (Add r) more may is of =
     back from (Added r.path r.info.digest r.info.nar) (map Reference r.info.references ++ more)
@@ -115,24 +116,24 @@ entry_back version dir Of back from (Done deriver (o ∷ outputs)) more may is o
     (may (Deriver deriver) (is.0, is.1))
     (outputs_back _ _ Of back (o ∷ outputs) None None _ is.4
     (above_of_rising (paths_registered (o ∷ outputs)) is.3)
-    (λ reference. of (place_at (last_or None (paths_registered (o ∷ outputs))) reference)
-    (behind_outputs deriver o.path (paths_registered outputs) (o ∷ outputs) reference)))
+    (λ reference. of (position_at (last_or None (paths_registered (o ∷ outputs))) reference)
+    (after_outputs deriver o.path (paths_registered outputs) (o ∷ outputs) reference)))
 
 -- ---- lines that end a journal
 
--- a journal may end at a place
-abbrev pub MayEnd : Place → Type 0
+-- a journal may end at a position
+abbrev pub MayEnd : Position → Type 0
 MayEnd Opened = ⊥
-MayEnd place = Unit {0}
+MayEnd position = Unit {0}
 
 -- there no output has to come
-pub end_ahead : (place : Place) → MayEnd place → Ahead place []
+pub end_ahead : (position : Position) → MayEnd position → Ahead position []
 end_ahead Opened ends = absurd ends
-end_ahead place ends = tt
+end_ahead position ends = tt
 
--- from a place on these lines end a journal
-abbrev pub Ends : Version → List ℕ → Place → List Line → Type 0
-Ends version dir place come = LeadsTo version dir MayEnd place come
+-- from a position on these lines end a journal
+abbrev pub Ends : Version → List ℕ → Position → List Line → Type 0
+Ends version dir position come = LeadsTo version dir MayEnd position come
 
 -- within the lines of an added path, or of an output, an entry may begin
 pub within_enters : (version : Version) (dir : List ℕ) (output last : Option (List ℕ))
@@ -143,43 +144,45 @@ within_enters version dir output last (Deriver path) may = may
 within_enters version dir output last line may = absurd may
 
 -- after the lines of an entry another may begin, and a journal may end
-behind_enters : (version : Version) (dir : List ℕ) (entry : Entry) (to : Place) → IsBehind entry to
+after_enters : (version : Version) (dir : List ℕ) (entry : Entry) (to : Position)
+    → IsAfter entry to
     → MayEnter version dir to
     × MayEnd to
-behind_enters version dir entry (Within output last) is = (within_enters _ _ _ _, tt)
-behind_enters version dir (Add r) to is = absurd is
-behind_enters version dir (Done deriver outputs) to is = absurd is
+after_enters version dir entry (Within output last) is = (within_enters _ _ _ _, tt)
+after_enters version dir (Add r) to is = absurd is
+after_enters version dir (Done deriver outputs) to is = absurd is
 
 -- the lines of entries end a journal from where an entry may begin
-pub entries_end : (version : Version) (dir : List ℕ) (place : Place) (entries : List Entry)
-    → MayEnter version dir place
-    × MayEnd place → All (IsEntryIn version dir) entries
-    → Ends version dir place (flat_map entry_lines entries)
-entries_end version dir place [] begins each = begins.1
-entries_end version dir place (entry ∷ entries) begins each =
+pub entries_end : (version : Version) (dir : List ℕ) (position : Position) (entries : List Entry)
+    → MayEnter version dir position
+    × MayEnd position → All (IsEntryIn version dir) entries
+    → Ends version dir position (flat_map entry_lines entries)
+entries_end version dir position [] begins each = begins.1
+entries_end version dir position (entry ∷ entries) begins each =
     entry_back _ _ (Ends version dir) (λ from line more may ends. (may, ends)) _ _
     _ begins.0 (All-head (IsEntryIn version dir) _ _ each)
-    (λ to is. entries_end version dir to entries (behind_enters version dir entry to is)
+    (λ to is. entries_end version dir to entries (after_enters version dir entry to is)
     (All-tail (IsEntryIn version dir) _ _ each))
 
 -- ---- what is still to come
 
 -- outputs rise after one; without one there are none
-abbrev RiseBehind : Option (List ℕ) → List Registration → Type 0
-RiseBehind None outputs = outputs ≡ []
-RiseBehind (Some before) outputs = AreAbove (Some before) (paths_registered outputs)
+abbrev RiseAfter : Option (List ℕ) → List Registration → Type 0
+RiseAfter None outputs = outputs ≡ []
+RiseAfter (Some before) outputs = AreAbove (Some before) (paths_registered outputs)
 
--- references and outputs may come at a place
-abbrev MayCome : Place → List (List ℕ) → List Registration → Type 0
+-- references and outputs may come at a position
+abbrev MayCome : Position → List (List ℕ) → List Registration → Type 0
 MayCome Start references outputs = ⊥
 MayCome Begun references outputs = (references ≡ []) × (outputs ≡ [])
 MayCome Opened references outputs = (references ≡ []) × (outputs ≢ [])
     × AreAbove None (paths_registered outputs)
 MayCome (Within output last) references outputs = AreAbove last references
-    × RiseBehind output outputs
+    × RiseAfter output outputs
 
--- At a place the lines of references come, then those of outputs, and then those of entries.
-record Comes (version : Version) (dir : List ℕ) (place : Place) (come : List Line) : Type 0 where
+-- At a position the lines of references come, then those of outputs, and then those of entries.
+record Comes (version : Version) (dir : List ℕ) (position : Position) (come : List Line)
+    : Type 0 where
   pub references : List (List ℕ)
   pub outputs : List Registration
   pub entries : List Entry
@@ -188,24 +191,24 @@ record Comes (version : Version) (dir : List ℕ) (place : Place) (come : List L
   pub paths_of_dir : All (IsPathOf dir) references
   pub outputs_of_dir : All (IsOf version dir) outputs
   pub entries_of_dir : All (IsEntryIn version dir) entries
-  pub may : MayCome place references outputs
+  pub may : MayCome position references outputs
 
-none_behind : (output : Option (List ℕ)) → RiseBehind output []
-none_behind None = refl
-none_behind (Some before) = tt
+none_after : (output : Option (List ℕ)) → RiseAfter output []
+none_after None = refl
+none_after (Some before) = tt
 
 -- entries alone
-entries_come : (version : Version) (dir : List ℕ) (place : Place) (come : List Line)
+entries_come : (version : Version) (dir : List ℕ) (position : Position) (come : List Line)
     (entries : List Entry)
-    → MayCome place [] [] → All (IsEntryIn version dir) entries
+    → MayCome position [] [] → All (IsEntryIn version dir) entries
     → come ≡ flat_map entry_lines entries
-    → Comes version dir place come
-entries_come version dir place come entries may each are = search (rules, All-nil)
+    → Comes version dir position come
+entries_come version dir position come entries may each are = search (rules, All-nil)
 
 -- what a path registers with a digest and the references that come
-abbrev registration : {version : Version} {dir : List ℕ} {place : Place} {come : List Line}
+abbrev registration : {version : Version} {dir : List ℕ} {position : Position} {come : List Line}
     (path : List ℕ)
-    (digest : Option MethodDigest) (nar : Option NarInfo) → Comes version dir place come
+    (digest : Option MethodDigest) (nar : Option NarInfo) → Comes version dir position come
     → Registration
 registration path digest nar c =
     record { path = path; info = record { references = c.references; digest = digest; nar = nar } }
@@ -219,13 +222,13 @@ registration_of : {version : Version} {dir : List ℕ} {output : Option (List �
 registration_of path digest nar c is_path is_known = search (rules, rising_of_above)
 
 -- one more added path
-one_added : (version : Version) (dir : List ℕ) (place : Place) (path : List ℕ)
+one_added : (version : Version) (dir : List ℕ) (position : Position) (path : List ℕ)
     (digest : Option MethodDigest) (nar : Option NarInfo)
-    (come : List Line) → MayCome place [] [] → IsPathOf dir path × IsKnownOf version digest nar
+    (come : List Line) → MayCome position [] [] → IsPathOf dir path × IsKnownOf version digest nar
     → Comes version dir (Within None None) come
-    → Comes version dir place (Added path digest nar ∷ come)
-one_added version dir place path digest nar come may is c =
-    entries_come version dir place (Added path digest nar ∷ come)
+    → Comes version dir position (Added path digest nar ∷ come)
+one_added version dir position path digest nar come may is c =
+    entries_come version dir position (Added path digest nar ∷ come)
     (Add (registration path digest nar c) ∷ c.entries)
     may
     (All-cons (IsEntryIn version dir) (Add (registration path digest nar c)) c.entries
@@ -235,10 +238,12 @@ one_added version dir place path digest nar come may is c =
     ++ (flat_map output_lines os ++ flat_map entry_lines c.entries)) c.may.1))
 
 -- one more derivation that was built
-one_done : (version : Version) (dir : List ℕ) (place : Place) (deriver : List ℕ) (come : List Line)
-    → MayCome place [] [] → MayBegin version dir (Deriver deriver) → Comes version dir Opened come
-    → Comes version dir place (Deriver deriver ∷ come)
-one_done version dir place deriver come may is c =
+one_done : (version : Version) (dir : List ℕ) (position : Position) (deriver : List ℕ)
+    (come : List Line)
+    → MayCome position [] [] → MayBegin version dir (Deriver deriver)
+    → Comes version dir Opened come
+    → Comes version dir position (Deriver deriver ∷ come)
+one_done version dir position deriver come may is c =
     entries_come _ _ _ _ (Done deriver c.outputs ∷ c.entries) may
     (All-cons (IsEntryIn version dir) (Done deriver c.outputs) c.entries
     (is.0, is.1, c.may.1, rising_of_above _ c.may.2, c.outputs_of_dir)
@@ -248,13 +253,13 @@ one_done version dir place deriver come may is c =
     ++ (flat_map output_lines c.outputs ++ flat_map entry_lines c.entries)) c.may.0))
 
 -- one more output
-one_output : (version : Version) (dir : List ℕ) (place : Place) (path : List ℕ)
+one_output : (version : Version) (dir : List ℕ) (position : Position) (path : List ℕ)
     (digest : Option MethodDigest) (nar : Option NarInfo)
     (come : List Line) → IsPathOf dir path → IsKnownOf version digest nar
     → (c : Comes version dir (Within (Some path) None) come)
-    → MayCome place [] (registration path digest nar c ∷ c.outputs)
-    → Comes version dir place (Output path digest nar ∷ come)
-one_output version dir place path digest nar come is_path is_known c may =
+    → MayCome position [] (registration path digest nar c ∷ c.outputs)
+    → Comes version dir position (Output path digest nar ∷ come)
+one_output version dir position path digest nar come is_path is_known c may =
     search (rules, append_assoc, All-nil, All-cons, registration_of)
 
 -- one more reference
@@ -275,40 +280,41 @@ one_reference version dir output last path come may c = record {
 }
 
 -- after the first line they are what is to come
-abbrev ToCome : Version → List ℕ → Place → List Line → Type 0
+abbrev ToCome : Version → List ℕ → Position → List Line → Type 0
 ToCome version dir Start come = Unit {0}
-ToCome version dir place come = Comes version dir place come
+ToCome version dir position come = Comes version dir position come
 
 -- one more line
-comes_back : (version : Version) (dir : List ℕ) (place : Place) (line : Line) (come : List Line)
-    → MayBeLine version dir place line → ToCome version dir (behind place line) come
-    → ToCome version dir place (line ∷ come)
+comes_back : (version : Version) (dir : List ℕ) (position : Position) (line : Line)
+    (come : List Line)
+    → MayBeLine version dir position line → ToCome version dir (position_after position line) come
+    → ToCome version dir position (line ∷ come)
 comes_back version dir Start line come may c = tt
 comes_back version dir Begun (Added path digest nar) come may c = search (rules, one_added, may)
 comes_back version dir Begun (Deriver path) come may c = search (rules, one_done, may)
 comes_back version dir Opened (Output path digest nar) come may c =
     one_output _ _ _ _ _ _ _ may.0 may.1 c (refl, λ none. cc none, (tt, c.may.1))
 comes_back version dir (Within output last) (Added path digest nar) come may c =
-    search (rules, one_added, none_behind)
+    search (rules, one_added, none_after)
 comes_back version dir (Within output last) (Deriver path) come may c =
-    search (rules, one_done, none_behind, may)
+    search (rules, one_done, none_after, may)
 comes_back version dir (Within (Some before) last) (Output path digest nar) come may c =
     one_output _ _ _ _ _ _ _ may.0 may.1 c (tt, (may.2, c.may.1))
 comes_back version dir (Within output last) (Reference path) come may c =
     one_reference _ _ _ _ _ _ may c
-comes_back version dir place line come may c = absurd may
+comes_back version dir position line come may c = absurd may
 
 -- lines that end a journal are to come
-ends_come : (version : Version) (dir : List ℕ) (place : Place) (come : List Line)
-    → Ends version dir place come
-    → ToCome version dir place come
+ends_come : (version : Version) (dir : List ℕ) (position : Position) (come : List Line)
+    → Ends version dir position come
+    → ToCome version dir position come
 ends_come version dir Start [] ends = tt
 ends_come version dir Begun [] ends = search (rules, entries_come, All-nil)
 ends_come version dir Opened [] ends = absurd ends
 ends_come version dir (Within output last) [] ends =
-    entries_come _ _ _ [] [] (tt, none_behind _) (All-nil (IsEntryIn version dir)) refl
-ends_come version dir place (line ∷ come) ends =
-    search (rules, comes_back, ends_come version dir (behind place line) come ends.1)
+    entries_come _ _ _ [] [] (tt, none_after _) (All-nil (IsEntryIn version dir)) refl
+ends_come version dir position (line ∷ come) ends =
+    search (rules, comes_back, ends_come version dir (position_after position line) come ends.1)
 
 -- ---- the texts of journals
 

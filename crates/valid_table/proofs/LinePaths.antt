@@ -28,9 +28,9 @@ pub no_path_line : (dir bytes path rest : List ℕ) → Lacks 10 bytes → IsPat
 no_path_line dir bytes path rest none is = search (rules, lacks_not)
 
 -- where what stands before the first newline is no path, there is no line with a path
-pub other_path_line : (dir bytes line behind path rest : List ℕ) → IsStoreDir dir → Lacks 10 line
-    → bytes ≡ line ++ 10 ∷ behind → (IsPathOf dir line → ⊥) → IsPathLine dir bytes path rest → ⊥
-other_path_line dir bytes line behind path rest of_dir none parts other is =
+pub other_path_line : (dir bytes line after path rest : List ℕ) → IsStoreDir dir → Lacks 10 line
+    → bytes ≡ line ++ 10 ∷ after → (IsPathOf dir line → ⊥) → IsPathLine dir bytes path rest → ⊥
+other_path_line dir bytes line after path rest of_dir none parts other is =
     let same = same_cut _ _ _ _ _
     (path_lacks _ newline _ _ (dir_lacks _ newline _ of_dir) is.of_dir) none
     (sym is.parts ∙ parts) in
@@ -50,41 +50,41 @@ module _ (version : Version) (dir bytes text fields : List ℕ) (of_dir : IsStor
     (nar : Option NarInfo)
     (rest : List ℕ) (is : IsFieldsLine version dir bytes path digest nar rest) where
   -- the path of the fields is what stands before the space
-  behind_space : (path ≡ text) × (known_text version digest nar ++ (10 ∷ rest) ≡ fields)
-  behind_space =
+  after_space : (path ≡ text) × (known_text version digest nar ++ (10 ∷ rest) ≡ fields)
+  after_space =
       same_cut _ _ _ _ _
       (path_lacks _ space _ _ (dir_lacks _ space _ of_dir) is.of_dir) none
       (sym (fields_apart _ _ _ _ _) ∙ sym is.parts ∙ parts)
 
   -- a newline stands after the space
   pub no_newline : Lacks 10 fields → ⊥
-  no_newline lacks = lacks_not _ _ _ (subst (Lacks 10) (sym behind_space.1) lacks)
+  no_newline lacks = lacks_not _ _ _ (subst (Lacks 10) (sym after_space.1) lacks)
 
   -- what is known of the path stands up to that newline
-  pub other_digest : (line behind : List ℕ) → Lacks 10 line → fields ≡ line ++ 10 ∷ behind
+  pub other_digest : (line after : List ℕ) → Lacks 10 line → fields ≡ line ++ 10 ∷ after
       → ((d : Option MethodDigest) (n : Option NarInfo) → IsKnownOf version d n
       → line ≢ known_text version d n) → ⊥
-  other_digest line behind lacks ends other =
+  other_digest line after lacks ends other =
       other digest nar is.is_known
       (sym (same_cut _ _ _ _ _
       (known_lacks _ _ _ is.is_known)
-      lacks (behind_space.1 ∙ ends)).0)
+      lacks (after_space.1 ∙ ends)).0)
 
   -- and a path before the space
   pub other_path : (IsPathOf dir text → ⊥) → ⊥
-  other_path other = other (subst (IsPathOf dir) behind_space.0 is.of_dir)
+  other_path other = other (subst (IsPathOf dir) after_space.0 is.of_dir)
 
 -- a line with another path than a `.drv` one is no deriver's
-pub not_drv : (dir bytes path behind name other rest : List ℕ) → IsPathLine dir bytes path behind
+pub not_drv : (dir bytes path after name other rest : List ℕ) → IsPathLine dir bytes path after
     → name ≡ name_of path → is_drv_name name ≡ false → IsDeriverLine dir bytes other rest → ⊥
-not_drv dir bytes path behind name other rest line named fails is =
+not_drv dir bytes path after name other rest line named fails is =
     let same = two_path_lines _ _ _ _ _ _ is.line line in
     false≢true (sym fails ∙ ap is_drv_name (named ∙ ap name_of (sym same.0)) ∙ is.named)
 
 -- nor is one that no output follows
-pub not_ahead : (dir bytes path behind other rest : List ℕ) → IsPathLine dir bytes path behind
-    → IsNoLine 79 behind → IsDeriverLine dir bytes other rest → ⊥
-not_ahead dir bytes path behind other rest line none is =
+pub not_ahead : (dir bytes path after other rest : List ℕ) → IsPathLine dir bytes path after
+    → IsNoLine 79 after → IsDeriverLine dir bytes other rest → ⊥
+not_ahead dir bytes path after other rest line none is =
     let same = two_path_lines _ _ _ _ _ _ is.line line in
     none is.ahead.0 (sym same.1 ∙ is.ahead.1)
 

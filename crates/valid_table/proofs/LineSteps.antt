@@ -1,11 +1,11 @@
--- Single lines, as steps from one place to the next.
+-- Single lines, as steps from one position to the next.
 use Rattle.std.proofs.Common.{◌≡◌, ℕ, List, [], ◌∷◌, ◌++◌, length, get_or, sym, ap, ◌∙◌, rules}
 use Rattle.std.proofs.lemmas.List.{append-nil, append_assoc}
 use Rattle.valid_table.specs.private.LineTexts.{lines_text}
 use Rattle.valid_table.specs.private.Readers.{StopsWhere}
 use Rattle.valid_table.specs.declared.journal_text.reading.LineFault.{LineFault}
 use Rattle.valid_table.specs.declared.journal_text.reading.LineFault.TheVariants.{NoMemory, Left}
-use Rattle.valid_table.specs.private.Steps.{Place, Ahead, GoesOnWith, MayBeLine, Stops, behind}
+use Rattle.valid_table.specs.private.Steps.{Position, Ahead, GoesOnWith, MayBeLine, Stops, position_after}
 use Rattle.valid_table.specs.Texts.{Line, line_text}
 use Rattle.valid_table.specs.declared.path_table.version.Version.{Version}
 use Rattle.valid_table.proofs.LineLists.{IsBackward}
@@ -15,19 +15,20 @@ abbrev pub first : List ℕ → ℕ
 first bytes = get_or bytes 0 0
 
 -- where no line goes on with bytes that begin with something, the lines stop
-pub stop_here : (version : Version) (dir : List ℕ) (place : Place) (bad : List ℕ) (c : ℕ)
+pub stop_here : (version : Version) (dir : List ℕ) (position : Position) (bad : List ℕ) (c : ℕ)
     (more : List ℕ) → bad ≡ c
-    ∷ more → Ahead place bad → ((line : Line) (rest : List ℕ)
-    → GoesOnWith version dir place bad line rest → ⊥)
-    → Stops version dir place bad (length bad)
-stop_here version dir place bad c more begins ahead stuck = search rules
+    ∷ more → Ahead position bad → ((line : Line) (rest : List ℕ)
+    → GoesOnWith version dir position bad line rest → ⊥)
+    → Stops version dir position bad (length bad)
+stop_here version dir position bad c more begins ahead stuck = search rules
 
 -- one line, and where the lines after it stop
-pub stop_behind : (version : Version) (dir : List ℕ) (from : Place) (bytes : List ℕ) (line : Line)
+pub stop_after : (version : Version) (dir : List ℕ) (from : Position) (bytes : List ℕ)
+    (line : Line)
     (more : List ℕ)
     (left : ℕ) → bytes ≡ line_text version line ++ more → MayBeLine version dir from line
-    → Stops version dir (behind from line) more left → Stops version dir from bytes left
-stop_behind version dir from bytes line more left parts may h = record {
+    → Stops version dir (position_after from line) more left → Stops version dir from bytes left
+stop_after version dir from bytes line more left parts may h = record {
   lines = line ∷ h.lines;
   bad = h.bad;
   parts = parts ∙ ap (λ (t : List ℕ). line_text version line ++ t) h.parts
@@ -38,17 +39,17 @@ stop_behind version dir from bytes line more left parts may h = record {
 }
 
 -- in lines and the rest, the lines stop with so many bytes left
-abbrev pub StopsIn : Version → List ℕ → List ℕ → ℕ → Place → List Line → Type 0
+abbrev pub StopsIn : Version → List ℕ → List ℕ → ℕ → Position → List Line → Type 0
 StopsIn version dir rest left from lines =
     Stops version dir from (lines_text version lines ++ rest) left
 
 -- they stop where those after the first one do
 pub stops_back : (version : Version) (dir rest : List ℕ) (left : ℕ)
     → IsBackward version dir (StopsIn version dir rest left)
-stops_back version dir rest left from line more may h = search (rules, stop_behind, append_assoc)
+stops_back version dir rest left from line more may h = search (rules, stop_after, append_assoc)
 
--- the same bytes stop with the same left
-pub stops_in : (version : Version) (dir : List ℕ) (from : Place) (lines : List Line)
+-- equal bytes stop with as many left
+pub stops_in : (version : Version) (dir : List ℕ) (from : Position) (lines : List Line)
     (bytes rest : List ℕ) (left : ℕ)
     → bytes ≡ lines_text version lines ++ rest → StopsIn version dir rest left from (lines ++ [])
     → Stops version dir from bytes left

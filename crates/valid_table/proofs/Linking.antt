@@ -32,9 +32,9 @@ range_kept : (xs ys : List ℕ) (i j : ℕ) → i ≤ j → j ≤ length xs → 
     ≡ slice_range xs i j
 range_kept xs ys i j rises within = search (rules, drop-append-le, take-append-le, length-drop)
 
-range_behind : (xs ys : List ℕ) (i j : ℕ) → i ≡ length xs → j ≡ length xs + length ys
+range_after : (xs ys : List ℕ) (i j : ℕ) → i ≡ length xs → j ≡ length xs + length ys
     → slice_range (xs ++ ys) i j ≡ ys
-range_behind xs ys i j first last = search (rules, drop-append_seam, take_all)
+range_after xs ys i j first last = search (rules, drop-append_seam, take_all)
 
 -- ---- the rows of paths
 
@@ -97,7 +97,7 @@ row_added : (registrations : List Registration) (ends numbers more : List ℕ) (
     → AreRowsOf registrations info.references more
     → IsLinkedRow registrations (ends ++ end ∷ []) (numbers ++ more) (length ends)
 row_added registrations ends numbers more end info whole is registers links =
-    search (rules, start_kept, start_last, length-append, range_behind)
+    search (rules, start_kept, start_last, length-append, range_after)
 
 -- one more row is linked
 pub linked_more : (registrations : List Registration) (ends numbers more : List ℕ) (end : ℕ)

@@ -65,7 +65,7 @@ pub marked_more : (marks rows : List ℕ) (row word : ℕ) → AreMarked marks r
     (rows ++ row ∷ [])
 marked_more marks rows row word are within read clear =
     let new : ℕ = bit_or word (1 * 2 ^ (row % 64) % 2 ^ 64) in
-    let place : row / 64 < length marks = omega arith in
+    let index : row / 64 < length marks = omega arith in
     let low : row % 64 < 64 = omega arith in
     record {
       distinct = IsDistinct-push nat_eq_equiv _ _ are.distinct (sym (are.marked row) ∙ clear);
@@ -75,7 +75,7 @@ marked_more marks rows row word are within read clear =
             | inl same ↦
                 rw same
                 (ap (λ w. nat_eq (bit_at w (row % 64)) 1)
-                (get_or-set_same marks (row / 64) new 0 place)
+                (get_or-set_same marks (row / 64) new 0 index)
                 ∙ ap (λ bit. nat_eq bit 1) (bit_at_set_same w64 _ _ low)
                 ∙ sym (here row))
             | inr other ↦

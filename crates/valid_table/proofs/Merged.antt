@@ -64,10 +64,10 @@ first_and_rest (y ∷ ys) x some is = search (rules, take_all)
 -- a rising list goes on in another way after one of its paths
 rising_join : (done : List (List ℕ)) (path : List ℕ) (xs ys : List (List ℕ))
     → IsRising (done ++ path ∷ xs) → IsRising (path ∷ ys) → IsRising (done ++ path ∷ ys)
-rising_join [] path xs ys rises behind = behind
-rising_join (x ∷ []) path xs ys rises behind = (rises.0, behind)
-rising_join (x ∷ y ∷ done) path xs ys rises behind =
-    (rises.0, rising_join (y ∷ done) path xs ys rises.1 behind)
+rising_join [] path xs ys rises after = after
+rising_join (x ∷ []) path xs ys rises after = (rises.0, after)
+rising_join (x ∷ y ∷ done) path xs ys rises after =
+    (rises.0, rising_join (y ∷ done) path xs ys rises.1 after)
 
 -- What is merged so far, with what is left: each rises, and they have the paths of both lists.
 pub record IsMerged (left right done more others : List (List ℕ)) : Type 0 where
@@ -81,10 +81,10 @@ pub merged_none : (left right : List (List ℕ)) → IsRising left → IsRising 
 merged_none left right rises rises' = search rules
 
 -- a path in one of two lists, after others
-behind_either : (done xs ys us vs : List (List ℕ)) (p : List ℕ)
+after_either : (done xs ys us vs : List (List ℕ)) (p : List ℕ)
     → (IsInEither xs ys p → IsInEither us vs p) → IsInEither (done ++ xs) (done ++ ys) p
     → IsInEither (done ++ us) (done ++ vs) p
-behind_either done xs ys us vs p moves there =
+after_either done xs ys us vs p moves there =
     let both : IsInEither xs ys p → IsInEither (done ++ us) (done ++ vs) p =
     λ h. ⊎_elim (λ u. inl (Contains-append_right _ _ p u))
     (λ v. inr (Contains-append_right _ _ p v)) (moves h) in
@@ -98,13 +98,13 @@ behind_either done xs ys us vs p moves there =
 -- one more path is merged
 pub merged_more :
     (left right done more others : List (List ℕ)) (path : List ℕ)
-    (behind beside pushed : List (List ℕ)) →
+    (after beside pushed : List (List ℕ)) →
     IsMerged left right done more others →
-    IsLeastHead more others path behind beside →
+    IsLeastHead more others path after beside →
     pushed ≡ done ++ path ∷ [] →
-    IsMerged left right pushed behind beside
-merged_more left right done more others path behind beside pushed merged least is =
-    let Is : List (List ℕ) → Type 0 = λ l. IsMerged left right l behind beside in
+    IsMerged left right pushed after beside
+merged_more left right done more others path after beside pushed merged least is =
+    let Is : List (List ℕ) → Type 0 = λ l. IsMerged left right l after beside in
     let Path : List (List ℕ) → List (List ℕ) = λ xs. done ++ path ∷ xs in
     let from : (xs : List (List ℕ)) → IsRising (path ∷ xs) → IsRising (Path xs) =
     λ xs rises. ⊎_elim
@@ -119,16 +119,16 @@ merged_more left right done more others path behind beside pushed merged least i
     → Type 0 = λ us vs p. IsInEither left right p ↔ IsInEither us vs p in
     subst Is (sym is)
     (record {
-      left_rises = subst IsRising (sym (joined behind))
-          (from behind (least.left_rises (rising_back _ _ merged.left_rises)));
+      left_rises = subst IsRising (sym (joined after))
+          (from after (least.left_rises (rising_back _ _ merged.left_rises)));
       right_rises = subst IsRising (sym (joined beside))
           (from beside (least.right_rises (rising_back _ _ merged.right_rises)));
-      each = λ p. subst (λ us. Either us ((done ++ path ∷ []) ++ beside) p) (sym (joined behind))
-          (subst (λ vs. Either (Path behind) vs p) (sym (joined beside)) (
-            λ there. behind_either _ _ _ _ _ p
+      each = λ p. subst (λ us. Either us ((done ++ path ∷ []) ++ beside) p) (sym (joined after))
+          (subst (λ vs. Either (Path after) vs p) (sym (joined beside)) (
+            λ there. after_either _ _ _ _ _ p
                 (least.each p).0 ((merged.each p).0 there),
             λ there. (merged.each p).1
-                (behind_either _ _ _ _ _ p (least.each p).1
+                (after_either _ _ _ _ _ p (least.each p).1
                 there),
           ));
     })

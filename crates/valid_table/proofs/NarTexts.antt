@@ -115,27 +115,27 @@ no_space text none digest nar e =
     lacks_not 32 (digest_text Three digest) (nar_text nar) (subst (Lacks 32) e none)
 
 -- what stands before the space, and after it
-known_parts : (text before behind : List ℕ) → Lacks 32 before → text ≡ before ++ 32 ∷ behind
+known_parts : (text before after : List ℕ) → Lacks 32 before → text ≡ before ++ 32 ∷ after
     → (digest : Option MethodDigest) (nar : Option NarInfo) → IsKnownOf Three digest nar
     → text ≡ known_text Three digest nar
-    → (before ≡ digest_text Three digest) × (behind ≡ nar_text nar)
-known_parts text before behind none parts digest nar is e =
-    same_cut 32 before (digest_text Three digest) behind (nar_text nar) none
+    → (before ≡ digest_text Three digest) × (after ≡ nar_text nar)
+known_parts text before after none parts digest nar is e =
+    same_cut 32 before (digest_text Three digest) after (nar_text nar) none
     (digest_lacks 32 space Three digest is.0) (sym parts ∙ e)
 
 -- no digest's text before the space
-pub no_digest : (text before behind : List ℕ) → Lacks 32 before → text ≡ before ++ 32 ∷ behind
+pub no_digest : (text before after : List ℕ) → Lacks 32 before → text ≡ before ++ 32 ∷ after
     → ((digest : Option MethodDigest) → IsDigestOf Three digest
     → before ≢ digest_text Three digest)
     → (digest : Option MethodDigest) (nar : Option NarInfo) → IsKnownOf Three digest nar
     → text ≢ known_text Three digest nar
-no_digest text before behind none parts other digest nar is e =
-    other digest is.0 (known_parts text before behind none parts digest nar is e).0
+no_digest text before after none parts other digest nar is e =
+    other digest is.0 (known_parts text before after none parts digest nar is e).0
 
 -- no archive's text after the space
-pub no_archive : (text before behind : List ℕ) → Lacks 32 before → text ≡ before ++ 32 ∷ behind
-    → ((nar : Option NarInfo) → IsNarOf Three nar → behind ≢ nar_text nar)
+pub no_archive : (text before after : List ℕ) → Lacks 32 before → text ≡ before ++ 32 ∷ after
+    → ((nar : Option NarInfo) → IsNarOf Three nar → after ≢ nar_text nar)
     → (digest : Option MethodDigest) (nar : Option NarInfo) → IsKnownOf Three digest nar
     → text ≢ known_text Three digest nar
-no_archive text before behind none parts other digest nar is e =
-    other nar is.1 (known_parts text before behind none parts digest nar is e).1
+no_archive text before after none parts other digest nar is e =
+    other nar is.1 (known_parts text before after none parts digest nar is e).1

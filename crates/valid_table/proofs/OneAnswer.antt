@@ -23,29 +23,29 @@ in_lines : (entries before : List Entry) (entry : Entry) (line : Line) (n : ℕ)
     → StandsAt entries before entry line n → (prefix : List Line) × (rest : List Line)
     × (lines entries ≡ prefix ++ line ∷ rest) × (n ≡ suc (length prefix))
 in_lines entries before entry line n s =
-    let behind = flat_map entry_lines s.after in
-    let parts : lines entries ≡ (lines before ++ s.first) ++ line ∷ (s.last ++ behind) =
+    let later = flat_map entry_lines s.after in
+    let parts : lines entries ≡ (lines before ++ s.first) ++ line ∷ (s.last ++ later) =
     ap lines s.parts
     ∙ ap (λ (ls : List Line). First ∷ ls) (flat_map-append entry_lines before (entry ∷ s.after))
-    ∙ ap (λ (ls : List Line). lines before ++ (ls ++ behind)) s.is_line
-    ∙ ap (λ (ls : List Line). lines before ++ ls) (append_assoc s.first (line ∷ s.last) behind)
-    ∙ sym (append_assoc (lines before) s.first (line ∷ (s.last ++ behind))) in (
+    ∙ ap (λ (ls : List Line). lines before ++ (ls ++ later)) s.is_line
+    ∙ ap (λ (ls : List Line). lines before ++ ls) (append_assoc s.first (line ∷ s.last) later)
+    ∙ sym (append_assoc (lines before) s.first (line ∷ (s.last ++ later))) in (
       lines before ++ s.first,
-      s.last ++ behind,
+      s.last ++ later,
       parts,
       omega (arith, s.number, length-append (lines before) s.first),
     )
 
--- one line stands at a place
+-- one line stands at an index
 one_line : (entries before other : List Entry) (entry another : Entry) (a b : Line) (n : ℕ)
     → StandsAt entries before entry a n → StandsAt entries other another b n → a ≡ b
 one_line entries before other entry another a b n one two =
     let here = in_lines _ _ _ a n one in
     let there = in_lines _ _ _ b n two in
-    let place : length here.0 ≡ length there.0 = omega (arith, here.3, there.3) in
+    let index : length here.0 ≡ length there.0 = omega (arith, here.3, there.3) in
     sym (get_or_at here.0 a here.1 First (length here.0) refl)
     ∙ ap (λ (ls : List Line). get_or ls (length here.0) First) (sym here.2 ∙ there.2)
-    ∙ get_or_at there.0 b there.1 First (length here.0) (sym place)
+    ∙ get_or_at there.0 b there.1 First (length here.0) (sym index)
 
 -- so no line refers to a path and registers one
 one_fault : (entries : List Entry) (n : ℕ) → IsNotClosedAt entries n → IsTwiceAt entries n → ⊥

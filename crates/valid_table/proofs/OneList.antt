@@ -7,7 +7,7 @@ use Rattle.valid_table.specs.PathInfos.{NarInfo}
 use Rattle.valid_table.specs.private.LineTexts.{lines_text}
 use Rattle.valid_table.specs.Reading.{BeginsVersion}
 use Rattle.valid_table.specs.ReadingLaws.{TextHasOneList}
-use Rattle.valid_table.specs.private.Steps.{Place, Start}
+use Rattle.valid_table.specs.private.Steps.{Position, Start}
 use Rattle.valid_table.specs.Texts.{IsTextIn, Line, First, Added, Deriver, Output, Reference, entry_lines, lines, output_lines, text}
 use Rattle.valid_table.specs.declared.entry.Entry.{Entry}
 use Rattle.valid_table.specs.declared.entry.Entry.TheVariants.{Add, Done}
@@ -21,8 +21,8 @@ use Rattle.valid_table.proofs.Versions.{one_version, text_begins}
 
 -- ---- bytes tell lines
 
--- lines that end a journal from one place are the same where their bytes are
-lines_told : (version : Version) (dir : List ℕ) (from : Place) (a b : List Line)
+-- lines that end a journal from one position are the same where their bytes are
+lines_told : (version : Version) (dir : List ℕ) (from : Position) (a b : List Line)
     → Ends version dir from a → Ends version dir from b
     → lines_text version a ≡ lines_text version b → a ≡ b
 lines_told version dir from a b one two e =

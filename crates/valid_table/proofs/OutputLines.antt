@@ -15,8 +15,8 @@ use Rattle.valid_table.specs.Texts.{IsOf, Line, Output, output_lines}
 use Rattle.valid_table.specs.declared.entry.Registration.{Registration}
 use Rattle.valid_table.specs.declared.path_table.version.Version.{Version}
 use Rattle.valid_table.proofs.Leading.{text_and}
-use Rattle.valid_table.proofs.LineLists.{may_stand, outputs_back, place_at}
-use Rattle.valid_table.proofs.LineSteps.{StopsIn, first, stop_behind, stop_here, stops_back, stops_in}
+use Rattle.valid_table.proofs.LineLists.{may_stand, outputs_back, position_at}
+use Rattle.valid_table.proofs.LineSteps.{StopsIn, first, stop_after, stop_here, stops_back, stops_in}
 use Rattle.valid_table.proofs.RisingPaths.{above_of_rising, rising_more}
 
 -- the lines of outputs, and of one more
@@ -26,26 +26,26 @@ lines_more : (outputs : List Registration) (o : Registration)
 lines_more outputs o = search (rules, flat_map-append, append-nil)
 
 -- the text of outputs, and of one more
-text_more : (version : Version) (outputs : List Registration) (o : Registration) (behind : List ℕ)
+text_more : (version : Version) (outputs : List Registration) (o : Registration) (after : List ℕ)
     → lines_text version (flat_map output_lines outputs) ++
-    (registration_text version 79 o ++ behind)
-    ≡ lines_text version (flat_map output_lines (outputs ++ o ∷ [])) ++ behind
-text_more version outputs o behind =
-    text_and version (flat_map output_lines outputs) (output_lines o) behind
-    ∙ ap (λ some. lines_text version some ++ behind) (lines_more _ o)
+    (registration_text version 79 o ++ after)
+    ≡ lines_text version (flat_map output_lines (outputs ++ o ∷ [])) ++ after
+text_more version outputs o after =
+    text_and version (flat_map output_lines outputs) (output_lines o) after
+    ∙ ap (λ some. lines_text version some ++ after) (lines_more _ o)
 
 -- ---- where an output stops
 
 may_follow : (version : Version) (dir : List ℕ) (before last : Option (List ℕ)) (path : List ℕ)
     (digest : Option MethodDigest) (nar : Option NarInfo)
-    → MayBeLine version dir (place_at before last) (Output path digest nar)
+    → MayBeLine version dir (position_at before last) (Output path digest nar)
     → MayBeOutputAfter version dir before path digest nar
 may_follow version dir None last path digest nar may = may
 may_follow version dir (Some output) last path digest nar may = may
 
 -- there an output's letter comes
 letter_ahead : (before last : Option (List ℕ)) (bytes fields : List ℕ) → bytes ≡ 79 ∷ 32 ∷ fields
-    → Ahead (place_at before last) bytes
+    → Ahead (position_at before last) bytes
 letter_ahead None last bytes fields begins = (fields, begins)
 letter_ahead (Some output) last bytes fields begins = tt
 
@@ -53,7 +53,7 @@ letter_ahead (Some output) last bytes fields begins = tt
 stuck : (version : Version) (dir : List ℕ) (before last : Option (List ℕ)) (bytes : List ℕ)
     (left : ℕ)
     → (h : IsBadFields version dir 79 before bytes left) → (line : Line) (rest : List ℕ)
-    → GoesOnWith version dir (place_at before last) bytes line rest → ⊥
+    → GoesOnWith version dir (position_at before last) bytes line rest → ⊥
 stuck version dir before last bytes left h (Output path digest nar) rest go =
     search (rules, may_follow)
 stuck version dir before last bytes left h line rest go = search (rules, first)
@@ -62,11 +62,11 @@ stuck version dir before last bytes left h line rest go = search (rules, first)
 output_stops : (version : Version) (dir : List ℕ) (before last : Option (List ℕ)) (bytes : List ℕ)
     (left : ℕ)
     → StopsInRegistration version dir 79 before bytes left
-    → Stops version dir (place_at before last) bytes left
+    → Stops version dir (position_at before last) bytes left
 output_stops version dir before last bytes left (inl h) =
-    search (rules, place_at, stop_here, letter_ahead, stuck)
+    search (rules, position_at, stop_here, letter_ahead, stuck)
 output_stops version dir before last bytes left (inr h) =
-    stop_behind _ _ _ _ _ _ _
+    stop_after _ _ _ _ _ _ _
     (h.begins ∙ ap (λ (f : List ℕ). 79 ∷ 32 ∷ f) h.line.parts)
     (may_stand _ _ _ _ _ _ _ (h.line.of_dir, h.line.is_known, h.above))
     (h.stops version (Some h.path))
@@ -88,17 +88,17 @@ outputs_stop version dir bytes outputs rest before left so_far is h =
 
 -- one more output
 pub outputs_more : (version : Version) (dir bytes : List ℕ) (outputs more : List Registration)
-    (rest behind : List ℕ)
+    (rest after : List ℕ)
     (before : Option (List ℕ)) (o : Registration) → SoFarOutputs version dir bytes outputs rest
     → before
     ≡ last_or None (paths_registered outputs)
-    → HasRegistration version dir 79 before rest o behind → more ≡ outputs ++ o ∷ []
-    → SoFarOutputs version dir bytes more behind
-outputs_more version dir bytes outputs more rest behind before o so_far is h pushed =
+    → HasRegistration version dir 79 before rest o after → more ≡ outputs ++ o ∷ []
+    → SoFarOutputs version dir bytes more after
+outputs_more version dir bytes outputs more rest after before o so_far is h pushed =
     rw pushed (record {
       parts = so_far.parts ∙ ap (λ t. lines_text version (flat_map output_lines outputs) ++ t)
           h.parts
-          ∙ text_more _ _ o behind;
+          ∙ text_more _ _ o after;
       of_dir = All-push (IsOf version dir) _ o so_far.of_dir h.of_dir;
       rising = subst IsRising (sym (map-append (λ (r : Registration). r.path) outputs (o ∷ [])))
           (rising_more _ _ so_far.rising

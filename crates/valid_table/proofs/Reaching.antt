@@ -62,10 +62,10 @@ has_reached registrations paths closed from to (next ∷ steps) has leads =
     (valid_from_leads registrations next to steps leads.1))
     leads.1
 
--- equal texts at two places of distinct ones are one
-pub same_place : (texts : List (List ℕ)) → IsDistinct (pointwise nat_eq) texts → (i j : ℕ) → i
+-- equal texts at two indices of distinct ones are one
+pub same_index : (texts : List (List ℕ)) → IsDistinct (pointwise nat_eq) texts → (i j : ℕ) → i
     < length texts → j < length texts → get_or texts i [] ≡ get_or texts j [] → i ≡ j
-same_place texts distinct i j in_i in_j same =
+same_index texts distinct i j in_i in_j same =
     elim (cases_lt i j) [
       | inl below ↦ absurd (apart i j below in_j same)
       | inr above ↦ elim (cases_lt j i)

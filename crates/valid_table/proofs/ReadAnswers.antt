@@ -42,7 +42,7 @@ few_lines dir bytes entries within (inl (version, is)) =
     ]
 few_lines dir bytes entries within (inr none) = search rules
 
--- the line after the newlines before the place where lines stop is the first bad one
+-- the line after the newlines before the position where lines stop is the first bad one
 pub bad_line_number : (dir bytes : List ℕ) (left n : ℕ) → IsStoreDir dir
     → StopsInText dir bytes left → n ≡ 1 + length
     (places (is_byte 10) (take (length bytes - left) bytes)) → IsBadLine dir bytes n

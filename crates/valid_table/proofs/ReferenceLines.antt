@@ -61,20 +61,20 @@ low_reference version dir output before bytes fields path rest begins line low =
     low (rw same.0 at above)))
 
 -- the text of references, and one more line
-text_more : (references : List (List ℕ)) (path behind : List ℕ) → references_text references
-    ++ (82 ∷ 32 ∷ (path ++ 10 ∷ behind)) ≡ references_text (references ++ path ∷ []) ++ behind
-text_more references path behind = search (rules, append_assoc, flat_map-append, append-nil)
+text_more : (references : List (List ℕ)) (path after : List ℕ) → references_text references
+    ++ (82 ∷ 32 ∷ (path ++ 10 ∷ after)) ≡ references_text (references ++ path ∷ []) ++ after
+text_more references path after = search (rules, append_assoc, flat_map-append, append-nil)
 
 -- one more reference
 pub references_more : (dir bytes : List ℕ) (references more : List (List ℕ))
-    (rest fields path behind : List ℕ) → SoFarReferences dir bytes references rest
-    → rest ≡ 82 ∷ 32 ∷ fields → IsPathLine dir fields path behind
+    (rest fields path after : List ℕ) → SoFarReferences dir bytes references rest
+    → rest ≡ 82 ∷ 32 ∷ fields → IsPathLine dir fields path after
     → IsAbove (last_or None references) path → more ≡ references ++ path ∷ []
-    → SoFarReferences dir bytes more behind
-references_more dir bytes references more rest fields path behind so_far begins line above pushed =
+    → SoFarReferences dir bytes more after
+references_more dir bytes references more rest fields path after so_far begins line above pushed =
     rw pushed (record {
       parts = so_far.parts ∙ ap (λ r. references_text references ++ r)
-          (begins ∙ ap (λ (f : List ℕ). 82 ∷ 32 ∷ f) line.parts) ∙ text_more _ _ behind;
+          (begins ∙ ap (λ (f : List ℕ). 82 ∷ 32 ∷ f) line.parts) ∙ text_more _ _ after;
       of_dir = All-push (IsPathOf dir) _ _ so_far.of_dir line.of_dir;
       rising = rising_more _ _ so_far.rising above;
     })
@@ -93,18 +93,18 @@ above_looked_up paths shown last path same at above = search (rules, last_is)
 -- a registration that was read: its line and those of its references
 pub registration_found : (version : Version) (dir : List ℕ) (letter : ℕ) (before : Option (List ℕ))
     (bytes fields path : List ℕ) (digest : Option MethodDigest)
-    (nar : Option NarInfo) (behind : List ℕ) (info : PathInfo)
+    (nar : Option NarInfo) (after : List ℕ) (info : PathInfo)
     (rest : List ℕ) → bytes ≡ letter ∷ 32 ∷ fields
-    → IsFieldsLine version dir fields path digest nar behind → IsAbove before path
-    → ReadsReferences dir behind info.references rest → info.digest ≡ digest → info.nar ≡ nar
+    → IsFieldsLine version dir fields path digest nar after → IsAbove before path
+    → ReadsReferences dir after info.references rest → info.digest ≡ digest → info.nar ≡ nar
     → HasRegistration version dir letter before bytes (record { path = path; info = info }) rest
-registration_found version dir letter before bytes fields path digest nar behind info rest begins
+registration_found version dir letter before bytes fields path digest nar after info rest begins
     line above has same also =
     let prefix = fields_text version path info.digest info.nar in
     let lines = lines_text version (map Reference info.references) in
     let is : fields ≡ (prefix ++ lines) ++ rest = line.parts
-    ∙ ap (λ d. fields_text version path d nar ++ behind) (sym same)
-    ∙ ap (λ n. fields_text version path info.digest n ++ behind) (sym also)
+    ∙ ap (λ d. fields_text version path d nar ++ after) (sym same)
+    ∙ ap (λ n. fields_text version path info.digest n ++ after) (sym also)
     ∙ ap (λ (t : List ℕ). prefix ++ t)
     (has.so_far.parts
     ∙ ap (λ (t : List ℕ). t ++ rest) (sym (references_are _ _)))

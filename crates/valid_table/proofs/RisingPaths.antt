@@ -12,14 +12,14 @@ abbrev pub AreAbove : Option (List ℕ) → List (List ℕ) → Type 0
 AreAbove before [] = Unit {0}
 AreAbove before (path ∷ paths) = IsAbove before path × AreAbove (Some path) paths
 
-behind_first : (path : List ℕ) (paths : List (List ℕ)) → IsRising (path ∷ paths)
+after_first : (path : List ℕ) (paths : List (List ℕ)) → IsRising (path ∷ paths)
     → AreAbove (Some path) paths
-behind_first path [] h = tt
-behind_first path (next ∷ paths) h = (h.0, behind_first next paths h.1)
+after_first path [] h = tt
+after_first path (next ∷ paths) h = (h.0, after_first next paths h.1)
 
 pub above_of_rising : (paths : List (List ℕ)) → IsRising paths → AreAbove None paths
 above_of_rising [] h = tt
-above_of_rising (path ∷ paths) h = (tt, behind_first _ _ h)
+above_of_rising (path ∷ paths) h = (tt, after_first _ _ h)
 
 rising_first : (path : List ℕ) (paths : List (List ℕ)) → AreAbove (Some path) paths
     → IsRising (path ∷ paths)

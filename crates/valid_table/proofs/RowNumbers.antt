@@ -26,7 +26,7 @@ pub path_count : (registrations : List Registration) → length (paths_registere
     ≡ length registrations
 path_count registrations = search (rules, length-map)
 
--- the path of the registration at a place
+-- the path of the registration at an index
 pub path_read : (rs : List Registration) (i : ℕ) (r : Registration) (d : List ℕ) → i < length rs
     → get_or (paths_registered rs) i d ≡ (get_or rs i r).path
 path_read rs i r d lt = search (rules, get_or-map)

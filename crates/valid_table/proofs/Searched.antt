@@ -67,7 +67,7 @@ search_tells rs path (Err i) rises within apart = (
       ⊎_elim
       (λ before. let less : compared path (get_or rs k none)
       ≡ Less = parts.0 k none (omega arith) before in cc)
-      (λ behind. let more : compared path (get_or rs k none) ≡ Greater = parts.1 k none behind lt
+      (λ after. let more : compared path (get_or rs k none) ≡ Greater = parts.1 k none after lt
       in cc)
       (cases_lt k i),
 )

@@ -114,10 +114,10 @@ pub dir_lacks : (b : ℕ) → IsSeparator b → (dir : List ℕ) → IsStoreDir 
 dir_lacks b is dir h = search (rules, components_lack)
 
 -- nor has what stands after the folder in a path
-behind_dir : (b : ℕ) → IsSeparator b → (dir path : List ℕ) → IsPathOf dir path → (rest : List ℕ)
+after_dir : (b : ℕ) → IsSeparator b → (dir path : List ℕ) → IsPathOf dir path → (rest : List ℕ)
     × (path ≡ dir ++ rest) × Lacks b rest
 unfolding is_hash_part is_name
-behind_dir b is dir path h = (
+after_dir b is dir path h = (
   47 ∷ h.hash ++ (45 ∷ h.name),
   h.parts,
   All-append (λ z. z ≢ b) (47 ∷ h.hash) (45 ∷ h.name)
@@ -131,15 +131,15 @@ behind_dir b is dir path h = (
 pub path_lacks : (b : ℕ) → IsSeparator b → (dir path : List ℕ) → Lacks b dir → IsPathOf dir path
     → Lacks b path
 path_lacks b is dir path clear h =
-    let parts = behind_dir b is _ _ h in
+    let parts = after_dir b is _ _ h in
     subst (Lacks b) (sym parts.1) (All-append (λ z. z ≢ b) _ _ clear parts.2)
 
 -- two paths of a folder up to a separator are the same, where the wholes are
 pub same_path : (b : ℕ) → IsSeparator b → (dir p q x y : List ℕ) → IsPathOf dir p → IsPathOf dir q
     → p ++ (b ∷ x) ≡ q ++ (b ∷ y) → (p ≡ q) × (x ≡ y)
 same_path b is dir p q x y one two e =
-    let a = behind_dir b is _ p one in
-    let c = behind_dir b is _ q two in
+    let a = after_dir b is _ p one in
+    let c = after_dir b is _ q two in
     let whole : dir ++ (a.0 ++ (b ∷ x)) ≡ dir ++ (c.0 ++ (b ∷ y)) =
     sym (ap (λ (t : List ℕ). t ++ (b ∷ x)) a.1 ∙ append_assoc dir a.0 (b ∷ x)) ∙ e
     ∙ ap (λ (t : List ℕ). t ++ (b ∷ y)) c.1 ∙ append_assoc dir c.0 (b ∷ y) in

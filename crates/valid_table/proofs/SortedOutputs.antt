@@ -49,9 +49,9 @@ pub rising_at :
     i < length rs →
     is_lt (slice_cmp nat_cmp (get_or rs (i - 1) d).path (get_or rs i e).path) ≡ true
 rising_at rs i d e rises some lt =
-    let behind : i - 1 + 1 ≡ i = omega arith in
+    let after : i - 1 + 1 ≡ i = omega arith in
     rw (get_or_default rs i e d lt)
-    (ap is_lt (rw behind at (neighbours_rise _ rises (i - 1) d (omega arith))))
+    (ap is_lt (rw after at (neighbours_rise _ rises (i - 1) d (omega arith))))
 
 -- the paths of sorted registrations are sorted
 paths_sorted : (rs : List Registration) → IsSortedBy

@@ -21,7 +21,7 @@ use Rattle.valid_table.specs.private.Closing.{AreRows, HaveSame, path_at, paths_
 use Rattle.valid_table.specs.Entries.{paths_registered}
 use Rattle.valid_table.specs.Valid.{IsOnce}
 use Rattle.valid_table.specs.declared.entry.Registration.{Registration}
-use Rattle.valid_table.proofs.Reaching.{same_place}
+use Rattle.valid_table.proofs.Reaching.{same_index}
 use Rattle.valid_table.proofs.RowNumbers.{path_count}
 
 -- the paths of distinct rows are distinct
@@ -48,7 +48,7 @@ paths_distinct registrations once rows are = IsDistinct-from_apart (pointwise na
         let in_i : i < length rows = omega arith in
         false_from_ne_true _ (λ same.
         let one : get_or rows i 0 ≡ get_or rows j 0 =
-        same_place _ once _ _ (within i in_i) (within j in_j)
+        same_index _ once _ _ (within i in_i) (within j in_j)
         (sym (row_at i d in_i) ∙ equal_from_eq _ _ same ∙ row_at j d in_j) in
         false≢true (sym (apart_from_distinct nat_eq _ i j 0 are.distinct before in_j)
         ∙ ap (λ r. nat_eq r (get_or rows j 0)) one ∙ nat_eq_equiv.refl (get_or rows j 0)))

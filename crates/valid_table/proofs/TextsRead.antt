@@ -10,11 +10,11 @@ use Rattle.valid_table.specs.private.Entering.{AreUnknown}
 use Rattle.valid_table.specs.Entries.{registered, registered_by}
 use Rattle.valid_table.specs.LineFaults.{IsNotClosedAt, IsTwiceAt}
 use Rattle.valid_table.specs.Texts.{IsJournalText}
-use Rattle.valid_table.specs.Valid.{IsClosedBehind, IsJournal, IsOnce}
+use Rattle.valid_table.specs.Valid.{IsClosedAfter, IsJournal, IsOnce}
 use Rattle.valid_table.specs.declared.entry.Entry.{Entry}
 use Rattle.valid_table.specs.declared.entry.Registration.{Registration}
 use Rattle.valid_table.proofs.CheckedEntries.{entry_lines_are, up_to}
-use Rattle.valid_table.proofs.CheckedJournal.{AreRight, IsRightBehind, none_wrong, wrong_line}
+use Rattle.valid_table.proofs.CheckedJournal.{AreRight, IsRightAfter, none_wrong, wrong_line}
 use Rattle.valid_table.proofs.JournalLists.{paths_of-append}
 use Rattle.valid_table.proofs.PathLists.{once_apart, once_prefix}
 use Rattle.valid_table.proofs.Versions.{not_other, text_begins}
@@ -46,7 +46,7 @@ later_new known paths once k d lt there =
 
 -- closed entries that register no path twice are right
 journal_right : (earlier : List Registration) (entries : List Entry)
-    → IsClosedBehind earlier entries → IsOnce (earlier ++ registered entries)
+    → IsClosedAfter earlier entries → IsOnce (earlier ++ registered entries)
     → AreRight earlier entries
 journal_right earlier [] closed once = tt
 journal_right earlier (entry ∷ entries) closed once =
@@ -58,7 +58,7 @@ journal_right earlier (entry ∷ entries) closed once =
     (subst (IsDistinct (pointwise nat_eq)) (paths_of-append _ _) all) in
     let new = later_new _ _
     (subst (IsDistinct (pointwise nat_eq)) (paths_of-append _ _) prefix) in (
-      subst (All (IsRightBehind earlier entry)) (sym (entry_lines_are _))
+      subst (All (IsRightAfter earlier entry)) (sym (entry_lines_are _))
           (up_to _ _ _ _ new closed.0),
       journal_right now entries closed.1 all,
     )

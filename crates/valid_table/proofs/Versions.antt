@@ -40,10 +40,10 @@ by_number bytes version number rest begins line one = (
     parts = begins ∙ ap (λ more. codes "realiser-journal " ++ more) line;
   },
   λ is.
-      let behind : version ≡ is.digits ++ (10 ∷ is.rest) =
+      let after : version ≡ is.digits ++ (10 ∷ is.rest) =
       append_cancel_left (codes "realiser-journal ") _ _ (sym begins ∙ is.parts) in
       let same = (same_cut _ _ _ _ _ (digits_lack _ is.decimal) one
-      (sym behind ∙ line)).0 in (
+      (sym after ∙ line)).0 in (
         λ none. is.some (same ∙ none),
         subst (All (λ b. IsTrue (is_ascii_digit b))) same is.decimal,
         λ alone. is.not_one (same ∙ alone),

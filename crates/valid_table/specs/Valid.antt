@@ -38,15 +38,15 @@ AreReferencesValid registrations = All (IsValid registrations) (references_of re
 
 -- *Closed*, after the registrations of earlier entries: each reference in an entry is registered
 -- by an earlier entry or by the same one
-abbrev pub IsClosedBehind : List Registration → List Entry → Type 0
-IsClosedBehind earlier [] = Unit {0}
-IsClosedBehind earlier (entry ∷ entries) =
+abbrev pub IsClosedAfter : List Registration → List Entry → Type 0
+IsClosedAfter earlier [] = Unit {0}
+IsClosedAfter earlier (entry ∷ entries) =
     All (IsValid (earlier ++ registered_by entry)) (references_of (registered_by entry))
-    × IsClosedBehind (earlier ++ registered_by entry) entries
+    × IsClosedAfter (earlier ++ registered_by entry) entries
 
 -- *Closed*: each reference in an entry is registered by an earlier entry or by the same one
 abbrev pub IsClosed : List Entry → Type 0
-IsClosed entries = IsClosedBehind [] entries
+IsClosed entries = IsClosedAfter [] entries
 
 -- an entry's deriver, if it has one, is the path of a derivation's file
 abbrev pub HasDrvPath : Entry → Type 0

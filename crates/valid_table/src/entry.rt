@@ -331,14 +331,14 @@ impl Entry {
         let _ = self.registrations();
     }
 
-    // The registration at a place, taken out.
-    pub(crate) fn into_registration(self, place: usize) -> Registration
-        requires { place < length (registered_by self) }
-        ensures { slice_get (registered_by self) place ≡ Some result }
+    // The registration at an index, taken out.
+    pub(crate) fn into_registration(self, index: usize) -> Registration
+        requires { index < length (registered_by self) }
+        ensures { slice_get (registered_by self) index ≡ Some result }
     {
         match self {
             Entry::Add(registration) => registration,
-            Entry::Done(_, outputs) => outputs.into_registrations().swap_remove(place),
+            Entry::Done(_, outputs) => outputs.into_registrations().swap_remove(index),
         }
     }
 

@@ -1,7 +1,7 @@
 -- Closures by lists that go on from one list.
 use Rattle.std.proofs.Common.{◌≡◌, ℕ, List, ◌++◌, ◌∙◌, All, ap, subst, sym, rules}
 use Rattle.std.proofs.lemmas.List.Elements.{All-contains, Contains-append_left}
-use Rattle.valid_table.proofs.ClosureLaws.{closure_stays_behind, leads_before, leads_behind}
+use Rattle.valid_table.proofs.ClosureLaws.{closure_stays_after, leads_before, leads_after}
 use Rattle.valid_table.proofs.Following.{one_info}
 use Rattle.valid_table.proofs.JournalLists.{closed_references_valid, registered-append, still_valid}
 use Rattle.valid_table.specs.Closure.{IsClosure}
@@ -29,7 +29,7 @@ closure_before first more roots all closed once valid is = record {
             (All-contains (IsValid first) roots h.0 valid h.1) h.2.1,
       ),
     ),
-    λ h. (is.each path).1 (h.0, h.1, (h.2.0, leads_behind first more h.0 path h.2.0 h.2.1)),
+    λ h. (is.each path).1 (h.0, h.1, (h.2.0, leads_after first more h.0 path h.2.0 h.2.1)),
   );
 }
 
@@ -56,7 +56,7 @@ closure_is_shared common a b roots all of_a of_b in_a in_b valid is =
     closure_before (registered common) (registered in_a.0) roots all
     (references_valid common in_a.0 showable_a) (once_parts common in_a.0 showable_a) valid by_a in
     let by_b : IsClosure (registered common ++ registered in_b.0) roots all =
-    closure_stays_behind (registered common) (registered in_b.0) roots all
+    closure_stays_after (registered common) (registered in_b.0) roots all
     (references_valid common in_b.0 showable_b) (once_parts common in_b.0 showable_b) valid before
     in
     subst (λ (l : List Entry). IsClosure (registered l) roots all) in_b.1

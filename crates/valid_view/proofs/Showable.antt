@@ -5,7 +5,7 @@ use Rattle.std.specs.List.{IsDistinct}
 use Rattle.nix_names.specs.Rising.{IsRising}
 use Rattle.valid_table.specs.Adding.{IsNew, IsValidWith}
 use Rattle.valid_table.specs.Entries.{paths_registered, registered_by}
-use Rattle.valid_table.specs.Valid.{IsClosedBehind, references_of}
+use Rattle.valid_table.specs.Valid.{IsClosedAfter, references_of}
 use Rattle.valid_table.specs.declared.entry.Entry.{Entry}
 use Rattle.valid_table.specs.declared.entry.Registration.{Registration}
 use Rattle.valid_table.proofs.AddedEntries.{closed_push, registered_push}
@@ -21,7 +21,7 @@ showable_none = search rules
 
 -- a prefix of a closed list is closed
 closed_prefix : (earlier : List Registration) (entries more : List Entry)
-    → IsClosedBehind earlier (entries ++ more) → IsClosedBehind earlier entries
+    → IsClosedAfter earlier (entries ++ more) → IsClosedAfter earlier entries
 closed_prefix earlier [] more closed = tt
 closed_prefix earlier (entry ∷ entries) more closed =
     (closed.0, closed_prefix (earlier ++ registered_by entry) entries more closed.1)

@@ -142,7 +142,7 @@ fn make_readers<J: ListId>(
     for _ in 0..count {
         let idle = match end.reader(none) {
             Ok(idle) => idle,
-            Err(error) => return Err(FeedFault::NoPlace(error)),
+            Err(error) => return Err(FeedFault::TooManyReaders(error)),
         };
         readers.push_reserved(ViewReader::over(idle, end.prefix()));
     }

@@ -78,7 +78,7 @@ impl<J: ListId> Prefix<J> {
         self.all.may_be_shown();
     }
 
-    /// The same again.
+    /// The prefix once more.
     pub fn again(&self) -> Prefix<J>
         ensures { result ≡ self.now }
     {
@@ -146,7 +146,7 @@ impl<J: ListId> NamedPrefix<J> {
         }
     }
 
-    // The same prefix, whose type does not name the list.
+    // The prefix, by a type that does not name the list.
     pub(crate) fn bare(&self) -> BarePrefix
         ensures book { result.book ≡ J.book }
         ensures entries { result.entries ≡ self.now }
@@ -169,7 +169,7 @@ impl<J: ListId> NamedPrefix<J> {
         let _ = self.all.len();
     }
 
-    // The same again.
+    // The prefix once more.
     pub(crate) fn again(&self) -> NamedPrefix<J>
         ensures { result ≡ self.now }
     {
@@ -225,7 +225,7 @@ impl BarePrefix {
         BarePrefix { count: 0, seen }
     }
 
-    // The same again.
+    // The prefix once more.
     pub(crate) fn again(&self) -> BarePrefix
         ensures { result ≡ self.now }
     {

@@ -4,7 +4,7 @@ ghost use Rattle.valid_view.specs.Faults.{open_number_of};
 ghost use Rattle.valid_view.specs.private.Refusals.{opened_as, told_as};
 
 use crate::prefix::BarePrefix;
-use crate::writer_end::NoPlace;
+use crate::writer_end::TooManyReaders;
 use std::alloc::{AllocError, AllocFailed};
 use std::fmt;
 use std::fmt::{Debug, Formatter};
@@ -56,7 +56,7 @@ pub(crate) enum FeedFault {
     // The one list is longer than what was known of it, or is full. This is the list.
     Hindered(BarePrefix),
     // There is no place for a reader.
-    NoPlace(NoPlace),
+    TooManyReaders(TooManyReaders),
 }
 
 impl FeedFault {
@@ -77,7 +77,7 @@ impl FeedFault {
         match self {
             FeedFault::NoMemory => OutletFault::NoMemory,
             FeedFault::Hindered(_found) => OutletFault::NoView,
-            FeedFault::NoPlace(_error) => OutletFault::NoView,
+            FeedFault::TooManyReaders(_error) => OutletFault::NoView,
         }
     }
 }

@@ -22,7 +22,7 @@ pub(crate) struct ReturnedOp {
 
 // That there is no place for a reader: what the factory of readers answered.
 #[derive(Drop)]
-pub(crate) struct NoPlace(AllocError);
+pub(crate) struct TooManyReaders(AllocError);
 
 // The writer. A contract sees the entries that are shown, and those that were handed over and not
 // shown yet.
@@ -65,14 +65,15 @@ impl<J: ListId> WriterEnd<J> {
         Ok(WriterEnd { writer })
     }
 
-    // A new reader, which has seen the list without entries. `NoPlace` where each place is in use.
-    pub(crate) fn reader(&self, none: &Prefix<J>) -> Result<IdleReader<J>, NoPlace>
+    // A new reader, which has seen the list without entries. `TooManyReaders` where each place is
+    // in use.
+    pub(crate) fn reader(&self, none: &Prefix<J>) -> Result<IdleReader<J>, TooManyReaders>
         requires { none.now ≡ [] }
         ensures { IfOk result (λ idle. idle ≡ []) }
     {
         match self.writer.factory().reader() {
             Ok(reader) => Ok(IdleReader::over(reader, none.again())),
-            Err(error) => Err(NoPlace(error)),
+            Err(error) => Err(TooManyReaders(error)),
         }
     }
 

@@ -38,7 +38,7 @@ IsKeptAt job permitted (Some output) (Some kept) =
     IsKeptOf job permitted output.tree kept × (kept.others_may_write ≡ output.others_may_write)
 IsKeptAt job permitted output kept = ⊥
 
--- the same of the outputs, in order
+-- what was kept of what lies at the outputs is so, in order
 abbrev pub AreKept : Job → (permitted : List Path) → List (Option LeftOutput)
     → List (Option Kept) → Type 0
 AreKept job permitted outputs kept = AllZip (IsKeptAt job permitted) outputs kept

@@ -1,4 +1,4 @@
--- The links among outputs, between the places of their paths in a list without repetition. Places
+-- The links among outputs, between the indices of their paths in a list without repetition. Indices
 -- count from 0.
 use Rattle.std.specs.Prelude.{◌≡◌, ◌↔◌, ◌⊎◌, ◌<◌, ℕ, List, Some, Contains, length, nat_eq, slice_get}
 use Rattle.std.specs.Cmp.Lexicographic.{pointwise}
@@ -20,11 +20,11 @@ MayLink paths infos count from to =
     (n : ℕ) × (info : PathInfo) × (n < count) × (slice_get paths n ≡ Some from)
     × (slice_get infos n ≡ Some info) × Contains info.references to
 
--- The links of the first `count` outputs: each from a key's place to the place of a key that it
+-- The links of the first `count` outputs: each from a key's index to the index of a key that it
 -- refers to.
 pub record AreLinks (paths : List Path) (infos : List PathInfo) (keys : List Path)
     (count : ℕ) (links : List (Vec ℕ)) : Type 0 where
-  pub places : length links ≡ length keys
+  pub lengths : length links ≡ length keys
   pub sound : (from to : ℕ) → IsLinked links from to
       → (a : Path) × (b : Path) × (slice_get keys from ≡ Some a) × (slice_get keys to ≡ Some b)
       × MayLink paths infos count a b
@@ -38,7 +38,7 @@ pub record HaveLinks (paths : List Path) (infos : List PathInfo) (links : List (
   pub once : AreEachOnce paths keys
   pub are : AreLinks paths infos keys (length infos) links
 
--- the new links of an output are its old ones, and those to the places of the keys that are among
+-- the new links of an output are its old ones, and those to the indices of the keys that are among
 -- the references
 abbrev pub AddsLinks : (keys references : List Path) → (old new : List ℕ) → Type 0
 AddsLinks keys references old new =

@@ -4,9 +4,9 @@ use Rattle.nix_names.specs.Bytes.{Path}
 use Rattle.valid_table.specs.PathInfos.{PathInfo}
 use Rattle.build_outcome.specs.private.Reaching.{IsMarked}
 
--- a path is a key whose place is marked
+-- a path is a key whose index is marked
 abbrev pub IsMetPath : (keys : List Path) → List Bool → Path → Type 0
-IsMetPath keys marks path = (place : ℕ) × (slice_get keys place ≡ Some path) × IsMarked marks place
+IsMetPath keys marks path = (index : ℕ) × (slice_get keys index ≡ Some path) × IsMarked marks index
 
 -- the new paths are the old ones, and those references that are no keys
 abbrev pub AddsOutside : (keys references : List Path) → (old new : List Path) → Type 0

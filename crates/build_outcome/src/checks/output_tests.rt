@@ -12,10 +12,10 @@ use crate::checked_records::Checked;
 use crate::checks::check::Check;
 use crate::checks::closure::OutputClosure;
 use crate::checks::job_checks::JobChecks;
-use crate::checks::path_order::place_among;
+use crate::checks::path_order::index_among;
 use crate::checks::sizes::ClosureNars;
 use crate::checks::specifiers::paths_listed;
-use crate::checks::used_paths::{first_barred, first_place, used_by};
+use crate::checks::used_paths::{first_barred, first_index, used_by};
 use crate::job::Job;
 use crate::reason::Reason;
 use drv_graph::{Kind, Profile};
@@ -35,22 +35,22 @@ pub struct AskedChecks {
 }
 
 /// Tests what the outputs of a job refer to and how large they are, by their records, and under the
-/// profile `plain` nothing. First, that a fixed output refers to nothing; then, for each output, the
-/// checks that are asked for: `maxSize`, `maxClosureSize`, `allowedReferences`, `allowedRequisites`,
-/// `disallowedReferences` and `disallowedRequisites`, in this order. `permitted` are the paths to
-/// which outputs may refer by the job's inputs.
+/// profile `plain` nothing. First, that a fixed output refers to nothing; then, for each output,
+/// the checks that are asked for: `maxSize`, `maxClosureSize`, `allowedReferences`,
+/// `allowedRequisites`, `disallowedReferences` and `disallowedRequisites`, in this order.
+/// `permitted` are the paths to which outputs may refer by the job's inputs.
 ///
 /// At the first test that isn't passed, `PastMaxSize` or `PastMaxClosureSize` with the output;
-/// `UnknownNar` with the place of the least path of the closure whose archive isn't known, among the
-/// permitted paths, where `maxClosureSize` is asked for; `BadSpecifier` with the output, where the
-/// list of the check has what is neither a path of the output's folder nor the name of an output;
-/// else `NotAllowed` with the output, and the place among the permitted paths of the first to which
-/// it may not refer. `OutOfMemory` where memory is refused.
+/// `UnknownNar` with the index of the least path of the closure whose archive isn't known, among
+/// the permitted paths, where `maxClosureSize` is asked for; `BadSpecifier` with the output, where
+/// the list of the check has what is neither a path of the output's folder nor the name of an
+/// output; else `NotAllowed` with the output, and the index among the permitted paths of the first
+/// to which it may not refer. `OutOfMemory` where memory is refused.
 ///
 /// Costs, for each output and each check with a list, a copy and a sort of what the list names, for
-/// each specifier that is no path a comparison with the outputs' names, and a binary search for each
-/// path that the output uses; and for each `maxClosureSize` a look-up by hash for each output, and
-/// two look-ups by hash and two binary searches for each path of the closure.
+/// each specifier that is no path a comparison with the outputs' names, and a binary search for
+/// each path that the output uses; and for each `maxClosureSize` a look-up by hash for each output,
+/// and two look-ups by hash and two binary searches for each path of the closure.
 pub fn test_outputs(
     alloc: Global,
     job: &Job,
@@ -120,8 +120,8 @@ impl Tester<'_> {
             (map OfFixed (range_with_len 0 (length self.now.job.now.outputs.items))) result }
     {
         for (n, record) in self.records.iter().enumerate() {
-            if let Some(place) = first_place(self.permitted, record.references()) {
-                return Err(Reason::NotAllowed(n, place));
+            if let Some(index) = first_index(self.permitted, record.references()) {
+                return Err(Reason::NotAllowed(n, index));
             }
         }
         Ok(())
@@ -196,8 +196,8 @@ impl Tester<'_> {
             return Ok(());
         };
         let nars = ClosureNars::new(alloc, &self.job.outputs, self.records, &closure.records)?;
-        if let Some(place) = nars.first_unknown(self.permitted, &closure.paths) {
-            return Err(Reason::UnknownNar(place));
+        if let Some(index) = nars.first_unknown(self.permitted, &closure.paths) {
+            return Err(Reason::UnknownNar(index));
         }
         if nars.are_past(&closure.paths, limit) {
             return Err(Reason::PastMaxClosureSize(n));
@@ -241,7 +241,7 @@ impl Tester<'_> {
         let used = used_by(self.records, &self.asked.closures, n, check);
         let left_out = self.asked.checks.left_out(own);
         match first_barred(self.permitted, used, check, left_out, &named) {
-            Some(place) => Err(Reason::NotAllowed(n, place)),
+            Some(index) => Err(Reason::NotAllowed(n, index)),
             None => Ok(()),
         }
     }

@@ -4,14 +4,14 @@ ghost use Rattle.nix_names.specs.Rising.{IsRising};
 
 use nix_names::StorePath;
 
-// The place of a path among paths in rising order. Costs a binary search.
-pub(crate) fn place_among(paths: &[StorePath], path: &StorePath) -> Option<usize>
+// The index of a path among paths in rising order. Costs a binary search.
+pub(crate) fn index_among(paths: &[StorePath], path: &StorePath) -> Option<usize>
     requires { IsRising paths.now }
     ensures { MatchOption result (Contains paths.now path.now → ⊥)
-        (λ place. slice_get paths.now place ≡ Some path.now) }
+        (λ index. slice_get paths.now index ≡ Some path.now) }
 {
     match paths.binary_search(path) {
-        Ok(place) => Some(place),
+        Ok(index) => Some(index),
         Err(_) => None,
     }
 }
@@ -21,5 +21,5 @@ pub fn is_among(paths: &[StorePath], path: &StorePath) -> bool
     requires { IsRising paths.now }
     ensures { IsTrue result ↔ Contains paths.now path.now }
 {
-    place_among(paths, path).is_some()
+    index_among(paths, path).is_some()
 }

@@ -9,7 +9,7 @@ ghost use Rattle.build_outcome.specs.private.RootPaths.{AddsOutside, IsMetPath, 
 use crate::checked_records::Checked;
 use crate::checks::reach::reached_from;
 use crate::job::Job;
-use crate::links::{each_once, links_by, place_of};
+use crate::links::{each_once, index_of, links_by};
 use crate::verdict::paths_of;
 use indexmap::IndexSet;
 use nix_names::{StorePath, sort_paths};
@@ -59,7 +59,7 @@ fn roots_among(
 {
     let keys = each_once(alloc, outputs)?;
     let links = links_by(alloc, &keys, outputs, records)?;
-    let Some(start) = place_of(&keys, &outputs[n]) else {
+    let Some(start) = index_of(&keys, &outputs[n]) else {
         unreachable!()
     };
     let marks = reached_from(alloc, &links, start)?;
@@ -126,7 +126,7 @@ fn add_outside(
         (AddsOutside keys.now.keys references.now outside.old.items outside.new.items) }
 {
     for reference in references {
-        match place_of(keys, reference) {
+        match index_of(keys, reference) {
             Some(_) => {}
             None => outside.push(reference.copy(alloc)?)?,
         }
@@ -134,14 +134,14 @@ fn add_outside(
     Ok(())
 }
 
-// Whether a path is a key whose place is marked.
+// Whether a path is a key whose index is marked.
 fn is_met(keys: &IndexSet<StorePath>, marks: &[bool], path: &StorePath) -> bool
     requires same { length marks.now ≡ length keys.now.keys }
     requires once { IsDistinct (pointwise nat_eq) keys.now.keys }
     ensures { IsTrue result ↔ IsMetPath keys.now.keys marks.now path.now }
 {
-    match place_of(keys, path) {
-        Some(place) => marks[place],
+    match index_of(keys, path) {
+        Some(index) => marks[index],
         None => false,
     }
 }

@@ -6,7 +6,7 @@ ghost use Rattle.build_outcome.specs.Checks.{IsFirstPath, nar_at, registration_o
 ghost use Rattle.build_outcome.specs.declared.job.JobOutput.{JobOutput as JobOutputStruct};
 ghost use Rattle.build_outcome.specs.private.Sizing.{AreNars, kept_nar};
 
-use crate::checks::path_order::place_among;
+use crate::checks::path_order::index_among;
 use crate::job::JobOutput;
 use indexmap::IndexMap;
 use nix_names::StorePath;
@@ -43,7 +43,7 @@ impl ClosureNars<'_> {
         Ok(ClosureNars { own, others })
     }
 
-    // The place, among the permitted paths, of the first of these whose archive isn't known. Costs
+    // The index, among the permitted paths, of the first of these whose archive isn't known. Costs
     // a look-up by hash and a binary search for each path.
     pub(crate) fn first_unknown(
         &self,
@@ -56,12 +56,12 @@ impl ClosureNars<'_> {
         ensures { (known : _) → AreNars (kept_nar self.now.own) known → MatchOption result
             ((path : List ℕ) → Contains paths.now path
             → nar_at (known ++ self.now.others.now) path ≡ None → ⊥)
-            (λ place. IsFirstPath permitted.now (λ path. Contains paths.now path
-            × (nar_at (known ++ self.now.others.now) path ≡ None)) place) }
+            (λ index. IsFirstPath permitted.now (λ path. Contains paths.now path
+            × (nar_at (known ++ self.now.others.now) path ≡ None)) index) }
     {
         for path in paths {
             if self.nar_of(path).is_none() {
-                return place_among(permitted, path);
+                return index_among(permitted, path);
             }
         }
         None
@@ -103,7 +103,7 @@ fn nar_among(records: &[Registration], path: &StorePath) -> Option<Nar>
     ensures { result ≡ nar_at records.now path.now }
 {
     match records.binary_search_by(|record| record.path.cmp(path)) {
-        Ok(place) => records[place].info.nar(),
+        Ok(index) => records[index].info.nar(),
         Err(_) => None,
     }
 }

@@ -8,7 +8,7 @@ ghost use Rattle.build_outcome.specs.private.Testing.{AreTestable, AreUsed, IsBa
 
 use crate::checks::check::Check;
 use crate::checks::closure::OutputClosure;
-use crate::checks::path_order::{is_among, place_among};
+use crate::checks::path_order::{index_among, is_among};
 use nix_names::StorePath;
 use valid_table::Record;
 
@@ -47,20 +47,20 @@ fn requisites_at(closures: &[OutputClosure], n: usize) -> &[StorePath]
     }
 }
 
-// The place of the first of these paths among the permitted ones, if there are any.
-pub(crate) fn first_place(permitted: &[StorePath], paths: &[StorePath]) -> Option<usize>
+// The index of the first of these paths among the permitted ones, if there are any.
+pub(crate) fn first_index(permitted: &[StorePath], paths: &[StorePath]) -> Option<usize>
     requires permitted { IsRising permitted.now }
     requires paths { IsRising paths.now × All (Contains permitted.now) paths.now }
     ensures { MatchOption result ((path : List ℕ) → Contains paths.now path → ⊥)
-        (λ place. IsFirstPath permitted.now (λ path. Contains paths.now path) place) }
+        (λ index. IsFirstPath permitted.now (λ path. Contains paths.now path) index) }
 {
     match paths.first() {
-        Some(first) => place_among(permitted, first),
+        Some(first) => index_among(permitted, first),
         None => None,
     }
 }
 
-// The place, among the permitted paths, of the first path used that a check bars, where its list
+// The index, among the permitted paths, of the first path used that a check bars, where its list
 // names these paths, and where one path may be left out. Costs a binary search for each path used.
 pub(crate) fn first_barred(
     permitted: &[StorePath],
@@ -74,13 +74,13 @@ pub(crate) fn first_barred(
     requires named { IsRising named.now }
     ensures { MatchOption result ((path : List ℕ) → Contains used.now path
         → IsBarred named.now check (shown_path left_out.entry) path → ⊥)
-        (λ place. IsFirstPath permitted.now
+        (λ index. IsFirstPath permitted.now
         (λ path. Contains used.now path
-        × IsBarred named.now check (shown_path left_out.entry) path) place) }
+        × IsBarred named.now check (shown_path left_out.entry) path) index) }
 {
     for path in used {
         if is_barred(named, check, left_out, path) {
-            return place_among(permitted, path);
+            return index_among(permitted, path);
         }
     }
     None
@@ -110,7 +110,8 @@ fn is_left_out(left_out: Option<&StorePath>, path: &StorePath) -> bool
     }
 }
 
-// Whether a check bars a path, by whether its list names the path, and whether the path is left out.
+// Whether a check bars a path, by whether its list names the path, and whether the path is left
+// out.
 fn bars(check: Check, is_named: bool, is_left_out: bool) -> bool
     ensures { result ≡ bars check is_named is_left_out }
 {

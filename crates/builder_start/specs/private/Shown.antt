@@ -22,7 +22,7 @@ shown_pair pair = (pair.name.now, pair.text.now)
 abbrev pub shown_output : OutputPath → Bytes × Path
 shown_output output = (string_bytes output.name, output.path)
 
--- the same of a job's output
+-- the name and the path of a job's output
 abbrev pub output_of : JobOutput → Bytes × Path
 output_of output = (output.name.items, output.path)
 
@@ -47,6 +47,6 @@ abbrev pub IsUntold : List Registration → Job → (text : Bytes) → Reason �
 IsUntold rows job text reason = IsWhy BadAttributes (AreAttributes job text → ⊥) reason
     ⊎ ((taken : AreAttributes job text)
     × (IsWhy BadGraph (AreGoodRequests rows job.whole_inputs.items taken.asked → ⊥) reason
-    ⊎ ((place : ℕ) × (reason ≡ UnknownNar place)
+    ⊎ ((index : ℕ) × (reason ≡ UnknownNar index)
     × AreGoodRequests rows job.whole_inputs.items taken.asked
-    × IsFirstWithoutNar rows job taken.asked place)))
+    × IsFirstWithoutNar rows job taken.asked index)))

@@ -87,21 +87,21 @@ abbrev pub FitsExpected : (in_draft : Bool) → (value : Bytes) → (path : Path
 FitsExpected false value path = IsThePath value path
 FitsExpected true value path = IsThePathOrEmpty value path
 
--- each output before a place fits the path at the output's own place
+-- each output before an index fits the path at the output's own index
 abbrev pub FitBefore : (Fits : Output → Path → Type 0) → List Output → (paths : List Path)
-    → (place : ℕ) → Type 0
-FitBefore Fits outputs paths place =
-    (k : ℕ) (o : Output) (path : Path) → k < place → slice_get outputs k ≡ Some o
+    → (index : ℕ) → Type 0
+FitBefore Fits outputs paths index =
+    (k : ℕ) (o : Output) (path : Path) → k < index → slice_get outputs k ≡ Some o
     → slice_get paths k ≡ Some path → Fits o path
 
--- An output and the path at its place are the first pair that is wrong: each pair before it fits.
+-- An output and the path at its index are the first pair that is wrong: each pair before it fits.
 pub record IsFirstPair (Fits Wrong : Output → Path → Type 0) (outputs : List Output)
     (paths : List Path) (o : Output) (path : Path) : Type 0 where
-  pub place : ℕ
-  pub is_output : slice_get outputs place ≡ Some o
-  pub is_path : slice_get paths place ≡ Some path
+  pub index : ℕ
+  pub is_output : slice_get outputs index ≡ Some o
+  pub is_path : slice_get paths index ≡ Some path
   pub wrong : Wrong o path
-  pub before : FitBefore Fits outputs paths place
+  pub before : FitBefore Fits outputs paths index
 
 -- an output's path fits this path
 abbrev pub PathFits : (in_draft : Bool) → Output → (path : Path) → Type 0

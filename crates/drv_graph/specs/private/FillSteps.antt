@@ -74,12 +74,12 @@ AreOutputsRefused profile dir name draft used hashes fault =
     × IsOutputsCheck IsThePathOrEmpty profile dir name draft used hashes (Err of))
 
 -- A draft whose inputs are among some nodes is filled.
-pub record IsFilledBehind (profile : Profile) (dir : Dir) (name : Name) (nodes : List Node)
+pub record IsFilledAfter (profile : Profile) (dir : Dir) (name : Name) (nodes : List Node)
     (draft filled : Drv)
     : Type 0 where
   pub used : List Drv
   pub hashes : List Hash
-  pub behind : AreUsed nodes draft used hashes
+  pub basis : AreUsed nodes draft used hashes
   pub kind : Kind
   pub right : IsOutputsCheck IsThePathOrEmpty profile dir name draft used hashes (Ok kind)
   pub filled_is : IsFilled (IsExpected dir name kind draft hashes) draft filled

@@ -9,13 +9,13 @@ ghost use Rattle.nix_drv.specs.OwnPath.{referenced_paths};
 ghost use Rattle.nix_drv.specs.References.{IsReferencesOf};
 ghost use Rattle.nix_drv.specs.Sources.{GivesSame};
 ghost use Rattle.drv_graph.specs.Filling.{AreNames, IsFilling, file_name};
-ghost use Rattle.drv_graph.specs.private.FillSteps.{AreDraftPaths, AreOutputsRefused, IsFillRefused, IsFilledBehind, IsNameRefused, IsStrayRefused, IsTarget, IsTargetRefused, IsTextPath, IsTextRefused};
+ghost use Rattle.drv_graph.specs.private.FillSteps.{AreDraftPaths, AreOutputsRefused, IsFillRefused, IsFilledAfter, IsNameRefused, IsStrayRefused, IsTarget, IsTargetRefused, IsTextPath, IsTextRefused};
 ghost use Rattle.drv_graph.specs.Loading.{IsCountedFault, IsLoading};
 ghost use Rattle.drv_graph.specs.Nodes.{inputs_of};
 ghost use Rattle.drv_graph.specs.Plans.{AreNumbers};
 ghost use Rattle.drv_graph.specs.private.UsedInputs.{drvs_of_uses, hashes_of, paths_of_uses as used_paths_of};
 
-use crate::drafts::places::place;
+use crate::drafts::insertion::insert_paths;
 use crate::fault::{GraphFault, NodeFault, OutputFault};
 use crate::outputs::output_checks::{UsedInput, expected_outputs};
 use crate::paths::known_paths;
@@ -151,7 +151,7 @@ fn load_inputs<S: DrvSource>(
     Plan::load_as(alloc, profile, source, dir, &inputs)
 }
 
-// The draft with its outputs' expected paths in its empty places, by the plan of its inputs.
+// The draft with its outputs' expected paths where it has none, by the plan of its inputs.
 fn fill(
     alloc: Global,
     dir: &StoreDir,
@@ -160,7 +160,7 @@ fn fill(
     plan: &Plan,
 ) -> Result<Derivation, GraphFault>
     requires { AreNumbers plan.now.nodes plan.now.roots (inputs_of draft.now) }
-    ensures ok { IfOk result (IsFilledBehind plan.now.profile dir.now name.now plan.now.nodes
+    ensures ok { IfOk result (IsFilledAfter plan.now.profile dir.now name.now plan.now.nodes
         draft.now) }
     ensures err { IfErr result (IsFillRefused plan.now.profile dir.now name.now plan.now.nodes
         draft.now) }
@@ -171,7 +171,7 @@ fn fill(
         dir,
     };
     let paths = draft_paths(alloc, &rules, name, draft, &used)?;
-    Ok(place(alloc, draft, &paths)?)
+    Ok(insert_paths(alloc, draft, &paths)?)
 }
 
 // The expected paths of the draft's outputs, or the first fault of them.

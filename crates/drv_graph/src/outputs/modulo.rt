@@ -1,5 +1,5 @@
-//! The texts behind modulo hashes: a derivation's text in which each input's path is replaced by
-//! its modulo hash, with or without the paths of the outputs.
+//! The texts of which modulo hashes are taken: a derivation's text in which each input's path is
+//! replaced by its modulo hash, with or without the paths of the outputs.
 ghost use Rattle.std.specs.Prelude.{◌≡◌, ◌++◌, ◌∷◌, [], ◌+◌, ◌<◌, ◌≤◌, length, map, vec_capacity, vec_len, IfOk, IfErr, OnOk};
 ghost use Rattle.std.specs.Cmp.Lexicographic.{slice_cmp};
 ghost use Rattle.std.specs.List.{AllZip};
@@ -70,22 +70,22 @@ fn inputs_by_hash(
     hashes: &[[u8; 32]],
 ) -> Result<Vec<Input>, AllocError>
     requires { length hashes.now ≡ length inputs.now }
-    ensures value { IfOk result (λ placed. map input_of placed.items
+    ensures value { IfOk result (λ changed. map input_of changed.items
         ≡ replaced (map input_of inputs.now) hashes.now) }
-    ensures room { IfOk result (λ placed. vec_capacity placed ≡ length inputs.now) }
+    ensures room { IfOk result (λ changed. vec_capacity changed ≡ length inputs.now) }
 {
-    let mut placed = Vec::with_capacity(alloc, inputs.len())?;
-    for (place, input) in inputs.iter().enumerate() {
-        let hash = hashes[place];
-        placed.push_reserved(with_hash(alloc, input, &hash)?);
+    let mut changed = Vec::with_capacity(alloc, inputs.len())?;
+    for (index, input) in inputs.iter().enumerate() {
+        let hash = hashes[index];
+        changed.push_reserved(with_hash(alloc, input, &hash)?);
     }
-    Ok(placed)
+    Ok(changed)
 }
 
 // An input derivation whose path is replaced by a hash, in hex digits.
 fn with_hash(alloc: Global, input: &Input, hash: &[u8; 32]) -> Result<Input, AllocError>
-    ensures path { IfOk result (λ placed. placed.path.items ≡ encode_lower hash.now) }
-    ensures names { IfOk result (λ placed. map bytes_of placed.names.items
+    ensures path { IfOk result (λ changed. changed.path.items ≡ encode_lower hash.now) }
+    ensures names { IfOk result (λ changed. map bytes_of changed.names.items
         ≡ map bytes_of input.now.names.items) }
 {
     let path = Vec::from_slice(alloc, &digits_of(hash))?;
@@ -197,7 +197,7 @@ fn mask_env(drv: &Derivation, env: &mut [EnvEntry])
         (map entry_of env.old) }
 {
     for entry in env.iter_mut() {
-        if drv.output_place(&entry.key).is_some() {
+        if drv.output_index(&entry.key).is_some() {
             entry.value.clear();
         }
     }

@@ -130,8 +130,8 @@ fn check_uses(alloc: Global, inputs: &[Input], used: &[UsedInput]) -> Result<(),
     ensures err { IfErr result
         (IsUseFault (uses (map input_of inputs.now) (drvs_of_uses used.now))) }
 {
-    for (place, input) in inputs.iter().enumerate() {
-        let by = &used[place];
+    for (index, input) in inputs.iter().enumerate() {
+        let by = &used[index];
         check_used(alloc, by, &input.names)?;
     }
     Ok(())
@@ -146,7 +146,7 @@ fn check_used(alloc: Global, used: &UsedInput, names: &[Vec<u8>]) -> Result<(), 
 {
     for name in names {
         let name = name.as_slice();
-        let Some(_) = used.drv.output_place(name) else {
+        let Some(_) = used.drv.output_index(name) else {
             return Err(unknown_output(alloc, used.path, name)?);
         };
     }

@@ -29,7 +29,7 @@ pub(crate) fn check_values(
     check_env(alloc, drv, paths, in_draft)
 }
 
-// Tests that each output's path is the one at its place, or empty in a draft.
+// Tests that each output's path is the one at its index, or empty in a draft.
 fn check_paths(
     alloc: Global,
     outputs: &[Output],
@@ -41,8 +41,8 @@ fn check_paths(
         (FitBefore (PathFits in_draft) (map output_of outputs.now) paths.now (length outputs.now)) }
     ensures err { IfErr result (IsPathFault in_draft (map output_of outputs.now) paths.now) }
 {
-    for (place, output) in outputs.iter().enumerate() {
-        let path = &paths[place];
+    for (index, output) in outputs.iter().enumerate() {
+        let path = &paths[index];
         if !fits(&output.path, path, in_draft) {
             return Err(output_mismatch(alloc, output, path)?);
         }
@@ -62,7 +62,7 @@ fn output_mismatch(
     Ok(OutputFault::OutputMismatch(name, path.copy(alloc)?))
 }
 
-// Tests that the entry under each output's name has the path at the output's place as its value, or
+// Tests that the entry under each output's name has the path at the output's index as its value, or
 // an empty value in a draft.
 fn check_env(
     alloc: Global,
@@ -76,8 +76,8 @@ fn check_env(
         (length drv.now.outputs)) }
     ensures err { IfErr result (IsEnvFault in_draft drv.now.env drv.now.outputs paths.now) }
 {
-    for (place, output) in drv.outputs().iter().enumerate() {
-        let path = &paths[place];
+    for (index, output) in drv.outputs().iter().enumerate() {
+        let path = &paths[index];
         if !entry_fits(drv, output, path, in_draft) {
             return Err(env_mismatch(alloc, output)?);
         }
@@ -99,10 +99,10 @@ fn entry_fits(drv: &Derivation, output: &Output, path: &StorePath, in_draft: boo
         (HasMisfit in_draft drv.now.env output.now.name.items path.now) }
 {
     let name = output.name.as_slice();
-    match drv.env_place(name) {
-        Some(place) => {
+    match drv.env_index(name) {
+        Some(index) => {
             let env = drv.env();
-            let entry = &env[place];
+            let entry = &env[index];
             fits(&entry.value, path, in_draft)
         }
         None => true,

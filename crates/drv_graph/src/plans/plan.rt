@@ -24,7 +24,7 @@ use std::alloc::Global;
 use std::marker::Model;
 
 /// The derivations that some roots reach, each after its inputs; a derivation's number is its
-/// place, counted from 0. A contract sees the profile under which they were loaded, the derivations
+/// index, counted from 0. A contract sees the profile under which they were loaded, the derivations
 /// with their paths, and the roots' numbers.
 #[derive(Debug, Drop)]
 pub struct Plan {

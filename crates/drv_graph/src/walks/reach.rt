@@ -36,8 +36,8 @@ pub(crate) fn walk_all<S: DrvSource>(
 {
     let mut found = empty_walk(alloc);
     let mut numbers = IndexSet::new(alloc);
-    'roots: for place in 0..roots.len() {
-        let number = walk(alloc, source, rules, &mut found, roots, place)?;
+    'roots: for index in 0..roots.len() {
+        let number = walk(alloc, source, rules, &mut found, roots, index)?;
         numbers.insert(number)?;
     }
     Ok(LoadedGraph {

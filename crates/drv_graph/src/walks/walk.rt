@@ -30,7 +30,7 @@ pub(crate) enum Meeting {
     New(Visit),
 }
 
-// Walks from the root with this place among the roots, and answers its number. Each path is fetched
+// Walks from the root with this index among the roots, and answers its number. Each path is fetched
 // once, and each derivation is left after its inputs, which are walked in its text's order.
 pub(crate) fn walk<S: DrvSource>(
     alloc: Global,
@@ -38,20 +38,20 @@ pub(crate) fn walk<S: DrvSource>(
     rules: &Rules,
     found: &mut WalkState,
     roots: &[StorePath],
-    place: usize,
+    index: usize,
 ) -> Result<usize, GraphFault>
-    requires place { place < length roots.now }
+    requires index { index < length roots.now }
     requires walked { IsWalked rules.now.profile rules.now.dir.now (S.gives source.old) roots.now
         found.old [] }
     ensures keeps { GivesSame (S.gives source.old) (S.gives source.new) }
     ensures counts { S.failures source.old ≤ S.failures source.new }
     ensures device { IfErr result (IsCountedFault (S.gives source.old) (S.failures source.old)
         (S.failures source.new)) }
-    ensures walking { (root : List ℕ) → slice_get roots.now place ≡ Some root
+    ensures walking { (root : List ℕ) → slice_get roots.now index ≡ Some root
         → IsWalking rules.now.profile rules.now.dir.now (S.gives source.old) roots.now root
         found.old found.new result }
 {
-    let root = &roots[place];
+    let root = &roots[index];
     let mut visits = Vec::new(alloc);
     'walk: loop {
         match visits.pop() {

@@ -86,7 +86,7 @@ impl Hear for Heard {
     }
 }
 
-// Has a reader read an archive in pieces of a length. Gives the place of the byte with which no
+// Has a reader read an archive in pieces of a length. Gives the offset of the byte with which no
 // archive goes on, if there is one.
 fn feed<H: Hear>(
     reader: &mut ArchiveReader,
@@ -98,7 +98,7 @@ fn feed<H: Hear>(
     for piece in bytes.chunks(length.max(1)) {
         match reader.feed(piece, hearer) {
             Ok(()) => done = done.saturating_add(piece.len()),
-            Err(ArchiveFault::BadNar(place)) => return Ok(Some(done.saturating_add(place))),
+            Err(ArchiveFault::BadNar(offset)) => return Ok(Some(done.saturating_add(offset))),
             Err(_) => return Err(AllocError),
         }
     }
@@ -110,13 +110,13 @@ fn events(teller: &mut Teller<'_>, world: &World, line: &Line<'_>) -> Taken {
     let text = String::new(world.alloc);
     let mut heard = Heard { text };
     let mut reader = call!(teller, "ArchiveReader::new" => ArchiveReader::new(world.alloc));
-    let place = tried!(teller, "ArchiveReader::feed" =>
+    let offset = tried!(teller, "ArchiveReader::feed" =>
         feed(&mut reader, bytes, length.unwrap_or(usize::MAX), &mut heard))?;
     let is_done = call!(teller, "ArchiveReader::is_done" => reader.is_done());
     let words = heard.text.as_bytes().strip_suffix(b" ");
     teller.text(words.unwrap_or(b"none"));
-    match place {
-        Some(place) => teller.say(format_args!("BadNar({place})")),
+    match offset {
+        Some(offset) => teller.say(format_args!("BadNar({offset})")),
         None => teller.say(if is_done { "whole" } else { "unfinished" }),
     }
     Ok(())

@@ -1,14 +1,13 @@
 //! Books, their leases and verdicts.
 //!
 //! `Book::open PLAN JOURNAL SYSTEM` begins the lines of a book, which end with `close` (`session`).
-//! Behind a system there may stand its features and the builtin builders that have a program, each
-//! as a list with commas.
-//! What a builder leaves is a status, or `killed`, and a tree for each output: `-` where nothing
-//! lies, `file:TEXT`, `zeros:N` for a file of N bytes, `parts:A:B` for a file in these pieces, or
-//! `folder:N` for a folder of N empty files of one name; `program:A:B` is a file in pieces that its
-//! owner may execute. It has `open:` before it where others than its owner may write it. The last
-//! tree stands for those that are left out. A kind is a digest by a method, or another word, and has
-//! `nix/` before it under that profile.
+//! After a system there may stand its features and the builtin builders that have a program, each
+//! as a list with commas. What a builder leaves is a status, or `killed`, and a tree for each
+//! output: `-` where nothing lies, `file:TEXT`, `zeros:N` for a file of N bytes, `parts:A:B` for a
+//! file in these pieces, or `folder:N` for a folder of N empty files of one name; `program:A:B` is
+//! a file in pieces that its owner may execute. It has `open:` before it where others than its
+//! owner may write it. The last tree stands for those that are left out. A kind is a digest by a
+//! method, or another word, and has `nix/` before it under that profile.
 ghost use Rattle.std.specs.Prelude.{IfOk};
 ghost use Rattle.nix_names.specs.Rising.{IsRising};
 ghost use Rattle.build_outcome.specs.Verdicts.{IsExamining};
@@ -58,7 +57,7 @@ pub(crate) fn opening(
     Ok((plan, journal, system(teller, world, line)?))
 }
 
-/// The system that a line names behind a plan and a journal.
+/// The system that a line names after a plan and a journal.
 pub(crate) fn system(
     teller: &mut Teller<'_>,
     world: &World,
@@ -252,8 +251,8 @@ pub(crate) fn status_of(word: &[u8]) -> Option<i32> {
 /// The answer of a builder at so many outputs, by the words of its status and of its trees.
 pub(crate) fn answer(world: &World, words: &[&[u8]], count: usize) -> Result<Answer, AllocError> {
     let mut outputs = Vec::new(world.alloc);
-    for place in 0..count.max(words.len().saturating_sub(1)) {
-        outputs.push(match words.iter().skip(1).nth(place).or(words.last()) {
+    for index in 0..count.max(words.len().saturating_sub(1)) {
+        outputs.push(match words.iter().skip(1).nth(index).or(words.last()) {
             Some(word) => left(world, word)?,
             None => None,
         })?;
@@ -308,8 +307,8 @@ pub(crate) fn examined(
     call!(teller, "examine" => verdict_on(alloc, job, permitted, answer))
 }
 
-/// The same, where a job may refer to what is permitted to a lease: to nothing, where the lease
-/// isn't the book's.
+/// The verdict on an answer to a job that may refer to what is permitted to a lease: to nothing,
+/// where the lease isn't the book's.
 pub(crate) fn found(
     teller: &mut Teller<'_>,
     book: &Book<Counting<'_>>,

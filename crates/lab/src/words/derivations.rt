@@ -48,8 +48,8 @@ fn of_drvs(teller: &mut Teller<'_>, world: &mut World, line: &Line<'_>) -> Found
         "Parts::text_with_inputs" (drv = drvs 0, other = drvs 1)
             => drv.parts().text_with_inputs(world.alloc, other.inputs());
         "references" (drv = drvs 0) => references(world.alloc, &world.dir, drv) => paths;
-        "places" as "Derivation::output_place Derivation::env_place" (drv = drvs 0, name = text 1)
-            => (drv.output_place(name), drv.env_place(name));
+        "places" as "Derivation::output_index Derivation::env_index" (drv = drvs 0, name = text 1)
+            => (drv.output_index(name), drv.env_index(name));
         "uses" as "Derivation::uses" (drv = drvs 0, input = number 1, name = text 2)
             if input < drv.inputs().len()
             => (drv.uses(input, name),);
@@ -130,7 +130,7 @@ fn leave_out(drv: &Derivation, parts: &mut Parts) {
         output.path.clear();
     }
     let values = parts.env.iter_mut();
-    values.for_each(|entry| if drv.output_place(&entry.key).is_some() {
+    values.for_each(|entry| if drv.output_index(&entry.key).is_some() {
         entry.value.clear();
     });
 }
@@ -210,7 +210,7 @@ fn list(teller: &mut Teller<'_>, world: &mut World, line: &Line<'_>) -> Taken {
     let (files, failing) = files(world.alloc, &list)?;
     let made = call!(teller, "ListSource::new" => ListSource::new(world.alloc, files, failing));
     drop(teller.answered(made)?);
-    world.texts.keep(line.name, list)
+    world.texts.put(line.name, list)
 }
 
 // The fetch of a source with a number, after as many others.
@@ -279,7 +279,7 @@ fn node(teller: &mut Teller<'_>, world: &mut World, line: &Line<'_>) -> Taken {
     teller.paths(outputs);
     teller.paths(sources);
     let copy = drv.copy(world.alloc)?;
-    world.drvs.keep(line.name, copy)
+    world.drvs.put(line.name, copy)
 }
 
 fn tell_kind(teller: &mut Teller<'_>, alloc: Global, kind: Kind) -> Taken {
@@ -313,7 +313,7 @@ fn fill(teller: &mut Teller<'_>, world: &mut World, line: &Line<'_>) -> Taken {
     tell_failures(teller, &source);
     let (drv, path) = teller.answered(answer)?;
     teller.say(path.as_str());
-    world.drvs.keep(line.name, drv)
+    world.drvs.put(line.name, drv)
 }
 
 // The digests that words stand for.

@@ -58,8 +58,8 @@ fn of_texts(teller: &mut Teller<'_>, world: &mut World, line: &Line<'_>) -> Foun
         "Digest::of_digits" as "Algorithm::of_name Digest::of_digits" (name = text 0, digits = text 1)
             => Algorithm::of_name(name).and_then(|named| Digest::of_digits(named, digits));
         "memmem" (text = text 0, wanted = text 1) => (memmem::find(text, wanted).is_some(),);
-        keep "bytes" => hex::decode(world.alloc, line.argument(0)).map_err(|_| NO_BYTES)?;
-        keep "file" => file_bytes(teller, line.argument(0))?;
+        put "bytes" => hex::decode(world.alloc, line.argument(0)).map_err(|_| NO_BYTES)?;
+        put "file" => file_bytes(teller, line.argument(0))?;
     }
 }
 

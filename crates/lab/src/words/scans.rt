@@ -19,14 +19,14 @@ pub(crate) fn take(teller: &mut Teller<'_>, world: &mut World, line: &Line<'_>) 
     words! { teller, world, line;
         "Tree::fits" (tree = trees 0) => (tree.fits(),);
         "scan" (permitted = rising 1, tree = trees 0) => scan(world.alloc, tree, &permitted);
-        keep "numbered" => numbered(world, line)?;
-        keep "file_tree" (text = copy 0) => Tree::File(text);
-        keep "program" (texts = copies 0) => Tree::Executable(texts);
-        keep "link" (text = copy 0) => Tree::Link(text);
-        keep "pieces" (texts = copies 0) => Tree::Pieces(texts);
-        keep "wide" (count = number 0, name = text 1) => wide(world.alloc, count, name)?;
-        keep "nested" => nested(world, line)?;
-        keep "folder" => folder(world, line.arguments(0))?;
+        put "numbered" => numbered(world, line)?;
+        put "file_tree" (text = copy 0) => Tree::File(text);
+        put "program" (texts = copies 0) => Tree::Executable(texts);
+        put "link" (text = copy 0) => Tree::Link(text);
+        put "pieces" (texts = copies 0) => Tree::Pieces(texts);
+        put "wide" (count = number 0, name = text 1) => wide(world.alloc, count, name)?;
+        put "nested" => nested(world, line)?;
+        put "folder" => folder(world, line.arguments(0))?;
         do "Scanner" => scanner(teller, world, line);
         do "take_apart" => take_apart(world, line);
     }

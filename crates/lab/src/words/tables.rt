@@ -20,13 +20,13 @@ use valid_table::{Entry, Journal, Obstacle, Table, TableFault, union};
 pub(crate) fn take(teller: &mut Teller<'_>, world: &mut World, line: &Line<'_>) -> Found {
     words! { teller, world, line;
         "Table::closure" (table = table 0, roots = paths 1) => table.closure(world.alloc, &roots);
-        "union" (left = before b"/", right = behind b"/") => union(world.alloc, &left, &right);
+        "union" (left = before b"/", right = after b"/") => union(world.alloc, &left, &right);
         "Plan::eq" (one = plans 0, two = plans 1) => (one == two,);
         "Derivation::eq" (one = drvs 0, two = drvs 1) => (one == two,);
         "same_entries" (one = journals 0, two = journals 1) => (one.entries() == two.entries(),);
         "same_paths" (one = lists 0, two = lists 1) => (one.as_slice() == two.as_slice(),);
         "same" (one = text 0, two = text 1) => (one == two,);
-        keep "list" (text = text 0) => listed(world, text)?;
+        put "list" (text = text 0) => listed(world, text)?;
         do "Table::new" => new(teller, world, line);
         do "Table::replay" => replay(teller, world, line);
         do "Table::get" => get(teller, world, line);
@@ -124,7 +124,7 @@ fn table<'a>(
 fn new(teller: &mut Teller<'_>, world: &mut World, line: &Line<'_>) -> Taken {
     let table = call!(teller, "Table::new" => Table::new(world.alloc));
     let paths = Vec::new(world.alloc);
-    world.tables.keep(line.name, KeptTable { table, paths })
+    world.tables.put(line.name, KeptTable { table, paths })
 }
 
 fn replay(teller: &mut Teller<'_>, world: &mut World, line: &Line<'_>) -> Taken {
@@ -133,7 +133,7 @@ fn replay(teller: &mut Teller<'_>, world: &mut World, line: &Line<'_>) -> Taken 
     push_entries(&mut paths, journal)?;
     let table = tried!(teller, "Table::replay" => Table::replay(world.alloc, journal))?;
     teller.say("replayed");
-    world.tables.keep(line.name, KeptTable { table, paths })
+    world.tables.put(line.name, KeptTable { table, paths })
 }
 
 // What a table says of some paths.

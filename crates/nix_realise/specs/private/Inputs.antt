@@ -23,25 +23,25 @@ pub record IsTreeRead {S : Type 0} (heard : S → List Token → S → Type 0) (
 
 -- why no archive was read
 abbrev pub IsNoInput : (old new : Option Bytes) → InputFault → Type 0
-IsNoInput old new (Stray place) = IsStray old new place
+IsNoInput old new (Stray offset) = IsStray old new offset
 IsNoInput old new Unreadable = Unit {0}
 IsNoInput old new NoMemory = Unit {0}
 
--- why a piece was not read, which begins at this place of a text
+-- why a piece was not read, which begins at this offset of a text
 abbrev pub IsUnfed : (rest : List Token → Bytes → Type 0) → (piece : Bytes) → (start : ℕ)
     → InputFault → Type 0
-IsUnfed rest piece start (Stray place) =
-    (at : ℕ) × (place ≡ start + at) × (at < length piece) × IsBegun rest (take at piece)
+IsUnfed rest piece start (Stray offset) =
+    (at : ℕ) × (offset ≡ start + at) × (at < length piece) × IsBegun rest (take at piece)
     × IsRefused rest (take (at + 1) piece)
 IsUnfed rest piece start Unreadable = Unit {0}
 IsUnfed rest piece start NoMemory = Unit {0}
 
 -- So far a text was read, by a reader that had read nothing before, and of it was heard.
 pub record IsSoFar {S : Type 0} (heard : S → List Token → S → Type 0) (before after : S)
-    (reader : ArchiveReader) (old new : Option Bytes) (place : ℕ) : Type 0 where
+    (reader : ArchiveReader) (old new : Option Bytes) (offset : ℕ) : Type 0 where
   pub first : ArchiveReader
   pub fresh : IsSame (reader_rest first) IsArchive
   pub text : Bytes
   pub step : IsStep heard before after (reader_rest first) (reader_rest reader) text
   pub read : Consumes old new text
-  pub counted : length text ≡ place
+  pub counted : length text ≡ offset

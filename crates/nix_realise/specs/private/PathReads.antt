@@ -26,7 +26,7 @@ pub record IsReadOf (digest_of : Tree → Option Digest) (read : PathRead) : Typ
   pub has_sum : HasSum tree read.sum
   pub digest : read.digest ≡ digest_of tree
 
--- the same by a method and an algorithm
+-- a tree was read that has this sum, and its digest by a method and an algorithm
 abbrev pub IsReadAs : Method → Algorithm → PathRead → Type 0
 IsReadAs method algorithm read = IsReadOf (digest_in method algorithm) read
 
@@ -35,7 +35,8 @@ abbrev pub digest_like : Option MethodDigest → Tree → Option Digest
 digest_like (Some told) tree = digest_in told.method (algorithm_of told.digest) tree
 digest_like None tree = None
 
--- the same by that method and that algorithm
+-- a tree was read that has this sum, and its digest by the method and the algorithm of one that is
+-- told
 abbrev pub IsReadBy : Option MethodDigest → PathRead → Type 0
 IsReadBy told read = IsReadOf (digest_like told) read
 

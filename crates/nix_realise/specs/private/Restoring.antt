@@ -8,6 +8,6 @@ use Rattle.nix_realise.specs.declared.cli.run_error.RunError.TheVariants.{BadArc
 use Rattle.nix_realise.specs.declared.cli.run_error.RunError.TheVariants.{NoMemory as NoMemoryLeft}
 
 abbrev pub input_stop : (path : Bor Bytes) → InputFault → RunError
-input_stop path (Stray place) = BadArchive path place
+input_stop path (Stray offset) = BadArchive path offset
 input_stop path Unreadable = InputUnreadable
 input_stop path NoMemory = NoMemoryLeft

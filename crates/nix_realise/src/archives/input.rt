@@ -17,7 +17,7 @@ const PIECE: usize = 65_536;
 /// Why a reader gives no archive.
 #[derive(Clone, Copy, Debug, PartialEq, Eq)]
 pub enum InputFault {
-    /// It gives no archive: the byte at this place, counted from 0, can't stand there.
+    /// It gives no archive: the byte at this offset, counted from 0, can't stand there.
     Stray(usize),
     /// It can't be read.
     Unreadable,
@@ -38,51 +38,51 @@ pub fn read_archive<I: Read, H: Hear>(
 {
     let mut reader = ArchiveReader::new(alloc);
     let mut buffer = [0; PIECE];
-    let mut place = 0;
+    let mut offset = 0;
     'pieces: for _ in 0..u64::MAX {
         let Ok(count) = read_once(input, &mut buffer) else {
             return Err(InputFault::Unreadable);
         };
         if count == 0 {
-            return end_of(&reader, place);
+            return end_of(&reader, offset);
         }
-        place = feed(&mut reader, &buffer[..count], place, hearer)?;
+        offset = feed(&mut reader, &buffer[..count], offset, hearer)?;
     }
     Err(InputFault::Unreadable)
 }
 
-// Has a reader read the next piece, which begins at this place of the text, and gives the place
+// Has a reader read the next piece, which begins at this offset of the text, and gives the offset
 // after it. A text of 2^64 bytes is unreadable.
 fn feed<H: Hear>(
     reader: &mut ArchiveReader,
     piece: &[u8],
-    place: usize,
+    offset: usize,
     hearer: &mut H,
 ) -> Result<usize, InputFault>
-    ensures ok { IfOk result (λ end. (end ≡ place + length piece.now)
+    ensures ok { IfOk result (λ end. (end ≡ offset + length piece.now)
         × IsStep H.heard hearer.old hearer.new (reader_rest reader.old) (reader_rest reader.new)
         piece.now) }
-    ensures err { IfErr result (IsUnfed (reader_rest reader.old) piece.now place) }
+    ensures err { IfErr result (IsUnfed (reader_rest reader.old) piece.now offset) }
 {
-    let Some(end) = place.checked_add(piece.len()) else {
+    let Some(end) = offset.checked_add(piece.len()) else {
         return Err(InputFault::Unreadable);
     };
     match reader.feed(piece, hearer) {
         Ok(()) => Ok(end),
-        Err(ArchiveFault::BadNar(stray)) => Err(InputFault::Stray(place + stray)),
+        Err(ArchiveFault::BadNar(stray)) => Err(InputFault::Stray(offset + stray)),
         Err(ArchiveFault::NoMemory) => Err(InputFault::NoMemory),
     }
 }
 
-// What a reader tells at the end of a text, which is at this place.
-fn end_of(reader: &ArchiveReader, place: usize) -> Result<(), InputFault>
+// What a reader tells at the end of a text, which is at this offset.
+fn end_of(reader: &ArchiveReader, offset: usize) -> Result<(), InputFault>
     ensures { MatchResult result (λ _. reader_rest reader.now [] [])
-        (λ fault. (fault ≡ Stray place) × ¬ (reader_rest reader.now [] [])) }
+        (λ fault. (fault ≡ Stray offset) × ¬ (reader_rest reader.now [] [])) }
 {
     if reader.is_done() {
         Ok(())
     } else {
-        Err(InputFault::Stray(place))
+        Err(InputFault::Stray(offset))
     }
 }
 

@@ -23,7 +23,7 @@ pub fn restore_input<'a, R: Files + Input + AllocGlobal>(
 }
 
 /// Makes at the request's path what the archive holds that a reader gives, while it is read.
-/// `BadArchive` with the place of the first byte that can't stand there, `InputUnreadable`;
+/// `BadArchive` with the offset of the first byte that can't stand there, `InputUnreadable`;
 /// `NotRestored` where something lies at the path or below it already, or can't be made, once the
 /// whole archive was read; `NoMemory`. Where it ends so, what was made is removed, as far as the
 /// system allows.
@@ -51,7 +51,7 @@ fn stop_of<'a>(path: &'a str, fault: InputFault) -> RunError<'a>
     ensures { result ≡ input_stop path.entry fault }
 {
     match fault {
-        InputFault::Stray(place) => RunError::BadArchive(path, place),
+        InputFault::Stray(offset) => RunError::BadArchive(path, offset),
         InputFault::Unreadable => RunError::InputUnreadable,
         InputFault::NoMemory => RunError::NoMemory,
     }

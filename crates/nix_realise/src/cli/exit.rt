@@ -97,7 +97,7 @@ pub fn quietly(ended: Result<Status, RunError<'_>>) -> Result<Outcome, RunError<
     }
 }
 
-/// The same of a subcommand whose files were written.
+/// The end of a subcommand whose files were written, and that tells standard error nothing.
 pub fn quietly_written(ended: Result<AllWritten, RunError<'_>>) -> Result<Outcome, RunError<'_>>
     ensures { result ≡ quietly_written ended.entry }
 {

@@ -18,7 +18,7 @@ use std::time::Clock;
 use std::{env, io};
 
 /// Runs the program on the arguments and the standard output of the process, with the builders that
-/// `make` makes, and the locks and the places of journals of `host`. Says how the run ended. A word
+/// `make` makes, and the locks and the sinks of journals of `host`. Says how the run ended. A word
 /// that is not UTF-8 is a mistake in the words.
 pub fn run_process<R, M, L, E>(rt: &R, make: &M, host: &L, err: &mut E) -> Exit
 where

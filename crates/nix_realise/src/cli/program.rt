@@ -48,7 +48,7 @@ pub struct Machine<'m, R, M, L> {
     pub rt: &'m R,
     /// What makes its builders.
     pub make: &'m M,
-    /// What takes its locks, and makes the places of its journals.
+    /// What takes its locks, and makes the sinks of its journals.
     pub host: &'m L,
 }
 

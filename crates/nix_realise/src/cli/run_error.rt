@@ -24,7 +24,7 @@ pub enum RunError<'a> {
     /// Standard input cannot be read.
     InputUnreadable,
     /// The text on standard input, of which this path was to be made, as it was given, is no
-    /// archive: the byte at this place, counted from 0, can't stand there.
+    /// archive: the byte at this offset, counted from 0, can't stand there.
     BadArchive(&'a str, usize),
     /// What an archive holds cannot be made at this path, as it was given.
     NotRestored(&'a str),
@@ -53,8 +53,8 @@ pub enum RunError<'a> {
     /// This word, given as the program that starts builders, is no absolute path of a file that may
     /// be executed.
     NoRunner(&'a str),
-    /// The folder at this path, which should get the build folders, is no absolute path of a folder,
-    /// or that is the store folder or lies below it.
+    /// The folder at this path, which should get the build folders, is no absolute path of a
+    /// folder, or that is the store folder or lies below it.
     NoBuildDir(String),
     /// The folder of logs at this path, as it was given, cannot be made.
     NoLogs(&'a str),
@@ -102,7 +102,7 @@ pub enum FaultName<'s> {
     OfJournal(&'s TableFault),
     /// That of a fault of a run.
     OfRun(RunFault),
-    /// That of a text which is no archive, by the place of the first byte that can't stand there.
+    /// That of a text which is no archive, by the offset of the first byte that can't stand there.
     OfArchive(usize),
 }
 
@@ -144,7 +144,7 @@ impl RunError<'_> {
                 refused(fault.number(), file.as_bytes(), OfNode(fault))
             }
             RunError::BadDrv(path, fault) => refused(fault.number(), path.text(), OfNode(fault)),
-            RunError::BadArchive(path, place) => refused(87, path.as_bytes(), OfArchive(*place)),
+            RunError::BadArchive(path, offset) => refused(87, path.as_bytes(), OfArchive(*offset)),
             RunError::BadJournal(fault) => refused(fault.number(), b"journal", OfJournal(fault)),
             RunError::Run(fault, _) => cut_short(fault.number(), b"run", OfRun(*fault)),
         }

@@ -12,8 +12,8 @@ use std::io::Write;
 // What clears a terminal's line: back to the first column, then erase to the end (ECMA-48, EL).
 const NO_LINE: &[u8; 4] = b"\r\x1b[K";
 
-// The same, then line wrapping is turned off, so that a long line is cut at the last column
-// (DECAWM), and the words before the store folder.
+// What clears a terminal's line and turns line wrapping off, so that a long line is cut at the last
+// column (DECAWM), and the words before the store folder.
 const WAITING: &[u8; 49] = b"\r\x1b[K\x1b[?7lnix_realise: waiting for another run in ";
 
 // What turns line wrapping on again.
@@ -55,12 +55,12 @@ impl<L: Locks, W: Write + Copy> Locks for AnnouncedLocks<'_, L, W> {
 }
 
 impl<L: JournalSinks, W> JournalSinks for AnnouncedLocks<'_, L, W> {
-    type Place = L::Place;
+    type Sink = L::Sink;
 
     ghost keeps_at = { L.keeps_at };
 
-    fn place(&self, holding: LockProof<'_>, path: String) -> Result<L::Place, AllocError> {
-        self.locks.place(holding, path)
+    fn sink(&self, holding: LockProof<'_>, path: String) -> Result<L::Sink, AllocError> {
+        self.locks.sink(holding, path)
     }
 }
 

@@ -70,7 +70,7 @@ impl FileRead<'_> {
         Ok(self.bytes?)
     }
 
-    /// The same where a file that is not found has no bytes.
+    /// The bytes of a file, or why there are none. A file that is not found has no bytes.
     pub fn bytes_or_none(self, alloc: Global) -> Result<Vec<u8>, FileFault>
         ensures { file_bytes result ≡ journal_bytes self.entry }
     {

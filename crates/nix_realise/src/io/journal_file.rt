@@ -89,14 +89,14 @@ impl<'h> OwnJournal<'h> {
         try_out(rt, self.path.as_str())
     }
 
-    /// The place that keeps the file while a run goes on.
-    pub fn place<P: JournalSinks>(&self, alloc: Global, places: &P) -> Result<P::Place, AllocError>
-        ensures at { IfOk result (λ place. P.keeps_at place (string_bytes self.now.path)) }
+    /// The sink that keeps the file while a run goes on.
+    pub fn sink<P: JournalSinks>(&self, alloc: Global, sinks: &P) -> Result<P::Sink, AllocError>
+        ensures at { IfOk result (λ sink. P.keeps_at sink (string_bytes self.now.path)) }
         ensures each { IfOk result
-            (λ _. (shown : List Entry) (text : Bytes) → P.Place.may_keep shown text) }
+            (λ _. (shown : List Entry) (text : Bytes) → P.Sink.may_keep shown text) }
     {
         let path = String::from_str(alloc, self.path.as_str())?;
-        places.place(self.holding, path)
+        sinks.sink(self.holding, path)
     }
 
     /// Puts a file with these bytes in place of the journal file, if there is one. They are not

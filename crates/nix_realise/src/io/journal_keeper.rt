@@ -10,34 +10,34 @@ use std::rt::Files;
 use store_run::CheckpointSink;
 use valid_view::{ListId, Prefix};
 
-/// What makes the places in which runs keep their journals while they go on.
+/// What makes the sinks in which runs keep their journals while they go on.
 pub trait JournalSinks {
     ghost use Rattle.std.specs.Prelude.{IfOk, List, string_bytes};
     ghost use Rattle.nix_names.specs.Bytes.{Bytes};
     ghost use Rattle.valid_table.specs.declared.entry.Entry.{Entry};
 
-    /// The place of a journal. It has all that it needs, so that a thread may own it.
-    type Place: CheckpointSink + Send + Drop;
+    /// The sink of a journal. It has all that it needs, so that a thread may own it.
+    type Sink: CheckpointSink + Send + Drop;
 
-    // A place is that of the file at a path.
-    ghost keeps_at: { Self.Place → Bytes → Type 0 };
+    // A sink is that of the file at a path.
+    ghost keeps_at: { Self.Sink → Bytes → Type 0 };
 
-    /// The place of the journal file at a path, which takes each text. The right to use the store
+    /// The sink of the journal file at a path, which takes each text. The right to use the store
     /// folder is held. Want of memory is the only error.
-    fn place(&self, holding: LockProof<'_>, path: String) -> Result<Self::Place, AllocError>
-        ensures at { IfOk result (λ place. keeps_at place (string_bytes path)) }
+    fn sink(&self, holding: LockProof<'_>, path: String) -> Result<Self::Sink, AllocError>
+        ensures at { IfOk result (λ sink. keeps_at sink (string_bytes path)) }
         ensures each { IfOk result
-            (λ _. (shown : List Entry) (text : Bytes) → Self.Place.may_keep shown text) };
+            (λ _. (shown : List Entry) (text : Bytes) → Self.Sink.may_keep shown text) };
 }
 
 impl<R: Files + AllocGlobal + Clone + Send + Drop> JournalSinks for R {
     ghost use Rattle.std.specs.Prelude.{◌≡◌, string_bytes};
 
-    type Place = InJournal<R>;
+    type Sink = InJournal<R>;
 
-    ghost keeps_at = { λ place path. string_bytes place.path ≡ path };
+    ghost keeps_at = { λ sink path. string_bytes sink.path ≡ path };
 
-    fn place(&self, holding: LockProof<'_>, path: String) -> Result<InJournal<R>, AllocError> {
+    fn sink(&self, holding: LockProof<'_>, path: String) -> Result<InJournal<R>, AllocError> {
         Ok(InJournal::new(self.clone()?, holding, path))
     }
 }

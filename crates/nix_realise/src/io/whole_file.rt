@@ -1,7 +1,7 @@
 //! A file that is written whole or not at all.
 ghost use Rattle.std.specs.Prelude.{◌≡◌, ◌++◌, IfErr, IfOk, OnOk, codes, decimal, string_bytes};
 ghost use Rattle.std.specs.Io.KnownBytes.{Appends};
-ghost use Rattle.nix_realise.specs.Files.{IsNoPlace, IsWritablePlace};
+ghost use Rattle.nix_realise.specs.Files.{IsNothingThere, IsWritableOver};
 
 use process_build::Failure;
 use std::alloc::{AllocError, Global};
@@ -114,14 +114,14 @@ pub fn try_out<'a, R: Files + AllocGlobal>(
 ) -> Result<WriteProbe<'a>, WriteError>
     ensures { IfOk result (λ tried. tried.path.now ≡ path.entry.now) }
 {
-    match try_place(rt, path) {
+    match try_path(rt, path) {
         Ok(()) => Ok(WriteProbe { path }),
         Err(failure) => Err(WriteError { failure }),
     }
 }
 
 // Does what `try_out` does.
-fn try_place<R: Files + AllocGlobal>(rt: &R, path: &str) -> Result<(), Failure> {
+fn try_path<R: Files + AllocGlobal>(rt: &R, path: &str) -> Result<(), Failure> {
     replaceable(fs::symlink_metadata(rt, path))?;
     let (_file, temporary) = create_beside(rt, path)?;
     Ok(fs::remove_file(rt, temporary.as_path())?)
@@ -130,11 +130,11 @@ fn try_place<R: Files + AllocGlobal>(rt: &R, path: &str) -> Result<(), Failure> 
 // The permissions of the file that will be replaced, by what the system answered for its path; none
 // where nothing or a link is there, a fault where anything else is.
 fn replaceable(asked: io::Result<Metadata>) -> Result<Option<Permissions>, Failure>
-    ensures found { IfOk asked (λ found. IsWritablePlace found result) }
-    ensures fault { IfErr asked (λ error. IsNoPlace error result) }
+    ensures found { IfOk asked (λ found. IsWritableOver found result) }
+    ensures fault { IfErr asked (λ error. IsNothingThere error result) }
 {
     match asked {
-        Ok(found) => place_with(&found),
+        Ok(found) => replaceable_found(&found),
         Err(error) => match Failure::from(error) {
             Failure::NotFound => Ok(None),
             failure => Err(failure),
@@ -142,9 +142,9 @@ fn replaceable(asked: io::Result<Metadata>) -> Result<Option<Permissions>, Failu
     }
 }
 
-// The same where something lies there.
-fn place_with(found: &Metadata) -> Result<Option<Permissions>, Failure>
-    ensures { IsWritablePlace found.now result }
+// The permissions of what lies there, if it is a file; none of a link, a fault of anything else.
+fn replaceable_found(found: &Metadata) -> Result<Option<Permissions>, Failure>
+    ensures { IsWritableOver found.now result }
 {
     match (found.is_file(), found.is_symlink()) {
         (true, _) => Ok(Some(found.permissions())),

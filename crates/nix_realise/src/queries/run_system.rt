@@ -31,7 +31,7 @@ pub fn system_of<R: Files + AllocGlobal>(
     }
 }
 
-// The same under `nix`.
+// What a run under `nix` builds for, by its words.
 fn nix_system<R: Files + AllocGlobal>(
     rt: &R,
     request: &RunRequest<'_>,

@@ -55,7 +55,7 @@ use valid_view::{ListId, Name};
 /// is removed, as far as that can be done; then the journal is read, it is tested whether the
 /// journal can be written, and the folder of logs, if one is named, is made. The first fault ends
 /// the run, and nothing is built. While the workers build, the journal is written again and again,
-/// in the place that `host` makes; a fault of such a write is not told. Once the workers gave a
+/// in the sink that `host` makes; a fault of such a write is not told. Once the workers gave a
 /// book, the journal is written, whether the book is settled or not; then the lock is let go.
 /// Nothing is printed where the book isn't settled, or where the journal is not written.
 pub fn realise<'a, R, M, L, O>(
@@ -151,7 +151,7 @@ where
     fn start<M, P, O>(
         &self,
         make: &M,
-        places: &P,
+        sinks: &P,
         out: &mut O,
     ) -> Result<TracedRun<'a>, RunError<'a>>
     where
@@ -164,10 +164,10 @@ where
         let (rt, request) = (self.rt, self.request);
         let logs = logs_folder(rt, request.logs)?;
         let drvs = DrvPaths::of(rt.alloc(), self.task.plan())?;
-        let place = self.file.place(rt.alloc(), places)?;
+        let sink = self.file.sink(rt.alloc(), sinks)?;
         let options = self.options(logs, &drvs);
         let system = system_of(rt, &request.run)?;
-        self.build_traced::<M, P, O>(make, &options, &system, place, out)
+        self.build_traced::<M, P, O>(make, &options, &system, sink, out)
     }
 
     // Makes the builders, which note when they ran if the request asks for a trace, and lets them
@@ -177,7 +177,7 @@ where
         make: &M,
         options: &BuildOptions<'_>,
         system: &System,
-        place: P::Place,
+        sink: P::Sink,
         out: &mut O,
     ) -> Result<TracedRun<'a>, RunError<'a>>
     where
@@ -187,8 +187,8 @@ where
         requires options { AreOptionsFor self.now.request.now (paths_of self.now.task.plan.nodes)
             options.now }
         requires system { IsSystemOf self.now.request.now.run system.now }
-        requires place { P.keeps_at place (string_bytes self.now.file.now.path) }
-        requires each { (shown : List Entry) (text : Bytes) → P.Place.may_keep shown text }
+        requires sink { P.keeps_at sink (string_bytes self.now.file.now.path) }
+        requires each { (shown : List Entry) (text : Bytes) → P.Sink.may_keep shown text }
         ensures { TaskEnds M.Builder.may self.now.request.now self.now.task
             (O.contents out.old) (O.contents out.new) result }
     {
@@ -200,7 +200,7 @@ where
             Name::new(),
             builders,
             system,
-            place,
+            sink,
             &trace,
             out,
         ))
@@ -213,7 +213,7 @@ where
         name: Name,
         builders: Vec<M::Builder>,
         system: &System,
-        place: P::Place,
+        sink: P::Sink,
         trace: &Option<TraceFile<'a>>,
         out: &mut O,
     ) -> TracedRun<'a>
@@ -228,15 +228,15 @@ where
             × AreOptionsFor self.now.request.now (paths_of self.now.task.plan.nodes) options
             × All (λ b. M.builds_in b options) builders.items }
         requires system { IsSystemOf self.now.request.now.run system.now }
-        requires place { P.keeps_at place (string_bytes self.now.file.now.path) }
-        requires each { (shown : List Entry) (text : Bytes) → P.Place.may_keep shown text }
+        requires sink { P.keeps_at sink (string_bytes self.now.file.now.path) }
+        requires each { (shown : List Entry) (text : Bytes) → P.Sink.may_keep shown text }
         requires trace { option_map (λ f. f.path) trace.now ≡ self.now.request.now.trace }
         ensures { TracedEnds M.Builder.may self.now.request.now self.now.task
             (O.contents out.old) (O.contents out.new) result }
     {
         let rt = self.rt;
         let (plan, opening) = (self.task.plan(), self.task.journal());
-        match realise_kept::<J, R, M::Builder, P::Place>(
+        match realise_kept::<J, R, M::Builder, P::Sink>(
             rt,
             rt.alloc(),
             name,
@@ -244,7 +244,7 @@ where
             opening,
             system,
             builders,
-            place,
+            sink,
         ) {
             Ok(book) => {
                 let ended = self.write_and_report(&book, out);
@@ -282,13 +282,13 @@ impl<'a, R: Files + AllocGlobal> Realisation<'a, '_, '_, R> {
         ensures { IsCutShort fault (is_some book.entry) result }
     {
         match book {
-            Some(book) => RunError::Run(fault, self.keep(book)),
+            Some(book) => RunError::Run(fault, self.write_unsettled(book)),
             None => RunError::Run(fault, JournalOutcome::no_book()),
         }
     }
 
     // Puts the journal of a book that isn't settled in place of the journal file.
-    fn keep<V: Outlet>(&self, book: &Book<V>) -> JournalOutcome
+    fn write_unsettled<V: Outlet>(&self, book: &Book<V>) -> JournalOutcome
         ensures { result.has_book ≡ true }
     {
         match journal_bytes(self.rt.alloc(), book) {
@@ -354,8 +354,8 @@ impl<'a, R: Files + AllocGlobal + Wait> Realisation<'a, '_, '_, R> {
         }
     }
 
-    // The numbers at the ends of their names, by the numbers of their leases: none where the request
-    // doesn't ask for them.
+    // The numbers at the ends of their names, by the numbers of their leases: none where the
+    // request doesn't ask for them.
     fn take_suffixes(&self) -> Vec<Option<u64>>
         ensures { self.now.request.now.keep_failed ≡ false → result.items ≡ [] }
     {

@@ -41,8 +41,8 @@ fn stray_word<'a>(words: &[&'a str], paths: &[StorePath], journal: &Journal) -> 
     ensures { MatchOption result (All (IsValid (registered journal.now.entries)) paths.now)
         (IsStrayWord (map (λ w. w.now) words.now) journal.now) }
 {
-    for (place, word) in words.iter().enumerate() {
-        if !journal.registers(&paths[place]) {
+    for (index, word) in words.iter().enumerate() {
+        if !journal.registers(&paths[index]) {
             return Some(word);
         }
     }

@@ -62,7 +62,7 @@ fn read_as<R: Files + AllocGlobal>(
     }
 }
 
-// The same by the flat method.
+// Reads what lies at a path with its digest by the flat method.
 fn read_file<R: Files + AllocGlobal>(
     rt: &R,
     path: &str,
@@ -78,7 +78,7 @@ fn read_file<R: Files + AllocGlobal>(
     Ok(Some(PathRead { sum, digest }))
 }
 
-// The same by the recursive method.
+// Reads what lies at a path with its digest by the recursive method.
 fn read_tree<R: Files + AllocGlobal>(
     rt: &R,
     path: &str,

@@ -21,7 +21,7 @@ pub fn write_name_fault(fault: NameFault, out: &mut Vec<u8>) -> Result<(), Alloc
 {
     match fault {
         NameFault::BadLength => write_name(b"BadLength", out),
-        NameFault::BadChar(place) => write_with_number(b"BadChar", place, out),
+        NameFault::BadChar(offset) => write_with_number(b"BadChar", offset, out),
         NameFault::Overflow => write_name(b"Overflow", out),
         NameFault::NotInStore => write_name(b"NotInStore", out),
         NameFault::BadHashPart => write_name(b"BadHashPart", out),
@@ -31,15 +31,15 @@ pub fn write_name_fault(fault: NameFault, out: &mut Vec<u8>) -> Result<(), Alloc
     }
 }
 
-/// Adds the words of a fault of a derivation: a place in decimal, a path without quotes, a text as
-/// the derivations' language spells it.
+/// Adds the words of a fault of a derivation: an offset in decimal, a path without quotes, a text
+/// as the derivations' language spells it.
 pub fn write_drv_fault(fault: &DrvFault, out: &mut Vec<u8>) -> Result<(), AllocError>
     ensures { OnOk result (out.new.items ≡ out.old.items ++ drv_fault_words fault.now) }
 {
     match fault {
         DrvFault::NoMemory => write_name(b"NoMemory", out),
-        DrvFault::Syntax(place) => write_with_number(b"Syntax", *place, out),
-        DrvFault::Order(place) => write_with_number(b"Order", *place, out),
+        DrvFault::Syntax(offset) => write_with_number(b"Syntax", *offset, out),
+        DrvFault::Order(offset) => write_with_number(b"Order", *offset, out),
         DrvFault::TooLong => write_name(b"TooLong", out),
         DrvFault::TextPathMismatch(path) => {
             write_with_value(b"TextPathMismatch", path.text(), out)
@@ -90,7 +90,7 @@ fn write_fault(name: FaultName<'_>, out: &mut Vec<u8>) -> Result<(), AllocError>
         FaultName::OfNode(fault) => write_node_fault(fault, out),
         FaultName::OfJournal(fault) => write_table_fault(fault, out),
         FaultName::OfRun(fault) => write_run_fault(fault, out),
-        FaultName::OfArchive(place) => write_with_number(b"BadNar", place, out),
+        FaultName::OfArchive(offset) => write_with_number(b"BadNar", offset, out),
     }
 }
 

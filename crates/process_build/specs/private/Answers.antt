@@ -51,8 +51,9 @@ type_in mode = record { bits = bit_and mode 0o170000 }
 abbrev pub IsExecutable : (mode : ℕ) → Type 0
 IsExecutable mode = bit_and mode 0o100 ≢ 0
 
--- the group of a file or a folder, or others, may write it, by its mode: one of the bits 0022 is set
--- (Nix 2.8, `local-derivation-goal.cc`: `registerOutputs`). The mode of a symbolic link says nothing.
+-- the group of a file or a folder, or others, may write it, by its mode: one of the bits 0022 is
+-- set (Nix 2.8, `local-derivation-goal.cc`: `registerOutputs`). The mode of a symbolic link says
+-- nothing.
 abbrev pub OthersMayWrite : (mode : ℕ) → Type 0
 OthersMayWrite mode = (bit_and mode 0o022 ≢ 0) × ¬ (IsSymlink (type_in mode))
 
@@ -70,7 +71,7 @@ IsKindAt profile mode (Err reason) =
     (reason ≡ ReadFault) × ¬ (IsFile (type_in mode)) × ¬ (IsDir (type_in mode))
     × ¬ (IsSymlink (type_in mode) × (profile ≡ Nix))
 
--- the same, where the answer may also be that nothing lies there: here something does
+-- the kind of what lies at a path where something does, though the answer may be that nothing does
 abbrev pub IsKindOf : Profile → (mode : ℕ) → Result (Option FileKind) Reason → Type 0
 IsKindOf profile mode (Ok (Some part)) = IsKindAt profile mode (Ok part)
 IsKindOf profile mode (Ok None) = ⊥

@@ -27,8 +27,8 @@ NotesAside store_dir old new =
     (new ≡ old) ⊎ ((path : String Global) × IsAside store_dir path × (new ≡ old ++ path ∷ []))
 
 -- the paths of a job's outputs
-abbrev pub output_places_of : Job → List Bytes
-output_places_of job = map (λ output. output.path) job.outputs.items
+abbrev pub paths_of_outputs : Job → List Bytes
+paths_of_outputs job = map (λ output. output.path) job.outputs.items
 
 -- a build folder that may lie there already: only under `plain`, since under `nix` it is made anew
 abbrev pub old_folder_of : Profile → (folder : Bytes) → List Bytes
@@ -37,8 +37,8 @@ old_folder_of Nix folder = []
 
 -- the paths that are cleared before a job's builder runs, in this order: those of its outputs, and
 -- its build folder where it may lie there already
-abbrev pub places_of : Job → (folder : Bytes) → List Bytes
-places_of job folder = output_places_of job ++ old_folder_of job.profile folder
+abbrev pub cleared_paths_of : Job → (folder : Bytes) → List Bytes
+cleared_paths_of job folder = paths_of_outputs job ++ old_folder_of job.profile folder
 
 -- whether nothing is left at a path, by what its removal gave; want of memory stays a failure
 abbrev pub gone_after : Result (Unit {0}) Failure → Result Bool Failure

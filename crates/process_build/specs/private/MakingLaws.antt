@@ -5,28 +5,32 @@ use Rattle.nix_archive.specs.Trees.{Bytes}
 use Rattle.nix_archive.specs.Tokens.{Token, EntryBegun, EntryEnded, FileBegun, FileByte, FileEnded, FolderBegun, FolderEnded, LinkTo}
 use Rattle.process_build.specs.MadeTrees.{Step}
 use Rattle.process_build.specs.Contents.{child_of}
-use Rattle.process_build.specs.Making.{AreTaken, HaveOneTree, IsHeard, IsHeardBy, Place, outermost, place_after, place_along, place_of, steps_along, steps_at}
+use Rattle.process_build.specs.Making.{AreTaken, HaveOneTree, IsHeard, IsHeardBy, Position, outermost, position_after, position_along, position_of, steps_along, steps_at}
 use Rattle.process_build.specs.declared.tree_maker.maker_fault.MakerFault.{MakerFault}
 use Rattle.process_build.specs.declared.tree_maker.maker.TreeMaker.{TreeMaker}
 
-pub place_append : (place : Place) (before after : List Token)
-    → place_along place (before ++ after) ≡ place_along (place_along place before) after
-place_append place [] after = refl
-place_append place (token ∷ before) after = place_append (place_after place token) before after
+pub position_append : (position : Position) (before after : List Token)
+    → position_along position (before ++ after) ≡ position_along (position_along position before)
+    after
+position_append position [] after = refl
+position_append position (token ∷ before) after =
+    position_append (position_after position token) before after
 
-pub steps_append : (place : Place) (before after : List Token)
-    → steps_along place (before ++ after)
-    ≡ steps_along place before ++ steps_along (place_along place before) after
-steps_append place [] after = refl
-steps_append place (token ∷ before) after =
-    ap (λ l. steps_at place token ++ l) (steps_append (place_after place token) before after)
-    ∙ sym (append_assoc (steps_at place token) (steps_along (place_after place token) before)
-    (steps_along (place_along (place_after place token) before) after))
+pub steps_append : (position : Position) (before after : List Token)
+    → steps_along position (before ++ after)
+    ≡ steps_along position before ++ steps_along (position_along position before) after
+steps_append position [] after = refl
+steps_append position (token ∷ before) after =
+    ap (λ l. steps_at position token ++ l)
+    (steps_append (position_after position token) before after)
+    ∙ sym (append_assoc (steps_at position token)
+    (steps_along (position_after position token) before)
+    (steps_along (position_along (position_after position token) before) after))
 
--- a place after some tokens is in the same tree
+-- a position after some tokens is in the same tree
 pub one_tree : (path : Bytes) (around : List Bytes) (said : List Token)
     → HaveOneTree (record { path = path; around = around })
-    (place_along (record { path = path; around = around }) said)
+    (position_along (record { path = path; around = around }) said)
 one_tree path around [] = refl
 one_tree path around (EntryBegun name ∷ said) =
     one_tree (child_of path name) (path ∷ around) said
@@ -41,15 +45,15 @@ one_tree path around (LinkTo target ∷ said) = one_tree path around said
 
 module _ {M : Type 0} (made : M → List Step → M → Type 0) where
   -- what was taken lies in the same tree
-  tree_taken : (from to : Place) (s t : M) (said : List Token) → AreTaken made from to s t said
+  tree_taken : (from to : Position) (s t : M) (said : List Token) → AreTaken made from to s t said
       → HaveOneTree from to
-  tree_taken from to s t said h = subst (HaveOneTree from) (sym h.place)
+  tree_taken from to s t said h = subst (HaveOneTree from) (sym h.position)
       (one_tree from.path from.around said)
 
   none_by : ((m : M) → made m [] m) → (s : TreeMaker M) (was : Option MakerFault)
       → IsHeardBy made s [] s was was
   none_by silence s (Some fault) = refl
-  none_by silence s None = record { steps = silence s.parts; place = refl }
+  none_by silence s None = record { steps = silence s.parts; position = refl }
 
   -- no tokens change nothing
   pub heard_none : ((m : M) → made m [] m) → (s : TreeMaker M) → IsHeard made s [] s
@@ -57,15 +61,15 @@ module _ {M : Type 0} (made : M → List Step → M → Type 0) where
 
   module _ (joins : (s m t : M) (before after : List Step) → made s before m → made m after t
       → made s (before ++ after) t) where
-    taken_both : (from mid to : Place) (s m t : M) (before after : List Token)
+    taken_both : (from mid to : Position) (s m t : M) (before after : List Token)
         → AreTaken made from mid s m before → AreTaken made mid to m t after
         → AreTaken made from to s t (before ++ after)
     taken_both from mid to s m t before after h g = record {
       steps = subst (λ l. made s l t) (sym (steps_append from before after)
-          ) (joins s m t (steps_along from before) (steps_along (place_along from before) after)
-          h.steps (subst (λ p. made m (steps_along p after) t) h.place g.steps));
-      place = g.place ∙ ap (λ p. place_along p after) h.place
-          ∙ sym (place_append from before after);
+          ) (joins s m t (steps_along from before) (steps_along (position_along from before) after)
+          h.steps (subst (λ p. made m (steps_along p after) t) h.position g.steps));
+      position = g.position ∙ ap (λ p. position_along p after) h.position
+          ∙ sym (position_append from before after);
     }
 
     both_by : (s m t : TreeMaker M) (before after : List Token) (a b c : Option MakerFault)
@@ -75,13 +79,14 @@ module _ {M : Type 0} (made : M → List Step → M → Type 0) where
         let same : m.fault ≡ s.fault = ap (λ (x : TreeMaker M). x.fault) h in absurd cc
     both_by s m t before after (Some f) (Some e) c ea eb ec h g = g ∙ h
     both_by s m t before after None None None ea eb ec h g =
-        taken_both (place_of s) (place_of m) (place_of t) s.parts m.parts t.parts before after h g
+        taken_both (position_of s) (position_of m) (position_of t) s.parts m.parts t.parts before
+        after h g
     both_by s m t before after None None (Some f) ea eb ec h g =
-        g ∙ tree_taken (place_of s) (place_of m) s.parts m.parts before h
+        g ∙ tree_taken (position_of s) (position_of m) s.parts m.parts before h
     both_by s m t before after None (Some f) None ea eb ec h g =
         let same : t.fault ≡ m.fault = ap (λ (x : TreeMaker M). x.fault) g in absurd cc
     both_by s m t before after None (Some f) (Some e) ea eb ec h g =
-        ap (λ (x : TreeMaker M). outermost (place_of x).path (place_of x).around) g ∙ h
+        ap (λ (x : TreeMaker M). outermost (position_of x).path (position_of x).around) g ∙ h
 
     -- what is heard joins
     pub heard_both : (s m t : TreeMaker M) (before after : List Token)

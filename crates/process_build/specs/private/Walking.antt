@@ -33,7 +33,7 @@ IsFoundBy metadata (Ok Link) = IsSymlink (file_type metadata)
 IsFoundBy metadata (Err fault) = (fault ≡ Unreadable) × ¬ (IsFile (file_type metadata))
     × ¬ (IsDir (file_type metadata)) × ¬ (IsSymlink (file_type metadata))
 
--- the same, where the answer may also be that nothing lies there: here something does
+-- what was found at a path where something lies, though the answer may be that nothing does
 abbrev pub IsFoundAs : Metadata → Result (Option Found) WalkFault → Type 0
 IsFoundAs metadata (Ok (Some found)) = IsFoundBy metadata (Ok found)
 IsFoundAs metadata (Ok None) = ⊥
@@ -149,10 +149,11 @@ pub record IsAt {S : Type 0} (heard : S → List Token → S → Type 0) (before
   pub hears : heard before (outer ++ FolderBegun ∷ tokens_among told) after
 
 -- the walk is in a folder, or at its end
-abbrev pub IsPlace : {S : Type 0} (heard : S → List Token → S → Type 0) (before after : S)
+abbrev pub IsAtOrDone : {S : Type 0} (heard : S → List Token → S → Type 0) (before after : S)
     → Option OpenFolder → (around : List OpenFolder) → Type 0
-IsPlace heard before after None around = IsTreeTold heard before after
-IsPlace heard before after (Some folder) around = IsAt heard before after (ahead_of folder) around
+IsAtOrDone heard before after None around = IsTreeTold heard before after
+IsAtOrDone heard before after (Some folder) around =
+    IsAt heard before after (ahead_of folder) around
 
 -- The begin of a folder was told.
 pub record IsFolderBegun {S : Type 0} (heard : S → List Token → S → Type 0) (before after : S)

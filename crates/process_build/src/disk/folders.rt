@@ -1,7 +1,7 @@
 //! The store folder, the build folder of a lease, and what is cleared for it.
 ghost use Rattle.std.specs.Prelude.{◌≡◌, IfOk, map, string_bytes};
 ghost use Rattle.process_build.specs.Folders.{build_folder_of, nix_folder_of};
-ghost use Rattle.process_build.specs.private.Folders.{output_places_of, places_of};
+ghost use Rattle.process_build.specs.private.Folders.{paths_of_outputs, cleared_paths_of};
 
 use build_outcome::Job;
 use drv_graph::Profile;
@@ -68,8 +68,8 @@ impl BuildFolder {
         self.number
     }
 
-    /// The number at the end of its name: under `plain` that of its lease, and under `nix` that or a
-    /// greater one.
+    /// The number at the end of its name: under `plain` that of its lease, and under `nix` that or
+    /// a greater one.
     pub fn suffix(&self) -> u64
         ensures { result ≡ self.now.suffix }
     {
@@ -90,34 +90,34 @@ impl BuildFolder {
         self.path.as_str()
     }
 
-    // The paths that are cleared before the job's builder runs here: those of its outputs, and under
-    // `plain` the folder's own.
-    pub(crate) fn places<'a>(
+    // The paths that are cleared before the job's builder runs here: those of its outputs, and
+    // under `plain` the folder's own.
+    pub(crate) fn cleared_paths<'a>(
         &'a self,
         alloc: Global,
         job: &'a Job,
     ) -> Result<Vec<&'a str>, AllocError>
-        ensures { IfOk result (λ places. map (λ p. p.now) places.items
-            ≡ places_of job.entry.now (string_bytes self.entry.now.path)) }
+        ensures { IfOk result (λ paths. map (λ p. p.now) paths.items
+            ≡ cleared_paths_of job.entry.now (string_bytes self.entry.now.path)) }
     {
-        let mut places = output_places(alloc, job)?;
+        let mut paths = output_paths(alloc, job)?;
         match job.profile {
             Profile::Plain => {
-                places.push(self.path())?;
-                Ok(places)
+                paths.push(self.path())?;
+                Ok(paths)
             }
-            Profile::Nix => Ok(places),
+            Profile::Nix => Ok(paths),
         }
     }
 }
 
 // The paths of a job's outputs.
-fn output_places(alloc: Global, job: &Job) -> Result<Vec<&str>, AllocError>
-    ensures { IfOk result (λ places. map (λ p. p.now) places.items ≡ output_places_of job.now) }
+fn output_paths(alloc: Global, job: &Job) -> Result<Vec<&str>, AllocError>
+    ensures { IfOk result (λ paths. map (λ p. p.now) paths.items ≡ paths_of_outputs job.now) }
 {
-    let mut places = Vec::new(alloc);
+    let mut paths = Vec::new(alloc);
     for output in &job.outputs {
-        places.push(output.path.as_str())?;
+        paths.push(output.path.as_str())?;
     }
-    Ok(places)
+    Ok(paths)
 }

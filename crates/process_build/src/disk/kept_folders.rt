@@ -40,8 +40,8 @@ impl KeptFolders {
         )
     }
 
-    /// Takes the list, with nothing for a lease whose folder isn't kept. Leases that came later than
-    /// the last one whose folder is kept aren't in it.
+    /// Takes the list, with nothing for a lease whose folder isn't kept. Leases that came later
+    /// than the last one whose folder is kept aren't in it.
     pub fn take<R: Wait + AllocGlobal>(&self, rt: &R) -> Vec<Option<u64>> {
         mem::replace(&mut *self.shared.lock(rt), Vec::new(rt.alloc()))
     }

@@ -16,8 +16,8 @@ use std::rt::Files;
 // All may read a file of a builder, and its owner may write it.
 const OWNER_WRITES: u32 = 0o644;
 
-/// Writes the files of a builder into its folder, each as a new one: nothing is followed or replaced
-/// that lies at its path. Each has the mode 0644. `NoStart` where one can't be written.
+/// Writes the files of a builder into its folder, each as a new one: nothing is followed or
+/// replaced that lies at its path. Each has the mode 0644. `NoStart` where one can't be written.
 pub fn write_files<R: Files + AllocGlobal>(
     rt: &R,
     folder: &BuildFolder,

@@ -136,7 +136,7 @@ impl<W: Write> ProgressLine<W> {
     }
 
     /// Writes the line again each second while a job runs, and returns after the run is over.
-    pub fn keep<R: Wait + Clock + AllocGlobal>(&self, rt: &R) {
+    pub fn draw<R: Wait + Clock + AllocGlobal>(&self, rt: &R) {
         let time = Duration::from_secs(STANDS);
         let mut shown = self.shown.lock(rt);
         for _ in rt.forever() {

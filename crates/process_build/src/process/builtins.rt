@@ -17,7 +17,7 @@ pub struct BuiltinProgram<'a> {
     pub program: &'a str,
 }
 
-/// The same, owned by a builder.
+/// A program that is started for a builtin builder, owned by a builder.
 #[derive(Drop)]
 pub struct OwnBuiltin {
     /// The text of the builtin builder, with `builtin:`.

@@ -42,8 +42,8 @@ impl DrvPaths {
         self.shared.get(number)
     }
 
-    /// The same paths once more. Costs no allocation: it counts one more owner, so `AllocError`
-    /// comes only where the count is full, at 2^63.
+    /// A copy of the paths. Costs no allocation: it counts one more owner, so `AllocError` comes
+    /// only where the count is full, at 2^63.
     pub fn copy(&self) -> Result<DrvPaths, AllocError>
         ensures { IfOk result (λ paths. paths ≡ self.now) }
     {

@@ -29,7 +29,7 @@ pub struct BuildOptions<'a> {
     pub builtins: &'a [BuiltinProgram<'a>],
 }
 
-/// The same, owned by a builder.
+/// The options of a run, owned by a builder.
 #[derive(Drop)]
 pub struct OwnOptions {
     store_dir: String,

@@ -30,8 +30,8 @@ pub struct Placeholders<'a> {
 }
 
 impl<'a> Placeholders<'a> {
-    /// The placeholders of these outputs. `OutOfMemory` is the only error. Costs one SHA-256 for each
-    /// output.
+    /// The placeholders of these outputs. `OutOfMemory` is the only error. Costs one SHA-256 for
+    /// each output.
     pub fn of(alloc: Global, outputs: &'a [JobOutput]) -> Result<Placeholders<'a>, Reason>
         ensures outputs { IfOk result (λ made. made.outputs.now ≡ outputs.now) }
         ensures made { IfOk result AreMade }

@@ -42,13 +42,13 @@ use std::sync::Wait;
 /// Builds each job by a process of its own, in a folder of its own: under `plain` within the store
 /// folder, under `nix` within the folder for build folders, made with mode 0700 where nothing lay.
 ///
-/// The job's output paths are cleared first, and under `plain` the build folder's: a file, a link or
-/// an empty folder is removed, anything else is moved aside. The builder then runs in the build
-/// folder, with the setup of the job's profile. Its standard input is empty, and what it prints goes
-/// to its log, or is not shown. If its exit status
-/// is 0, what it left at the output paths is read. At the end the build folder is cleared in the
-/// same way, and what was moved aside is removed. Where the folders of builders that failed are
-/// kept, that of a builder that ran waits for the end of the lease.
+/// The job's output paths are cleared first, and under `plain` the build folder's: a file, a link
+/// or an empty folder is removed, anything else is moved aside. The builder then runs in the build
+/// folder, with the setup of the job's profile. Its standard input is empty, and what it prints
+/// goes to its log, or is not shown. If its exit status is 0, what it left at the output paths is
+/// read. At the end the build folder is cleared in the same way, and what was moved aside is
+/// removed. Where the folders of builders that failed are kept, that of a builder that ran waits
+/// for the end of the lease.
 #[derive(Drop)]
 pub struct ProcessBuild<'a, R, P> {
     rt: &'a R,
@@ -133,8 +133,8 @@ impl<R: Files + Logs + Env + AllocGlobal, P: Processes> Build for ProcessBuild<'
     /// Builds a job. `NoStart` where it has a text that no process can be started with, which
     /// leaves all files as they are, or where making room for the builder, its log or its start
     /// fails. `ReadFault` where its end can't be waited for. `ReadFault` and `TooLarge` where an
-    /// output can't be read or passes a limit. `OutOfMemory` where memory was refused. Where nothing
-    /// could be prepared, the reason for that, and all files stay as they are.
+    /// output can't be read or passes a limit. `OutOfMemory` where memory was refused. Where
+    /// nothing could be prepared, the reason for that, and all files stay as they are.
     fn run(
         &self,
         number: u64,
@@ -197,7 +197,7 @@ impl<R: Files + AllocGlobal + Wait, P> LeaseObserver for ProcessBuild<'_, R, P> 
     fn ended(&self, is_good: bool, _unsettled: usize) {
         match self.left.take() {
             Some(left) if is_good => self.clear(&left),
-            Some(left) => self.keep(&left),
+            Some(left) => self.note_kept_folder(&left),
             None => {}
         }
     }
@@ -242,7 +242,7 @@ impl<R: Files + AllocGlobal, P> ProcessBuild<'_, R, P> {
 impl<R: Files + AllocGlobal + Wait, P> ProcessBuild<'_, R, P> {
     // Adds a build folder to the list of those that are kept, unless nothing lies there. The list
     // has room for every derivation of the run.
-    fn keep(&self, left: &BuildFolder) {
+    fn note_kept_folder(&self, left: &BuildFolder) {
         let Some(kept) = self.options.kept() else {
             return;
         };
@@ -295,8 +295,8 @@ impl<R: Files + Logs + AllocGlobal, P: Processes> ProcessBuild<'_, R, P> {
         }
     }
 
-    // What is made before anything is changed for a builder that runs in a folder, where the caller's
-    // environment has these entries.
+    // What is made before anything is changed for a builder that runs in a folder, where the
+    // caller's environment has these entries.
     fn prepare<'j>(
         &'j self,
         folder: &'j BuildFolder,
@@ -314,7 +314,8 @@ impl<R: Files + Logs + AllocGlobal, P: Processes> ProcessBuild<'_, R, P> {
         Ok(Preparation { setup, log })
     }
 
-    // The same. Where that fails, the folder is removed that was made under `nix`.
+    // What is made before anything is changed for a builder. Where that fails, the folder is
+    // removed that was made under `nix`.
     fn prepare_or_remove<'j>(
         &'j self,
         folder: &'j BuildFolder,
@@ -409,8 +410,8 @@ impl<R: Files + Logs + AllocGlobal, P: Processes> ProcessBuild<'_, R, P> {
         HeardBuild::hear(self.rt, job, permitted, ended?)
     }
 
-    // The command that runs a builder with its setup in a folder, with these outputs, by the runner of
-    // the options, where there is one.
+    // The command that runs a builder with its setup in a folder, with these outputs, by the runner
+    // of the options, where there is one.
     fn command(
         &self,
         setup: &Setup<'_>,
@@ -424,8 +425,8 @@ impl<R: Files + Logs + AllocGlobal, P: Processes> ProcessBuild<'_, R, P> {
         command(self.rt.alloc(), runner, folder, setup, outputs)
     }
 
-    // Clears the places of the job's outputs, and what may lie at the build folder's; makes the folder
-    // under `plain`, and fills it under `nix`.
+    // Clears the paths of the job's outputs, and what may lie at the build folder's; makes the
+    // folder under `plain`, and fills it under `nix`.
     fn make_room(
         &self,
         folder: &BuildFolder,
@@ -435,8 +436,8 @@ impl<R: Files + Logs + AllocGlobal, P: Processes> ProcessBuild<'_, R, P> {
     ) -> Result<(), Reason>
         ensures { IfErr result IsRoomFault }
     {
-        for place in folder.places(self.rt.alloc(), job)? {
-            clearing.clear(place).map_err(reason_before_start)?;
+        for path in folder.cleared_paths(self.rt.alloc(), job)? {
+            clearing.clear(path).map_err(reason_before_start)?;
         }
         match job.profile {
             Profile::Plain => fs::create_dir(self.rt, folder.path()).map_err(no_start),

@@ -22,9 +22,9 @@ use std::io::ErrorKind;
 use std::os::unix::process::CommandExt;
 use std::process::{Child, Command, Processes, Stdio};
 
-/// Starts a command and waits for its end. It waits for the builder alone, and not for what that one
-/// has started. `NoStart` where it can't be started, `ReadFault` where it was and its end can't be
-/// waited for.
+/// Starts a command and waits for its end. It waits for the builder alone, and not for what that
+/// one has started. `NoStart` where it can't be started, `ReadFault` where it was and its end can't
+/// be waited for.
 pub fn run_command<P: Processes>(processes: &P, command: &mut Command) -> Result<ProcessEnd, Reason>
     ensures { IfErr result IsRunFault }
 {
@@ -44,8 +44,8 @@ fn start<P: Processes>(command: &mut Command, processes: &P) -> io::Result<Child
     Err(io::Error::from(ErrorKind::Interrupted))
 }
 
-/// The command that runs a builder with its setup in a folder, with these outputs, by a runner where
-/// there is one.
+/// The command that runs a builder with its setup in a folder, with these outputs, by a runner
+/// where there is one.
 pub fn command(
     alloc: Global,
     runner: Option<&str>,
@@ -59,7 +59,7 @@ pub fn command(
     let mut command = program_command(alloc, runner, setup)?;
     set_streams(&mut command, outputs);
     set_environment(&mut command, &setup.env)?;
-    set_place(&mut command, folder.path(), name(runner, setup.name))?;
+    set_folder(&mut command, folder.path(), name(runner, setup.name))?;
     Ok(command)
 }
 
@@ -106,7 +106,7 @@ fn name<'a>(runner: Option<&'a str>, own: &'a str) -> &'a str
 }
 
 // Runs a command in a folder, under the name that it is told as its own.
-fn set_place(command: &mut Command, folder: &str, name: &str) -> Result<(), AllocError>
+fn set_folder(command: &mut Command, folder: &str, name: &str) -> Result<(), AllocError>
     ensures dir { OnOk result (command_dir command.new ≡ Some folder.now) }
     ensures name { OnOk result (command_arg0 command.new ≡ Some name.now) }
     ensures call { OnOk result (SameProgramAndArgs command.old command.new) }

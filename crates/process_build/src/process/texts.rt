@@ -73,7 +73,7 @@ pub fn text_of(bytes: &[u8]) -> Result<&str, Reason>
     }
 }
 
-// The same of bytes that were made.
+// Bytes that were made as a text that a process can be given. Else `NoStart`.
 fn own_text_of(bytes: Vec<u8>) -> Result<String, Reason>
     ensures text { IfOk result (λ text.
         (string_bytes text ≡ bytes.items) × IsProcessText bytes.items) }

@@ -1,7 +1,7 @@
 //! A hearer of a tree that has each of its parts made at its path.
 ghost use Rattle.std.specs.Prelude.{◌≡◌, ◌↔◌, ◌⊎◌, [], ◌∷◌, IfErr, IfOk, IsOk, IsUtf8, None, OnErr, OnOk, Some, map, reverse, string_bytes};
 ghost use Rattle.nix_archive.specs.Tokens.{EntryBegun, EntryEnded, LinkTo, tokens};
-ghost use Rattle.process_build.specs.Making.{AreTaken, outermost, place_at};
+ghost use Rattle.process_build.specs.Making.{AreTaken, outermost, position_at};
 ghost use Rattle.process_build.specs.declared.tree_maker.maker_fault.MakerFault.TheVariants.{NoMemory, Unwritable};
 
 use crate::disk::outputs::join_path;
@@ -33,7 +33,7 @@ pub struct TreeMaker<M> {
 impl<'a, R: Files + AllocGlobal> TreeMaker<DiskParts<'a, R>> {
     /// Makes what it hears on disk, at this path.
     pub fn new(rt: &'a R, path: &str) -> Result<TreeMaker<DiskParts<'a, R>>, AllocError>
-        ensures place { IfOk result (λ maker.
+        ensures position { IfOk result (λ maker.
             (string_bytes maker.path ≡ path.now) × (maker.around.items ≡ [])) }
         ensures fault { IfOk result (λ maker. maker.fault ≡ None) }
     {
@@ -101,8 +101,8 @@ impl<M: MakeParts> TreeMaker<M> {
     // leaves the paths as they are.
     fn take(&mut self, event: Event<'_>) -> Result<(), MakerFault>
         ensures taken { OnOk result (AreTaken M.made
-            (place_at self.old.path self.old.around.items)
-            (place_at self.new.path self.new.around.items) self.old.parts self.new.parts
+            (position_at self.old.path self.old.around.items)
+            (position_at self.new.path self.new.around.items) self.old.parts self.new.parts
             (tokens event.entry)) }
         ensures same { OnErr result ((self.new.path ≡ self.old.path)
             × (self.new.around.items ≡ self.old.around.items)) }
@@ -126,8 +126,8 @@ impl<M: MakeParts> TreeMaker<M> {
     // Goes to an entry of the folder. A fault where its name isn't UTF-8; it changes nothing.
     fn begin_entry(&mut self, name: &[u8]) -> Result<(), MakerFault>
         ensures taken { OnOk result (AreTaken M.made
-            (place_at self.old.path self.old.around.items)
-            (place_at self.new.path self.new.around.items) self.old.parts self.new.parts
+            (position_at self.old.path self.old.around.items)
+            (position_at self.new.path self.new.around.items) self.old.parts self.new.parts
             (EntryBegun name.now ∷ [])) }
         ensures same { OnErr result ((self.new.path ≡ self.old.path)
             × (self.new.around.items ≡ self.old.around.items)) }
@@ -147,8 +147,8 @@ impl<M: MakeParts> TreeMaker<M> {
 
     // Goes back to the folder around an entry.
     fn end_entry(&mut self)
-        ensures { AreTaken M.made (place_at self.old.path self.old.around.items)
-            (place_at self.new.path self.new.around.items) self.old.parts self.new.parts
+        ensures { AreTaken M.made (position_at self.old.path self.old.around.items)
+            (position_at self.new.path self.new.around.items) self.old.parts self.new.parts
             (EntryEnded ∷ []) }
     {
         if let Some(folder) = self.around.pop() {
@@ -159,8 +159,8 @@ impl<M: MakeParts> TreeMaker<M> {
     // Has a link made. A fault where its target isn't UTF-8.
     fn make_link(&mut self, target: &[u8]) -> Result<(), MakerFault>
         ensures taken { OnOk result (AreTaken M.made
-            (place_at self.old.path self.old.around.items)
-            (place_at self.new.path self.new.around.items) self.old.parts self.new.parts
+            (position_at self.old.path self.old.around.items)
+            (position_at self.new.path self.new.around.items) self.old.parts self.new.parts
             (LinkTo target.now ∷ [])) }
         ensures same { OnErr result ((self.new.path ≡ self.old.path)
             × (self.new.around.items ≡ self.old.around.items)) }

@@ -9,7 +9,7 @@ ghost use Rattle.process_build.specs.Walks.{HearsUnder, IsPastLimits, IsTold, Is
 ghost use Rattle.process_build.specs.Walks.{IsTreeTold};
 ghost use Rattle.process_build.specs.declared.walk.fault.Halt.TheVariants.{TooLarge};
 ghost use Rattle.process_build.specs.private.Walking.{IsAt, IsFileAllowed, IsFolderBegun, IsFoundAllowed};
-ghost use Rattle.process_build.specs.private.Walking.{IsFoundTold, IsLinkAllowed, IsPlace, ahead_of};
+ghost use Rattle.process_build.specs.private.Walking.{IsFoundTold, IsLinkAllowed, IsAtOrDone, ahead_of};
 
 use crate::disk::canonical::make_canonical;
 use crate::walk::entry_names::{entry_path, names_at};
@@ -119,12 +119,12 @@ impl<'a, R: Files + AllocGlobal, L> Walk<'a, R, L> {
             (L.keeps self.old.limit.now) hearer.old hearer.new }
     {
         let mut around = Vec::new(self.rt.alloc());
-        let mut place = self.begin(path, found, hearer)?;
+        let mut position = self.begin(path, found, hearer)?;
         'steps: for _ in 0..u64::MAX {
-            let Some(folder) = place else {
+            let Some(folder) = position else {
                 return Ok(());
             };
-            place = self.step(folder, &mut around, hearer)?;
+            position = self.step(folder, &mut around, hearer)?;
         }
         // No system has as many entries.
         Err(Halt::Fault(WalkFault::Unreadable))
@@ -140,10 +140,10 @@ impl<'a, R: Files + AllocGlobal, L> Walk<'a, R, L> {
     ) -> Result<Option<OpenFolder>, Halt>
     where
         L: Limit<H>,
-        ensures place { IfOk result (λ place. (start : H)
+        ensures position { IfOk result (λ position. (start : H)
             → IsAt (HearsUnder self.old.profile H.heard) start hearer.old (ahead_of folder)
             around.old.items
-            → IsPlace (HearsUnder self.old.profile H.heard) start hearer.new place
+            → IsAtOrDone (HearsUnder self.old.profile H.heard) start hearer.new position
             around.new.items) }
         ensures past { result ≡ Err TooLarge → IsPastLimits self.old.profile H.heard
             (L.keeps self.old.limit.now) hearer.old hearer.new }
@@ -303,10 +303,10 @@ fn end_folder<L: Limit<H>, H: Hear>(
     limit: &L,
     hearer: &mut H,
 ) -> Result<Option<OpenFolder>, Halt>
-    ensures place { IfOk result (λ place. (profile : Option AProfile) (start : H)
+    ensures position { IfOk result (λ position. (profile : Option AProfile) (start : H)
         (ahead : List Bytes)
         → IsAt (HearsUnder profile H.heard) start hearer.old ahead around.old.items
-        → IsPlace (HearsUnder profile H.heard) start hearer.new place around.new.items) }
+        → IsAtOrDone (HearsUnder profile H.heard) start hearer.new position around.new.items) }
     ensures past { result ≡ Err TooLarge
         → IsToldPast H.heard (L.keeps limit.now) hearer.old hearer.new }
 {

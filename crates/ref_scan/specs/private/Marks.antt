@@ -2,10 +2,10 @@
 use Rattle.std.specs.Prelude.{◌≡◌, ◌↔◌, ◌⊎◌, ◌<◌, ℕ, Bool, true, false, List, length}
 use Rattle.std.specs.List.{slice_index_or}
 use Rattle.nix_names.specs.Bytes.{Bytes}
-use Rattle.ref_scan.specs.private.Places.{part_at}
+use Rattle.ref_scan.specs.private.Parts.{part_at}
 use Rattle.ref_scan.specs.Scan.{Within}
 
--- the hash part at a place has its mark
+-- the hash part with a number has its mark
 abbrev pub IsPartMet : List Bool → ℕ → Type 0
 IsPartMet met k = slice_index_or met k false ≡ true
 

@@ -3,7 +3,7 @@ use Rattle.std.specs.Prelude.{◌≡◌, ◌↔◌, ◌<◌, ℕ, Bool, List, []
 use Rattle.nix_names.specs.Bytes.{Bytes, Path}
 use Rattle.ref_scan.specs.private.Kept.{last_bytes}
 use Rattle.ref_scan.specs.private.Marks.{IsPartMet}
-use Rattle.ref_scan.specs.private.Places.{ArePartsOf, part_at}
+use Rattle.ref_scan.specs.private.Parts.{ArePartsOf, part_at}
 use Rattle.ref_scan.specs.Scan.{OccursIn}
 
 -- The permitted paths, the hash parts that are sought, whether these are in the order of the paths,

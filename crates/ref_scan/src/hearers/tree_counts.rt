@@ -13,9 +13,9 @@ pub struct TreeCounts {
     entries: usize,
     // how many bytes files and links' targets have
     bytes: usize,
-    // in how many entries the present place lies
+    // in how many entries the next token is
     level: usize,
-    // in how many the deepest one lay
+    // in how many the deepest one was
     deepest: usize,
 }
 

@@ -34,27 +34,27 @@ abbrev pub RefersToOther : (all : List Path) → Line → Type 0
 RefersToOther all (Reference path) = Contains all path → ⊥
 RefersToOther all line = ⊥
 
--- A line stands at a place among some lines, counted from 0, and all lines before it are right.
-pub record IsRightUpTo (known all : List Path) (some : List Line) (line : Line) (place : ℕ)
+-- A line stands at an index among some lines, counted from 0, and all lines before it are right.
+pub record IsRightUpTo (known all : List Path) (some : List Line) (line : Line) (index : ℕ)
     : Type 0 where
   pub before : List Line
   pub after : List Line
   pub parts : some ≡ before ++ line ∷ after
-  pub is_place : place ≡ length before
+  pub is_index : index ≡ length before
   pub right : All (IsRight known all) before
 
 -- What is answered for the lines of an entry, the first of which has the number `first`: the number
 -- of the line after them, or that of the first wrong line.
 abbrev pub IsEntryCheck : (known all : List Path) → (some : List Line) → (first : ℕ)
     → Result ℕ TableFault → Type 0
-IsEntryCheck known all some first (Ok behind) = All (IsRight known all) some
-    × (behind ≡ first + length some)
+IsEntryCheck known all some first (Ok later) = All (IsRight known all) some
+    × (later ≡ first + length some)
 IsEntryCheck known all some first (Err (Twice n)) =
-    (line : Line) × (place : ℕ) × IsRightUpTo known all some line place × RegistersKnown known line
-    × (n ≡ first + place)
+    (line : Line) × (index : ℕ) × IsRightUpTo known all some line index × RegistersKnown known line
+    × (n ≡ first + index)
 IsEntryCheck known all some first (Err (NotClosed n)) =
-    (line : Line) × (place : ℕ) × IsRightUpTo known all some line place × RefersToOther all line
-    × (n ≡ first + place)
+    (line : Line) × (index : ℕ) × IsRightUpTo known all some line index × RefersToOther all line
+    × (n ≡ first + index)
 IsEntryCheck known all some first (Err NoMemory) = Unit {0}
 IsEntryCheck known all some first (Err other) = ⊥
 
@@ -62,15 +62,15 @@ IsEntryCheck known all some first (Err other) = ⊥
 -- first line has the number `first`
 abbrev pub IsLineCheck : (all : List Path) → List Registration → (new first : ℕ)
     → Result ℕ TableFault → Type 0
-IsLineCheck all rs new first (Ok behind) =
+IsLineCheck all rs new first (Ok later) =
     (length rs ≤ new) × All (Contains all) (references_of rs)
-    × (behind ≡ first + length (flat_map output_lines rs))
+    × (later ≡ first + length (flat_map output_lines rs))
 IsLineCheck all rs new first (Err (Twice n)) =
     (new < length rs) × All (Contains all) (references_of (take new rs))
     × (n ≡ first + length (flat_map output_lines (take new rs)))
 IsLineCheck all rs new first (Err (NotClosed n)) =
-    (before : List Registration) × (r : Registration) × (after : List Registration) × (place : ℕ)
+    (before : List Registration) × (r : Registration) × (after : List Registration) × (index : ℕ)
     × (rs ≡ before ++ r ∷ after) × (length before < new) × All (Contains all) (references_of before)
-    × IsFirstUnknownAt all r.info.references place
-    × (n ≡ first + length (flat_map output_lines before) + 1 + place)
+    × IsFirstUnknownAt all r.info.references index
+    × (n ≡ first + length (flat_map output_lines before) + 1 + index)
 IsLineCheck all rs new first (Err other) = ⊥

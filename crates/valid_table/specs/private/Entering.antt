@@ -20,7 +20,7 @@ pub record IsNewPrefix (known paths : List Path) (count : ℕ) : Type 0 where
   pub new : AreUnknown known (take count paths)
   pub next : IfSome (slice_get paths count) (Contains known)
 
--- the first of some paths that isn't known stands at this place, counted from 0
+-- the first of some paths that isn't known stands at this index, counted from 0
 abbrev pub IsFirstUnknownAt : (known paths : List Path) → ℕ → Type 0
 IsFirstUnknownAt known paths at =
     (path : Path) × (first : IsFirst (Contains known) (IsNotKnown known) paths path)

@@ -3,8 +3,8 @@ use Rattle.std.specs.Prelude.{◌≡◌, ◌≤◌, ℕ, List, length, map, nat_
 use Rattle.std.specs.List.{IsDistinct, list_any}
 
 -- the rows of pairs of a key and a row
-abbrev pub rows_behind : List (ℕ × ℕ) → List ℕ
-rows_behind keyed = map (λ k. k.1) keyed
+abbrev pub rows_of_keyed : List (ℕ × ℕ) → List ℕ
+rows_of_keyed keyed = map (λ k. k.1) keyed
 
 -- Rows are the first ones of a table with `count` rows, each once: n rows are the numbers below n.
 pub record AreFirst (count : ℕ) (rows : List ℕ) : Type 0 where

@@ -9,7 +9,7 @@ use Rattle.valid_table.specs.Entries.{paths_registered}
 use Rattle.valid_table.specs.PathInfos.{NarInfo}
 use Rattle.valid_table.specs.private.LineTexts.{fields_text, lines_text, references_text, registration_text}
 use Rattle.valid_table.specs.Reading.{BeginsVersion}
-use Rattle.valid_table.specs.private.Steps.{IsAbove, Place, Start, Begun, Within, Stops}
+use Rattle.valid_table.specs.private.Steps.{IsAbove, Position, Start, Begun, Within, Stops}
 use Rattle.valid_table.specs.Texts.{IsEntryIn, IsKnownOf, IsOf, entry_lines, lines, output_lines}
 use Rattle.valid_table.specs.declared.entry.Entry.{Entry}
 use Rattle.valid_table.specs.declared.entry.Entry.TheVariants.{Add, Done}
@@ -54,7 +54,7 @@ pub record SoFarReferences (dir : Dir) (bytes : Bytes) (references : List Path) 
   pub of_dir : All (IsPathOf dir) references
   pub rising : IsRising references
 
--- The same, where the rest begins with no reference.
+-- The bytes are the lines of these references and the rest, which begins with no reference.
 pub record ReadsReferences (dir : Dir) (bytes : Bytes) (references : List Path) (rest : Bytes)
     : Type 0 where
   pub so_far : SoFarReferences dir bytes references rest
@@ -119,7 +119,8 @@ pub record SoFarOutputs (version : Version) (dir : Dir) (bytes : Bytes)
   pub rising : IsRising (paths_registered outputs)
   pub ended : (outputs ≡ []) ⊎ IsNoLine 82 rest
 
--- The same of at least one output, where the rest begins with neither an output nor a reference.
+-- The bytes are the lines of these outputs, at least one, and the rest, which begins with neither
+-- an output nor a reference.
 pub record HasOutputs (version : Version) (dir : Dir) (bytes : Bytes) (outputs : List Registration)
     (rest : Bytes) : Type 0 where
   pub so_far : SoFarOutputs version dir bytes outputs rest
@@ -139,12 +140,12 @@ pub record HasEntry (version : Version) (dir : Dir) (bytes : Bytes) (entry : Ent
   pub of_dir : IsEntryIn version dir entry
   pub ends : IsEnd entry rest
 
--- at a place, where the text goes on with these bytes, only an entry can come next
-abbrev pub HasToBegin : Place → Bytes → Type 0
+-- at a position, where the text goes on with these bytes, only an entry can come next
+abbrev pub HasToBegin : Position → Bytes → Type 0
 HasToBegin Begun bytes = Unit {0}
 HasToBegin (Within None last) bytes = IsNoLine 82 bytes
 HasToBegin (Within (Some output) last) bytes = IsNoLine 79 bytes × IsNoLine 82 bytes
-HasToBegin place bytes = ⊥
+HasToBegin position bytes = ⊥
 
 -- The bytes are the lines of a journal with these entries, and the rest, where an entry has to
 -- begin.
@@ -153,7 +154,7 @@ pub record SoFarEntries (version : Version) (dir : Dir) (bytes : Bytes) (entries
   pub parts : bytes ≡ lines_text version (lines entries) ++ rest
   pub of_dir : All (IsEntryIn version dir) entries
   pub leads : (left : ℕ)
-      → ((from : Place) → HasToBegin from rest → Stops version dir from rest left)
+      → ((from : Position) → HasToBegin from rest → Stops version dir from rest left)
       → Stops version dir Start bytes left
 
 -- the bytes begin with the line of no version

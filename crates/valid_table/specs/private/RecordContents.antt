@@ -25,7 +25,7 @@ digest_stored (StoredSha512 bytes) = Sha512 bytes.value
 abbrev pub found_stored : StoredMethodDigest → MethodDigest
 found_stored kept = record { method = kept.method; digest = digest_stored kept.digest }
 
--- the same, where there is one
+-- the digest that is stored with its method, where there is one
 abbrev pub some_stored : Option StoredMethodDigest → Option MethodDigest
 some_stored None = None
 some_stored (Some kept) = Some (found_stored kept)

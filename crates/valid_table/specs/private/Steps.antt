@@ -1,5 +1,5 @@
 -- How the lines of a journal follow one another, as its readers see it: which line may stand at a
--- place, and the place after it.
+-- position, and the position after it.
 use Rattle.std.specs.Prelude.{◌≡◌, ◌≢◌, ℕ, List, [], ◌∷◌, ◌++◌, Option, Some, None, length}
 use Rattle.std.specs.Cmp.Lexicographic.{slice_cmp}
 use Rattle.std.specs.Ordering.{nat_cmp}
@@ -13,14 +13,14 @@ use Rattle.valid_table.specs.private.LineTexts.{lines_text}
 use Rattle.valid_table.specs.Texts.{IsKnownOf, Line, First, Added, Deriver, Output, Reference, line_text}
 use Rattle.valid_table.specs.declared.path_table.version.Version.{Version}
 
--- A place between lines: before line 1, after line 1, after a deriver, or within the lines of an
+-- A position between lines: before line 1, after line 1, after a deriver, or within the lines of an
 -- output or an added path. There `output` is the output's path, if it is one, and `last` is the
--- reference before the place, if any.
-pub data Place : Type 0 where
-  Start : Place
-  Begun : Place
-  Opened : Place
-  Within : (output : Option Path) (last : Option Path) → Place
+-- reference before the position, if any.
+pub data Position : Type 0 where
+  Start : Position
+  Begun : Position
+  Opened : Position
+  Within : (output : Option Path) (last : Option Path) → Position
 
 -- a path is greater than the one before it, if any
 abbrev pub IsAbove : (before : Option Path) → Path → Type 0
@@ -39,8 +39,8 @@ abbrev pub MayBeOutputAfter : Version → Dir → (before : Option Path) → Pat
 MayBeOutputAfter version dir before path digest nar = IsPathOf dir path
     × IsKnownOf version digest nar × IsAbove before path
 
--- a line may stand at a place
-abbrev pub MayBeLine : Version → Dir → Place → Line → Type 0
+-- a line may stand at a position
+abbrev pub MayBeLine : Version → Dir → Position → Line → Type 0
 MayBeLine version dir Start First = Unit {0}
 MayBeLine version dir Begun line = MayBegin version dir line
 MayBeLine version dir (Within output last) (Reference path) = IsPathOf dir path × IsAbove last path
@@ -49,43 +49,46 @@ MayBeLine version dir (Within (Some before) last) (Output path digest nar) =
 MayBeLine version dir (Within output last) line = MayBegin version dir line
 MayBeLine version dir Opened (Output path digest nar) =
     MayBeOutputAfter version dir None path digest nar
-MayBeLine version dir place line = ⊥
+MayBeLine version dir position line = ⊥
 
--- the place after a line
-abbrev pub behind : Place → Line → Place
-behind place First = Begun
-behind place (Added path digest nar) = Within None None
-behind place (Deriver path) = Opened
-behind place (Output path digest nar) = Within (Some path) None
-behind (Within output last) (Reference path) = Within output (Some path)
-behind place (Reference path) = place
+-- the position after a line
+abbrev pub position_after : Position → Line → Position
+position_after position First = Begun
+position_after position (Added path digest nar) = Within None None
+position_after position (Deriver path) = Opened
+position_after position (Output path digest nar) = Within (Some path) None
+position_after (Within output last) (Reference path) = Within output (Some path)
+position_after position (Reference path) = position
 
 -- after a deriver the bytes go on with an output
-abbrev pub Ahead : Place → (rest : Bytes) → Type 0
+abbrev pub Ahead : Position → (rest : Bytes) → Type 0
 Ahead Opened rest = BeginsOutput rest
-Ahead place rest = Unit {0}
+Ahead position rest = Unit {0}
 
--- each line may stand at its place and leads to the place after it; `Is` holds of the last place
-abbrev pub LeadsTo : Version → Dir → (Place → Type 0) → Place → List Line → Type 0
+-- each line may stand at its position and leads to the position after it; `Is` holds of the last
+-- position
+abbrev pub LeadsTo : Version → Dir → (Position → Type 0) → Position → List Line → Type 0
 LeadsTo version dir Is from [] = Is from
 LeadsTo version dir Is from (line ∷ more) = MayBeLine version dir from line
-    × LeadsTo version dir Is (behind from line) more
+    × LeadsTo version dir Is (position_after from line) more
 
--- From a place the bytes go on with a line that may stand there, and then with the rest.
-pub record GoesOnWith (version : Version) (dir : Dir) (from : Place) (bytes : Bytes) (line : Line)
+-- From a position the bytes go on with a line that may stand there, and then with the rest.
+pub record GoesOnWith (version : Version) (dir : Dir) (from : Position) (bytes : Bytes)
+    (line : Line)
     (rest : Bytes) : Type 0 where
   pub parts : bytes ≡ line_text version line ++ rest
   pub may : MayBeLine version dir from line
-  pub ahead : Ahead (behind from line) rest
+  pub ahead : Ahead (position_after from line) rest
 
--- From a place the bytes go on with no line that may stand there.
-pub record IsStuck (version : Version) (dir : Dir) (bytes : Bytes) (place : Place) : Type 0 where
-  pub ahead : Ahead place bytes
-  pub stuck : (line : Line) (rest : Bytes) → GoesOnWith version dir place bytes line rest → ⊥
+-- From a position the bytes go on with no line that may stand there.
+pub record IsStuck (version : Version) (dir : Dir) (bytes : Bytes) (position : Position)
+    : Type 0 where
+  pub ahead : Ahead position bytes
+  pub stuck : (line : Line) (rest : Bytes) → GoesOnWith version dir position bytes line rest → ⊥
 
--- From a place the bytes go on with some lines, each of which may stand at its place. Then `left`
--- bytes are left, at least one, which go on with no line that may stand there.
-pub record Stops (version : Version) (dir : Dir) (from : Place) (bytes : Bytes) (left : ℕ)
+-- From a position the bytes go on with some lines, each of which may stand at its position. Then
+-- `left` bytes are left, at least one, which go on with no line that may stand there.
+pub record Stops (version : Version) (dir : Dir) (from : Position) (bytes : Bytes) (left : ℕ)
     : Type 0 where
   pub lines : List Line
   pub bad : Bytes

@@ -82,8 +82,8 @@ fn check_lines(
         (paths_registered (registrations_of rows.now.entries ++ registrations.now))
         registrations.now new line result }
 {
-    for (place, registration) in registrations.iter().enumerate() {
-        if place == new {
+    for (index, registration) in registrations.iter().enumerate() {
+        if index == new {
             return Err(TableFault::Twice(line));
         }
         let references = registration.info.references();

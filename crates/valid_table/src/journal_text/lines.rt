@@ -34,7 +34,7 @@ pub(crate) fn split_at_byte(byte: u8, bytes: &[u8]) -> Option<(&[u8], &[u8])>
 }
 
 // The bytes after a letter and a space, where the bytes begin with them.
-pub(crate) fn behind_letter(letter: u8, bytes: &[u8]) -> Option<&[u8]>
+pub(crate) fn after_letter(letter: u8, bytes: &[u8]) -> Option<&[u8]>
     ensures { MatchOption result (IsNoLine letter bytes.now)
         (λ rest. bytes.now ≡ letter ∷ 32 ∷ rest.now) }
 {
@@ -159,7 +159,7 @@ pub(crate) fn deriver_line<'a>(
     if !is_drv_name(path.name()) {
         return Ok(None);
     }
-    match behind_letter(b'O', rest) {
+    match after_letter(b'O', rest) {
         Some(_) => Ok(Some((path, rest))),
         None => Ok(None),
     }

@@ -7,7 +7,7 @@ ghost use Rattle.valid_table.specs.BadLines.{BeginsOutput};
 ghost use Rattle.valid_table.specs.Entries.{paths_registered};
 ghost use Rattle.valid_table.specs.private.Readers.{HasEntry, HasNoFields, HasOutputs, ReadsReferences, HasRegistration, HasToBegin, IsFieldsLine, IsNoLine, StopsInReferences, StopsInRegistration, StopsInText, StopsWhere};
 ghost use Rattle.valid_table.specs.Reading.{BeginsVersion, IsJournalReading, answered};
-ghost use Rattle.valid_table.specs.private.Steps.{IsAbove, Place, Opened, Stops};
+ghost use Rattle.valid_table.specs.private.Steps.{IsAbove, Position, Opened, Stops};
 ghost use Rattle.valid_table.specs.Texts.{IsJournalText};
 ghost use Rattle.valid_table.specs.declared.path_table.version.Version.{Version as AVersion};
 
@@ -16,7 +16,7 @@ use crate::fault::TableFault;
 use crate::journal::Journal;
 use crate::journal_text::known::Known;
 use crate::journal_text::lines::{
-    Fields, behind_letter, deriver_line, fields_line, is_other_version, line_number, path_line,
+    Fields, after_letter, deriver_line, fields_line, is_other_version, line_number, path_line,
     show_store_dir,
 };
 use crate::path_table::version::{Version, is_too_long, version_of};
@@ -106,15 +106,15 @@ fn references_of<'a>(
 {
     let mut references = Vec::new(alloc);
     let mut rest = bytes;
-    'references: while let Some(fields) = behind_letter(b'R', rest) {
-        let Some((path, behind)) = path_line(alloc, dir, fields)? else {
+    'references: while let Some(fields) = after_letter(b'R', rest) {
+        let Some((path, after)) = path_line(alloc, dir, fields)? else {
             return Err(LineFault::Left(rest.len()));
         };
         if !is_above(references.last(), &path) {
             return Err(LineFault::Left(rest.len()));
         }
         references.push(path)?;
-        rest = behind;
+        rest = after;
     }
     Ok((references, rest))
 }
@@ -183,7 +183,7 @@ fn registration_of<'a>(
         (StopsWhere
         (StopsInRegistration version dir.now letter (option_copied before.entry) bytes.now)) }
 {
-    let Some(fields) = behind_letter(letter, bytes) else {
+    let Some(fields) = after_letter(letter, bytes) else {
         return Ok(None);
     };
     let Some(Fields { path, known, rest }) = fields_above(alloc, dir, version, before, fields)?
@@ -219,12 +219,11 @@ fn outputs_of<'a>(
     let mut rest = bytes;
     'outputs: loop {
         let before = last_path(&outputs);
-        let Some((output, behind)) = registration_of(alloc, dir, version, b'O', before, rest)?
-        else {
+        let Some((output, after)) = registration_of(alloc, dir, version, b'O', before, rest)? else {
             return Ok((outputs, rest));
         };
         outputs.push(output)?;
-        rest = behind;
+        rest = after;
     }
 }
 
@@ -241,10 +240,10 @@ fn done_of<'a>(
         (λ x. HasEntry version dir.now bytes.now x.0 x.1.now)) }
     ensures left { IfErr result
         (StopsWhere
-        (λ left. (from : Place) → HasToBegin from bytes.now
+        (λ left. (from : Position) → HasToBegin from bytes.now
         → Stops version dir.now from bytes.now left)) }
 {
-    let Some(fields) = behind_letter(b'D', bytes) else {
+    let Some(fields) = after_letter(b'D', bytes) else {
         return Ok(None);
     };
     let Some((deriver, rest)) = deriver_line(alloc, dir, fields)? else {
@@ -265,7 +264,7 @@ fn entry_of<'a>(
     ensures ok { IfOk result (λ x. HasEntry version dir.now bytes.now x.0 x.1.now) }
     ensures left { IfErr result
         (StopsWhere
-        (λ left. (from : Place) → HasToBegin from bytes.now
+        (λ left. (from : Position) → HasToBegin from bytes.now
         → Stops version dir.now from bytes.now left)) }
 {
     if let Some((added, rest)) = registration_of(alloc, dir, version, b'A', None, bytes)? {
@@ -299,9 +298,9 @@ pub(crate) fn entries_of(
         return Err(LineFault::Left(bytes.len()));
     };
     'entries: while !rest.is_empty() {
-        let (entry, behind) = entry_of(alloc, dir, version, rest)?;
+        let (entry, after) = entry_of(alloc, dir, version, rest)?;
         entries.push(entry)?;
-        rest = behind;
+        rest = after;
     }
     Ok(entries)
 }

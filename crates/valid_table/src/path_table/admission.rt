@@ -59,11 +59,11 @@ fn first_unclosed(
     ensures { MatchOption result (AreClosed (registrations_of rows.now.entries) registrations.now)
         (IsUnclosedAt (registrations_of rows.now.entries) registrations.now) }
 {
-    for (place, registration) in registrations.iter().enumerate() {
+    for (index, registration) in registrations.iter().enumerate() {
         let references = registration.info.references();
         if let Some(reference) = first_unknown(rows, registrations, references) {
             return Some(FaultAt {
-                registration: place,
+                registration: index,
                 reference: Some(reference),
             });
         }
@@ -71,7 +71,7 @@ fn first_unclosed(
     None
 }
 
-// The place of the first of some paths that neither has a row nor is registered here.
+// The index of the first of some paths that neither has a row nor is registered here.
 pub(crate) fn first_unknown(
     rows: &IndexMap<StorePath, Record>,
     registrations: &[Registration],
@@ -84,9 +84,9 @@ pub(crate) fn first_unknown(
         (paths_registered (registrations_of rows.now.entries ++ registrations.now))
         paths.now) }
 {
-    for (place, path) in paths.iter().enumerate() {
+    for (index, path) in paths.iter().enumerate() {
         if !is_known(rows, registrations, path) {
-            return Some(place);
+            return Some(index);
         }
     }
     None

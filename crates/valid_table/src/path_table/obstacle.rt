@@ -19,30 +19,30 @@ pub enum Obstacle<'a> {
 // Which registration of an entry is to blame, and which of its references, if it is for one.
 #[derive(Clone, Copy, Debug)]
 pub(crate) struct FaultAt {
-    // The registration's place among those of the entry.
+    // The registration's index among those of the entry.
     pub registration: usize,
-    // The reference's place in the registration's record; none where the path is valid already.
+    // The reference's index in the registration's record; none where the path is valid already.
     pub reference: Option<usize>,
 }
 
 // The obstacle of the registration that is to blame.
 pub(crate) fn obstacle_of(registration: &Registration, reference: Option<usize>) -> Obstacle<'_>
-    requires { IfSome reference (λ place. place < length registration.now.info.references) }
+    requires { IfSome reference (λ index. index < length registration.now.info.references) }
     ensures { IsObstacleOf registration.now reference result }
 {
     match reference {
         None => Obstacle::AlreadyValid(&registration.path),
-        Some(place) => Obstacle::Unclosed(&registration.info.references()[place]),
+        Some(index) => Obstacle::Unclosed(&registration.info.references()[index]),
     }
 }
 
 // The fault of the registration that is to blame, whose path or record is moved into it.
 pub(crate) fn fault_of(registration: Registration, reference: Option<usize>) -> TableFault
-    requires { IfSome reference (λ place. place < length registration.info.references) }
+    requires { IfSome reference (λ index. index < length registration.info.references) }
     ensures { IsFaultOf registration reference result }
 {
     match reference {
         None => TableFault::AlreadyValid(registration.path),
-        Some(place) => TableFault::Unclosed(Reference::new(registration.info, place)),
+        Some(index) => TableFault::Unclosed(Reference::new(registration.info, index)),
     }
 }

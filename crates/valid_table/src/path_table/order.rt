@@ -2,7 +2,7 @@
 ghost use Rattle.std.specs.Prelude.{◌≡◌, ◌⊎◌, ◌≤◌, ◌+◌, ◌-◌, ◌<◌, [], All, length};
 ghost use Rattle.std.specs.Int.{from_be_bytes, w64};
 ghost use Rattle.nix_names.specs.StorePaths.{hash_part_of, name_of};
-ghost use Rattle.valid_table.specs.private.FirstRows.{AreFirst, rows_behind};
+ghost use Rattle.valid_table.specs.private.FirstRows.{AreFirst, rows_of_keyed};
 ghost use Rattle.valid_table.specs.private.Keys.{AreKeyed, IsKey, folder_of, folder_part};
 ghost use Rattle.valid_table.specs.Tables.{registrations_of};
 
@@ -36,9 +36,9 @@ impl RowOrder {
     // steps of a merge, whenever it was registered. Where memory is refused, rows stay late or
     // unsorted, and a closure has to sort more itself.
     pub(crate) fn extend(&mut self, rows: &IndexMap<StorePath, Record>)
-        requires first { AreFirst (length rows.now.entries) (rows_behind self.old.keyed.items) }
+        requires first { AreFirst (length rows.now.entries) (rows_of_keyed self.old.keyed.items) }
         requires keys { AreKeyed (registrations_of rows.now.entries) self.old.keyed.items }
-        ensures first { AreFirst (length rows.now.entries) (rows_behind self.new.keyed.items) }
+        ensures first { AreFirst (length rows.now.entries) (rows_of_keyed self.new.keyed.items) }
         ensures keys { AreKeyed (registrations_of rows.now.entries) self.new.keyed.items }
     {
         let late = rows.len().saturating_sub(self.keyed.len());
@@ -50,9 +50,9 @@ impl RowOrder {
 
     // Puts the late rows after the others.
     fn take_in(&mut self, rows: &IndexMap<StorePath, Record>)
-        requires first { AreFirst (length rows.now.entries) (rows_behind self.old.keyed.items) }
+        requires first { AreFirst (length rows.now.entries) (rows_of_keyed self.old.keyed.items) }
         requires keys { AreKeyed (registrations_of rows.now.entries) self.old.keyed.items }
-        ensures first { AreFirst (length rows.now.entries) (rows_behind self.new.keyed.items) }
+        ensures first { AreFirst (length rows.now.entries) (rows_of_keyed self.new.keyed.items) }
         ensures keys { AreKeyed (registrations_of rows.now.entries) self.new.keyed.items }
     {
         let folder = folder_of(rows);

@@ -6,7 +6,7 @@ ghost use Rattle.std.specs.List.Sorted.{IsPermutation, IsSorted};
 ghost use Rattle.std.specs.Ordering.{nat_cmp};
 ghost use Rattle.nix_names.specs.Rising.{IsRising};
 ghost use Rattle.valid_table.specs.private.Closing.{AreRows, HaveSame, paths_at};
-ghost use Rattle.valid_table.specs.private.FirstRows.{AreFirst, rows_behind};
+ghost use Rattle.valid_table.specs.private.FirstRows.{AreFirst, rows_of_keyed};
 ghost use Rattle.valid_table.specs.private.Keys.{AreKeyed, KeysRiseAbove, folder_of};
 ghost use Rattle.valid_table.specs.Tables.{registrations_of};
 ghost use Rattle.valid_table.specs.Valid.{IsOnce};
@@ -29,7 +29,7 @@ pub(crate) fn sorted_paths(
     found: &RowSet,
 ) -> Result<Vec<StorePath>, AllocError>
     requires once { IsOnce (registrations_of rows.now.entries) }
-    requires first { AreFirst (length rows.now.entries) (rows_behind order.now.keyed.items) }
+    requires first { AreFirst (length rows.now.entries) (rows_of_keyed order.now.keyed.items) }
     requires keys { AreKeyed (registrations_of rows.now.entries) order.now.keyed.items }
     requires rows { AreRows (registrations_of rows.now.entries) found.now.rows }
     ensures rising { IfOk result (λ paths. IsRising paths.items) }
@@ -53,13 +53,13 @@ fn keyed_rows(
     order: &RowOrder,
     found: &RowSet,
 ) -> Result<Vec<(u64, usize)>, AllocError>
-    requires first { AreFirst (length rows.now.entries) (rows_behind order.now.keyed.items) }
+    requires first { AreFirst (length rows.now.entries) (rows_of_keyed order.now.keyed.items) }
     requires keys { AreKeyed (registrations_of rows.now.entries) order.now.keyed.items }
     requires rows { AreRows (registrations_of rows.now.entries) found.now.rows }
     ensures rows { IfOk result
-        (λ keyed. AreRows (registrations_of rows.now.entries) (rows_behind keyed.items)) }
+        (λ keyed. AreRows (registrations_of rows.now.entries) (rows_of_keyed keyed.items)) }
     ensures same { IfOk result
-        (λ keyed. (row : ℕ) → list_any (nat_eq row) (rows_behind keyed.items)
+        (λ keyed. (row : ℕ) → list_any (nat_eq row) (rows_of_keyed keyed.items)
         ≡ list_any (nat_eq row) found.now.rows) }
     ensures keys { IfOk result
         (λ keyed. AreKeyed (registrations_of rows.now.entries) keyed.items) }
@@ -113,7 +113,7 @@ fn push_late(
     requires rows { AreRows (registrations_of rows.now.entries) found.now.rows }
     requires keys { AreKeyed (registrations_of rows.now.entries) keyed.old.items }
     ensures rows { OnOk result
-        (rows_behind keyed.new.items ≡ rows_behind keyed.old.items
+        (rows_of_keyed keyed.new.items ≡ rows_of_keyed keyed.old.items
         ++ filter (λ row. not (nat_lt row first)) found.now.rows) }
     ensures keys { OnOk result
         (AreKeyed (registrations_of rows.now.entries) keyed.new.items) }

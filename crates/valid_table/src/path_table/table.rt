@@ -36,7 +36,7 @@ pub struct Table {
 impl Model for Table {
     ghost use Rattle.indexmap.specs.IndexMap.{spare};
     ghost use Rattle.std.specs.Prelude.{length};
-    ghost use Rattle.valid_table.specs.private.FirstRows.{AreFirst, rows_behind};
+    ghost use Rattle.valid_table.specs.private.FirstRows.{AreFirst, rows_of_keyed};
     ghost use Rattle.valid_table.specs.private.Keys.{AreKeyed};
     ghost use Rattle.valid_table.specs.private.Linking.{AreLinked};
     ghost use Rattle.valid_table.specs.Tables.{TableValue, registrations_of};
@@ -50,7 +50,7 @@ impl Model for Table {
     ghost invariant = { λ t. IsOnce (registrations_of t.rows.entries)
         × AreReferencesValid (registrations_of t.rows.entries)
         × AreLinked (registrations_of t.rows.entries) t.links.ends.items t.links.numbers.items
-        × AreFirst (length t.rows.entries) (rows_behind t.order.keyed.items)
+        × AreFirst (length t.rows.entries) (rows_of_keyed t.order.keyed.items)
         × AreKeyed (registrations_of t.rows.entries) t.order.keyed.items };
 }
 

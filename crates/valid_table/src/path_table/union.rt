@@ -24,9 +24,9 @@ pub fn union(
     let mut paths = Vec::with_capacity(alloc, left.len() + right.len())?;
     let mut more = left;
     let mut others = right;
-    'paths: while let Some((path, behind, beside)) = least(more, others) {
+    'paths: while let Some((path, after, beside)) = least(more, others) {
         paths.push_reserved(path.copy(alloc)?);
-        more = behind;
+        more = after;
         others = beside;
     }
     Ok(paths)

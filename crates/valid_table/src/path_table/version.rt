@@ -42,7 +42,7 @@ impl Version {
     }
 
     // The bytes after the version's line, where they begin with it.
-    fn behind_line(self, bytes: &[u8]) -> Option<&[u8]>
+    fn after_line(self, bytes: &[u8]) -> Option<&[u8]>
         ensures { MatchOption result ((rest : List ℕ) → bytes.now ≢ version_line self ++ rest)
             (λ rest. bytes.now ≡ version_line self ++ rest.now) }
     {
@@ -55,13 +55,13 @@ pub(crate) fn version_of(bytes: &[u8]) -> Option<(Version, &[u8])>
     ensures { MatchOption result (BeginsNoVersion bytes.now)
         (λ x. bytes.now ≡ version_line x.0 ++ x.1.now) }
 {
-    if let Some(rest) = Version::One.behind_line(bytes) {
+    if let Some(rest) = Version::One.after_line(bytes) {
         return Some((Version::One, rest));
     }
-    if let Some(rest) = Version::Two.behind_line(bytes) {
+    if let Some(rest) = Version::Two.after_line(bytes) {
         return Some((Version::Two, rest));
     }
-    if let Some(rest) = Version::Three.behind_line(bytes) {
+    if let Some(rest) = Version::Three.after_line(bytes) {
         return Some((Version::Three, rest));
     }
     None

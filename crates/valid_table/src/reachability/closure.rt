@@ -2,7 +2,7 @@
 ghost use Rattle.std.specs.Prelude.{◌≡◌, ◌≤◌, ◌<◌, [], All, IfErr, IfOk, OnOk, length};
 ghost use Rattle.valid_table.specs.private.Closing.{AddsReferences, AddsRows, AreRows, IsFollowed, paths_at};
 ghost use Rattle.valid_table.specs.Closure.{IsClosing};
-ghost use Rattle.valid_table.specs.private.FirstRows.{AreFirst, rows_behind};
+ghost use Rattle.valid_table.specs.private.FirstRows.{AreFirst, rows_of_keyed};
 ghost use Rattle.valid_table.specs.private.Keys.{AreKeyed};
 ghost use Rattle.valid_table.specs.private.Linking.{AreLinked};
 ghost use Rattle.valid_table.specs.Tables.{registrations_of};
@@ -30,7 +30,7 @@ pub(crate) fn close(
     requires once { IsOnce (registrations_of rows.now.entries) }
     requires linked { AreLinked (registrations_of rows.now.entries) links.now.ends.items
         links.now.numbers.items }
-    requires first { AreFirst (length rows.now.entries) (rows_behind order.now.keyed.items) }
+    requires first { AreFirst (length rows.now.entries) (rows_of_keyed order.now.keyed.items) }
     requires keys { AreKeyed (registrations_of rows.now.entries) order.now.keyed.items }
     ensures { IsClosing (registrations_of rows.now.entries) roots.now result }
 {

@@ -6,12 +6,12 @@ use crate::entry::Record;
 use nix_names::StorePath;
 use std::marker::Model;
 
-/// A path to which a record refers. It shares the record, and keeps the path's place in the
+/// A path to which a record refers. It shares the record, and keeps the path's index in the
 /// record's list. A contract sees the path.
 #[derive(Debug, Drop)]
 pub struct Reference {
     info: Record,
-    place: usize,
+    index: usize,
 }
 
 impl Model for Reference {
@@ -19,25 +19,25 @@ impl Model for Reference {
 
     ghost Value = { List ℕ };
 
-    ghost view = { λ r. get_or r.info.references r.place [] };
+    ghost view = { λ r. get_or r.info.references r.index [] };
 
-    ghost invariant = { λ r. r.place < length r.info.references };
+    ghost invariant = { λ r. r.index < length r.info.references };
 }
 
 impl Reference {
-    // The reference of a record at a place.
-    pub(crate) fn new(info: Record, place: usize) -> Reference
-        requires { place < length info.references }
-        ensures { slice_get info.references place ≡ Some result }
+    // The reference of a record at an index.
+    pub(crate) fn new(info: Record, index: usize) -> Reference
+        requires { index < length info.references }
+        ensures { slice_get info.references index ≡ Some result }
     {
-        Reference { info, place }
+        Reference { info, index }
     }
 
     /// The path.
     pub fn path(&self) -> &StorePath
         ensures { result.now ≡ self.now }
     {
-        &self.info.references()[self.place]
+        &self.info.references()[self.index]
     }
 
     /// The path's text.

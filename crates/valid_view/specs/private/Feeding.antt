@@ -14,7 +14,8 @@ pub record WriterEndValue : Type 0 where
   pub shown : List Entry
   pub handed : List Entry
 
--- The same entries, the entry that is held, if there is one, and those that are in no list yet.
+-- The entries that are shown, those that were handed over, the one that is held, if there is one,
+-- and those that are in no list yet.
 pub record FeedValue : Type 0 where
   pub shown : List Entry
   pub handed : List Entry

@@ -2,7 +2,7 @@ use Rattle.std.proofs.Common.{subst, rules}
 use Rattle.std.proofs.lemmas.List.{take_all}
 use Rattle.nix_names.proofs.Lists.{taken_more}
 use Rattle.build_outcome.specs.private.Linking.{AddsLinks}
-use Rattle.build_outcome.proofs.Linkages.{adds_no_place, adds_none, adds_place}
+use Rattle.build_outcome.proofs.Linkages.{adds_no_index, adds_none, adds_index}
 use Rattle.build_outcome.proofs.links.add_links.Goals as goal
 use Rattle.build_outcome.proofs.links.add_links.Goals.{in-Some+in_ok-push, in_default}
 
@@ -13,14 +13,14 @@ pub loop-reference-preserved : goal.loop-reference-preserved
 loop-reference-preserved c =
     rw (taken_more _ _ _
     c.loop-reference-test.true c.reference-item.is)
-    (elim c.match-place_of.branch [
+    (elim c.match-index_of.branch [
       | in-Some+in_ok-push w ↦
           rw w.own-is
-          (adds_place _ _ _ _
+          (adds_index _ _ _ _
           _ _ _ c.requires c.loop-reference.invariant
           w.in-Some.ensures w.in_ok-push.ensures.items)
       | in_default w ↦ rw w.own-is
-          (adds_no_place _ _ _ _
+          (adds_no_index _ _ _ _
           _ c.loop-reference.invariant w.in_default.ensures)
     ])
 

@@ -1,4 +1,4 @@
--- The places of the references so far are added.
+-- The indices of the references so far are added.
 use Rattle.std.proofs.Common.{take}
 use Rattle.build_outcome.specs.private.Linking.{AddsLinks}
 use Rattle.build_outcome.proofs.links.add_links.Given as goal

@@ -13,7 +13,7 @@ index_mut-requires c =
     omega (
       arith,
       slice_get_within c.args.paths.now.keys c.in-Some.from _ c.in-Some.ensures,
-      c.loop-n.invariant.places,
+      c.loop-n.invariant.lengths,
     )
 
 pub loop-n-preserved : goal.loop-n-preserved
@@ -24,20 +24,20 @@ loop-n-preserved c =
     _ refl below c.index-outputs-n.is in
     let info_at = slice_get_read _ _ _
     _ refl c.loop-n-test.true c.index-records-n.is in
-    elim c.match-place_of.branch [
+    elim c.match-index_of.branch [
       | in-Some+in_ok-add_links w ↦
-          let place : w.in-Some.from < length c.loop-n.links.items =
+          let index : w.in-Some.from < length c.loop-n.links.items =
           omega (
             arith,
             slice_get_within c.args.paths.now.keys w.in-Some.from _
                 w.in-Some.ensures,
-            c.loop-n.invariant.places,
+            c.loop-n.invariant.lengths,
           ) in
           let own_at = slice_get_read _ _
-          _ _ refl place w.index_mut.ensures.value in
+          _ _ refl index w.index_mut.ensures.value in
           let adds = rw w.references.ensures.value at w.in_ok-add_links.ensures in
           links_more _ c.args.records.now c.args.paths.now.keys c.loop-n.n
-          c.loop-n.links.items c.match-place_of.links.items
+          c.loop-n.links.items c.match-index_of.links.items
           c.index-outputs-n.result c.index-records-n.result w.in-Some.from w.index_mut.result.now
           w.add_links.new.own c.requires.once c.loop-n.invariant path_at info_at
           w.in-Some.ensures own_at adds (rw w.links-is refl)

@@ -8,7 +8,7 @@ use Rattle.builder_start.proofs.entries.add_last.Goals as goal
 pub returns : goal.returns
 returns c =
     let none : list_any (λ (other : List ℕ × List ℕ). same_bytes other.0 c.args.pair.now.name.now)
-    (map shown_pair c.args.behind.now) ≡ false = sym c.is_named.ensures ∙ c.if-is_named.false in
+    (map shown_pair c.args.after.now) ≡ false = sym c.is_named.ensures ∙ c.if-is_named.false in
     subst (λ (b : Bool). IsAdded b c.args.pair.now c.args.graph.now c.args.files.now.items
     c.push.new.self.items) (sym none) (
       c.in_ok-file_of.field-0,

@@ -37,8 +37,8 @@ returns-in_err-graph-clause-bad c =
     (subst (λ (rs : List (List ℕ)). MayBeGraph rows whole rs) (sym c.deref-2.ensures.value) may))))
     c.in_err-graph.ensures.bad))
 
-pub place_of-requires : goal.place_of-requires
-place_of-requires c =
+pub index_of-requires : goal.index_of-requires
+index_of-requires c =
     let rows = c.args.rows.now in
     let whole = c.args.job.now.whole_inputs.items in
     let roots = c.in_ok-roots.roots.items in
@@ -74,15 +74,15 @@ returns-in-Some-clause-bad c =
     = find_from_yields_List _ _ _ c.find.result c.find.ensures.ran
     (YieldsList-from_slice graph cc) (λ x b q k. search (rules, tests)) in
     inr (
-      c.in_ok-place_of-in-Some.field-0,
+      c.in_ok-index_of-in-Some.field-0,
       refl,
       requests_good rows whole asked roots c.in_ok-roots.ensures.ok c.in_ok-roots.ensures.valid may,
       first_lacks rows c.args.job.now roots graph asked c.in-Some.row.now
-          c.in_ok-place_of-in-Some.field-0
+          c.in_ok-index_of-in-Some.field-0
           (subst (λ (rs : List Registration). IsRising (paths_registered rs))
           c.as_slice.ensures.value c.as_slice.ensures.rising)
           c.in_ok-roots.ensures.ok is (sym found ∙ ap (option_map (λ x. x.now)) c.in-Some.is)
-          c.in_ok-place_of-in-Some.ensures,
+          c.in_ok-index_of-in-Some.ensures,
     )
 
 pub returns-clause-good : goal.returns-clause-good

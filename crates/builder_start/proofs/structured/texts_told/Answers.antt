@@ -29,8 +29,8 @@ returns-in_err-check_requests-clause-bad c =
     (untold rows c.args.job.now c.args.text.now c.in_ok-given.given reason c.in_ok-given.ensures.ok
     (subst (λ (rs : List GraphRequest).
     IsWhy BadGraph (AreGoodRequests rows whole (map shown_request rs) → ⊥) reason
-    ⊎ ((place : ℕ) × (reason ≡ UnknownNar place) × AreGoodRequests rows whole (map shown_request rs)
-    × IsFirstWithoutNar rows c.args.job.now (map shown_request rs) place))
+    ⊎ ((index : ℕ) × (reason ≡ UnknownNar index) × AreGoodRequests rows whole (map shown_request rs)
+    × IsFirstWithoutNar rows c.args.job.now (map shown_request rs) index))
     c.deref.ensures.value c.in_err-check_requests.ensures.bad))
 
 pub set_graphs-requires-clause-good : goal.set_graphs-requires-clause-good

@@ -4,5 +4,5 @@ use Rattle.command_line.specs.declared.options.Builtin.{Builtin}
 use Rattle.command_line.proofs.builtins.twin_in.Given as goal
 
 -- no two of the names so far are the same
-abbrev pub invariant-loop-place : goal.invariant-loop-place
-invariant-loop-place l = AreApart (map (λ (b : Builtin). b.name.now) (take l.place l.builtins))
+abbrev pub invariant-loop-index : goal.invariant-loop-index
+invariant-loop-index l = AreApart (map (λ (b : Builtin). b.name.now) (take l.index l.builtins))

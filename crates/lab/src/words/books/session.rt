@@ -44,13 +44,13 @@ fn give_up(lease: Option<Lease<Told>>) {
 }
 
 // Where the lease with this name stands.
-fn place_of(name: &[u8]) -> usize {
+fn index_of(name: &[u8]) -> usize {
     usize::from(name.first().unwrap_or(&b'z').wrapping_sub(b'a'))
 }
 
 impl Desk<'_> {
     fn take_out(&mut self, name: &[u8]) -> Result<Lease<Told>, Stop> {
-        let lease = match self.leases.get_mut(place_of(name)) {
+        let lease = match self.leases.get_mut(index_of(name)) {
             Some(slot) => slot.take(),
             None => None,
         };
@@ -59,7 +59,7 @@ impl Desk<'_> {
 
     // Puts a lease under a name. What stood there is given up.
     fn put(&mut self, name: &[u8], lease: Lease<Told>) {
-        match self.leases.get_mut(place_of(name)) {
+        match self.leases.get_mut(index_of(name)) {
             Some(slot) => give_up(slot.replace(lease)),
             None => lease.give_up(),
         }

@@ -11,4 +11,4 @@ invariant-items g l =
     pass_among (order_of l.order) (key g.T.Element.form) (pass g.T.Element.form)
     (option_map (λ (k : Bor (List ℕ)). k.now) l.before) l.at
     (map g.T.Element.value (drop l.item-index l.items))
-    ≡ pass (Many (order_of l.order) g.T.Element.form) l.place (map g.T.Element.value l.items)
+    ≡ pass (Many (order_of l.order) g.T.Element.form) l.offset (map g.T.Element.value l.items)

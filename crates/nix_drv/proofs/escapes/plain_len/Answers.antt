@@ -9,7 +9,7 @@ returns-clause-within c = search (rules, first_within)
 pub returns-clause-plain : goal.returns-clause-plain
 returns-clause-plain c k lt =
     ap not (none_before (λ b. is_some (letter b)) _ _
-    _ c.escape_place.ensures c.unwrap_or.ensures k lt)
+    _ c.escape_offset.ensures c.unwrap_or.ensures k lt)
 
 pub returns-clause-ends : goal.returns-clause-ends
 returns-clause-ends c lt = search (rules, passes_there)

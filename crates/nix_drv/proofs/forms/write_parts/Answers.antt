@@ -15,7 +15,7 @@ returns c =
     (map (λ (o : Output). output_value (output_of o)) p.outputs.items)
     (map (λ (i : Input). input_value (input_of i)) c.args.inputs.now)
     (map bytes_of p.sources.items) (parts_build p)
-    (rw c.deref.ensures.value at c.in_ok-write_list_behind.ensures)
-    c.in_ok-write_list_behind-2.ensures
-    (rw c.deref-2.ensures.value at c.in_ok-write_list_behind-3.ensures) h))
+    (rw c.deref.ensures.value at c.in_ok-write_list_after.ensures)
+    c.in_ok-write_list_after-2.ensures
+    (rw c.deref-2.ensures.value at c.in_ok-write_list_after-3.ensures) h))
     c.write_build.ensures

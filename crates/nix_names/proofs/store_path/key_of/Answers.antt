@@ -6,6 +6,6 @@ use Rattle.nix_names.proofs.store_path.key_of.Goals as goal
 pub unreachable-requires : goal.unreachable-requires
 unreachable-requires c =
     let long = base_long c.args.text.now c.requires in
-    let base = ap length (take_rest c.args.text.now c.base_place.result ∙
-    c.base_place.ensures.place) in
+    let base = ap length (take_rest c.args.text.now c.base_offset.result ∙
+    c.base_offset.ensures.offset) in
     let short = c.in-None.ensures.cases in omega (arith, long, base, short)

@@ -1,5 +1,5 @@
 use Rattle.std.proofs.Common.{◌≡◌, length, map, take, vec_capacity}
-use Rattle.ref_scan.specs.private.Places.{key_of_part}
+use Rattle.ref_scan.specs.private.Parts.{key_of_part}
 use Rattle.ref_scan.proofs.index.keys_of_parts.Given as goal
 
 abbrev pub invariant-loop-part : goal.invariant-loop-part

@@ -1,7 +1,7 @@
 use Rattle.std.proofs.Common.{◌≡◌, ◌∙◌, ◌<◌, arith, get_or, length, set, subst, sym, take}
 use Rattle.std.specs.Prelude.{All}
 use Rattle.std.proofs.lemmas.List.{get_or_default, length-set, take_more}
-use Rattle.ref_scan.specs.private.Places.{LetsThrough}
+use Rattle.ref_scan.specs.private.Parts.{LetsThrough}
 use Rattle.ref_scan.proofs.Indexing.{Sieves, sieve_more}
 use Rattle.ref_scan.proofs.index.sieve_of.Goals as goal
 

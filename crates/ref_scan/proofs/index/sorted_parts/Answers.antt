@@ -1,6 +1,6 @@
 use Rattle.std.proofs.Common.{false, subst, sym}
 use Rattle.std.proofs.lemmas.List.Filters.{dedup_is}
-use Rattle.ref_scan.specs.private.Places.{ArePartsOf}
+use Rattle.ref_scan.specs.private.Parts.{ArePartsOf}
 use Rattle.ref_scan.proofs.Indexing.{parts_sorted}
 use Rattle.ref_scan.proofs.index.sorted_parts.Goals as goal
 

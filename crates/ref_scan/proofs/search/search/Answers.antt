@@ -8,7 +8,7 @@ pub loop-window-preserved-in-Some-last_foreign : goal.loop-window-preserved-in-S
 loop-window-preserved-in-Some-last_foreign c =
     let bytes = c.args.bytes.now in
     let start = c.loop-window.start in
-    let place = c.in-Some-last_foreign.place in
+    let offset = c.in-Some-last_foreign.offset in
     let foreign = c.in-Some-last_foreign.ensures in
     let left = ap length (take_rest bytes start) in
     let held = c.loop-window.invariant in
@@ -16,9 +16,9 @@ loop-window-preserved-in-Some-last_foreign c =
       inside = omega (arith, c.in-Some.ensures.cases.enough, length-drop start bytes, foreign.1);
       known = omega arith;
       so_far =
-          searching_past c.args.index.now.parts c.args.met.now c.loop-window.met bytes start place
+          searching_past c.args.index.now.parts c.args.met.now c.loop-window.met bytes start offset
           c.requires.are_parts.each held.so_far foreign.1
-          (foreign_at bytes c.in-Some.window.now start place c.in-Some.ensures.cases.same foreign.1
+          (foreign_at bytes c.in-Some.window.now start offset c.in-Some.ensures.cases.same foreign.1
           foreign.2);
     }
 

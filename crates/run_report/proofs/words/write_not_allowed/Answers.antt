@@ -10,5 +10,5 @@ returns c =
     c.in_ok-extend_from_slice-2.ensures.items
     (c.in_ok-write_reference.ensures
     ∙ joined c.extend_from_slice-2.new.self.items (output_words c.args.drv.now c.args.output)
-    (codes ",") (text_or_number (option_map (λ path. path.now) c.args.named) c.args.place))
+    (codes ",") (text_or_number (option_map (λ path. path.now) c.args.named) c.args.index))
     (on_ok _ _ _ _ c.extend_from_slice-3.ensures.items)

@@ -9,53 +9,53 @@ use Rattle.run_states.specs.NodeStates.{IsMemo, is_held, news_in, states_in}
 use Rattle.run_states.specs.declared.state.State.TheVariants.{Blocked}
 use Rattle.run_states.proofs.CountedNews.{bad_counted, bad_read, good_counted, good_read, other_counted}
 use Rattle.run_states.proofs.ToldStates.{counted_memo, read_at}
-use Rattle.run_states.proofs.node_states.memo_by_inputs.Goals.{then-serves, else-serves+then-place-first+then-fails, else-serves+else-place-first, else-place-first-via-then-place-first+else-fails, else-place-first-via-else-place-first}
+use Rattle.run_states.proofs.node_states.memo_by_inputs.Goals.{then-serves, else-serves+then-index-first+then-fails, else-serves+else-index-first, else-index-first-via-then-index-first+else-fails, else-index-first-via-else-index-first}
 use Rattle.run_states.proofs.node_states.memo_by_inputs.Goals as goal
 
-pub loop-place-preserved : goal.loop-place-preserved
-loop-place-preserved c =
+pub loop-index-preserved : goal.loop-index-preserved
+loop-index-preserved c =
     let memos = c.args.memos.now in
     let inputs = c.args.inputs.now in
-    let l = c.loop-place in
+    let l = c.loop-index in
     let heard = news_in (kept (states_in memos)) inputs in
-    let low : c.loop-place.place < length heard =
+    let low : c.loop-index.index < length heard =
     omega (
       arith,
-      c.loop-place-test.true,
+      c.loop-index-test.true,
       length-map inputs (λ i. news_of (kept (states_in memos) i)),
     ) in
-    let below = c.requires l.place 0 c.loop-place-test.true in
+    let below = c.requires l.index 0 c.loop-index-test.true in
     elim c.if-serves.branch [
       | then-serves w ↦
           rw (w.waits-is, w.first-is)
           (good_counted _ _ _ _ low l.invariant
-          (good_read memos inputs l.place _ c.loop-place-test.true below _ _
+          (good_read memos inputs l.index _ c.loop-index-test.true below _ _
           c.serves.ensures w.if-serves.true)).1
-      | else-serves+then-place-first+then-fails w ↦
+      | else-serves+then-index-first+then-fails w ↦
           rw (w.waits-is, w.first-is)
           (bad_counted _ _ _ _ low l.invariant
-          (good_read memos inputs l.place _ c.loop-place-test.true below _ _
+          (good_read memos inputs l.index _ c.loop-index-test.true below _ _
           c.serves.ensures w.if-serves.false)
-          (bad_read memos inputs l.place _ c.loop-place-test.true below _ _
-          w.fails.ensures w.if-fails.true) w.if-place-first.true)
-      | else-serves+else-place-first w ↦
+          (bad_read memos inputs l.index _ c.loop-index-test.true below _ _
+          w.fails.ensures w.if-fails.true) w.if-index-first.true)
+      | else-serves+else-index-first w ↦
           rw (w.waits-is, w.first-is)
           (other_counted _ _ _ _ low l.invariant
-          (good_read memos inputs l.place _ c.loop-place-test.true below _ _
+          (good_read memos inputs l.index _ c.loop-index-test.true below _ _
           c.serves.ensures w.if-serves.false)
-          (λ sooner. elim w.else-place-first.branch [
-            | else-place-first-via-then-place-first+else-fails u ↦
-                bad_read memos inputs l.place _ c.loop-place-test.true below u.fails.result false
+          (λ sooner. elim w.else-index-first.branch [
+            | else-index-first-via-then-index-first+else-fails u ↦
+                bad_read memos inputs l.index _ c.loop-index-test.true below u.fails.result false
                 u.fails.ensures u.if-fails.false
-            | else-place-first-via-else-place-first u ↦
-                absurd (omega (arith, sooner, u.if-place-first.false))
+            | else-index-first-via-else-index-first u ↦
+                absurd (omega (arith, sooner, u.if-index-first.false))
           ]))
     ]
 
 pub returns-clause-is : goal.returns-clause-is
 returns-clause-is c =
     let inputs = c.args.inputs.now in
-    let first = c.loop-place.first in
+    let first = c.loop-index.first in
     let failed : c.copied-failed.result ≡ slice_get inputs first =
     c.copied-failed.ensures ∙ read_at _ _ _ c.get.ensures.lookup in
     subst (λ f. IsMemo (record { inputs = inputs; twins = listed c.args.twin })
@@ -66,19 +66,19 @@ returns-clause-is c =
       twin = c.args.twin;
       state = c.opening_state-state.result;
       inputs = length inputs;
-      waits = c.loop-place.waits;
+      waits = c.loop-index.waits;
       first = first;
       failed = f;
       held = c.is_some-held.result;
     })) (sym failed)
     (counted_memo _ _ _ _
-    (kept (states_in c.args.memos.now)) _ c.loop-place.waits first
+    (kept (states_in c.args.memos.now)) _ c.loop-index.waits first
     c.opening_state-state.result c.is_some-held.result
-    (omega (arith, c.loop-place-test.false)) (omega (arith, c.loop-place.auto.place-end))
-    c.loop-place.invariant (c.is_some-held.ensures ∙ held_by c.args.twin)
+    (omega (arith, c.loop-index-test.false)) (omega (arith, c.loop-index.auto.index-end))
+    c.loop-index.invariant (c.is_some-held.ensures ∙ held_by c.args.twin)
     (c.opening_state-state.ensures
     ∙ ap (λ o. by_validity c.args.precondition (if c.is_some-held.result then Blocked
-    else by_hindrance c.args.precondition (by_first o (c.loop-place.waits == 0)))) failed))
+    else by_hindrance c.args.precondition (by_first o (c.loop-index.waits == 0)))) failed))
   where
     held_by : (twin : Option ℕ) → is_some twin ≡ is_held (map (λ t. Open) (listed twin))
     held_by None = refl

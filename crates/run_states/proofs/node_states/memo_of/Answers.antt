@@ -14,10 +14,10 @@ by_twin : (inputs : List ℕ) (state_of : ℕ → State) (memo heard : NodeState
     → twin ≡ read
     → (IsMemo (record { inputs = inputs; twins = listed read })
     (news_in state_of inputs ++ map (λ u. Open) (listed read)) memo
-    → Hears (record { inputs = inputs; twins = listed read }) state_of (λ place. 0) heard)
+    → Hears (record { inputs = inputs; twins = listed read }) state_of (λ index. 0) heard)
     → IsMemo (record { inputs = inputs; twins = listed twin })
     (news_in state_of inputs ++ map (λ u. Open) (listed twin)) memo
-    → Hears (record { inputs = inputs; twins = listed twin }) state_of (λ place. 0) heard
+    → Hears (record { inputs = inputs; twins = listed twin }) state_of (λ index. 0) heard
 by_twin inputs state_of memo heard same = search rules
 
 pub returns-else-is_open-clause-hears : goal.returns-else-is_open-clause-hears

@@ -11,7 +11,7 @@ use Rattle.run_states.proofs.propagate.tell_users.Goals as goal
 
 -- what is read past the end of a list
 abbrev no_edge : Edge
-no_edge = record { user = 0; place = 0 }
+no_edge = record { user = 0; index = 0 }
 
 abbrev no_memo : NodeState
 no_memo = record {

@@ -33,7 +33,7 @@ loop-d-preserved c =
             twins = listed
                 (slice_index_or c.args.twins.now c.loop-d.d None);
           })
-          (kept (states_in l)) (λ place. 0)
+          (kept (states_in l)) (λ index. 0)
           c.memo_of-memo.result) c.deref.ensures.value c.memo_of-memo.ensures.hears)
           c.memo_of-memo.ensures.idle c.push_reserved.ensures.items c.loop-d.invariant.opened;
       room = c.push_reserved.ensures.capacity ∙ c.loop-d.invariant.room;

@@ -8,19 +8,19 @@ use Rattle.run_states.proofs.UserCounts.{often_one}
 use Rattle.run_states.proofs.UserSpans.{adds_more, edge_added, longer, others_stay, room_taken}
 use Rattle.run_states.proofs.users.add_edge.Goals as goal
 
--- there is a place for the edge
-has_place : (spans : List Span) (i places : ℕ) → i < length spans
-    → HaveRoom spans places (λ n. often n (i ∷ [])) → (span_at spans i).end < places
-has_place spans i places within room = search (rules, often_one)
+-- there is a slot for the edge
+has_slot : (spans : List Span) (i slots : ℕ) → i < length spans
+    → HaveRoom spans slots (λ n. often n (i ∷ [])) → (span_at spans i).end < slots
+has_slot spans i slots within room = search (rules, often_one)
 
 pub bounds-edges-span : goal.bounds-edges-span
-bounds-edges-span c = search (rules, has_place)
+bounds-edges-span c = search (rules, has_slot)
 
 pub offset_bounds-edges-span : goal.offset_bounds-edges-span
-offset_bounds-edges-span c = search (rules, has_place)
+offset_bounds-edges-span c = search (rules, has_slot)
 
 pub overflow_add-spans : goal.overflow_add-spans
-overflow_add-spans c = search (rules, has_place)
+overflow_add-spans c = search (rules, has_slot)
 
 pub returns-clause-room : goal.returns-clause-room
 returns-clause-room c = search (rules, room_taken)
@@ -30,7 +30,7 @@ returns-clause-adds c = λ before old size prior.
     let spans = c.args.spans.now in
     let edges = c.args.edges.now in
     let i = c.args.awaited in
-    let edge : Edge = record { user = c.args.user; place = c.args.place } in
+    let edge : Edge = record { user = c.args.user; index = c.args.index } in
     let room = c.requires.room in
     let some : 0 < often i (i ∷ []) = omega (arith, often_one i) in
     adds_more _ _ _ i _ old

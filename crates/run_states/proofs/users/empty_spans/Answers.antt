@@ -13,22 +13,22 @@ loop-count-preserved c =
     let counts = c.args.counts.now in
     let k = c.loop-count.count-index in
     let spans = c.loop-count.spans.items in
-    let places = c.loop-count.places in
+    let slots = c.loop-count.slots in
     let pushed = c.push_reserved.ensures.items in
     record {
       size = ap length pushed ∙ length_push _ _ ∙ ap (λ n. n + 1) c.loop-count.invariant.size;
-      places = omega (
+      slots = omega (
         arith,
         sum_by_more (λ x. x) _ k 0 c.loop-count-test.true,
-        c.loop-count.invariant.places,
+        c.loop-count.invariant.slots,
       );
       empty = subst (All (λ (span : Span). span.start ≡ span.end)) (sym pushed)
           (All-push (λ (span : Span). span.start ≡ span.end) _ _ c.loop-count.invariant.empty
           refl);
-      room = subst (λ l. HaveRoom l (places + get_or counts k 0) (λ n. get_or counts n 0))
+      room = subst (λ l. HaveRoom l (slots + get_or counts k 0) (λ n. get_or counts n 0))
           (sym pushed)
-          (subst (λ n. HaveRoom (spans ++ record { start = places; end = places } ∷ [])
-          (places + get_or counts n 0) (λ n. get_or counts n 0)) c.loop-count.invariant.size
+          (subst (λ n. HaveRoom (spans ++ record { start = slots; end = slots } ∷ [])
+          (slots + get_or counts n 0) (λ n. get_or counts n 0)) c.loop-count.invariant.size
           (room_pushed _ _ (λ n. get_or counts n 0) c.loop-count.invariant.room));
       exact = c.push_reserved.ensures.capacity ∙ c.loop-count.invariant.exact;
     }
@@ -36,6 +36,6 @@ loop-count-preserved c =
 pub returns-clause-room : goal.returns-clause-room
 returns-clause-room c =
     subst (λ n. HaveRoom c.loop-count.spans.items n (λ m. get_or c.args.counts.now m 0))
-    (c.loop-count.invariant.places
+    (c.loop-count.invariant.slots
     ∙ ap sum (take_all c.loop-count.count-index c.args.counts.now
     (omega (arith, c.loop-count-test.false)))) c.loop-count.invariant.room

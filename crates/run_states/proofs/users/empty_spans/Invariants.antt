@@ -8,8 +8,8 @@ use Rattle.run_states.proofs.users.empty_spans.Given as goal
 abbrev pub invariant-loop-count : goal.invariant-loop-count
 invariant-loop-count l = record {
   size : length l.spans.items ≡ l.count-index;
-  places : l.places ≡ sum (take l.count-index l.counts);
+  slots : l.slots ≡ sum (take l.count-index l.counts);
   empty : All (λ (span : Span). span.start ≡ span.end) l.spans.items;
-  room : HaveRoom l.spans.items l.places (λ n. get_or l.counts n 0);
+  room : HaveRoom l.spans.items l.slots (λ n. get_or l.counts n 0);
   exact : vec_capacity l.spans ≡ length l.counts;
 }

@@ -7,7 +7,7 @@ use Rattle.sched_core.proofs.has_seeds.rest_after_used.Goals.{then-uses+in-Some,
 
 pub loop-n-preserved : goal.loop-n-preserved
 loop-n-preserved c =
-    used_step c.args.drv.now.inputs c.args.place c.args.used.now _ _
+    used_step c.args.drv.now.inputs c.args.index c.args.used.now _ _
     _ _
     _ _ _ _ _
     c.outputs-outputs.ensures c.requires.paths c.loop-n-test.true c.index-outputs-n.is
@@ -33,7 +33,7 @@ loop-n-preserved c =
 
 pub returns : goal.returns
 returns c =
-    used_all c.args.drv.now.inputs c.args.place c.args.used.now _ _
+    used_all c.args.drv.now.inputs c.args.index c.args.used.now _ _
     _
     (omega (
       arith,

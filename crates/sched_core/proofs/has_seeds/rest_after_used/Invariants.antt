@@ -6,5 +6,5 @@ use Rattle.sched_core.proofs.SeedParts.{first_named}
 use Rattle.sched_core.proofs.has_seeds.rest_after_used.Given as goal
 
 abbrev pub invariant-loop-n : goal.invariant-loop-n
-invariant-loop-n l = (input : Input) → slice_get l.drv.inputs l.place ≡ Some input
+invariant-loop-n l = (input : Input) → slice_get l.drv.inputs l.index ≡ Some input
     → IsRest l.seeds (first_named input.names l.used.outputs l.n) l.left

@@ -10,7 +10,7 @@ loop-n-init c = search (rules, adds_none)
 
 pub loop-n-preserved : goal.loop-n-preserved
 loop-n-preserved c =
-    output_seen c.args.drv.now.inputs c.args.place c.args.used.now _
+    output_seen c.args.drv.now.inputs c.args.index c.args.used.now _
     _ _ _ _ _
     _ _ _ c.outputs-outputs.ensures
     c.requires.paths c.loop-n-test.true c.index-outputs-n.is
@@ -33,7 +33,7 @@ loop-n-preserved c =
 
 pub returns : goal.returns
 returns c =
-    adds_all c.args.drv.now.inputs c.args.place c.args.used.now _
+    adds_all c.args.drv.now.inputs c.args.index c.args.used.now _
     c.loop-n.seeds.items c.loop-n.n
     (omega (
       arith,

@@ -2,20 +2,20 @@ use Rattle.std.proofs.lemmas.Option.{slice_get-get_or}
 use Rattle.sched_core.proofs.SeedParts.{all_seeds, input_added, input_within}
 use Rattle.sched_core.proofs.seeds_of.seeds_of.Goals as goal
 
-pub loop-place-preserved : goal.loop-place-preserved
-loop-place-preserved c =
+pub loop-index-preserved : goal.loop-index-preserved
+loop-index-preserved c =
     let nodes = c.args.plan.now.nodes in
     let numbers = c.inputs-inputs.result.now in
-    let within = input_within nodes c.args.d c.drv.result.now numbers c.loop-place.place c.requires
-    c.drv.ensures c.inputs-inputs.ensures.numbers c.loop-place-test.true in
-    input_added nodes c.args.d c.drv.result.now c.drv-used.result.now numbers c.loop-place.place _
-    c.loop-place.seeds.items _ c.inputs-inputs.ensures.sound.distinct
+    let within = input_within nodes c.args.d c.drv.result.now numbers c.loop-index.index c.requires
+    c.drv.ensures c.inputs-inputs.ensures.numbers c.loop-index-test.true in
+    input_added nodes c.args.d c.drv.result.now c.drv-used.result.now numbers c.loop-index.index _
+    c.loop-index.seeds.items _ c.inputs-inputs.ensures.sound.distinct
     c.drv.ensures c.inputs-inputs.ensures.numbers
-    (slice_get-get_or numbers c.loop-place.place _ c.loop-place-test.true) c.drv-used.ensures
-    within c.in_ok-add_used.ensures c.loop-place.invariant
+    (slice_get-get_or numbers c.loop-index.index _ c.loop-index-test.true) c.drv-used.ensures
+    within c.in_ok-add_used.ensures c.loop-index.invariant
 
 pub returns : goal.returns
 returns c =
-    all_seeds c.args.plan.now.nodes c.args.d c.inputs-inputs.result.now c.loop-place.seeds.items
-    c.loop-place.place c.inputs-inputs.ensures.numbers c.loop-place-test.false
-    c.loop-place.invariant
+    all_seeds c.args.plan.now.nodes c.args.d c.inputs-inputs.result.now c.loop-index.seeds.items
+    c.loop-index.index c.inputs-inputs.ensures.numbers c.loop-index-test.false
+    c.loop-index.invariant

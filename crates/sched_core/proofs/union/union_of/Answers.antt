@@ -4,7 +4,7 @@ use Rattle.std.proofs.lemmas.List.{take-append-drop}
 use Rattle.nix_names.specs.Rising.{IsRising}
 use Rattle.nix_names.proofs.RisingLists.{rising_front}
 use Rattle.valid_table.specs.Unions.{IsUnion}
-use Rattle.sched_core.proofs.UnitedPaths.{IsGap, IsUniting, found_told, gap_told, nothing_left, turned, uniting_all, uniting_found, uniting_placed}
+use Rattle.sched_core.proofs.UnitedPaths.{IsGap, IsUniting, found_told, gap_told, nothing_left, turned, uniting_all, uniting_found, uniting_inserted}
 use Rattle.sched_core.proofs.union.union_of.Goals as goal
 
 pub loop-path-preserved : goal.loop-path-preserved
@@ -23,11 +23,11 @@ loop-path-preserved-in-Continue-branch-2 c =
     let below = c.loop-path.below.items in
     let above = c.loop-path.above.items in
     let path = c.in-Some.path in
-    let place = c.in-Err.place in
+    let index = c.in-Err.index in
     let before = subst (λ l. IsUniting c.args.paths.items c.args.others.items below l
     (reverse above)) c.in-Some.ensures.items c.loop-path.invariant in
-    let tail = drop place below in
-    let gap : IsGap below path place = subst (λ l. IsGap l path place) c.deref.ensures.value
+    let tail = drop index below in
+    let gap : IsGap below path index = subst (λ l. IsGap l path index) c.deref.ensures.value
     (gap_told _ _ _
     (subst IsRising (sym c.deref.ensures.value)
     (rising_front _ _ c.loop-path.invariant.below_rises))
@@ -36,8 +36,8 @@ loop-path-preserved-in-Continue-branch-2 c =
     = ap reverse (c.in_ok-push.ensures.items
     ∙ ap (λ l. l ++ path ∷ []) c.in_ok-take_off.ensures.above) ∙ turned above tail _ in
     rw (up, c.in_ok-take_off.ensures.below)
-    (uniting_placed _ _ _ _
-    _ _ before _ _ (sym (take-append-drop place below))
+    (uniting_inserted _ _ _ _
+    _ _ before _ _ (sym (take-append-drop index below))
     gap.before gap.above)
 
 pub returns : goal.returns

@@ -13,7 +13,7 @@ pub loop-reference-preserved : goal.loop-reference-preserved
 loop-reference-preserved c =
     rw (taken_more _ _ _
     c.loop-reference-test.true c.reference-item.is)
-    (elim c.match-place_of.branch [
+    (elim c.match-index_of.branch [
       | in-Some w ↦ rw w.outside-is
           (adds_no_key _ _ _ _ _ c.loop-reference.invariant
           (Contains-from_get _ _ _ w.in-Some.ensures))

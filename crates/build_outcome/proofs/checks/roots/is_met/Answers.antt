@@ -3,19 +3,19 @@ use Rattle.std.proofs.lemmas.Option.{slice_get-get_or, slice_get_within}
 use Rattle.build_outcome.proofs.RootPaths.{met_told, not_met}
 use Rattle.build_outcome.proofs.checks.roots.is_met.Goals as goal
 
-pub bounds-marks-place : goal.bounds-marks-place
-bounds-marks-place c =
+pub bounds-marks-index : goal.bounds-marks-index
+bounds-marks-index c =
     omega (
       arith,
-      slice_get_within c.args.keys.now.keys c.in-Some.place _ c.in-Some.ensures,
+      slice_get_within c.args.keys.now.keys c.in-Some.index _ c.in-Some.ensures,
       c.requires.same,
     )
 
 pub returns-in-Some : goal.returns-in-Some
 returns-in-Some c =
-    let low : c.in-Some.place < length c.args.marks.now = omega (
+    let low : c.in-Some.index < length c.args.marks.now = omega (
       arith,
-      slice_get_within c.args.keys.now.keys c.in-Some.place _ c.in-Some.ensures,
+      slice_get_within c.args.keys.now.keys c.in-Some.index _ c.in-Some.ensures,
       c.requires.same,
     ) in
     met_told _ _ _ _ _ c.requires.once c.in-Some.ensures

@@ -21,13 +21,13 @@ reached_from-requires-clause-within c =
     (omega (
       arith,
       slice_get_within c.in_ok-keys.keys.keys c.in-Some.start _ c.in-Some.ensures,
-      c.in_ok-links.ensures.places,
+      c.in_ok-links.ensures.lengths,
     ))
 
 pub paths_met-requires-clause-same : goal.paths_met-requires-clause-same
 paths_met-requires-clause-same c =
     rw (c.deref-2.ensures.value, c.in_ok-marks.ensures.count, c.deref.ensures.value)
-    c.in_ok-links.ensures.places
+    c.in_ok-links.ensures.lengths
 
 pub paths_met-requires-clause-once : goal.paths_met-requires-clause-once
 paths_met-requires-clause-once c = c.in_ok-keys.ensures.distinct
@@ -35,7 +35,7 @@ paths_met-requires-clause-once c = c.in_ok-keys.ensures.distinct
 pub paths_outside-requires-clause-same : goal.paths_outside-requires-clause-same
 paths_outside-requires-clause-same c =
     rw (c.deref-3.ensures.value, c.in_ok-marks.ensures.count, c.deref.ensures.value)
-    c.in_ok-links.ensures.places
+    c.in_ok-links.ensures.lengths
 
 pub paths_outside-requires-clause-once : goal.paths_outside-requires-clause-once
 paths_outside-requires-clause-once c = c.in_ok-keys.ensures.distinct

@@ -8,12 +8,12 @@ use Rattle.build_outcome.proofs.checks.sizes.nar_among.Goals as goal
 pub returns-in-Ok : goal.returns-in-Ok
 returns-in-Ok c =
     let path = c.args.path.now in
-    c.nar.ensures ∙ ap (λ (r : Registration). r.info.nar) (sym c.index-records-place.is)
-    ∙ sym (nar_found c.args.records.now path c.in-Ok.place c.index-records-place.result
+    c.nar.ensures ∙ ap (λ (r : Registration). r.info.nar) (sym c.index-records-index.is)
+    ∙ sym (nar_found c.args.records.now path c.in-Ok.index c.index-records-index.result
     c.requires c.in-Ok.ensures.bound
     (c.in-Ok.ensures.position (compared path)
     (always_returns_same _ _ _ (λ a r f k. (search rules, search rules))))
-    c.index-records-place.is)
+    c.index-records-index.is)
 
 pub returns-in-Err : goal.returns-in-Err
 returns-in-Err c =

@@ -3,7 +3,7 @@ use Rattle.std.specs.Prelude.{All}
 use Rattle.nix_names.specs.StorePaths.{IsPathOf}
 use Rattle.nix_drv.specs.Parts.{path_of}
 use Rattle.drv_graph.specs.Loading.{IsLoading}
-use Rattle.drv_graph.proofs.EmptyPlaces.{inputs_rise}
+use Rattle.drv_graph.proofs.InsertedPaths.{inputs_rise}
 use Rattle.drv_graph.proofs.FillAnswers.{numbers_loaded, same_inputs}
 use Rattle.drv_graph.proofs.drafts.fill.load_inputs.Goals as goal
 

@@ -19,14 +19,14 @@ loop-entry-preserved c =
           (omega arith) c.loop-entry.auto.env c.loop-entry.invariant w.env-is
           (ap with_value w.clear.ensures.items
           ∙ masked_found _ _ _ _
-          c.output_place.ensures.found c.deref.ensures.value
+          c.output_index.ensures.found c.deref.ensures.value
           (sym c.is_some.ensures ∙ w.if-is_some.true))
       | else-is_some w ↦
           written_more entry_of (masked_entry names) _ _
           c.if-is_some.env _ was c.entry-item.result
           (omega arith) c.loop-entry.auto.env c.loop-entry.invariant w.env-is
           (masked_missing _ _ _ _
-          c.output_place.ensures.found c.deref.ensures.value
+          c.output_index.ensures.found c.deref.ensures.value
           (sym c.is_some.ensures ∙ w.if-is_some.false))
     ]
 

@@ -3,7 +3,7 @@ use Rattle.std.specs.Prelude.{Contains}
 use Rattle.std.proofs.lemmas.List.{length-map}
 use Rattle.nix_names.proofs.Lists.{Contains-from_get}
 use Rattle.nix_drv.specs.Parts.{bytes_of}
-use Rattle.nix_drv.specs.Places.{output_names}
+use Rattle.nix_drv.specs.Indices.{output_names}
 use Rattle.drv_graph.specs.private.Checking.{IsUnknownOutput}
 use Rattle.drv_graph.specs.Outputs.{IsKnownUse, Use}
 use Rattle.drv_graph.proofs.Checks.{unknown_use}

@@ -16,7 +16,7 @@ use Rattle.drv_graph.proofs.Loops.{seen_at}
 use Rattle.drv_graph.proofs.Ends.{err_is}
 use Rattle.drv_graph.proofs.outputs.output_checks.check_uses.Goals as goal
 
--- an input, its derivation and its path at a place
+-- an input, its derivation and its path at an index
 here : (inputs : List InputStruct) (used : List UsedInput) (i : ℕ) (item : InputStruct)
     (by : UsedInput) → paths_of_uses used ≡ map path_of inputs → i < length inputs
     → item ≡ get_or inputs i item → by ≡ get_or used i by
@@ -45,25 +45,25 @@ of_item : (P : List Use → Type 0) (path : List ℕ) (drv : Drv) (item : InputS
     → P (uses_of item.path.items drv (map bytes_of item.names.items))
 of_item P path drv item names same lent h = search rules
 
-pub loop-place-preserved : goal.loop-place-preserved
-loop-place-preserved c =
-    let item = c.index-inputs-place.result in
+pub loop-index-preserved : goal.loop-index-preserved
+loop-index-preserved c =
+    let item = c.index-inputs-index.result in
     let at = here _ _ _ _ _ c.requires
-    c.loop-place-test.true c.index-inputs-place.is c.index-used-place.is in
-    known_more (map input_of c.args.inputs.now) (drvs_of_uses c.args.used.now) c.loop-place.place
-    _ _ at.0 at.1 c.loop-place.invariant
+    c.loop-index-test.true c.index-inputs-index.is c.index-used-index.is in
+    known_more (map input_of c.args.inputs.now) (drvs_of_uses c.args.used.now) c.loop-index.index
+    _ _ at.0 at.1 c.loop-index.invariant
     (of_item (All IsKnownUse) _ _ item _ at.2
     c.deref.ensures.value c.in_ok-check_used.ensures.ok)
 
 pub returns-in_err-check_used-clause-err : goal.returns-in_err-check_used-clause-err
 returns-in_err-check_used-clause-err c =
-    let item = c.index-inputs-place.result in
+    let item = c.index-inputs-index.result in
     let fault = c.in_err-check_used.field-0.0 in
     let at = here _ _ _ _ _ c.requires
-    c.loop-place-test.true c.index-inputs-place.is c.index-used-place.is in
+    c.loop-index-test.true c.index-inputs-index.is c.index-used-index.is in
     rw (err_is _ _ c.from_residual.ensures.1)
-    (use_fault_at (map input_of c.args.inputs.now) (drvs_of_uses c.args.used.now) c.loop-place.place
-    _ _ fault at.0 at.1 c.loop-place.invariant
+    (use_fault_at (map input_of c.args.inputs.now) (drvs_of_uses c.args.used.now) c.loop-index.index
+    _ _ fault at.0 at.1 c.loop-index.invariant
     (of_item (λ us. IsUseFault us fault) _ _ item _ at.2
     c.deref.ensures.value c.in_err-check_used.ensures.err))
 
@@ -71,9 +71,9 @@ pub returns-clause-ok : goal.returns-clause-ok
 returns-clause-ok c =
     let inputs = map input_of c.args.inputs.now in
     let drvs = drvs_of_uses c.args.used.now in
-    let past : length inputs ≤ c.loop-place.place =
+    let past : length inputs ≤ c.loop-index.index =
     omega (arith, length-map c.args.inputs.now input_of) in
-    let past_drvs : length drvs ≤ c.loop-place.place =
+    let past_drvs : length drvs ≤ c.loop-index.index =
     omega (
       arith,
       ap length c.requires,
@@ -82,7 +82,7 @@ returns-clause-ok c =
       length-map c.args.inputs.now path_of,
     ) in
     subst (λ (us : List Use). All IsKnownUse us)
-    (ap (λ (is : List Input). uses is (take c.loop-place.place drvs))
-    (take_all c.loop-place.place inputs past)
-    ∙ ap (λ (ds : List Drv). uses inputs ds) (take_all c.loop-place.place drvs past_drvs))
-    c.loop-place.invariant
+    (ap (λ (is : List Input). uses is (take c.loop-index.index drvs))
+    (take_all c.loop-index.index inputs past)
+    ∙ ap (λ (ds : List Drv). uses inputs ds) (take_all c.loop-index.index drvs past_drvs))
+    c.loop-index.invariant

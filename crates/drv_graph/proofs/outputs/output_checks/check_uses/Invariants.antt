@@ -5,7 +5,7 @@ use Rattle.drv_graph.specs.Outputs.{IsKnownUse, uses}
 use Rattle.drv_graph.specs.private.UsedInputs.{drvs_of_uses}
 use Rattle.drv_graph.proofs.outputs.output_checks.check_uses.Given as goal
 
-abbrev pub invariant-loop-place : goal.invariant-loop-place
-invariant-loop-place l =
-    All IsKnownUse (uses (take l.place (map input_of l.inputs))
-    (take l.place (drvs_of_uses l.used)))
+abbrev pub invariant-loop-index : goal.invariant-loop-index
+invariant-loop-index l =
+    All IsKnownUse (uses (take l.index (map input_of l.inputs))
+    (take l.index (drvs_of_uses l.used)))

@@ -5,7 +5,7 @@ use Rattle.std.proofs.lemmas.List.{length-map}
 use Rattle.std.proofs.lemmas.Option.{slice_get_within}
 use Rattle.nix_drv.specs.Derivation.{EnvEntry}
 use Rattle.nix_drv.specs.Parts.{entry_of}
-use Rattle.nix_drv.specs.Places.{env_keys}
+use Rattle.nix_drv.specs.Indices.{env_keys}
 use Rattle.drv_graph.specs.private.Checking.{FitsExpected}
 use Rattle.drv_graph.proofs.Checks.{entry_answer, no_misfit}
 use Rattle.drv_graph.proofs.Loops.{seen_at}
@@ -13,9 +13,9 @@ use Rattle.drv_graph.proofs.outputs.values.entry_fits.Goals as goal
 
 pub returns-in-Some : goal.returns-in-Some
 returns-in-Some c =
-    let within = slice_get_within (env_keys c.args.drv.now) c.in-Some.place
+    let within = slice_get_within (env_keys c.args.drv.now) c.in-Some.index
     c.as_slice-name.result.now c.in-Some.ensures.found in
-    let below : c.in-Some.place < length c.env-env.result.now =
+    let below : c.in-Some.index < length c.env-env.result.now =
     omega (
       arith,
       within,
@@ -26,9 +26,9 @@ returns-in-Some c =
     entry_answer _ _ _ _
     _ _ _ c.in-Some.ensures.rising
     (c.in-Some.ensures.found ∙ ap (λ (n : List ℕ). Some n) c.as_slice-name.ensures.value)
-    (ap (λ (es : List EnvEntry). slice_get es c.in-Some.place) (sym c.env-env.ensures)
+    (ap (λ (es : List EnvEntry). slice_get es c.in-Some.index) (sym c.env-env.ensures)
     ∙ seen_at entry_of _ _ _ below
-    c.index-env-place.is)
+    c.index-env-index.is)
     (subst (λ (v : List ℕ). MatchBool c.fits.result (FitsExpected c.args.in_draft v c.args.path.now)
     (FitsExpected c.args.in_draft v c.args.path.now → ⊥)) c.deref.ensures.value c.fits.ensures)
 

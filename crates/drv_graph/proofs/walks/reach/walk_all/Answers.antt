@@ -21,7 +21,7 @@ returns-in_err-number-clause-walking g c =
     (fault_by _ (g.S.DrvSource.gives _)
     (g.S.DrvSource.gives _) c.roots.invariant.keeps _ _
     _
-    (c.in_err-number.ensures.walking (get_or c.args.roots.now c.roots.place []) at))
+    (c.in_err-number.ensures.walking (get_or c.args.roots.now c.roots.index []) at))
 
 pub returns-in_err-number-clause-device : goal.returns-in_err-number-clause-device
 returns-in_err-number-clause-device g c = search (rules, err_is, counted_before)
@@ -44,7 +44,7 @@ roots-preserved g c =
           _ _ _
           _ _ _
           _ c.roots.invariant.keeps c.roots.invariant.some
-          (c.in_ok-number.ensures.walking (get_or c.args.roots.now c.roots.place []) at)
+          (c.in_ok-number.ensures.walking (get_or c.args.roots.now c.roots.index []) at)
           c.in_ok-insert.ensures.keys c.in_ok-insert.ensures.unique);
     }
 

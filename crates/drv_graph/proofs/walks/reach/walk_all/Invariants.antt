@@ -9,6 +9,6 @@ invariant-roots g l = record {
   keeps : GivesSame (g.S.DrvSource.gives l.fn.source) (g.S.DrvSource.gives l.source);
   counts : g.S.DrvSource.failures l.fn.source ≤ g.S.DrvSource.failures l.source;
   some : IsReachedSome l.rules.profile l.rules.dir.now (g.S.DrvSource.gives l.fn.source) l.roots
-      (take l.place l.roots)
+      (take l.index l.roots)
       l.found l.numbers.keys;
 }

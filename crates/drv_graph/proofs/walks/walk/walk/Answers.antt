@@ -44,7 +44,7 @@ walk-smaller-in-Continue-1 g c =
 pub walk-preserved-in-Continue-1 : goal.walk-preserved-in-Continue-1
 walk-preserved-in-Continue-1 g c =
     let has_root = contains_item _ _ _
-    _ c.requires.place c.index-roots-place.is refl in
+    _ c.requires.index c.index-roots-index.is refl in
     record {
       keeps = gives_trans (g.S.DrvSource.gives _)
           (g.S.DrvSource.gives _) (g.S.DrvSource.gives _)
@@ -61,7 +61,7 @@ walk-preserved-in-Continue-1 g c =
 pub returns-in_err-go_on-in-Some-clause-walking : goal.returns-in_err-go_on-in-Some-clause-walking
 returns-in_err-go_on-in-Some-clause-walking g c = λ root at.
     let has_root = contains_item _ _ _
-    _ c.requires.place c.index-roots-place.is refl in
+    _ c.requires.index c.index-roots-index.is refl in
     rw (err_is _ _ c.from_residual.ensures.1)
     (walk_stops _ (g.S.DrvSource.gives _)
     (g.S.DrvSource.gives _) _ _
@@ -73,7 +73,7 @@ returns-in_err-go_on-in-Some-clause-walking g c = λ root at.
 pub returns-in_err-number-in-None-clause-walking : goal.returns-in_err-number-in-None-clause-walking
 returns-in_err-number-in-None-clause-walking g c = λ root at.
     let has_root = contains_item _ _ _
-    _ c.requires.place c.index-roots-place.is refl in
+    _ c.requires.index c.index-roots-index.is refl in
     let cases = c.in-None.ensures.cases in
     let none : length c.walk.visits.items ≡ 0 = omega (arith, cases.0, c.walk.visits.ok.0) in
     rw (err_is _ _ c.from_residual-in_err-number-in-None.ensures.1)
@@ -89,7 +89,7 @@ returns-in-Done-clause-walking g c = λ root at.
     let none : length c.walk.visits.items ≡ 0 = omega (arith, cases.0, c.walk.visits.ok.0) in
     let met = rw c.in-Done.is at c.in_ok-number-in-None.ensures.meeting in
     let same = root_read _ _ _ _
-    c.requires.place c.index-roots-place.is at in
+    c.requires.index c.index-roots-index.is at in
     let ends = walk_ends _ (g.S.DrvSource.gives _) _
     _ _ _ _
     _ c.walk.invariant.walk none met.1 in
@@ -104,14 +104,14 @@ returns-in-Done-clause-walking g c = λ root at.
     }) c.in-Done.number) same
     (subst (λ m. IsVisited c.args.rules.now.profile c.args.rules.now.dir.now (g.S.DrvSource.gives
     c.args.source.now) c.args.roots.now
-    c.index-roots-place.result c.args.found.now
+    c.index-roots-index.result c.args.found.now
     (record { nodes = c.walk.found.nodes; marks = m; owners = c.walk.found.owners })
     c.in-Done.number) (sym met.0) ends)
 
 pub walk-preserved : goal.walk-preserved
 walk-preserved g c =
     let has_root = contains_item _ _ _
-    _ c.requires.place c.index-roots-place.is refl in
+    _ c.requires.index c.index-roots-index.is refl in
     let cases = c.in-None.ensures.cases in
     let none : length c.walk.visits.items ≡ 0 = omega (arith, cases.0, c.walk.visits.ok.0) in
     let none_left : length c.pop.new.self.items ≡ 0 = omega (arith, cases.1, c.pop.new.self.ok.0) in

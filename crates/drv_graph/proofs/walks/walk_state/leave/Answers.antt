@@ -1,7 +1,7 @@
 use Rattle.std.proofs.Common.{◌∙◌, refl, subst, sym, rules}
 use Rattle.std.specs.Prelude.{All}
 use Rattle.nix_names.specs.StorePaths.{IsPathOf}
-use Rattle.nix_drv.proofs.Places.{outputs_rise}
+use Rattle.nix_drv.proofs.Indices.{outputs_rise}
 use Rattle.drv_graph.specs.PlanNodes.{AreKept}
 use Rattle.drv_graph.specs.private.Owners.{owned}
 use Rattle.drv_graph.proofs.InStore.{outputs_in_store}

@@ -2,7 +2,7 @@ use Rattle.std.proofs.Common.{ap, map, rules}
 use Rattle.std.specs.Cmp.Lexicographic.{slice_cmp}
 use Rattle.std.specs.Ordering.{nat_cmp}
 use Rattle.nix_drv.specs.Parts.{bytes_of, input_of}
-use Rattle.nix_drv.proofs.Places.{always_answers, input_at, names_rise_here, used_found, used_none}
+use Rattle.nix_drv.proofs.Indices.{always_answers, input_at, names_rise_here, used_found, used_none}
 use Rattle.nix_drv.proofs.Searches.{key_found, key_none}
 use Rattle.nix_drv.proofs.derivation.Derivation.uses.Goals as goal
 

@@ -4,8 +4,8 @@ use Rattle.nix_drv.proofs.forms.EnvEntryElement.write.Goals as goal
 
 pub returns : goal.returns
 returns c =
-    added_last _ c.write_strs_behind.new.out.items
+    added_last _ c.write_strs_after.new.out.items
     _ _ _
     (entry_written (entry_of c.args.self.now) _ _
-    (rw (c.deref.ensures.value, c.deref-2.ensures.value) at c.in_ok-write_strs_behind.ensures))
+    (rw (c.deref.ensures.value, c.deref-2.ensures.value) at c.in_ok-write_strs_after.ensures))
     c.extend_from_slice.ensures.items

@@ -20,7 +20,7 @@ returns-then-count-eq0-clause-ok g c =
     let none = subst (λ n. Consumes held left (take n c.read_once.new.buffer)) c.if-count-eq0.true
     read.0 in
     ended_whole g.H.Hear.heard g.met.H.Hear.silence g.met.H.Hear.joins c.args.hearer.now
-    c.pieces.hearer c.pieces.reader old held left c.pieces.place c.end_of.result
+    c.pieces.hearer c.pieces.reader old held left c.pieces.offset c.end_of.result
     c.pieces.invariant.far none (read.1 c.if-count-eq0.true (search rules)) c.end_of.ensures
 
 pub returns-then-count-eq0-clause-err : goal.returns-then-count-eq0-clause-err
@@ -32,17 +32,17 @@ returns-then-count-eq0-clause-err g c =
     let none = subst (λ n. Consumes held left (take n c.read_once.new.buffer)) c.if-count-eq0.true
     read.0 in
     ended_stray g.H.Hear.heard g.met.H.Hear.silence g.met.H.Hear.joins c.args.hearer.now
-    c.pieces.hearer c.pieces.reader old held left c.pieces.place c.end_of.result
+    c.pieces.hearer c.pieces.reader old held left c.pieces.offset c.end_of.result
     c.pieces.invariant.far none (read.1 c.if-count-eq0.true (search rules)) c.end_of.ensures
 
-pub returns-in_err-place-clause-err : goal.returns-in_err-place-clause-err
-returns-in_err-place-clause-err g c =
+pub returns-in_err-offset-clause-err : goal.returns-in_err-offset-clause-err
+returns-in_err-offset-clause-err g c =
     let e = err_from_is_err_and c.from_residual.result c.from_residual.ensures.1 in
     rw (e.1, e.2)
     (unfed g.H.Hear.heard g.met.H.Hear.silence g.met.H.Hear.joins c.args.hearer.now
     c.pieces.hearer c.pieces.reader (g.I.Read.remaining c.args.input.now)
     (g.I.Read.remaining c.pieces.input) (g.I.Read.remaining c.read_once.new.input)
-    c.pieces.place _ c.in_err-place.field-0.0 c.pieces.invariant.far c.in_err-place.ensures.err
+    c.pieces.offset _ c.in_err-offset.field-0.0 c.pieces.invariant.far c.in_err-offset.ensures.err
     c.in-Ok.ensures.bytes.0)
 
 pub pieces-preserved : goal.pieces-preserved
@@ -50,8 +50,8 @@ pieces-preserved g c = record {
   far = fed_more g.H.Hear.heard g.met.H.Hear.silence g.met.H.Hear.joins c.args.hearer.now
       c.pieces.hearer c.feed.new.hearer c.pieces.reader c.feed.new.reader
       (g.I.Read.remaining c.args.input.now) (g.I.Read.remaining c.pieces.input)
-      (g.I.Read.remaining c.read_once.new.input) c.pieces.place c.in_ok-place.place _
-      c.pieces.invariant.far c.in_ok-place.ensures.ok.1 c.in-Ok.ensures.bytes.0
-      c.in_ok-place.ensures.ok.0;
+      (g.I.Read.remaining c.read_once.new.input) c.pieces.offset c.in_ok-offset.offset _
+      c.pieces.invariant.far c.in_ok-offset.ensures.ok.1 c.in-Ok.ensures.bytes.0
+      c.in_ok-offset.ensures.ok.0;
   room = c.read_once.ensures.same ∙ c.pieces.invariant.room;
 }

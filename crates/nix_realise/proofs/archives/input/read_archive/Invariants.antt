@@ -6,6 +6,6 @@ use Rattle.nix_realise.proofs.archives.input.read_archive.Given as goal
 abbrev pub invariant-pieces : goal.invariant-pieces
 invariant-pieces g l = record {
   far : IsSoFar g.H.Hear.heard l.fn.hearer l.hearer l.reader (g.I.Read.remaining l.fn.input)
-      (g.I.Read.remaining l.input) l.place;
+      (g.I.Read.remaining l.input) l.offset;
   room : length l.buffer ≡ 65536;
 }

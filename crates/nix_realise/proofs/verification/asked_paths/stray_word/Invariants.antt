@@ -5,5 +5,5 @@ use Rattle.valid_table.specs.Valid.{IsValid}
 use Rattle.nix_realise.proofs.verification.asked_paths.stray_word.Given as goal
 
 -- the paths so far are valid
-abbrev pub invariant-loop-place : goal.invariant-loop-place
-invariant-loop-place l = All (IsValid (registered l.journal.entries)) (take l.place l.paths)
+abbrev pub invariant-loop-index : goal.invariant-loop-index
+invariant-loop-index l = All (IsValid (registered l.journal.entries)) (take l.index l.paths)

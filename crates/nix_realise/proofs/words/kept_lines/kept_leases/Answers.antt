@@ -3,7 +3,7 @@ use Rattle.std.proofs.lemmas.List.Elements.{All-get_or}
 use Rattle.std.specs.List.{slice_index_or}
 use Rattle.drv_graph.specs.Plans.{Graph}
 use Rattle.run_states.specs.declared.state.Event.TheVariants.{Begin}
-use Rattle.nix_realise.proofs.EventPlaces.{events_within}
+use Rattle.nix_realise.proofs.EventDerivations.{events_within}
 use Rattle.nix_realise.specs.private.Leases.{derivation_of}
 use Rattle.nix_realise.proofs.words.kept_lines.kept_leases.Goals as goal
 

@@ -1,7 +1,7 @@
 use Rattle.std.proofs.Common.{◌<◌, All, length, subst, sym}
 use Rattle.std.proofs.lemmas.List.Elements.{All-get_or}
 use Rattle.run_states.specs.declared.state.Event.TheVariants.{Begin}
-use Rattle.nix_realise.proofs.EventPlaces.{events_within}
+use Rattle.nix_realise.proofs.EventDerivations.{events_within}
 use Rattle.nix_realise.specs.private.Leases.{derivation_of}
 use Rattle.nix_realise.proofs.words.run_trace.begun_leases.Goals as goal
 

@@ -10,13 +10,13 @@ use Rattle.process_build.specs.Setups.{caller_entry, entry, fixed_entries, impur
 use Rattle.process_build.proofs.Mapped.{if_ok}
 use Rattle.process_build.proofs.process.entries.push_fixed.Goals as goal
 
--- the entries of a fixed output behind others
-fixed_behind : (kind : Kind) (method : Method) (digest : Digest) (names told : List Name)
+-- the entries of a fixed output after others
+fixed_after : (kind : Kind) (method : Method) (digest : Digest) (names told : List Name)
     (caller old between new made : List EnvEntry) → kind ≡ Fixed method digest
     → between ≡ old ++ made → new ≡ between ++ map (caller_entry caller) told
     → made ≡ entry (codes "NIX_OUTPUT_CHECKED") (codes "1") ∷ [] → told ≡ names
     → new ≡ old ++ fixed_entries kind names caller
-fixed_behind kind method digest names told caller old between new made is one all made_is told_is =
+fixed_after kind method digest names told caller old between new made is one all made_is told_is =
     let first : EnvEntry = entry (codes "NIX_OUTPUT_CHECKED") (codes "1") in
     all ∙ ap (λ l. l ++ map (caller_entry caller) told) (one ∙ ap (λ l. old ++ l) made_is)
     ∙ append_assoc old (first ∷ []) (map (caller_entry caller) told)
@@ -26,7 +26,7 @@ fixed_behind kind method digest names told caller old between new made is one al
 pub returns-in_ok-names-in-Fixed : goal.returns-in_ok-names-in-Fixed
 returns-in_ok-names-in-Fixed c =
     if_ok c.push_callers.result _ _
-    (λ done all. fixed_behind c.args.job.now.kind c.in-Fixed.field-0 c.in-Fixed.field-1
+    (λ done all. fixed_after c.args.job.now.kind c.in-Fixed.field-0 c.in-Fixed.field-1
     (impure_names c.args.job.now c.args.prepared.now) _ (map entry_of c.args.caller.now) _ _ _ _
     c.in-Fixed.is c.in_ok-push_settings-in-Fixed.ensures all (ap (λ e. e ∷ []) c.new.ensures)
     (ap (map (λ n. n.now)) c.deref.ensures.value ∙ c.in_ok-names-in-Fixed.ensures))

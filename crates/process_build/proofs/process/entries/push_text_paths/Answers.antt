@@ -4,7 +4,7 @@ use Rattle.process_build.specs.Setups.{text_entries}
 use Rattle.process_build.specs.private.RawVars.{entry_of_raw}
 use Rattle.process_build.proofs.process.entries.push_text_paths.Goals as goal
 
--- two more items behind others
+-- two more items after others
 two_more : {A B : Type 0} (f : A → B) (old between new : List A) (x y : A) (u v : B)
     → between ≡ old ++ x ∷ [] → new ≡ between ++ y ∷ [] → f x ≡ u → f y ≡ v
     → map f new ≡ map f old ++ u ∷ v ∷ []

@@ -1,5 +1,5 @@
 use Rattle.std.proofs.Common.{refl, ◌∙◌, Err, ap, arith}
-use Rattle.process_build.proofs.PastLimits.{handed, past_behind}
+use Rattle.process_build.proofs.PastLimits.{handed, past_after}
 use Rattle.process_build.proofs.Walking.{all_told, none_told, piece_told}
 use Rattle.process_build.proofs.walk.file_bytes.tell_bytes.Goals as goal
 
@@ -29,5 +29,5 @@ returns-clause-told g c =
 
 pub returns-in_err-left-clause-past : goal.returns-in_err-left-clause-past
 returns-in_err-left-clause-past g c = λ large.
-    past_behind _ g.met.H.Hear.joins _ _ _ _ _ c.pieces.invariant.told.hears
+    past_after _ g.met.H.Hear.joins _ _ _ _ _ c.pieces.invariant.told.hears
     (c.in_err-left.ensures.past (ap Err (handed _ _ c.from_residual-in_err-left.ensures.1 large)))

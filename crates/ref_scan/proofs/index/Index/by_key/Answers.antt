@@ -2,7 +2,7 @@ use Rattle.std.proofs.Common.{◌∙◌, ap, map, subst, sym, true}
 use Rattle.std.proofs.lemmas.Bool.{false≢true}
 use Rattle.nix_names.specs.Keys.{key_of}
 use Rattle.nix_names.specs.StorePaths.{hash_part_of}
-use Rattle.ref_scan.specs.private.Places.{ArePartsOf, IsSieve}
+use Rattle.ref_scan.specs.private.Parts.{ArePartsOf, IsSieve}
 use Rattle.ref_scan.proofs.RisingKeys.{keys_of_parts, parts_by_key}
 use Rattle.ref_scan.proofs.index.Index.by_key.Goals as goal
 

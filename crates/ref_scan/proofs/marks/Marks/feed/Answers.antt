@@ -25,11 +25,11 @@ invariant_of-self c =
     let second = subst (λ met. Searched s.index.parts met two piece) lent' c.search-2.ensures in
     let seam_is : seam ≡ s.tail.items ++ take 31 piece = c.seam-seam.ensures
     ∙ ap (λ l. l ++ take 31 piece) c.as_slice.ensures.value in
-    let kept = c.tail_behind-self-inside.ensures s.fed.present
+    let kept = c.tail_after-self-inside.ensures s.fed.present
     (c.as_slice-3.ensures.value ∙ seam_is ∙ ap (λ l. l ++ take 31 piece) c.self.invariant.kept)
     in
     rw (same', c.and-self-inside.ensures.0, c.and-self-inside.ensures.1)
     (scanned_fed s.index.permitted s.index.parts s.fed.ended s.index.in_order s.fed.present piece
     seam
-    s.met.items one two s.tail.items c.tail_behind-self-inside.result.items
+    s.met.items one two s.tail.items c.tail_after-self-inside.result.items
     c.self.invariant seam_is first second kept)

@@ -1,5 +1,5 @@
 use Rattle.std.proofs.Common.{sym, subst}
-use Rattle.ref_scan.specs.private.Places.{ArePartsOf}
+use Rattle.ref_scan.specs.private.Parts.{ArePartsOf}
 use Rattle.ref_scan.proofs.Scanning.{scanned_new}
 use Rattle.ref_scan.proofs.marks.Marks.new.Goals as goal
 

@@ -8,11 +8,11 @@ use Rattle.run_report.proofs.forecast.foretold.state_by_inputs.Goals as goal
 
 pub returns-then-not-is_good-clause-by : goal.returns-then-not-is_good-clause-by
 returns-then-not-is_good-clause-by c =
-    let place = c.loop-input.input-index in
-    let input = get_or c.args.inputs.now place 0 in
-    let low : input < length c.args.earlier.now = c.requires.within place 0 c.loop-input-test.true
+    let index = c.loop-input.input-index in
+    let input = get_or c.args.inputs.now index 0 in
+    let low : input < length c.args.earlier.now = c.requires.within index 0 c.loop-input-test.true
     in
-    refused_after (state_at c.args.earlier.now) c.args.inputs.now place input
+    refused_after (state_at c.args.earlier.now) c.args.inputs.now index input
     c.loop-input-test.true refl c.loop-input.invariant
     (bad_unless_good (state_at c.args.earlier.now input) (c.requires.closed input Blocked low)
     (ap is_good (any_default c.args.earlier.now input Blocked _ low)

@@ -43,7 +43,7 @@ loop-d-init c =
     let count : length spans ≡ length nodes = c.in_ok-spans.ensures.size
     ∙ ap length c.deref.ensures.value ∙ c.in_ok-counts.ensures.size in
     let long = few c.in_ok-edges.edges c.pairs_in.result c.in_ok-edges.ensures.len in
-    let places : sum c.deref.result.now ≡ length edges =
+    let slots : sum c.deref.result.now ≡ length edges =
     omega (
       arith,
       ap sum c.deref.ensures.value,
@@ -55,7 +55,7 @@ loop-d-init c =
     record {
       count = count;
       room = subst (λ size. HaveRoom spans size
-          (λ n. uses awaited (length nodes) n - uses awaited 0 n)) places
+          (λ n. uses awaited (length nodes) n - uses awaited 0 n)) slots
           (room_less spans (sum c.deref.result.now) _
           (λ n. uses awaited (length nodes) n - uses awaited 0 n) c.in_ok-spans.ensures.room
           (λ n within. omega (

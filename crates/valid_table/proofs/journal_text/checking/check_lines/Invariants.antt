@@ -6,10 +6,10 @@ use Rattle.valid_table.specs.Texts.{output_lines}
 use Rattle.valid_table.specs.Valid.{IsValid, references_of}
 use Rattle.valid_table.proofs.journal_text.checking.check_lines.Given as goal
 
-abbrev pub invariant-loop-place : goal.invariant-loop-place
-invariant-loop-place l = record {
-  new : l.place ≤ l.new;
+abbrev pub invariant-loop-index : goal.invariant-loop-index
+invariant-loop-index l = record {
+  new : l.index ≤ l.new;
   closed : All (IsValid (registrations_of l.rows.entries ++ l.registrations))
-      (references_of (take l.place l.registrations));
-  number : l.line ≡ l.fn.line + length (flat_map output_lines (take l.place l.registrations));
+      (references_of (take l.index l.registrations));
+  number : l.line ≡ l.fn.line + length (flat_map output_lines (take l.index l.registrations));
 }

@@ -7,15 +7,15 @@ pub returns-in-Some : goal.returns-in-Some
 returns-in-Some c =
     unclosed_at _ _
     _ _ _
-    _ c.loop-place.invariant c.loop-place-test.true
-    c.index-registrations-place.is c.references-references.ensures.value c.in-Some.ensures
+    _ c.loop-index.invariant c.loop-index-test.true
+    c.index-registrations-index.is c.references-references.ensures.value c.in-Some.ensures
 
-pub loop-place-preserved : goal.loop-place-preserved
-loop-place-preserved c =
+pub loop-index-preserved : goal.loop-index-preserved
+loop-index-preserved c =
     closed_more _
     _ _ _
-    _ c.loop-place.invariant c.loop-place-test.true
-    c.index-registrations-place.is c.references-references.ensures.value c.in_default.ensures
+    _ c.loop-index.invariant c.loop-index-test.true
+    c.index-registrations-index.is c.references-references.ensures.value c.in_default.ensures
 
 pub returns : goal.returns
 returns c = search (rules, closed_all)

@@ -5,6 +5,6 @@ use Rattle.valid_table.specs.Tables.{registrations_of}
 use Rattle.valid_table.specs.Valid.{IsValid, references_of}
 use Rattle.valid_table.proofs.path_table.admission.first_unclosed.Given as goal
 
-abbrev pub invariant-loop-place : goal.invariant-loop-place
-invariant-loop-place l = All (IsValid (registrations_of l.rows.entries ++ l.registrations))
-    (references_of (take l.place l.registrations))
+abbrev pub invariant-loop-index : goal.invariant-loop-index
+invariant-loop-index l = All (IsValid (registrations_of l.rows.entries ++ l.registrations))
+    (references_of (take l.index l.registrations))

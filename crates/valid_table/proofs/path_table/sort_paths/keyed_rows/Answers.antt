@@ -3,7 +3,7 @@ use Rattle.std.specs.List.{list_any}
 use Rattle.valid_table.specs.private.Closing.{path_at}
 use Rattle.valid_table.specs.private.Keys.{IsKey, folder_of}
 use Rattle.valid_table.specs.Tables.{registrations_of}
-use Rattle.valid_table.proofs.FirstRows.{behind_added, chosen_rows, chosen_same, keys_swept, regrouped_is, swept_first}
+use Rattle.valid_table.proofs.FirstRows.{after_added, chosen_rows, chosen_same, keys_swept, regrouped_is, swept_first}
 use Rattle.valid_table.proofs.path_table.sort_paths.keyed_rows.Goals as goal
 
 pub push_late-requires-clause-keys : goal.push_late-requires-clause-keys
@@ -26,7 +26,7 @@ returns-clause-rows c =
     c.requires.rows
     (regrouped_is found ordered _ _
     _ c.in_ok-keyed.ensures.items
-    (behind_added (λ row. list_any (nat_eq row) found) _ _
+    (after_added (λ row. list_any (nat_eq row) found) _ _
     _ c.in_ok-push_found.ensures)
     c.in_ok-push_late.ensures.rows)
 
@@ -38,6 +38,6 @@ returns-clause-same c =
     (swept_first _ _ _ c.rows_to_sweep-ordered.ensures.either c.requires.first)
     (regrouped_is found ordered _ _
     _ c.in_ok-keyed.ensures.items
-    (behind_added (λ row. list_any (nat_eq row) found) _ _
+    (after_added (λ row. list_any (nat_eq row) found) _ _
     _ c.in_ok-push_found.ensures)
     c.in_ok-push_late.ensures.rows)

@@ -1,6 +1,6 @@
 use Rattle.std.proofs.Common.{refl}
 use Rattle.std.proofs.lemmas.List.Sorted.{IsPermutation-trans}
-use Rattle.valid_table.specs.private.FirstRows.{rows_behind}
+use Rattle.valid_table.specs.private.FirstRows.{rows_of_keyed}
 use Rattle.valid_table.specs.Tables.{registrations_of}
 use Rattle.valid_table.proofs.FirstRows.{same_paths}
 use Rattle.valid_table.proofs.Keys.{keyed_moved, paths_rise}
@@ -19,7 +19,7 @@ copy_paths-requires c =
 pub returns : goal.returns
 returns c =
     let registrations = registrations_of c.args.rows.now.entries in
-    let chosen = rows_behind c.in_ok-keyed.keyed.items in
+    let chosen = rows_of_keyed c.in_ok-keyed.keyed.items in
     let copied = rw c.deref.ensures.value at c.in_ok-paths.ensures.paths in
     let moved = paths_moved _ _ _
     _ _

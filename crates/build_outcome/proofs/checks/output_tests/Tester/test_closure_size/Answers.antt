@@ -82,15 +82,15 @@ returns-in-Some-first_unknown c =
     let first = c.in-Some-first_unknown.ensures (known self.job.now self.records.now) kept in
     closure_unmeasured self.job.now self.permitted.now self.records.now
     self.asked.now.closures.items c.args.n c.in-Some.limit own.0 c.in-Some-get.closure.now
-    c.requires.nix limit own.1 given c.requires.testable.count c.in-Some-first_unknown.place
+    c.requires.nix limit own.1 given c.requires.testable.count c.in-Some-first_unknown.index
     (subst (λ (l : List Registration). IsFirstPath self.permitted.now
     (λ path. Contains c.in-Some-get.closure.now.paths.items path
     × (nar_at (known self.job.now self.records.now ++ l) path ≡ None))
-    c.in-Some-first_unknown.place) others
+    c.in-Some-first_unknown.index) others
     (subst (λ (l : List (List ℕ)). IsFirstPath self.permitted.now
     (λ path. Contains l path
     × (nar_at (known self.job.now self.records.now ++ c.in_ok-nars.nars.others.now) path ≡ None))
-    c.in-Some-first_unknown.place) c.deref-4.ensures.value first))
+    c.in-Some-first_unknown.index) c.deref-4.ensures.value first))
 
 pub returns-then-are_past : goal.returns-then-are_past
 returns-then-are_past c =

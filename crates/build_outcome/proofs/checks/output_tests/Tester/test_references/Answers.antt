@@ -9,11 +9,11 @@ loop-n-init c =
     let self = c.args.self.now in
     fixed_none self.job.now self.permitted.now self.records.now self.asked.now.closures.items
 
-pub first_place-requires-clause-permitted : goal.first_place-requires-clause-permitted
-first_place-requires-clause-permitted c = c.requires.testable.rising
+pub first_index-requires-clause-permitted : goal.first_index-requires-clause-permitted
+first_index-requires-clause-permitted c = c.requires.testable.rising
 
-pub first_place-requires-clause-paths : goal.first_place-requires-clause-paths
-first_place-requires-clause-paths c = (
+pub first_index-requires-clause-paths : goal.first_index-requires-clause-paths
+first_index-requires-clause-paths c = (
   c.references.ensures.rising,
   references_permitted _ _ _ _ _ _ _ c.requires.testable
       (slice_get_read _ _ _ _ refl c.loop-n-test.true c.record-item.is)

@@ -1,4 +1,4 @@
--- What is left of the limit behind the paths so far.
+-- What is left of the limit after the paths so far.
 use Rattle.std.proofs.Common.{◌≡◌, ◌+◌, ◌++◌, List, take}
 use Rattle.valid_table.specs.declared.entry.Registration.{Registration}
 use Rattle.build_outcome.specs.Checks.{size_of_all}

@@ -15,9 +15,9 @@ returns-in_err-drvs g c =
     let e = err_from_is_err_and step.result step.ensures.1 in
     inr (NoMemory, e.1 ∙ ap Err e.2, refl, inr tt)
 
-pub returns-in_err-place : goal.returns-in_err-place
-returns-in_err-place g c =
-    let step = c.from_residual-in_err-place in
+pub returns-in_err-sink : goal.returns-in_err-sink
+returns-in_err-sink g c =
+    let step = c.from_residual-in_err-sink in
     let e = err_from_is_err_and step.result step.ensures.1 in
     inr (NoMemory, e.1 ∙ ap Err e.2, refl, inr tt)
 

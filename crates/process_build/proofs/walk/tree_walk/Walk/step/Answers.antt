@@ -1,22 +1,22 @@
 use Rattle.std.proofs.Common.{Err, ap, inr, subst}
 use Rattle.process_build.specs.Walks.{IsToldPast}
-use Rattle.process_build.proofs.PastLimits.{found_behind, handed, limits_behind, past_behind}
+use Rattle.process_build.proofs.PastLimits.{found_after, handed, limits_after, past_after}
 use Rattle.process_build.proofs.Under.{joins_under, one_under}
 use Rattle.process_build.proofs.Walking.{at_deeper, at_more, popped}
 use Rattle.process_build.proofs.walk.tree_walk.Walk.step.Goals as goal
 
-pub returns-in_default-clause-place : goal.returns-in_default-clause-place
-returns-in_default-clause-place g c = λ start at. c.in_ok-above.ensures.place _ start _ at
+pub returns-in_default-clause-position : goal.returns-in_default-clause-position
+returns-in_default-clause-position g c = λ start at. c.in_ok-above.ensures.position _ start _ at
 
-pub returns-in-Some-2-clause-place : goal.returns-in-Some-2-clause-place
-returns-in-Some-2-clause-place g c = λ start at.
+pub returns-in-Some-2-clause-position : goal.returns-in-Some-2-clause-position
+returns-in-Some-2-clause-position g c = λ start at.
     at_deeper _ (joins_under _ g.met.H.Hear.joins _) _ _ _ _ _ _ _ _ _ _
     (popped _ _ _ _ c.in-Some.ensures.items c.deref.ensures.value) c.in_ok-push.ensures.items at
     (one_under _ g.met.H.Hear.joins _ _ _ _ c.in_ok-tell_event.ensures.told tt)
     (rw c.in-Some-2.is at c.in_ok-inside.ensures.found)
 
-pub returns-clause-place : goal.returns-clause-place
-returns-clause-place g c = λ start at.
+pub returns-clause-position : goal.returns-clause-position
+returns-clause-position g c = λ start at.
     at_more _ (joins_under _ g.met.H.Hear.joins _) _ _ _ _ _ _ _ _ _
     (popped _ _ _ _ c.in-Some.ensures.items c.deref.ensures.value) at
     (one_under _ g.met.H.Hear.joins _ _ _ _ c.in_ok-tell_event.ensures.told tt)
@@ -25,14 +25,14 @@ returns-clause-place g c = λ start at.
 
 pub returns-in_err-inside-clause-past : goal.returns-in_err-inside-clause-past
 returns-in_err-inside-clause-past g c = λ large.
-    limits_behind _ g.met.H.Hear.joins _ _ _ _ _ _ c.in_ok-tell_event.ensures.told
+    limits_after _ g.met.H.Hear.joins _ _ _ _ _ _ c.in_ok-tell_event.ensures.told
     (c.in_err-inside.ensures.past
     (ap Err (handed _ _ c.from_residual-in_err-inside.ensures.1 large)))
 
 pub returns-in_err-tell_event-2-clause-past : goal.returns-in_err-tell_event-2-clause-past
 returns-in_err-tell_event-2-clause-past g c = λ large.
-    inr (past_behind _ g.met.H.Hear.joins _ _ _ _ _ c.in_ok-tell_event.ensures.told
-    (found_behind _ g.met.H.Hear.joins _ _ _ _ _ _ c.in_ok-inside.ensures.found
+    inr (past_after _ g.met.H.Hear.joins _ _ _ _ _ c.in_ok-tell_event.ensures.told
+    (found_after _ g.met.H.Hear.joins _ _ _ _ _ _ c.in_ok-inside.ensures.found
     (subst (λ limit. IsToldPast g.H.Hear.heard (g.L.Limit.keeps limit) c.begin_entry.new.hearer
     c.tell_event-2.new.hearer) c.in_ok-inside.ensures.limit (c.in_err-tell_event-2.ensures.past
     (ap Err (handed _ _ c.from_residual-in_err-tell_event-2.ensures.1 large))))))

@@ -3,21 +3,21 @@ use denote.Param.Send.{IsSend, IsSync, param_send, sendable}
 use Rattle.store_run.proofs.kept_run.fn.run_beside.scope.Given.{Over}
 use Rattle.store_run.proofs.kept_run.fn.run_beside.scope.Lts.{arg-0-1}
 use Rattle.std.proofs.Crossing.{crosses}
-use Rattle.store_run.proofs.checkpoint_sink.KeepPlace.TheSendSync.{the_send as place_send}
+use Rattle.store_run.proofs.checkpoint_sink.TextSink.TheSendSync.{the_send as sink_send}
 use Rattle.store_run.proofs.kept_text.KeptText.TheSendSync.{the_send as text_send}
 use Rattle.store_run.proofs.locked.Locked.TheSendSync.{the_sync as locked_sync}
 use Rattle.store_run.proofs.kept_run.fn.run_beside.scope.Goals as goal
 
--- what the keeper takes may go to a thread, since it may of the outlet, the place and the runtime
-keeper_send : (g : Over) (κs : Lfts 7) (outlet : IsSend g.row.O) (place : IsSend g.row.K)
+-- what the keeper takes may go to a thread, since it may of the outlet, the sink and the runtime
+keeper_send : (g : Over) (κs : Lfts 7) (outlet : IsSend g.row.O) (sink : IsSend g.row.K)
     (runtime : IsSync g.row.R) → IsSend (arg-0-1 g.row.S g.row.R g.row.J g.row.O g.row.B g.row.K g.row.O-Told g.S.laws g.R.laws
     g.J.laws g.O.laws g.B.laws g.K.laws g.O.Told.laws g.S.Basis g.S.Basis-dict g.R.Threads
     g.R.Threads-dict g.R.Wait g.R.Wait-dict g.R.Clock g.R.Clock-dict g.J.ListId g.J.ListId-dict
     g.J.Showing g.J.Showing-dict g.O.Tells g.O.Tells-dict g.O.Outlet g.O.Outlet-dict g.B.Build
     g.B.Build-dict g.B.LeaseObserver g.B.LeaseObserver-dict g.K.CheckpointSink g.K.CheckpointSink-dict g.B.Destruct-dict
     g.K.Destruct-dict g.O.Told.Destruct-dict κs)
-keeper_send g κs outlet place runtime =
-    search (sendable, crosses, text_send, place_send, locked_sync) depth 60 fits 20000
+keeper_send g κs outlet sink runtime =
+    search (sendable, crosses, text_send, sink_send, locked_sync) depth 60 fits 20000
 
 -- the keeper may go to a thread, since the bounds say so of its parts
 pub spawn-requires-send-F : goal.spawn-requires-send-F

@@ -1,6 +1,0 @@
-use Rattle.std.proofs.Common.{rules}
-use Rattle.nix_drv.proofs.FormTexts.{behind_mark, on_ok}
-use Rattle.nix_drv.proofs.forms.write_list_behind.Goals as goal
-
-pub returns : goal.returns
-returns g c = search (rules, on_ok, behind_mark)

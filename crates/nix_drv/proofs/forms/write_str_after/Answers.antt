@@ -1,0 +1,6 @@
+use Rattle.std.proofs.Common.{rules}
+use Rattle.nix_drv.proofs.FormTexts.{after_mark, on_ok}
+use Rattle.nix_drv.proofs.forms.write_str_after.Goals as goal
+
+pub returns : goal.returns
+returns c = search (rules, on_ok, after_mark)
