@@ -10,6 +10,7 @@ use Rattle.drv_graph.specs.declared.profile.Profile.{Profile}
 use Rattle.drv_graph.specs.declared.profile.Profile.TheVariants.{Plain}
 use Rattle.nix_archive.specs.Trees.{AreBytes, AreEntries, Bytes, Entries, Entry, IsAfter, IsName, IsString, NoEntries}
 use Rattle.nix_archive.specs.Tokens.{Token, EntryBegun, FileByte, FolderBegun, file_tokens, tokens_among}
+use Rattle.process_build.specs.Contents.{AreMembersRead}
 use Rattle.process_build.specs.Errors.{IsNoMemory, IsNotFound}
 use Rattle.process_build.specs.private.Answers.{IsExecutable}
 use Rattle.process_build.specs.Walks.{IsPastLimits, IsTreeTold}
@@ -85,6 +86,13 @@ abbrev pub HaveSameNames : (some others : List (Vec ℕ Global)) → Type 0
 HaveSameNames some others = (name : Bytes)
     → Contains (map (λ (n : Vec ℕ Global). n.items) some) name
     ↔ Contains (map (λ (n : Vec ℕ Global). n.items) others) name
+
+-- These are the names of all members that a folder's listing had left, in whatever order.
+pub record AreNamesLeft (old new : Option Bytes) (names : List (Vec ℕ Global)) : Type 0 where
+  pub read : List (Vec ℕ Global)
+  pub are_read : AreMembersRead old new (map (λ (n : Vec ℕ Global). n.items) read)
+  pub is_ended : IsAtEnd new
+  pub same : HaveSameNames names read
 
 -- the names rise strictly by bytes, and come after another one
 abbrev pub AreAhead : (before : Bytes) → (names : List Bytes) → Type 0
