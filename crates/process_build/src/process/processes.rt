@@ -42,19 +42,20 @@ use std::sync::Wait;
 /// Builds each job by a process of its own, in a folder of its own: under `plain` within the store
 /// folder, under `nix` within the folder for build folders, made with mode 0700 where nothing lay.
 ///
-/// The job's output paths are cleared first, and under `plain` the build folder's: a file, a link or
-/// an empty folder is removed, anything else is moved aside. The builder then runs in the build
-/// folder, with the setup of the job's profile. Its standard input is empty, and what it prints goes
-/// to its log, or is not shown. If its exit status
-/// is 0, what it left at the output paths is read. At the end the build folder is cleared in the
-/// same way, and what was moved aside is removed. Where the folders of builders that failed are
-/// kept, that of a builder that ran waits for the end of the lease.
+/// The job's output paths are cleared first, and under `plain` the build folder's: a file, a link
+/// or an empty folder is removed, anything else is moved aside. The builder then runs in the build
+/// folder, with the setup of the job's profile. Its standard input is empty, and what it prints
+/// goes to its log, or is not shown. If its exit status is 0, what it left at the output paths is
+/// read. At the end the build folder is cleared in the same way, and what was moved aside is
+/// removed. Where the folders of builders that failed are kept, that of a builder that ran waits
+/// for the end of the lease.
 #[derive(Drop)]
 pub struct ProcessBuild<'a, R, P> {
     rt: &'a R,
     processes: &'a P,
     options: OwnOptions,
-    // The build folder of a builder that ran, whose lease hasn't ended.
+    // The build folder of a builder that ran, whose lease hasn't ended. It is in a cell, since
+    // `run` leaves it for `ended`, and both have `self` by a shared reference.
     left: Cell<Option<BuildFolder>>,
 }
 
@@ -191,11 +192,11 @@ impl<R: Files + Logs + Env + AllocGlobal, P: Processes> Build for ProcessBuild<'
 }
 
 impl<R: Files + AllocGlobal + Wait, P> LeaseObserver for ProcessBuild<'_, R, P> {
-    fn begun(&self, _unsettled: usize) {}
+    fn begun(&self, _number: u64, _job: &Job, _unsettled: usize) {}
 
     /// Clears the build folder that waits for the end of its lease, or keeps it, if the build
     /// failed.
-    fn ended(&self, is_good: bool, _unsettled: usize) {
+    fn ended(&self, _number: u64, is_good: bool, _unsettled: usize) {
         match self.left.take() {
             Some(left) if is_good => self.clear(&left),
             Some(left) => self.keep(&left),
