@@ -53,13 +53,13 @@ pub trait Build {
 /// it. The calls have no default bodies, so that a builder around another builder can't forget to
 /// pass them on.
 pub trait LeaseObserver {
-    /// Hears that a job is run next. `unsettled` is the number of wanted derivations that were
-    /// blocked, ready or building once its lease was taken. No lock is held. Calls of other workers
-    /// may come before this one, with newer numbers.
-    fn begun(&self, unsettled: usize);
+    /// Hears that a job is run next, under the lease with this number. `unsettled` is the number of
+    /// wanted derivations that were blocked, ready or building once the lease was taken. No lock is
+    /// held. Calls of other workers may come before this one, with newer numbers.
+    fn begun(&self, number: u64, job: &Job, unsettled: usize);
 
-    /// Hears that the lease of the job that was run has ended. `is_good` says whether its outputs
-    /// were registered; `unsettled` is the number of wanted derivations that were blocked, ready or
-    /// building then. No lock is held, as for `begun`.
-    fn ended(&self, is_good: bool, unsettled: usize);
+    /// Hears that the lease with this number has ended, of which `begun` told. `is_good` says
+    /// whether the outputs of its job were registered; `unsettled` is the number of wanted
+    /// derivations that were blocked, ready or building then. No lock is held, as for `begun`.
+    fn ended(&self, number: u64, is_good: bool, unsettled: usize);
 }

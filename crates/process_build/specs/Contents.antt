@@ -1,5 +1,6 @@
 -- What is read of an output: the bytes of a file, and the members of a folder.
-use Rattle.std.specs.Prelude.{◌≡◌, ◌≢◌, ◌<◌, ◌≤◌, ℕ, List, [], ◌∷◌, ◌++◌, All, IfSome, Option, codes, length}
+use Rattle.std.specs.Prelude.{◌≡◌, ◌<◌, ◌≤◌, ◌==◌, ◌&&◌, ℕ, Bool, List, [], ◌∷◌, ◌++◌, All, IfSome, Option, bytes_eq, codes, filter, length, not}
+use Rattle.std.specs.List.{concat, flat_map, slice_split}
 use Rattle.std.specs.Io.KnownBytes.{Consumes, IsAtEnd}
 use Rattle.std.specs.declared.alloc.Global.{Global}
 use Rattle.std.specs.declared.vec.Vec.{Vec}
@@ -25,10 +26,23 @@ IsAllowed profile tree = profile ≡ Plain → targets tree ≡ []
 abbrev pub IsMoreThan : ℕ → (left : Option Bytes) → Type 0
 IsMoreThan limit left = IfSome left (λ bytes. limit < length bytes)
 
--- a name in the listing of a folder is that of a member: it is not empty, and neither `.`, which is
--- the folder itself, nor `..`, the one above
-abbrev pub IsMemberName : Name → Type 0
-IsMemberName name = name ≢ [] × name ≢ codes "." × name ≢ codes ".."
+-- whether a name in the listing of a folder is that of a member: it is not empty, and neither `.`,
+-- which is the folder itself, nor `..`, the one above
+abbrev pub is_member : Name → Bool
+is_member name = not (length name == 0) && not (bytes_eq name (codes "."))
+    && not (bytes_eq name (codes ".."))
+
+-- the names of the members in a piece of a folder's listing, in its order; a zero byte ends each
+-- name
+abbrev pub members_in : (piece : Bytes) → List Name
+members_in piece = filter is_member (slice_split (λ byte. byte == 0) piece)
+
+-- The names of all members in what was read of a folder's listing, piece by piece, where that is
+-- known.
+pub record AreMembersRead (old new : Option Bytes) (names : List Name) : Type 0 where
+  pub pieces : List Bytes
+  pub is_read : Consumes old new (concat pieces)
+  pub are_all : names ≡ flat_map members_in pieces
 
 -- the path of a member of the folder at a path
 abbrev pub child_of : (path : Bytes) → Name → Bytes

@@ -45,7 +45,7 @@ pub fn work_heard<R: Listen, J: ListId, O: Tells<J>, B: Build + LeaseObserver, S
     for _ in rt.forever() {
         taken = match taken {
             Some((lease, unsettled)) => {
-                builder.begun(unsettled);
+                builder.begun(lease.number(), lease.job(), unsettled);
                 build(rt, alloc, locked, &mut reader, builder, lease)
             }
             None => return,
@@ -69,13 +69,14 @@ fn build<R: Listen, J: ListId, O: Tells<J>, B: Build + LeaseObserver, S: Basis>(
 {
     learn::<J, O>(reader, &mut lease);
     let found = found_of(alloc, reader, builder, &lease);
+    let number = lease.number();
     let (end, turn) = locked.end(rt, reader, lease, found);
     let Turn {
         step,
         wake: _,
         unsettled,
     } = turn;
-    builder.ended(matches!(end, LeaseEnd::Registered), unsettled);
+    builder.ended(number, matches!(end, LeaseEnd::Registered), unsettled);
     match step {
         Step::Build(lease) => Some((lease, unsettled)),
         Step::Wait => locked.take(rt),

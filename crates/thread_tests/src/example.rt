@@ -86,9 +86,9 @@ impl Build for Program {
 }
 
 impl LeaseObserver for Program {
-    fn begun(&self, _unsettled: usize) {}
+    fn begun(&self, _number: u64, _job: &Job, _unsettled: usize) {}
 
-    fn ended(&self, _is_good: bool, _unsettled: usize) {}
+    fn ended(&self, _number: u64, _is_good: bool, _unsettled: usize) {}
 }
 
 // The law at this builder: both histories of the example are alike.

@@ -19,13 +19,14 @@ use valid_table::OutletFault;
 pub(crate) enum Act {
     /// It calls the run's lock.
     Lock(LockCall),
-    /// Its builder hears that a job is run next, and how many derivations are unsettled.
-    Begins(usize),
+    /// Its builder hears that the job of a derivation is run next, under the lease with this
+    /// number, and how many derivations are unsettled.
+    Begins(usize, u64, usize),
     /// Its builder runs the job of a derivation, under the lease with this number.
     Runs(usize, u64),
-    /// Its builder hears whether the job's outputs were registered, and how many derivations are
-    /// unsettled.
-    Ends(bool, usize),
+    /// Its builder hears that the lease with this number has ended, whether the job's outputs were
+    /// registered, and how many derivations are unsettled.
+    Ends(u64, bool, usize),
     /// It has ended.
     Leaves,
 }
@@ -198,11 +199,11 @@ impl<R: Wait + Clock> Build for Worker<'_, R> {
 }
 
 impl<R: Wait> LeaseObserver for Worker<'_, R> {
-    fn begun(&self, unsettled: usize) {
-        self.note(Act::Begins(unsettled));
+    fn begun(&self, number: u64, job: &Job, unsettled: usize) {
+        self.note(Act::Begins(job.derivation, number, unsettled));
     }
 
-    fn ended(&self, is_good: bool, unsettled: usize) {
-        self.note(Act::Ends(is_good, unsettled));
+    fn ended(&self, number: u64, is_good: bool, unsettled: usize) {
+        self.note(Act::Ends(number, is_good, unsettled));
     }
 }

@@ -37,10 +37,10 @@ fn ended_by_acts(alloc: Global, acts: &[(usize, Act)], workers: usize) -> Result
     let mut ended = Vec::new(alloc);
     for (worker, act) in acts {
         match (act, running.get_mut(*worker)) {
-            (Act::Runs(d, number), Some(slot)) => *slot = Some((*number, *d)),
-            (Act::Ends(is_good, _), Some(slot)) => {
-                if let Some((number, d)) = slot.take() {
-                    ended.push((number, d, *is_good))?;
+            (Act::Runs(d, _), Some(slot)) => *slot = Some(*d),
+            (Act::Ends(number, is_good, _), Some(slot)) => {
+                if let Some(d) = slot.take() {
+                    ended.push((*number, d, *is_good))?;
                 }
             }
             _ => {}
@@ -96,12 +96,12 @@ fn alone<R: Host>(rt: &R, alloc: Global, behaviour: Behaviour) -> Result<String,
     text_of(alloc, &acts, 0)
 }
 
-const FAILED: &str = "Lock(Taken) Lock(Freed) Begins(2) Runs(0, 0) \
-    Lock(Taken) Lock(Freed) Lock(WakesAll) Ends(false, 0) Leaves ";
+const FAILED: &str = "Lock(Taken) Lock(Freed) Begins(0, 0, 2) Runs(0, 0) \
+    Lock(Taken) Lock(Freed) Lock(WakesAll) Ends(0, false, 0) Leaves ";
 
 // No builder was run. The lease was given up, so both are unsettled.
-const STOPPED: &str = "Lock(Taken) Lock(Freed) Begins(2) \
-    Lock(Taken) Lock(Freed) Lock(WakesAll) Ends(false, 2) Leaves ";
+const STOPPED: &str = "Lock(Taken) Lock(Freed) Begins(0, 0, 2) \
+    Lock(Taken) Lock(Freed) Lock(WakesAll) Ends(0, false, 2) Leaves ";
 
 // A builder without an answer has not built anything, whatever the reason.
 #[test]

@@ -10,20 +10,21 @@ use store_run::LockCall;
 use valid_table::Journal;
 
 /// What one worker does over two links.
-pub(crate) const CHAIN: &str = "Lock(Taken) Lock(Freed) Begins(2) Runs(0, 0) \
-    Lock(Taken) Lock(Freed) Ends(true, 1) Begins(1) Runs(1, 1) \
-    Lock(Taken) Lock(Freed) Lock(WakesAll) Ends(true, 0) Leaves ";
+pub(crate) const CHAIN: &str = "Lock(Taken) Lock(Freed) Begins(0, 0, 2) Runs(0, 0) \
+    Lock(Taken) Lock(Freed) Ends(0, true, 1) Begins(1, 1, 1) Runs(1, 1) \
+    Lock(Taken) Lock(Freed) Lock(WakesAll) Ends(1, true, 0) Leaves ";
 
 // What a worker does for which nothing is ready until the run ends.
 const IDLE: &str = "Lock(Taken) Lock(Waits) Lock(Woken) Lock(Freed) Lock(WakesAll) Leaves ";
 
-const BASE_AND_USER: &str = "Lock(Taken) Lock(Freed) Begins(3) Runs(0, 0) \
-    Lock(Taken) Lock(Freed) Lock(WakesOne) Ends(true, 2) Begins(2) Runs(1, 1) \
-    Lock(Taken) Lock(Freed) Ends(true, 1) \
+const BASE_AND_USER: &str = "Lock(Taken) Lock(Freed) Begins(0, 0, 3) Runs(0, 0) \
+    Lock(Taken) Lock(Freed) Lock(WakesOne) Ends(0, true, 2) Begins(1, 1, 2) Runs(1, 1) \
+    Lock(Taken) Lock(Freed) Ends(1, true, 1) \
     Lock(Taken) Lock(Waits) Lock(Woken) Lock(Freed) Lock(WakesAll) Leaves ";
 
-const OTHER_USER: &str = "Lock(Taken) Lock(Waits) Lock(Woken) Lock(Freed) Begins(2) Runs(2, 2) \
-    Lock(Taken) Lock(Freed) Lock(WakesAll) Ends(true, 0) Leaves ";
+const OTHER_USER: &str =
+    "Lock(Taken) Lock(Waits) Lock(Woken) Lock(Freed) Begins(2, 2, 2) Runs(2, 2) \
+    Lock(Taken) Lock(Freed) Lock(WakesAll) Ends(2, true, 0) Leaves ";
 
 // Runs of two links, and of two users of a base: which derivations each uses, and what each worker
 // does, as texts in rising order.
@@ -84,14 +85,14 @@ fn may_follow(last: Act, next: Act) -> bool {
         Act::Lock(LockCall::Waits) => next == Act::Lock(LockCall::Woken),
         Act::Lock(LockCall::Freed) => matches!(
             next,
-            Act::Lock(LockCall::WakesOne | LockCall::WakesAll) | Act::Begins(_) | Act::Ends(_, _)
+            Act::Lock(LockCall::WakesOne | LockCall::WakesAll) | Act::Begins(..) | Act::Ends(..)
         ),
-        Act::Lock(LockCall::WakesOne) => matches!(next, Act::Begins(_) | Act::Ends(_, _)),
-        Act::Lock(LockCall::WakesAll) => matches!(next, Act::Ends(_, _) | Act::Leaves),
-        Act::Begins(_) => matches!(next, Act::Runs(_, _)),
-        Act::Runs(_, _) => next == Act::Lock(LockCall::Taken),
-        Act::Ends(_, _) => {
-            matches!(next, Act::Begins(_) | Act::Leaves) || next == Act::Lock(LockCall::Taken)
+        Act::Lock(LockCall::WakesOne) => matches!(next, Act::Begins(..) | Act::Ends(..)),
+        Act::Lock(LockCall::WakesAll) => matches!(next, Act::Ends(..) | Act::Leaves),
+        Act::Begins(d, number, _) => next == Act::Runs(d, number),
+        Act::Runs(..) => next == Act::Lock(LockCall::Taken),
+        Act::Ends(..) => {
+            matches!(next, Act::Begins(..) | Act::Leaves) || next == Act::Lock(LockCall::Taken)
         }
         Act::Leaves => false,
     }
@@ -114,7 +115,7 @@ type Wrong = Result<Option<(usize, Act)>, Fail>;
 // The first act of `count` workers that may not follow what they did before. Each begins as one
 // whose builder has heard of an end.
 fn first_wrong(alloc: Global, acts: &[(usize, Act)], count: usize) -> Wrong {
-    let mut last = vec![in alloc; Act::Ends(true, 0); count]?;
+    let mut last = vec![in alloc; Act::Ends(0, true, 0); count]?;
     let mut holder = None;
     for (worker, act) in acts {
         match (last.get_mut(*worker), holder_after(holder, *worker, *act)) {

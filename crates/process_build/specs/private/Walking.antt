@@ -10,15 +10,19 @@ use Rattle.drv_graph.specs.declared.profile.Profile.{Profile}
 use Rattle.drv_graph.specs.declared.profile.Profile.TheVariants.{Plain}
 use Rattle.nix_archive.specs.Trees.{AreBytes, AreEntries, Bytes, Entries, Entry, IsAfter, IsName, IsString, NoEntries}
 use Rattle.nix_archive.specs.Tokens.{Token, EntryBegun, FileByte, FolderBegun, file_tokens, tokens_among}
+use Rattle.process_build.specs.Contents.{AreMembersRead}
 use Rattle.process_build.specs.Errors.{IsNoMemory, IsNotFound}
 use Rattle.process_build.specs.private.Answers.{IsExecutable}
-use Rattle.process_build.specs.Walks.{IsTreeTold}
+use Rattle.process_build.specs.Walks.{IsPastLimits, IsTreeTold}
 use Rattle.process_build.specs.declared.walk.fault.WalkFault.{WalkFault}
 use Rattle.process_build.specs.declared.walk.fault.WalkFault.TheVariants.{NoMemory, Unreadable}
 use Rattle.process_build.specs.declared.walk.found.Found.{Found}
 use Rattle.process_build.specs.declared.walk.found.FoundFile.{FoundFile}
 use Rattle.process_build.specs.declared.walk.found.Found.TheVariants.{File, Folder, Link}
+use Rattle.process_build.specs.declared.walk.fault.Halt.{Halt}
+use Rattle.process_build.specs.declared.walk.fault.Halt.TheVariants.{TooLarge}
 use Rattle.process_build.specs.declared.walk.tree_walk.OpenFolder.{OpenFolder}
+use Rattle.process_build.specs.declared.walk.tree_walk.Walk.{Walk}
 
 -- ---- what lies at a path
 
@@ -82,6 +86,13 @@ abbrev pub HaveSameNames : (some others : List (Vec ℕ Global)) → Type 0
 HaveSameNames some others = (name : Bytes)
     → Contains (map (λ (n : Vec ℕ Global). n.items) some) name
     ↔ Contains (map (λ (n : Vec ℕ Global). n.items) others) name
+
+-- These are the names of all members that a folder's listing had left, in whatever order.
+pub record AreNamesLeft (old new : Option Bytes) (names : List (Vec ℕ Global)) : Type 0 where
+  pub read : List (Vec ℕ Global)
+  pub are_read : AreMembersRead old new (map (λ (n : Vec ℕ Global). n.items) read)
+  pub is_ended : IsAtEnd new
+  pub same : HaveSameNames names read
 
 -- the names rise strictly by bytes, and come after another one
 abbrev pub AreAhead : (before : Bytes) → (names : List Bytes) → Type 0
@@ -166,3 +177,15 @@ abbrev pub IsFoundTold : {S : Type 0} (heard : S → List Token → S → Type 0
     → Option OpenFolder → Type 0
 IsFoundTold heard before after None = IsTreeTold heard before after
 IsFoundTold heard before after (Some folder) = IsFolderBegun heard before after folder
+
+-- ---- steps
+
+-- A walk took a step, whatever it told: it is still over the same output, and under the same limit.
+-- Where it answers `TooLarge`, it passed a limit.
+pub record IsStepOf {S R L T : Type 0} (heard : S → List Token → S → Type 0)
+    (keeps : L → S → Type 0) (old new : Walk R L) (before after : S) (result : Result T Halt)
+    : Type 0 where
+  pub same : new.profile ≡ old.profile
+  pub limit : new.limit.now ≡ old.limit.now
+  pub past : result ≡ Err TooLarge
+      → IsPastLimits old.profile heard (keeps old.limit.now) before after

@@ -9,7 +9,7 @@ ghost use Rattle.process_build.specs.private.Answers.{IsReadAs, IsReadingFault, 
 ghost use Rattle.process_build.specs.Contents.{IsAllowed};
 ghost use Rattle.build_outcome.specs.declared.job.LeftOutput.{LeftOutput};
 ghost use Rattle.ref_scan.specs.declared.tree.Member.{Member};
-ghost use Rattle.process_build.specs.Contents.{child_of, IsMemberName, IsMoreThan, IsWhole};
+ghost use Rattle.process_build.specs.Contents.{child_of, is_member, IsMoreThan, IsWhole};
 ghost use Rattle.ref_scan.specs.Trees.{joined};
 ghost use Rattle.build_outcome.specs.declared.reason.Reason.TheVariants.{OutOfMemory, ReadFault};
 ghost use Rattle.build_outcome.specs.declared.reason.Reason.TheVariants.{TooLarge};
@@ -369,7 +369,7 @@ pub(crate) fn read_once<F: Read>(file: &mut F, buffer: &mut [u8]) -> io::Result<
 // Whether a name that was read in a folder is that of a member: it is not empty, and neither the
 // folder itself nor the one above.
 pub(crate) fn is_member(name: &[u8]) -> bool
-    ensures { IsTrue result ↔ IsMemberName name.now }
+    ensures { result ≡ is_member name.now }
 {
     if name.is_empty() {
         return false;

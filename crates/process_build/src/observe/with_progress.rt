@@ -9,7 +9,6 @@ use crate::process::options::BuildOptions;
 use build_outcome::{Answer, Build, Checked, Job, LeaseObserver, Prepared, Reason};
 use nix_names::StorePath;
 use std::alloc::{AllocError, Global};
-use std::cell::Cell;
 use std::io::Write;
 use std::sync::Wait;
 use std::time::Clock;
@@ -21,25 +20,22 @@ pub struct Watched<'a, R, B, W> {
     builder: B,
     drvs: DrvPaths,
     progress: &'a ProgressLine<W>,
-    unsettled: Cell<usize>,
-    number: Cell<u64>,
 }
 
 impl<R: Wait + Clock + AllocGlobal, B: Build, W: Write> Build for Watched<'_, R, B, W> {
     ghost may = { B.may };
 
-    /// Tells the line that a job begins, and builds it as the builder does.
+    /// Builds a job as the builder does.
     fn run(
         &self,
         number: u64,
         job: &Job,
         prepared: &Result<Prepared, Reason>,
     ) -> Result<Answer, Reason> {
-        self.begin(number, job);
         self.builder.run(number, job, prepared)
     }
 
-    /// Tells the line that a job begins, and builds and examines it as the builder does.
+    /// Builds and examines a job as the builder does.
     fn run_examined(
         &self,
         number: u64,
@@ -47,35 +43,24 @@ impl<R: Wait + Clock + AllocGlobal, B: Build, W: Write> Build for Watched<'_, R,
         prepared: &Result<Prepared, Reason>,
         permitted: &[StorePath],
     ) -> Result<Result<Checked, Reason>, Reason> {
-        self.begin(number, job);
         self.builder.run_examined(number, job, prepared, permitted)
-    }
-}
-
-impl<R: Wait + Clock + AllocGlobal, B, W: Write> Watched<'_, R, B, W> {
-    // Tells the line that a job begins.
-    fn begin(&self, number: u64, job: &Job) {
-        let drv = self.drvs.get(job.derivation);
-        let running = RunningLease::of(self.rt.alloc(), drv, number, now(self.rt));
-        self.number.set(number);
-        self.progress.begin(self.rt, running, self.unsettled.get());
     }
 }
 
 impl<R: Wait + Clock + AllocGlobal, B: LeaseObserver, W: Write> LeaseObserver
     for Watched<'_, R, B, W> {
-    /// Hears how many derivations are unsettled, which the line tells once the job is run, and
-    /// tells the builder.
-    fn begun(&self, unsettled: usize) {
-        self.unsettled.set(unsettled);
-        self.builder.begun(unsettled);
+    /// Tells the line that a lease begins, and the builder.
+    fn begun(&self, number: u64, job: &Job, unsettled: usize) {
+        let drv = self.drvs.get(job.derivation);
+        let running = RunningLease::of(self.rt.alloc(), drv, number, now(self.rt));
+        self.progress.begin(self.rt, running, unsettled);
+        self.builder.begun(number, job, unsettled);
     }
 
-    /// Tells the line that a job's lease ended, and the builder.
-    fn ended(&self, is_good: bool, unsettled: usize) {
-        self.progress
-            .finish(self.rt, self.number.get(), is_good, unsettled);
-        self.builder.ended(is_good, unsettled);
+    /// Tells the line that a lease has ended, and the builder.
+    fn ended(&self, number: u64, is_good: bool, unsettled: usize) {
+        self.progress.finish(self.rt, number, is_good, unsettled);
+        self.builder.ended(number, is_good, unsettled);
     }
 }
 
@@ -114,8 +99,6 @@ where
             builder: self.make.builder(alloc, options)?,
             drvs: options.drvs.copy()?,
             progress: self.progress,
-            unsettled: Cell::new(0),
-            number: Cell::new(0),
         })
     }
 }

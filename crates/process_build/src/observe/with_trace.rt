@@ -68,14 +68,14 @@ impl<R: Wait + Clock + AllocGlobal, B> Traced<'_, R, B> {
 }
 
 impl<R: Wait + Clock + AllocGlobal, B: LeaseObserver> LeaseObserver for Traced<'_, R, B> {
-    /// Tells the builder that a job begins.
-    fn begun(&self, unsettled: usize) {
-        self.builder.begun(unsettled);
+    /// Tells the builder that a lease begins.
+    fn begun(&self, number: u64, job: &Job, unsettled: usize) {
+        self.builder.begun(number, job, unsettled);
     }
 
-    /// Tells the builder that a job's lease ended.
-    fn ended(&self, is_good: bool, unsettled: usize) {
-        self.builder.ended(is_good, unsettled);
+    /// Tells the builder that a lease has ended.
+    fn ended(&self, number: u64, is_good: bool, unsettled: usize) {
+        self.builder.ended(number, is_good, unsettled);
     }
 }
 
@@ -86,6 +86,7 @@ pub struct WithTrace<'a, R, M> {
     rt: &'a R,
     make: &'a M,
     trace: Option<&'a Trace>,
+    // How many builders were made. It is in a cell, since `builder` counts by a shared reference.
     made: Cell<usize>,
 }
 

@@ -54,7 +54,8 @@ pub struct ProcessBuild<'a, R, P> {
     rt: &'a R,
     processes: &'a P,
     options: OwnOptions,
-    // The build folder of a builder that ran, whose lease hasn't ended.
+    // The build folder of a builder that ran, whose lease hasn't ended. It is in a cell, since
+    // `run` leaves it for `ended`, and both have `self` by a shared reference.
     left: Cell<Option<BuildFolder>>,
 }
 
@@ -190,11 +191,11 @@ impl<R: Files + Logs + Env + AllocGlobal, P: Processes> Build for ProcessBuild<'
 }
 
 impl<R: Files + AllocGlobal + Wait, P> LeaseObserver for ProcessBuild<'_, R, P> {
-    fn begun(&self, _unsettled: usize) {}
+    fn begun(&self, _number: u64, _job: &Job, _unsettled: usize) {}
 
     /// Clears the build folder that waits for the end of its lease, or keeps it, if the build
     /// failed.
-    fn ended(&self, is_good: bool, _unsettled: usize) {
+    fn ended(&self, _number: u64, is_good: bool, _unsettled: usize) {
         match self.left.take() {
             Some(left) if is_good => self.clear(&left),
             Some(left) => self.note_kept_folder(&left),

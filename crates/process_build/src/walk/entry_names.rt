@@ -1,10 +1,13 @@
 //! The names of a folder's entries, in the order in which they are told.
-ghost use Rattle.std.specs.Prelude.{◌≡◌, ◌<◌, ◌≤◌, ◌+◌, ◌^◌, [], Err, IfOk, OnOk, length};
-ghost use Rattle.std.specs.Prelude.{string_bytes};
+ghost use Rattle.std.specs.Prelude.{◌≡◌, ◌<◌, ◌≤◌, ◌+◌, ◌^◌, [], ◌++◌, Err, IfOk, OnOk, length};
+ghost use Rattle.std.specs.Prelude.{map, string_bytes};
+ghost use Rattle.std.specs.Io.KnownBytes.{IsAtEnd};
+ghost use Rattle.nix_drv.specs.Parts.{bytes_of};
 ghost use Rattle.nix_archive.specs.Trees.{IsName};
-ghost use Rattle.process_build.specs.Contents.{child_of};
+ghost use Rattle.process_build.specs.Contents.{AreMembersRead, child_of, members_in};
 ghost use Rattle.process_build.specs.declared.walk.fault.Halt.TheVariants.{TooLarge};
-ghost use Rattle.process_build.specs.private.Walking.{AreAhead, AreNames, HaveSameNames, first_first};
+ghost use Rattle.process_build.specs.private.Walking.{AreAhead, AreNames, AreNamesLeft};
+ghost use Rattle.process_build.specs.private.Walking.{HaveSameNames, first_first};
 
 use crate::disk::outputs::{is_member, join_path, read_once};
 use crate::walk::fault::{Halt, WalkFault};
@@ -28,7 +31,18 @@ pub(crate) fn names_at<R: Files + AllocGlobal>(
     ensures limited { result ≡ Err TooLarge → most + 1 < 2 ^ 64 }
 {
     let mut folder = rt.open_dir(path)?;
-    let names = read_names(rt.alloc(), &mut folder, most)?;
+    names_in(rt.alloc(), &mut folder, most)
+}
+
+// The names that a folder's listing has left, the last by bytes first, each once. `TooLarge` where
+// there are more than `most`.
+fn names_in<F: Read>(alloc: Global, folder: &mut F, most: usize) -> Result<Vec<Vec<u8>>, Halt>
+    ensures names { IfOk result (λ names. AreAhead [] (first_first names.items)) }
+    ensures all { IfOk result (λ names.
+        AreNamesLeft (F.remaining folder.old) (F.remaining folder.new) names.items) }
+    ensures limited { result ≡ Err TooLarge → most + 1 < 2 ^ 64 }
+{
+    let names = read_names(alloc, folder, most)?;
     Ok(last_first(names))
 }
 
@@ -36,6 +50,9 @@ pub(crate) fn names_at<R: Files + AllocGlobal>(
 // and `TooLarge` where there are more than `most`, which are not all read then.
 fn read_names<F: Read>(alloc: Global, folder: &mut F, most: usize) -> Result<Vec<Vec<u8>>, Halt>
     ensures names { IfOk result (λ names. AreNames names.items) }
+    ensures all { IfOk result (λ names. AreMembersRead (F.remaining folder.old)
+        (F.remaining folder.new) (map bytes_of names.items)) }
+    ensures ended { IfOk result (λ _. IsAtEnd (F.remaining folder.new)) }
     ensures most { IfOk result (λ names. length names.items ≤ most) }
     ensures limited { result ≡ Err TooLarge → most + 1 < 2 ^ 64 }
 {
@@ -55,15 +72,15 @@ fn read_names<F: Read>(alloc: Global, folder: &mut F, most: usize) -> Result<Vec
     Err(Halt::Fault(WalkFault::Unreadable))
 }
 
-// Adds names, each of which is ended by a zero byte, to a list.
+// Adds the names of the members in a piece of a folder's listing, in its order, to a list.
 fn push_names(alloc: Global, read: &[u8], names: &mut Vec<Vec<u8>>) -> Result<(), WalkFault>
     requires { AreNames names.old.items }
-    ensures { OnOk result (AreNames names.new.items) }
+    ensures names { OnOk result (AreNames names.new.items) }
+    ensures all { OnOk result (map bytes_of names.new.items
+        ≡ map bytes_of names.old.items ++ members_in read.now) }
 {
-    for name in read.split(|byte| *byte == 0) {
-        if is_member(name) {
-            names.push(entry_name(alloc, name)?)?;
-        }
+    for name in read.split(|byte| *byte == 0).filter(|name| is_member(name)) {
+        names.push(entry_name(alloc, name)?)?;
     }
     Ok(())
 }

@@ -9,7 +9,7 @@ ghost use Rattle.process_build.specs.Walks.{HearsUnder, IsPastLimits, IsTold, Is
 ghost use Rattle.process_build.specs.Walks.{IsTreeTold};
 ghost use Rattle.process_build.specs.declared.walk.fault.Halt.TheVariants.{TooLarge};
 ghost use Rattle.process_build.specs.private.Walking.{IsAt, IsFileAllowed, IsFolderBegun, IsFoundAllowed};
-ghost use Rattle.process_build.specs.private.Walking.{IsFoundTold, IsLinkAllowed, IsAtOrDone, ahead_of};
+ghost use Rattle.process_build.specs.private.Walking.{IsFoundTold, IsLinkAllowed, IsAtOrDone, IsStepOf, ahead_of};
 
 use crate::disk::canonical::make_canonical;
 use crate::walk::entry_names::{entry_path, names_at};
@@ -145,10 +145,7 @@ impl<'a, R: Files + AllocGlobal, L> Walk<'a, R, L> {
             around.old.items
             → IsAtOrDone (HearsUnder self.old.profile H.heard) start hearer.new position
             around.new.items) }
-        ensures past { result ≡ Err TooLarge → IsPastLimits self.old.profile H.heard
-            (L.keeps self.old.limit.now) hearer.old hearer.new }
-        ensures same { self.new.profile ≡ self.old.profile }
-        ensures limit { self.new.limit.now ≡ self.old.limit.now }
+        ensures step { IsStepOf H.heard L.keeps self.old self.new hearer.old hearer.new result }
     {
         let mut folder = folder;
         let Some(name) = folder.names.pop() else {
@@ -175,10 +172,7 @@ impl<'a, R: Files + AllocGlobal, L> Walk<'a, R, L> {
         L: Limit<H>,
         ensures found { IfOk result
             (IsFoundTold (HearsUnder self.old.profile H.heard) hearer.old hearer.new) }
-        ensures past { result ≡ Err TooLarge → IsPastLimits self.old.profile H.heard
-            (L.keeps self.old.limit.now) hearer.old hearer.new }
-        ensures same { self.new.profile ≡ self.old.profile }
-        ensures limit { self.new.limit.now ≡ self.old.limit.now }
+        ensures step { IsStepOf H.heard L.keeps self.old self.new hearer.old hearer.new result }
     {
         let path = entry_path(self.rt.alloc(), folder, name)?;
         let asked = fs::symlink_metadata(self.rt, path.as_str());
@@ -200,10 +194,7 @@ impl<'a, R: Files + AllocGlobal, L> Walk<'a, R, L> {
         requires { IsFoundAllowed self.old.profile found }
         ensures found { IfOk result
             (IsFoundTold (HearsUnder self.old.profile H.heard) hearer.old hearer.new) }
-        ensures past { result ≡ Err TooLarge → IsPastLimits self.old.profile H.heard
-            (L.keeps self.old.limit.now) hearer.old hearer.new }
-        ensures same { self.new.profile ≡ self.old.profile }
-        ensures limit { self.new.limit.now ≡ self.old.limit.now }
+        ensures step { IsStepOf H.heard L.keeps self.old self.new hearer.old hearer.new result }
     {
         match found {
             Found::File(file) => {
@@ -230,10 +221,7 @@ impl<'a, R: Files + AllocGlobal, L> Walk<'a, R, L> {
         requires { IsFileAllowed self.old.profile found }
         ensures told { OnOk result
             (IsTreeTold (HearsUnder self.old.profile H.heard) hearer.old hearer.new) }
-        ensures past { result ≡ Err TooLarge → IsPastLimits self.old.profile H.heard
-            (L.keeps self.old.limit.now) hearer.old hearer.new }
-        ensures same { self.new.profile ≡ self.old.profile }
-        ensures limit { self.new.limit.now ≡ self.old.limit.now }
+        ensures step { IsStepOf H.heard L.keeps self.old self.new hearer.old hearer.new result }
     {
         let mut file = fs::open(self.rt, path)?;
         tell_file(&mut file, &mut self.buffer, found, self.limit, hearer)?;
@@ -261,10 +249,7 @@ impl<'a, R: Files + AllocGlobal, L> Walk<'a, R, L> {
         L: Limit<H>,
         ensures folder { IfOk result (λ folder.
             IsFolderBegun (HearsUnder self.old.profile H.heard) hearer.old hearer.new folder) }
-        ensures past { result ≡ Err TooLarge → IsPastLimits self.old.profile H.heard
-            (L.keeps self.old.limit.now) hearer.old hearer.new }
-        ensures same { self.new.profile ≡ self.old.profile }
-        ensures limit { self.new.limit.now ≡ self.old.limit.now }
+        ensures step { IsStepOf H.heard L.keeps self.old self.new hearer.old hearer.new result }
     {
         let names = names_at(self.rt, path.as_str(), self.most_names())?;
         self.names = self.names.saturating_sub(names.len());

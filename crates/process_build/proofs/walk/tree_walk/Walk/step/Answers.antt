@@ -23,16 +23,25 @@ returns-clause-position g c = λ start at.
     (rw c.in_default-2.is at c.in_ok-inside.ensures.found)
     (one_under _ g.met.H.Hear.joins _ _ _ _ c.in_ok-tell_event-2.ensures.told tt)
 
-pub returns-in_err-inside-clause-past : goal.returns-in_err-inside-clause-past
-returns-in_err-inside-clause-past g c = λ large.
-    limits_after _ g.met.H.Hear.joins _ _ _ _ _ _ c.in_ok-tell_event.ensures.told
-    (c.in_err-inside.ensures.past
-    (ap Err (handed _ _ c.from_residual-in_err-inside.ensures.1 large)))
+pub returns-in_err-inside-clause-step : goal.returns-in_err-inside-clause-step
+returns-in_err-inside-clause-step g c = record {
+  same = c.in_err-inside.ensures.step.same;
+  limit = c.in_err-inside.ensures.step.limit;
+  past = λ large.
+      limits_after _ g.met.H.Hear.joins _ _ _ _ _ _ c.in_ok-tell_event.ensures.told
+      (c.in_err-inside.ensures.step.past
+      (ap Err (handed _ _ c.from_residual-in_err-inside.ensures.1 large)));
+}
 
-pub returns-in_err-tell_event-2-clause-past : goal.returns-in_err-tell_event-2-clause-past
-returns-in_err-tell_event-2-clause-past g c = λ large.
-    inr (past_after _ g.met.H.Hear.joins _ _ _ _ _ c.in_ok-tell_event.ensures.told
-    (found_after _ g.met.H.Hear.joins _ _ _ _ _ _ c.in_ok-inside.ensures.found
-    (subst (λ limit. IsToldPast g.H.Hear.heard (g.L.Limit.keeps limit) c.begin_entry.new.hearer
-    c.tell_event-2.new.hearer) c.in_ok-inside.ensures.limit (c.in_err-tell_event-2.ensures.past
-    (ap Err (handed _ _ c.from_residual-in_err-tell_event-2.ensures.1 large))))))
+pub returns-in_err-tell_event-2-clause-step : goal.returns-in_err-tell_event-2-clause-step
+returns-in_err-tell_event-2-clause-step g c = record {
+  same = c.in_ok-inside.ensures.step.same;
+  limit = c.in_ok-inside.ensures.step.limit;
+  past = λ large.
+      inr (past_after _ g.met.H.Hear.joins _ _ _ _ _ c.in_ok-tell_event.ensures.told
+      (found_after _ g.met.H.Hear.joins _ _ _ _ _ _ c.in_ok-inside.ensures.found
+      (subst (λ limit. IsToldPast g.H.Hear.heard (g.L.Limit.keeps limit) c.begin_entry.new.hearer
+      c.tell_event-2.new.hearer) c.in_ok-inside.ensures.step.limit
+      (c.in_err-tell_event-2.ensures.past
+      (ap Err (handed _ _ c.from_residual-in_err-tell_event-2.ensures.1 large))))));
+}
