@@ -18,12 +18,13 @@ use Rattle.ref_scan.specs.declared.tree_archive.sum.ArchiveSum.{ArchiveSum}
 use Rattle.ref_scan.specs.declared.tree.Tree.{Tree}
 use Rattle.ref_scan.proofs.Belows.{one_archive as archive_is_one}
 use Rattle.valid_table.specs.PathInfos.{NarInfo}
+use Rattle.build_outcome.specs.declared.hearers.algorithm_sink.AlgorithmSink.{AlgorithmSink}
 use Rattle.build_outcome.specs.declared.job.Answer.{Answer}
 use Rattle.build_outcome.specs.declared.job.Job.{Job}
 use Rattle.build_outcome.specs.declared.reason.Reason.{Reason}
 use Rattle.build_outcome.specs.declared.reason.Reason.TheVariants.{OutOfMemory, ReadFault}
 use Rattle.build_outcome.specs.declared.sums.OutputSum.{OutputSum}
-use Rattle.build_outcome.specs.private.Hashing.{IsFed}
+use Rattle.build_outcome.specs.Sinks.{Hashes, IsHashedBy}
 use Rattle.build_outcome.specs.Sums.{IsOutputSum, archive_algorithm}
 use Rattle.build_outcome.specs.private.Summing.{AreSums, AreSumsSoFar, IsSumAt, TellsNar}
 use Rattle.build_outcome.specs.Verdicts.{AreRead, HasArchive, HasNoArchive, IsExamining, IsNarOf, NeedsArchive, digest_by, tree_at}
@@ -78,17 +79,16 @@ nar_told tree sum None told past = past_the_bound tree sum told past
 nar_told tree sum (Some nar) told (hash, size, within) =
     within_the_bound tree sum nar told within hash size
 
--- a hasher that holds an archive gives its digest
-pub hashed : {D : Type 0} (holds : D → List ℕ → Type 0) (tree : Tree) (first last : D)
-    (digest : List ℕ) (digest_of : List ℕ → List ℕ) → holds first []
-    → IsArchived tree (λ bytes. IsFed holds first bytes last)
-    → ((m : List ℕ) → holds last m → digest ≡ digest_of m)
-    → IsArchived tree (λ bytes. digest ≡ digest_of bytes)
-hashed holds tree first last digest digest_of empty told gives = record {
+-- a sink that took an archive gives its digest
+pub hashed : (algorithm : Algorithm) (tree : Tree) (first last : AlgorithmSink) (digest : Digest)
+    → Hashes first algorithm [] → IsArchived tree (λ bytes. IsHashedBy first bytes last)
+    → ((a : Algorithm) (bytes : List ℕ) → Hashes last a bytes → digest ≡ digest_by a bytes)
+    → IsOfArchive (λ bytes found. found ≡ digest_by algorithm bytes) tree (Some digest)
+hashed algorithm tree first last digest empty told gives = record {
   archived = told.archived;
   of_tree = told.of_tree;
   archivable = told.archivable;
-  holds = gives (nar told.archived) (told.holds [] empty);
+  holds = gives algorithm (nar told.archived) (told.holds algorithm [] empty);
 }
 
 -- the digest of an archive by SHA-256

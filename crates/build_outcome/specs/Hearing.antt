@@ -1,4 +1,4 @@
--- What a hearer of an output comes to by the tokens of a tree.
+-- What hearers of an output have after the tokens of a tree.
 use Rattle.std.specs.Prelude.{◌≡◌, ◌||◌, ⊤, Bool, true, false, Option, Some, None, List, [], ◌∷◌, ◌++◌}
 use Rattle.std.specs.List.{flat_map, list_any}
 use Rattle.nix_archive.specs.Archive.{magic}

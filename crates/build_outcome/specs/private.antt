@@ -1,5 +1,4 @@
 -- What only private contracts and proofs cite.
-pub mod Hashing
 pub mod Hearing
 pub mod HearingLaws
 pub mod Judging

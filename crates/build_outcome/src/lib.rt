@@ -12,7 +12,7 @@
 //! | `acceptance` | whether an output's tree is taken, by its size, its form and its digest |
 //! | `record` | the record of an output |
 //! | `digest` | the digest of a file by each algorithm |
-//! | `sums`, `archive_digests` | the digests and the lengths of outputs' archives |
+//! | `sums` | the digests and the lengths of outputs' archives |
 //! | `cycle`, `links`, `walk` | whether outputs refer to each other in a cycle |
 //! | `folders` | the folder in which a path stands |
 //! | `reason` | why building a derivation failed |
@@ -21,7 +21,6 @@
 #![tactic(auto)]
 
 mod acceptance;
-mod archive_digests;
 mod attributes;
 mod build;
 mod checked_records;

@@ -7,12 +7,12 @@ ghost use Rattle.build_outcome.specs.declared.sums.OutputSum.{OutputSum as AnOut
 ghost use Rattle.build_outcome.specs.Sums.{archive_algorithm};
 ghost use Rattle.build_outcome.specs.private.Summing.{AreSums, IsSumAt, TellsNar, TellsSum};
 
-use crate::archive_digests::archive_digest_of;
+use crate::hearers::algorithm_sink::AlgorithmSink;
 use crate::job::{Answer, Job};
 use crate::reason::Reason;
 use drv_graph::{Kind, Method, Profile};
 use nix_names::{Algorithm, Digest};
-use ref_scan::{Tree, archive_sum};
+use ref_scan::{Tree, archive_into, archive_sum};
 use std::alloc::{AllocError, Global};
 use valid_table::Nar;
 
@@ -139,6 +139,22 @@ fn declared_digest(
         Algorithm::Sha256 => Ok(Some(Digest::Sha256(hash))),
         algorithm => archive_digest_of(alloc, algorithm, tree),
     }
+}
+
+// The digest of a tree's archive by an algorithm; none where the tree has no archive.
+#[tactic(auto, using(crate::proofs::Archives::hashed))]
+fn archive_digest_of(
+    alloc: Global,
+    algorithm: Algorithm,
+    tree: &Tree,
+) -> Result<Option<Digest>, AllocError>
+    ensures { IfOk result
+        (IsOfArchive (λ bytes digest. digest ≡ digest_by algorithm bytes) tree.now) }
+{
+    let Some(sink) = archive_into(alloc, tree, AlgorithmSink::new(algorithm))? else {
+        return Ok(None);
+    };
+    Ok(Some(sink.finish()))
 }
 
 // The algorithm by which archives of outputs of this kind are hashed.
