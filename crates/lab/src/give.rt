@@ -47,6 +47,15 @@ impl<const N: usize> Give for [u8; N] {
     }
 }
 
+impl Give for Vec<[u8; 32]> {
+    fn give(self, teller: &mut Teller<'_>, _world: &mut World, _line: &Line<'_>) -> Taken {
+        for digest in &self {
+            teller.hex(digest);
+        }
+        Ok(())
+    }
+}
+
 // A text is printed where it is not kept.
 impl Give for Vec<u8> {
     fn give(self, teller: &mut Teller<'_>, world: &mut World, line: &Line<'_>) -> Taken {

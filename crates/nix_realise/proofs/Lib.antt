@@ -2,6 +2,7 @@ pub mod AddedTexts
 pub mod Appending
 pub mod AskedPaths
 pub mod CauseLines
+pub mod CheckGroups
 pub mod Endings
 pub mod EventDerivations
 pub mod HeardArchives

@@ -1,5 +1,6 @@
 -- What only private contracts and proofs cite.
 pub mod Asking
+pub mod CheckGroups
 pub mod Inputs
 pub mod Leases
 pub mod PathReads

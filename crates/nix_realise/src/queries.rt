@@ -2,7 +2,8 @@
 //!
 //! | Module | What is in it |
 //! |---|---|
-//! | `check_verdict`, `check` | the verdict of `check` on one word; its lines |
+//! | `check_verdict` | the verdict of `check` on one word |
+//! | `asked_words`, `check` | the words of `check` and their files; its lines |
 //! | `task` | what `plan` and `realise` take: a plan and a journal |
 //! | `read_task` | the same for a run that changes nothing |
 //! | `run_system` | what a run builds for |
@@ -10,6 +11,7 @@
 //! | `faults` | the table of faults |
 #![tactic(auto)]
 
+pub mod asked_words;
 pub mod check;
 pub mod check_verdict;
 pub mod faults;

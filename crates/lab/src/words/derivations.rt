@@ -10,10 +10,12 @@ use crate::words::names::{digest_of, file_bytes};
 use crate::world::World;
 use drv_graph::{Kind, Plan, Profile, fill_outputs, fill_outputs_as, modulo_text};
 use nix_drv::{
-    Derivation, DrvSource, Input, ListSource, ListedFile, Output, Parts, SourceFault, check_text,
-    named_text_path, read, references, text_path, write, write_string,
+    Derivation, DrvSource, Input, ListSource, ListedFile, Output, Parts, SourceFault,
+    check_digested_text, check_text, named_text_path, read, references, text_path, write,
+    write_string,
 };
 use nix_names::is_name;
+use sha2::{Digest, Sha256};
 use std::alloc::{AllocError, Global};
 
 /// Takes a line, if its call is one of these.
@@ -30,6 +32,8 @@ fn of_texts(teller: &mut Teller<'_>, world: &mut World, line: &Line<'_>) -> Foun
         "read" (text = text 0) => read(world.alloc, text);
         "check_text" (path = path 0, text = text 1)
             => check_text(world.alloc, &world.dir, &path, text);
+        "check_digested_text" (path = path 0, text = text 1)
+            => check_digested_text(world.alloc, &world.dir, &path, text, &Sha256::digest(text));
         "write_string" (mut out = copy 0, text = text 1)
             => Appended(write_string(&mut out, text), out);
         "text_path" (name = text 0, text = text 1, references = rising 2)

@@ -9,6 +9,7 @@ use crate::line::{Line, number_of};
 use crate::stop::{Found, Stop, Taken, call, tried};
 use crate::teller::Teller;
 use crate::world::World;
+use digest_lanes::digests;
 use drv_graph::Plan;
 use memchr::memmem;
 use nix_drv::{DrvSource, SourceFault};
@@ -50,6 +51,7 @@ fn of_texts(teller: &mut Teller<'_>, world: &mut World, line: &Line<'_>) -> Foun
         "from_base32" (text = text 0, count = number 1)
             => from_base32(world.alloc, text, count) => hex;
         "fold20" (digest = digest 0) => fold20(&digest);
+        "digests" (texts = copies 0) => digests(world.alloc, &texts);
         "Digest::of_text" (text = text 0) => Digest::of_text(text);
         "Digest::push_text" (mut out = copy 0, digest = written 1)
             => Appended(digest.push_text(&mut out), out);

@@ -1,12 +1,12 @@
 //! The verdict of `check` on one word.
 ghost use Rattle.std.specs.Prelude.{◌≡◌, ◌++◌, IfOk, IfErr, OnOk};
-ghost use Rattle.nix_drv.specs.Sources.{GivesSame};
-ghost use Rattle.nix_realise.specs.CheckLines.{IsCheckVerdict, bad_line, is_good, line_of};
-ghost use Rattle.nix_realise.specs.CheckLines.{verdict_words};
+ghost use Rattle.sha2.specs.Sha256.{sha256};
+ghost use Rattle.nix_realise.specs.CheckLines.{bad_line, is_good, line_of, verdict_words};
+ghost use Rattle.nix_realise.specs.private.CheckGroups.{IsFileVerdict};
 
 use crate::words::fault_words::{write_drv_fault, write_name_fault};
-use nix_drv::{DrvFault, DrvSource, SourceFault, check_text};
-use nix_names::{NameFault, StoreDir, parse_path};
+use nix_drv::{DrvFault, check_digested_text};
+use nix_names::{NameFault, StoreDir, StorePath};
 use std::alloc::{AllocError, Global};
 
 /// A verdict on a word that should be the path of a store derivation.
@@ -31,29 +31,20 @@ impl Verdict {
     }
 }
 
-/// Checks one word: is it a path of the store folder, can its file be read, is the file a
-/// derivation's text at its own path? `NoMemory` is the only error.
-pub fn judge<S: DrvSource>(
+/// The verdict on the file at a path, by the SHA-256 of its bytes: are they a derivation's text at
+/// its own path? `NoMemory` is the only error.
+pub fn judge(
     alloc: Global,
-    source: &mut S,
     dir: &StoreDir,
-    word: &[u8],
+    path: &StorePath,
+    bytes: &[u8],
+    digest: &[u8; 32],
 ) -> Result<Verdict, DrvFault>
-    ensures keeps { GivesSame (S.gives source.old) (S.gives source.new) }
-    ensures verdict { IfOk result (IsCheckVerdict (S.gives source.old) dir.now word.now) }
+    requires { digest.now ≡ sha256 bytes.now }
+    ensures verdict { IfOk result (IsFileVerdict dir.now path.now bytes.now) }
     ensures only { IfErr result (λ e. e ≡ DrvFault.NoMemory) }
 {
-    let path = match parse_path(alloc, dir, word) {
-        Ok(path) => path,
-        Err(NameFault::NoMemory) => return Err(DrvFault::NoMemory),
-        Err(fault) => return Ok(Verdict::NoPath(fault)),
-    };
-    let bytes = match source.fetch(alloc, &path) {
-        Ok(bytes) => bytes,
-        Err(SourceFault::NoMemory) => return Err(DrvFault::NoMemory),
-        Err(_) => return Ok(Verdict::Unreadable),
-    };
-    match check_text(alloc, dir, &path, &bytes) {
+    match check_digested_text(alloc, dir, path, bytes, digest) {
         Ok(_) => Ok(Verdict::Good),
         Err(DrvFault::NoMemory) => Err(DrvFault::NoMemory),
         Err(fault) => Ok(Verdict::Refused(fault)),

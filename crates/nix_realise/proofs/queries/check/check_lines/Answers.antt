@@ -1,29 +1,31 @@
-use Rattle.std.proofs.Common.{◌≡◌, ◌∙◌, refl, Bool, if◌then◌else◌}
-use Rattle.nix_realise.proofs.Reports.{report_push, verdict_same, words_more}
-use Rattle.nix_realise.specs.CheckLines.{is_good}
-use Rattle.nix_realise.specs.declared.cli.exit.Status.TheVariants.{Refused}
+use Rattle.std.proofs.Common.{rules, ◌≡◌, ◌∙◌, ap, sym, append_assoc, Bor, List, ℕ, ◌++◌, map}
+use Rattle.std.proofs.lemmas.List.{map-append}
+use Rattle.nix_realise.proofs.CheckGroups.{all_found_same, report_join}
 use Rattle.nix_realise.proofs.queries.check.check_lines.Goals as goal
-use Rattle.nix_realise.proofs.queries.check.check_lines.Goals.{then-not-is_good, else-not-is_good}
 
-pub loop-word-preserved : goal.loop-word-preserved
-loop-word-preserved g c =
-    let good : Bool = is_good c.in_ok-verdict.verdict in
-    let ends : c.if-not-is_good.status ≡ (if good then c.loop-word.status else Refused) =
-    elim c.if-not-is_good.branch [
-      | then-not-is_good w ↦ w.status-is ∙ rw (← w.if-not-is_good.ensures) refl
-      | else-not-is_good w ↦ w.status-is ∙ rw (← w.if-not-is_good.ensures) refl
-    ] in
-    let said =
-    verdict_same _ _ _ _ c.in_ok-verdict.verdict c.loop-word.invariant.keeps
-    c.in_ok-verdict.ensures.verdict in
+pub loop-group-preserved : goal.loop-group-preserved
+loop-group-preserved g c =
+    let done : List (Bor (List ℕ)) = c.loop-group.invariant.done in
+    let group : List (Bor (List ℕ)) = c.in-Some.group.now in
+    let rest : List (Bor (List ℕ)) = c.next.new.self.rest.now in
+    let cut : c.loop-group.group-iterator.rest.now ≡ group ++ rest = search rules in
+    let found =
+    all_found_same (g.S.DrvSource.gives c.args.source.now)
+    (g.S.DrvSource.gives c.loop-group.source) c.args.dir.now c.in_ok-asked.asked.items
+    c.loop-group.invariant.keeps c.in_ok-asked.ensures.each in
+    let added = rw c.deref-in-loop-group.ensures.value at c.in_ok-add_group.ensures.added in
+    let joined =
+    report_join (g.S.DrvSource.gives c.args.source.now) c.args.dir.now (map (λ w. w.now) done) _ _
+    c.in_ok-asked.asked.items (map (λ w. w.now) group) _ _ c.loop-group.invariant.report found
+    c.in_ok-asked.ensures.words_are added in
     record {
       keeps = λ path answer.
-          let before = c.loop-word.invariant.keeps path answer in
-          let now = c.judge.ensures.keeps path answer in
+          let before = c.loop-group.invariant.keeps path answer in
+          let now = c.ask.ensures.keeps path answer in
           (λ given. now.0 (before.0 given), λ given. before.1 (now.1 given));
-      report =
-          let word = c.as_bytes-word.ensures.value in
-          let line = c.in_ok-write_line.ensures in
-          rw (words_more c.args.words.now c.loop-word.word-index _ _ c.loop-word-test.true word)
-          (report_push _ _ _ _ _ _ _ _ _ c.loop-word.invariant.report said line ends);
+      done = done ++ group;
+      words_are =
+          append_assoc done group rest ∙ ap (λ (ws : List (Bor (List ℕ))). done ++ ws) (sym cut)
+          ∙ c.loop-group.invariant.words_are;
+      report = rw (map-append (λ (w : Bor (List ℕ)). w.now) done group) joined;
     }
