@@ -7,7 +7,7 @@ returns-clause-added c =
     elim c.match-asked.branch [
       | in-Known+in_ok-add_line-in-Known w ↦
           rw w.self-is
-          (known_line _ _ w.in-Known.verdict.now _ _ _ _ w.in-Known.is
+          (known_line _ _ w.in-Known.verdict _ _ _ _ w.in-Known.is
           w.in_ok-add_line-in-Known.ensures.line w.in_ok-add_line-in-Known.ensures.status)
       | in-File+in_ok-verdict-in-File+in_ok-add_line-in-File+in-Refused+in-TextPathMismatch-1 w ↦
           rw w.self-is
