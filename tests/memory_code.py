@@ -66,7 +66,7 @@ PATTERN = rf"(?<=[{{,}}] ){CASE}(?: \| {CASE})*(?= =>| if )"
 
 
 def text_of(source):
-    """The tokens of a source with blanks between them, each brace after its depth. A string has
+    """The tokens of a source with blanks between them, each brace with its depth before it. A string has
     `!` where it tells of want of memory; `#` also stands for what isn't read."""
     words, depth = [], 0
     for token in TOKEN.finditer(source):
@@ -86,9 +86,9 @@ def code_of(source):
     """The code of a source without conversions, attributes, ghost items and contracts; and how many
     conversions it has."""
     text, count = re.subn(CONVERSION, "", text_of(source))
-    shorter = re.sub(GHOST, "", re.sub(ATTRIBUTE, "", text))
-    while shorter != text:
-        text, shorter = shorter, re.sub(CLAUSE, r"\1", shorter)
+    text = re.sub(GHOST, "", re.sub(ATTRIBUTE, "", text))
+    while (shorter := re.sub(CLAUSE, r"\1", text)) != text:
+        text = shorter
     return text, count
 
 
