@@ -144,7 +144,7 @@ record AreMeasures (tree : Tree) (a : Archived) : Type 0 where
   count : entry_count tree ≡ archived_entries a
   bytes : file_bytes tree ≡ archived_bytes a
 
--- The same of a folder's members.
+-- The members of a folder in memory have the measures of those of its archive.
 record AreMeasuresAmong {m : _} (row : Row_of-Member m) (entries : Entries) : Type 0 where
   depth : depth_among row ≡ depth_of_entries entries
   count : entry_count_among row ≡ count_of_entries entries

@@ -49,7 +49,7 @@ pub record IsLineOf (dir : Dir) (asked : AskedWord) (text : Bytes) (before : Sta
   pub line : more ≡ text ++ line_of asked.word.now verdict
   pub is_status : after ≡ (if is_good verdict then before else ended.Refused)
 
--- the same, before and after the lines of some words
+-- the text and the status of a report, before and after the lines of some words
 pub record AreLinesOf (dir : Dir) (asked : List AskedWord) (text : Bytes) (before : Status)
     (more : Bytes) (after : Status) : Type 0 where
   pub rows : List (AskedWord × Verdict)
