@@ -133,11 +133,7 @@ impl Give for Derivation {
 impl Give for Plan {
     fn give(self, teller: &mut Teller<'_>, world: &mut World, line: &Line<'_>) -> Taken {
         let profile = call!(teller, "Plan::profile" => self.profile());
-        let under = if profile == Profile::Nix {
-            " under Nix"
-        } else {
-            ""
-        };
+        let under = ["", " under Nix"][usize::from(profile == Profile::Nix)];
         teller.say(format_args!("{} derivations{under}", self.len()));
         world.plans.put(line.name, self)
     }

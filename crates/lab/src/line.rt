@@ -18,7 +18,7 @@ impl<'a> Line<'a> {
         let is_kept = words.get(1) == Some(&b"=".as_slice());
         let head = if is_kept { 3 } else { 1 };
         let name = if is_kept { word_at(&words, 0) } else { b"" };
-        let call = str::from_utf8(word_at(&words, head - 1)).unwrap_or("");
+        let call = as_text(word_at(&words, head - 1));
         let words = words.split_off(head.min(words.len()))?;
         Ok(Line { name, call, words })
     }
@@ -45,6 +45,11 @@ impl<'a> Line<'a> {
     pub(crate) fn number(&self, number: usize) -> Option<usize> {
         number_of(self.argument(number))
     }
+}
+
+/// A word as a text; no text where it is no UTF-8.
+pub(crate) fn as_text(word: &[u8]) -> &str {
+    str::from_utf8(word).unwrap_or("")
 }
 
 /// The number that a word is, if it is one.

@@ -11,15 +11,6 @@
 //! made again. A call that may not be made with its arguments is answered `not allowed`, and a
 //! line that means nothing ends the program with status 1. With the argument `--times` a line
 //! after the second one says how long the call took: `took N ns`.
-//!
-//! | Module | What is in it |
-//! |---|---|
-//! | `line` | a line: the name, the call and the arguments |
-//! | `world` | what is kept under names |
-//! | `teller`, `give` | what reads the lines, and prints the calls and their answers |
-//! | `rising` | lists of paths that rise |
-//! | `stop` | why a line is over before its end |
-//! | `words` | the calls, by the library |
 #![tactic(auto)]
 
 mod give;

@@ -2,43 +2,37 @@
 
 // Words of a line as an argument of a call. A kind that is none of the others is a shelf.
 macro_rules! argument {
-    ($t:ident $w:ident $line:ident text $n:literal) => { $w.text($line.argument($n)) };
-    ($t:ident $w:ident $line:ident copy $n:literal) => {
-        $w.text($line.argument($n)).to_vec($w.alloc)?
+    ($t:ident $w:ident $l:ident text $n:literal) => { $w.text($l.argument($n)) };
+    ($t:ident $w:ident $l:ident copy $n:literal) => { $w.text($l.argument($n)).to_vec($w.alloc)? };
+    ($t:ident $w:ident $l:ident copies $n:literal) => { $w.copies($l.arguments($n))? };
+    ($t:ident $w:ident $l:ident number $n:literal) => { $l.number($n).unwrap_or(0) };
+    ($t:ident $w:ident $l:ident path $n:literal) => { $w.path($l.argument($n))? };
+    ($t:ident $w:ident $l:ident paths $n:literal) => { $w.paths($l.arguments($n))? };
+    ($t:ident $w:ident $l:ident rising $n:literal) => { rising($w, $l.arguments($n))? };
+    ($t:ident $w:ident $l:ident known $n:literal) => {
+        $w.path($l.argument($n)).or(Err(Stop::NotAllowed))?
     };
-    ($t:ident $w:ident $line:ident copies $n:literal) => { $w.copies($line.arguments($n))? };
-    ($t:ident $w:ident $line:ident number $n:literal) => { $line.number($n).unwrap_or(0) };
-    ($t:ident $w:ident $line:ident path $n:literal) => { $w.path($line.argument($n))? };
-    ($t:ident $w:ident $line:ident paths $n:literal) => { $w.paths($line.arguments($n))? };
-    ($t:ident $w:ident $line:ident rising $n:literal) => { rising($w, $line.arguments($n))? };
-    ($t:ident $w:ident $line:ident known $n:literal) => {
-        $w.path($line.argument($n)).ok().ok_or(Stop::NotAllowed)?
+    ($t:ident $w:ident $l:ident digest $n:literal) => { digest_of($l.argument($n))? };
+    ($t:ident $w:ident $l:ident digests $n:literal) => { digests($w.alloc, $l.arguments($n))? };
+    ($t:ident $w:ident $l:ident written $n:literal) => {
+        Digest::of_text($l.argument($n)).ok_or(Stop::Lost("no digest"))?
     };
-    ($t:ident $w:ident $line:ident digest $n:literal) => { digest_of($line.argument($n))? };
-    ($t:ident $w:ident $line:ident digests $n:literal) => {
-        digests($w.alloc, $line.arguments($n))?
-    };
-    ($t:ident $w:ident $line:ident written $n:literal) => {
-        Digest::of_text($line.argument($n)).ok_or(Stop::Lost("no digest"))?
-    };
-    ($t:ident $w:ident $line:ident version $n:literal) => {
-        match $line.argument($n) {
+    ($t:ident $w:ident $l:ident version $n:literal) => {
+        match $l.argument($n) {
             b"1" => Version::One,
             b"3" => Version::Three,
             _ => Version::Two,
         }
     };
-    ($t:ident $w:ident $line:ident table $n:literal) => { table($t, $w, $line)? };
-    ($t:ident $w:ident $line:ident entries $n:literal) => { entries($w, $line)? };
-    ($t:ident $w:ident $line:ident node $n:literal) => { node_of($w, $line, $n)? };
-    ($t:ident $w:ident $line:ident cause $n:literal) => { cause_of($line.argument($n)) };
-    ($t:ident $w:ident $line:ident job $n:literal) => { made_job($w, b"", $line.argument($n))? };
-    ($t:ident $w:ident $line:ident reached $n:literal) => { reached($w, $line)? };
-    ($t:ident $w:ident $line:ident before $mark:literal) => { rising($w, $line.divided($mark).0)? };
-    ($t:ident $w:ident $line:ident after $mark:literal) => { rising($w, $line.divided($mark).1)? };
-    ($t:ident $w:ident $line:ident $shelf:ident $n:literal) => {
-        $w.$shelf.get($line.argument($n))?
-    };
+    ($t:ident $w:ident $l:ident table $n:literal) => { table($t, $w, $l)? };
+    ($t:ident $w:ident $l:ident entries $n:literal) => { entries($w, $l)? };
+    ($t:ident $w:ident $l:ident node $n:literal) => { node_of($w, $l, $n)? };
+    ($t:ident $w:ident $l:ident cause $n:literal) => { cause_of($l.argument($n)) };
+    ($t:ident $w:ident $l:ident job $n:literal) => { made_job($w, b"", $l.argument($n))? };
+    ($t:ident $w:ident $l:ident reached $n:literal) => { reached($w, $l)? };
+    ($t:ident $w:ident $l:ident before $mark:literal) => { rising($w, $l.divided($mark).0)? };
+    ($t:ident $w:ident $l:ident after $mark:literal) => { rising($w, $l.divided($mark).1)? };
+    ($t:ident $w:ident $l:ident $shelf:ident $n:literal) => { $w.$shelf.get($l.argument($n))? };
 }
 
 // The name of a call: that of its word, unless another is given.
@@ -94,7 +88,18 @@ macro_rules! words {
             $($($other)|+ => $taken,)*
             _ => return Ok(false),
         };
-        taken.map(|()| true)
+        taken.and(Ok(true))
+    }};
+}
+
+// Takes a line by the first of these with its call. A proof grows with the square of the calls.
+macro_rules! any_of {
+    ($teller:ident, $world:ident, $line:ident; $($take:path),+) => {{
+        $(let taken = $take($teller, $world, $line);
+        if !matches!(taken, Ok(false)) {
+            return taken;
+        })+
+        Ok(false)
     }};
 }
 
@@ -123,16 +128,10 @@ pub(crate) fn take<W: Wait>(
     world: &mut World,
     line: &Line<'_>,
 ) -> Found {
-    Ok(
-        names::take(teller, world, line)?
-            || derivations::take(teller, world, line)?
-            || archives::take(teller, world, line)?
-            || scans::take(teller, world, line)?
-            || journals::take(teller, world, line)?
-            || tables::take(teller, world, line)?
-            || books::take(teller, world, line)?
-            || forecasts::take(teller, world, line)?
-            || views::take(wait, teller, world, line)?
-            || faults::take(teller, world, line)?,
-    )
+    match line.call {
+        "view" => views::take(wait, teller, world, line),
+        "faults" => faults::take(teller, world),
+        _ => any_of! { teller, world, line; names::take, derivations::take, archives::take,
+            scans::take, journals::take, tables::take, books::take, forecasts::take },
+    }
 }

@@ -9,12 +9,9 @@ use run_states::System;
 use sched_core::{Book, BookFault, Build, Event, LeaseObserver};
 use std::alloc::Global;
 use std::marker::Brand;
-use std::process::Abort;
 use std::sync::{Mutex, Wait};
 use std::test::*;
 use std::thread;
-use std::thread::Threads;
-use std::time::Clock;
 use store_run::{Listen, Locked, work_heard};
 use valid_table::{Entry, Journal, Outlet, OutletFault};
 use valid_view::{ListId, Name, Prefix, Tells, ViewReader, ViewWriter, open};
@@ -113,7 +110,7 @@ pub(crate) type Ended = (Vec<Event>, Option<BookFault>);
 pub(crate) type Heard = (Acts, Ended);
 
 // Lets each worker work in a thread of its own. Where a worker doesn't end, the test ends.
-fn work_all<R, J, O, B>(
+fn work_all<R: Host, J: ListId + Send + Sync, O, B>(
     rt: &R,
     alloc: Global,
     locked: &Locked<O, B>,
@@ -121,8 +118,6 @@ fn work_all<R, J, O, B>(
     log: &Mutex<Acts>,
 )
 where
-    R: Threads + Wait + Clock + Abort + Sync,
-    J: ListId + Send + Sync,
     O: Tells<J> + Send,
     B: Build + LeaseObserver + Listen + Comes + Send + Drop,
 {
@@ -140,7 +135,7 @@ where
 }
 
 // The events of a run over this outlet, and why it was stopped.
-fn heard_over<R, J, O, B>(
+fn heard_over<R: Host, J: ListId + Send + Sync, O, B>(
     rt: &R,
     alloc: Global,
     given: Given,
@@ -149,8 +144,6 @@ fn heard_over<R, J, O, B>(
     log: &Mutex<Acts>,
 ) -> Result<Ended, Fail>
 where
-    R: Threads + Wait + Clock + Abort + Sync,
-    J: ListId + Send + Sync,
     O: Tells<J> + Send,
     B: Build + LeaseObserver + Listen + Comes + Send + Drop,
     requires { O.shown outlet ++ O.pending outlet ≡ given.1.entries }

@@ -7,7 +7,7 @@
 ghost use Rattle.std.specs.Prelude.{⊤};
 
 use crate::give::Give;
-use crate::line::{Line, halves, number_of};
+use crate::line::{Line, as_text, halves, number_of};
 use crate::stop::{Found, Taken, call, tried};
 use crate::teller::Teller;
 use crate::world::World;
@@ -32,15 +32,15 @@ pub(crate) fn take(teller: &mut Teller<'_>, world: &mut World, line: &Line<'_>) 
 fn event_of<'a>(world: &'a World, word: &'a [u8]) -> Event<'a> {
     let (kind, rest) = halves(word, b':');
     let count = number_of(rest).unwrap_or(0) as u64;
-    match kind {
-        b"folder" => Event::BeginFolder,
-        b"entry" => Event::BeginEntry(world.text(rest)),
-        b"left" => Event::EndEntry,
-        b"end" => Event::EndFolder,
-        b"file" => Event::BeginFile(false, count),
-        b"program" => Event::BeginFile(true, count),
-        b"close" => Event::EndFile(count),
-        b"link" => Event::Link(world.text(rest)),
+    match as_text(kind) {
+        "folder" => Event::BeginFolder,
+        "entry" => Event::BeginEntry(world.text(rest)),
+        "left" => Event::EndEntry,
+        "end" => Event::EndFolder,
+        "file" => Event::BeginFile(false, count),
+        "program" => Event::BeginFile(true, count),
+        "close" => Event::EndFile(count),
+        "link" => Event::Link(world.text(rest)),
         _ => Event::Piece(world.text(rest)),
     }
 }

@@ -15,7 +15,7 @@ ghost use Rattle.sched_core.specs.Books.{IsBooksLease, MayAllRefer};
 
 mod session;
 
-use crate::line::{Line, halves, number_of, pieces};
+use crate::line::{Line, as_text, halves, number_of, pieces};
 use crate::stop::{Found, Stop, Taken, call, tried};
 use crate::teller::Teller;
 use crate::words::journals::push_known;
@@ -233,12 +233,12 @@ fn left(world: &World, word: &[u8]) -> Result<Option<LeftOutput>, AllocError> {
 fn tree(world: &World, word: &[u8]) -> Result<Option<Tree>, AllocError> {
     let (kind, rest) = halves(word, b':');
     let count = number_of(rest).unwrap_or(0);
-    Ok(Some(match kind {
-        b"file" => Tree::File(world.text(rest).to_vec(world.alloc)?),
-        b"zeros" => Tree::File(vec![in world.alloc; 0; count]?),
-        b"parts" => Tree::Pieces(world.copies(&pieces(world.alloc, rest, b':')?)?),
-        b"program" => Tree::Executable(world.copies(&pieces(world.alloc, rest, b':')?)?),
-        b"folder" => wide(world.alloc, count, b"f")?,
+    Ok(Some(match as_text(kind) {
+        "file" => Tree::File(world.text(rest).to_vec(world.alloc)?),
+        "zeros" => Tree::File(vec![in world.alloc; 0; count]?),
+        "parts" => Tree::Pieces(world.copies(&pieces(world.alloc, rest, b':')?)?),
+        "program" => Tree::Executable(world.copies(&pieces(world.alloc, rest, b':')?)?),
+        "folder" => wide(world.alloc, count, b"f")?,
         _ => return Ok(None),
     }))
 }
@@ -257,7 +257,7 @@ pub(crate) fn answer(world: &World, words: &[&[u8]], count: usize) -> Result<Ans
             None => None,
         })?;
     }
-    let status = words.first().and_then(|word| status_of(word));
+    let status = words.first().copied().and_then(status_of);
     Ok(Answer { status, outputs })
 }
 

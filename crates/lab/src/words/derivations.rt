@@ -2,7 +2,7 @@
 ghost use Rattle.std.specs.Prelude.{◌<◌, IfOk, length};
 
 use crate::give::{Appended, Give};
-use crate::line::{Line, halves, number_of};
+use crate::line::{Line, as_text, halves, number_of};
 use crate::rising::rising;
 use crate::stop::{Found, Stop, Taken, call, tried};
 use crate::teller::Teller;
@@ -20,11 +20,7 @@ use std::alloc::{AllocError, Global};
 
 /// Takes a line, if its call is one of these.
 pub(crate) fn take(teller: &mut Teller<'_>, world: &mut World, line: &Line<'_>) -> Found {
-    Ok(
-        of_texts(teller, world, line)?
-            || of_drvs(teller, world, line)?
-            || of_plans(teller, world, line)?,
-    )
+    any_of! { teller, world, line; of_texts, of_drvs, of_plans }
 }
 
 fn of_texts(teller: &mut Teller<'_>, world: &mut World, line: &Line<'_>) -> Found {
@@ -105,8 +101,7 @@ fn drv(teller: &mut Teller<'_>, world: &World, line: &Line<'_>) -> Taken {
     let drv = world.drvs.get(line.argument(0))?;
     teller.begins(CALLS);
     let (outputs, inputs, sources) = (drv.outputs(), drv.inputs(), drv.sources());
-    let (system, builder) = (drv.system(), drv.builder());
-    let (args, env) = (drv.args(), drv.env());
+    let (system, builder, args, env) = (drv.system(), drv.builder(), drv.args(), drv.env());
     teller.ends(CALLS);
     tell_outputs(teller, outputs);
     tell_inputs(teller, inputs);
@@ -141,9 +136,9 @@ fn leave_out(drv: &Derivation, parts: &mut Parts) {
 
 // Gives some parts in place of those of a derivation.
 fn change(world: &World, line: &Line<'_>, drv: &Derivation, parts: &mut Parts) -> Taken {
-    match line.argument(1) {
-        b"draft" => leave_out(drv, parts),
-        b"builder" => parts.builder = world.text(line.argument(2)).to_vec(world.alloc)?,
+    match as_text(line.argument(1)) {
+        "draft" => leave_out(drv, parts),
+        "builder" => parts.builder = world.text(line.argument(2)).to_vec(world.alloc)?,
         _ => {
             let other = world.drvs.get(line.argument(2))?;
             parts.inputs = other.parts().copy(world.alloc)?.inputs;

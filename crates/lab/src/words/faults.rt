@@ -1,6 +1,5 @@
 //! Faults in words, the name of the variant with its values, and every fault with its number.
 
-use crate::line::Line;
 use crate::stop::{Found, Stop, Taken, call};
 use crate::teller::Teller;
 use crate::world::World;
@@ -121,12 +120,8 @@ impl Fault for GraphFault {
     }
 }
 
-/// Takes a line, if its call is one of these. `faults` tells each fault but that of a reader whose
-/// writer is gone, by a line that begins with the call which asks for its number.
-pub(crate) fn take(teller: &mut Teller<'_>, world: &World, line: &Line<'_>) -> Found {
-    if line.call != "faults" {
-        return Ok(false);
-    }
+/// Tells each fault but that of a reader whose writer is gone, after the call for its number.
+pub(crate) fn take(teller: &mut Teller<'_>, world: &World) -> Found {
     let (x, y) = (world.path(X)?, world.path(Y)?);
     of_derivations(teller, world.alloc, &x)?;
     of_plans(teller, world.alloc, &x)?;
@@ -166,9 +161,9 @@ macro_rules! faults {
 
 // Tells these faults of a type.
 macro_rules! tell_all {
-    ($teller:ident, $call:literal; $($fault:tt)*) => {{
-        let faults = faults!($($fault)*);
-        tell_all($teller, $call, &faults, |it| it.number())
+    ($teller:ident, $call:literal; $fault:ident: $($variants:tt)*) => {{
+        let faults = faults!($fault: $($variants)*);
+        tell_all($teller, $call, &faults, $fault::number)
     }};
 }
 
@@ -216,7 +211,7 @@ fn of_tables(teller: &mut Teller<'_>, alloc: Global, x: &StorePath, y: StorePath
     tell_all!(teller, "TableFault::number"; TableFault: NoMemory, BadLine(2), NotClosed(3),
         Twice(4), WrongVersion, NotValid(x.copy(alloc)?), TooLong)?;
     let faults = [unclosed, TableFault::AlreadyValid(x.copy(alloc)?)];
-    Ok(tell_all(teller, "TableFault::number", &faults, |it| it.number())?)
+    Ok(tell_all(teller, "TableFault::number", &faults, TableFault::number)?)
 }
 
 fn of_views(teller: &mut Teller<'_>, x: StorePath) -> Result<(), AllocError> {

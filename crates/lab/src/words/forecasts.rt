@@ -2,7 +2,7 @@
 use super::books::{opening, system};
 use super::derivations::node_of;
 use crate::give::{Appended, Give};
-use crate::line::{Line, halves, number_of};
+use crate::line::{Line, as_text, halves, number_of};
 use crate::stop::{Found, Stop, Taken, call, tried};
 use crate::teller::Teller;
 use crate::world::World;
@@ -15,6 +15,10 @@ use run_states::{Refusal, mark, preconditions_of, wanted_of};
 /// Takes a line, if its call is one of these. `write_refused TEXT PLAN NUMBER WORD CAUSE` and the
 /// like add words to a kept text.
 pub(crate) fn take(teller: &mut Teller<'_>, world: &mut World, line: &Line<'_>) -> Found {
+    any_of! { teller, world, line; of_plans, of_words }
+}
+
+fn of_plans(teller: &mut Teller<'_>, world: &mut World, line: &Line<'_>) -> Found {
     words! { teller, world, line;
         "write_path_line" (mut out = copy 0, (plan, d) = node 1, word = text 3)
             => Appended(write_path_line(word, plan.path(d), &mut out), out);
@@ -24,6 +28,11 @@ pub(crate) fn take(teller: &mut Teller<'_>, world: &mut World, line: &Line<'_>) 
             => Appended(write_refused(word, plan, plan.path(d), plan.drv(d), cause, &mut out), out);
         "write_refusal" (mut out = copy 0, (plan, d) = node 1, cause = cause 3)
             => Appended(write_refusal(plan, plan.drv(d), cause, &mut out), out);
+    }
+}
+
+fn of_words(teller: &mut Teller<'_>, world: &mut World, line: &Line<'_>) -> Found {
+    words! { teller, world, line;
         "write_name" (mut out = copy 0, word = text 1)
             => Appended(write_name(word, &mut out), out);
         "write_with_number" (mut out = copy 0, word = text 1, number = number 2)
@@ -74,12 +83,12 @@ fn marked(teller: &mut Teller<'_>, world: &World, line: &Line<'_>) -> Taken {
 fn cause_of(word: &[u8]) -> Refusal {
     let (name, rest) = halves(word, b'(');
     let number = rest.strip_suffix(b")").and_then(number_of).unwrap_or(0);
-    match name {
-        b"WrongSystem" => Refusal::WrongSystem,
-        b"MissingFeature" => Refusal::MissingFeature(number),
-        b"MissingSource" => Refusal::MissingSource(number),
-        b"InputNotRealised" => Refusal::InputNotRealised(number),
-        b"PartlyValid" => Refusal::PartlyValid(number),
+    match as_text(name) {
+        "WrongSystem" => Refusal::WrongSystem,
+        "MissingFeature" => Refusal::MissingFeature(number),
+        "MissingSource" => Refusal::MissingSource(number),
+        "InputNotRealised" => Refusal::InputNotRealised(number),
+        "PartlyValid" => Refusal::PartlyValid(number),
         _ => Refusal::Unsupported,
     }
 }

@@ -26,6 +26,10 @@ use valid_table::{
 
 /// Takes a line, if its call is one of these.
 pub(crate) fn take(teller: &mut Teller<'_>, world: &mut World, line: &Line<'_>) -> Found {
+    any_of! { teller, world, line; of_journals, of_entries }
+}
+
+fn of_journals(teller: &mut Teller<'_>, world: &mut World, line: &Line<'_>) -> Found {
     words! { teller, world, line;
         "Journal::new" => Journal::new(world.alloc);
         "Journal::read" (text = text 0) => Journal::read(world.alloc, &world.dir, text);
@@ -36,6 +40,11 @@ pub(crate) fn take(teller: &mut Teller<'_>, world: &mut World, line: &Line<'_>) 
             => journal.write_in(world.alloc, version).map(Lines);
         "write_lines" (entries = entries 0, version = version 3)
             => write_lines(world.alloc, version, entries).map(Lines);
+    }
+}
+
+fn of_entries(teller: &mut Teller<'_>, world: &mut World, line: &Line<'_>) -> Found {
+    words! { teller, world, line;
         do "Journal::add" | "Journal::append" => add(teller, world, line);
         do "Journal::push_reserved" => push_reserved(teller, world, line);
         do "Record::new" => record(teller, world, line);
@@ -193,9 +202,9 @@ fn registration_of(world: &World, words: &[&[u8]]) -> Result<Registration, Stop>
 fn known_first<'a, 'b>(
     words: &'a [&'b [u8]],
 ) -> (Option<MethodDigest>, Option<Nar>, &'a [&'b [u8]]) {
-    let digest = words.first().and_then(|word| MethodDigest::of_text(word));
+    let digest = words.first().copied().and_then(MethodDigest::of_text);
     let (_, words) = words.split_at(usize::from(digest.is_some()));
-    let nar = words.first().and_then(|word| nar_of(word));
+    let nar = words.first().copied().and_then(nar_of);
     let (_, references) = words.split_at(usize::from(nar.is_some()));
     (digest, nar, references)
 }

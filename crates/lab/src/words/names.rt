@@ -5,7 +5,7 @@
 //! how many bytes of memory the program holds.
 
 use crate::give::{Appended, Give};
-use crate::line::{Line, number_of};
+use crate::line::{Line, as_text, number_of};
 use crate::stop::{Found, Stop, Taken, call, tried};
 use crate::teller::Teller;
 use crate::world::World;
@@ -18,12 +18,12 @@ use nix_names::{
     make_named_path, make_path, parse_path, to_base32,
 };
 use std::alloc::Global;
+use std::fs;
 use std::mem::size_of;
-use std::{fs, str};
 
 /// Takes a line, if its call is one of these.
 pub(crate) fn take(teller: &mut Teller<'_>, world: &mut World, line: &Line<'_>) -> Found {
-    Ok(of_paths(teller, world, line)? || of_texts(teller, world, line)?)
+    any_of! { teller, world, line; of_paths, of_names, of_digests, of_texts }
 }
 
 fn of_paths(teller: &mut Teller<'_>, world: &mut World, line: &Line<'_>) -> Found {
@@ -32,6 +32,12 @@ fn of_paths(teller: &mut Teller<'_>, world: &mut World, line: &Line<'_>) -> Foun
         "known_path" (path = known 0) => known_path(world.alloc, path.text());
         "make_path" (kind = text 0, inner = digest 1, name = text 2)
             => make_path(world.alloc, kind, &inner, &world.dir, name);
+        do "path" => path(teller, world, line);
+    }
+}
+
+fn of_names(teller: &mut Teller<'_>, world: &mut World, line: &Line<'_>) -> Found {
+    words! { teller, world, line;
         "make_named_path" (kind = text 0, inner = digest 1, name = text 2) if is_name(name)
             => make_named_path(world.alloc, kind, &inner, &world.dir, name);
         "is_name" as "is_name is_drv_name" (name = text 0) => (is_name(name), is_drv_name(name));
@@ -40,35 +46,38 @@ fn of_paths(teller: &mut Teller<'_>, world: &mut World, line: &Line<'_>) -> Foun
         "dir" as "StoreDir::new" (text = text 0) => StoreDir::new(world.alloc, text);
         "load_files" as "Plan::load" (roots = paths 0)
             => Plan::load(world.alloc, &mut Folder { files: teller.rt }, &world.dir, &roots);
-        do "path" => path(teller, world, line);
         do "memory" => memory(teller);
     }
 }
 
-fn of_texts(teller: &mut Teller<'_>, world: &mut World, line: &Line<'_>) -> Found {
+fn of_digests(teller: &mut Teller<'_>, world: &mut World, line: &Line<'_>) -> Found {
     words! { teller, world, line;
-        "to_base32" (bytes = text 0) => to_base32(world.alloc, bytes).map(|it| (it,));
+        "to_base32" (bytes = text 0) => to_base32(world.alloc, bytes) => say;
         "from_base32" (text = text 0, count = number 1)
             => from_base32(world.alloc, text, count) => hex;
         "fold20" (digest = digest 0) => fold20(&digest);
         "digests" (texts = copies 0) => digests(world.alloc, &texts);
         "Digest::of_text" (text = text 0) => Digest::of_text(text);
+        "Digest::of_digits" as "Algorithm::of_name Digest::of_digits" (name = text 0, digits = text 1)
+            => Algorithm::of_name(name).and_then(|named| Digest::of_digits(named, digits));
+    }
+}
+
+fn of_texts(teller: &mut Teller<'_>, world: &mut World, line: &Line<'_>) -> Found {
+    words! { teller, world, line;
         "Digest::push_text" (mut out = copy 0, digest = written 1)
             => Appended(digest.push_text(&mut out), out);
         "Digest::push_digits" (mut out = copy 0, digest = written 1)
             => Appended(digest.push_digits(&mut out), out);
-        "Digest::of_digits" as "Algorithm::of_name Digest::of_digits" (name = text 0, digits = text 1)
-            => Algorithm::of_name(name).and_then(|named| Digest::of_digits(named, digits));
         "memmem" (text = text 0, wanted = text 1) => (memmem::find(text, wanted).is_some(),);
-        put "bytes" => hex::decode(world.alloc, line.argument(0)).map_err(|_| NO_BYTES)?;
+        put "bytes" => hex::decode(world.alloc, line.argument(0)).or(Err(NO_BYTES))?;
         put "file" => file_bytes(teller, line.argument(0))?;
     }
 }
 
 /// The bytes of the file at a path.
 pub(crate) fn file_bytes(teller: &Teller<'_>, path: &[u8]) -> Result<Vec<u8>, Stop> {
-    let path = str::from_utf8(path).unwrap_or("");
-    fs::read(teller.rt, path).map_err(|_| Stop::Lost("no file"))
+    fs::read(teller.rt, as_text(path)).or(Err(Stop::Lost("no file")))
 }
 
 const NO_BYTES: Stop = Stop::Lost("no such bytes");
@@ -76,7 +85,7 @@ const NO_BYTES: Stop = Stop::Lost("no such bytes");
 /// The 32 bytes that are written in hex digits.
 pub(crate) fn digest_of(digits: &[u8]) -> Result<[u8; 32], Stop> {
     let mut digest = [0; 32];
-    hex::decode_to_slice(digits, &mut digest).map_err(|_| NO_BYTES)?;
+    hex::decode_to_slice(digits, &mut digest).or(Err(NO_BYTES))?;
     Ok(digest)
 }
 
@@ -110,7 +119,7 @@ impl DrvSource for Folder<'_> {
     ghost failures = { λ _. 0 };
 
     fn fetch(&mut self, _: Global, path: &StorePath) -> Result<Vec<u8>, SourceFault> {
-        fs::read(self.files, path.as_str()).map_err(|_| SourceFault::Missing)
+        fs::read(self.files, path.as_str()).or(Err(SourceFault::Missing))
     }
 }
 

@@ -18,14 +18,23 @@ use valid_table::{Entry, Journal, Obstacle, Table, TableFault, union};
 
 /// Takes a line, if its call is one of these.
 pub(crate) fn take(teller: &mut Teller<'_>, world: &mut World, line: &Line<'_>) -> Found {
+    any_of! { teller, world, line; of_equals, of_tables }
+}
+
+fn of_equals(teller: &mut Teller<'_>, world: &mut World, line: &Line<'_>) -> Found {
     words! { teller, world, line;
-        "Table::closure" (table = table 0, roots = paths 1) => table.closure(world.alloc, &roots);
-        "union" (left = before b"/", right = after b"/") => union(world.alloc, &left, &right);
         "Plan::eq" (one = plans 0, two = plans 1) => (one == two,);
         "Derivation::eq" (one = drvs 0, two = drvs 1) => (one == two,);
         "same_entries" (one = journals 0, two = journals 1) => (one.entries() == two.entries(),);
         "same_paths" (one = lists 0, two = lists 1) => (one.as_slice() == two.as_slice(),);
         "same" (one = text 0, two = text 1) => (one == two,);
+    }
+}
+
+fn of_tables(teller: &mut Teller<'_>, world: &mut World, line: &Line<'_>) -> Found {
+    words! { teller, world, line;
+        "Table::closure" (table = table 0, roots = paths 1) => table.closure(world.alloc, &roots);
+        "union" (left = before b"/", right = after b"/") => union(world.alloc, &left, &right);
         put "list" (text = text 0) => listed(world, text)?;
         do "Table::new" => new(teller, world, line);
         do "Table::replay" => replay(teller, world, line);

@@ -25,9 +25,6 @@ pub(crate) fn take<W: Wait>(
     world: &mut World,
     line: &Line<'_>,
 ) -> Found {
-    if line.call != "view" {
-        return Ok(false);
-    }
     let journal = world.journals.get(line.argument(0))?.copy(world.alloc)?;
     let readers = line.number(1).unwrap_or(0);
     if readers == 0 || readers > 64 {

@@ -7,7 +7,7 @@ use super::{
     text_of,
 };
 use crate::give::Give;
-use crate::line::Line;
+use crate::line::{Line, as_text};
 use crate::stop::{Found, Stop, Taken, call, take_lines, tried};
 use crate::teller::Teller;
 use crate::world::World;
@@ -250,9 +250,9 @@ impl Desk<'_> {
         teller.hush(true);
         for _ in 0..self.book.plan().len() {
             if self.book.can_begin() {
-                let begun = self.next(teller, line.argument(0)).map(|()| true);
+                let begun = self.next(teller, line.argument(0)).and(Ok(true));
                 teller.end(begun);
-                let ended = self.finish(teller, world, line).map(|()| true);
+                let ended = self.finish(teller, world, line).and(Ok(true));
                 teller.end(ended);
             }
         }
@@ -267,16 +267,16 @@ impl Desk<'_> {
 // The reason that a word is: one of these, with the numbers 1 where it has some; a status; or else
 // want of memory.
 fn reason_of(word: &[u8]) -> Reason {
-    match word {
-        b"Killed" => Reason::Killed,
-        b"BadMode" => Reason::BadMode(1),
-        b"NotAllowed" => Reason::NotAllowed(1, 1),
-        b"BadSpecifier" => Reason::BadSpecifier(1),
-        b"BadAttributes" => Reason::BadAttributes,
-        b"BadGraph" => Reason::BadGraph,
-        b"UnknownNar" => Reason::UnknownNar(1),
-        b"PastMaxSize" => Reason::PastMaxSize(1),
-        b"PastMaxClosureSize" => Reason::PastMaxClosureSize(1),
-        word => status_of(word).map_or(Reason::OutOfMemory, Reason::ExitStatus),
+    match as_text(word) {
+        "Killed" => Reason::Killed,
+        "BadMode" => Reason::BadMode(1),
+        "NotAllowed" => Reason::NotAllowed(1, 1),
+        "BadSpecifier" => Reason::BadSpecifier(1),
+        "BadAttributes" => Reason::BadAttributes,
+        "BadGraph" => Reason::BadGraph,
+        "UnknownNar" => Reason::UnknownNar(1),
+        "PastMaxSize" => Reason::PastMaxSize(1),
+        "PastMaxClosureSize" => Reason::PastMaxClosureSize(1),
+        _ => status_of(word).map_or(Reason::OutOfMemory, Reason::ExitStatus),
     }
 }
